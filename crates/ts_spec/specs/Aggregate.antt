@@ -1,0 +1,54 @@
+-- Aggregates of the samples of a bucket.
+use Rattle.std.specs.Prelude.{ℕ, zero, suc, ◌+◌, ◌*◌, ℤ, pos, ◌+ℤ◌, ◌-ℤ◌, int_lt, if◌then◌else◌, List, fold}
+use Rattle.ts_spec.specs.declared.bucket.Aggregator.{Aggregator}
+use Rattle.ts_spec.specs.declared.bucket.Aggregator.TheVariants.{Avg, Sum, Min, Max, Range, Count, First, Last}
+use Rattle.ts_spec.specs.Sample.{Point}
+use Rattle.ts_spec.specs.Value.{div_round, clamp}
+
+-- what is asked of the values of a list: how many, their sum, the least and the greatest, the first and the last
+pub record Summary : Type 0 where
+  pub count : ℕ
+  pub sum : ℤ
+  pub least : ℤ
+  pub greatest : ℤ
+  pub first : ℤ
+  pub last : ℤ
+
+-- of no values
+abbrev pub nothing : Summary
+nothing = record { count = 0; sum = pos 0; least = pos 0; greatest = pos 0; first = pos 0; last = pos 0 }
+
+-- a value that the next one may take the place of, unless it is the first
+abbrev pub kept_unless_first : ℕ → ℤ → ℤ → ℤ
+kept_unless_first zero old new = new
+kept_unless_first (suc n) old new = old
+
+-- with one more value at the end
+abbrev pub push : Summary → Point → Summary
+push s p = record {
+  count = s.count + 1;
+  sum = s.sum +ℤ p.value;
+  least = kept_unless_first s.count (if int_lt p.value s.least then p.value else s.least) p.value;
+  greatest = kept_unless_first s.count (if int_lt s.greatest p.value then p.value else s.greatest) p.value;
+  first = kept_unless_first s.count s.first p.value;
+  last = p.value;
+}
+
+-- of the values of a list
+abbrev pub summary : List Point → Summary
+summary ps = fold push nothing ps
+
+-- what an aggregator tells of them, in millionths
+abbrev pub result_of : Aggregator → Summary → ℤ
+result_of Avg s = div_round s.sum s.count
+result_of Sum s = clamp s.sum
+result_of Min s = s.least
+result_of Max s = s.greatest
+result_of Range s = clamp (s.greatest -ℤ s.least)
+result_of Count s = pos (s.count * 1000000)
+result_of First s = s.first
+result_of Last s = s.last
+
+-- the aggregate of a list that is not empty
+abbrev pub aggregate : Aggregator → List Point → ℤ
+aggregate a ps = result_of a (summary ps)

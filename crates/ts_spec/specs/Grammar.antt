@@ -1,0 +1,113 @@
+-- The commands: which words they have, and what the words say.
+use Rattle.std.specs.Prelude.{ℕ, suc, ◌%◌, ℤ, neg_ℤ, Bool, true, false, ◌&&◌, ◌==◌, nat_le, if◌then◌else◌, List, [], ◌∷◌, length, codes, Option, None, Some, unwrap_or, Result, Ok, Err}
+use Rattle.ts_spec.specs.declared.command.At.{At}
+use Rattle.ts_spec.specs.declared.command.At.TheVariants.{Clock, Time}
+use Rattle.ts_spec.specs.Wire.{Request}
+use Rattle.ts_spec.specs.Names.{Table, named}
+use Rattle.ts_spec.specs.Settings.{Word, and_then, at_word, value_word, nothing, options, series_options, alter_options, add_options, incr_options, spec, change}
+use Rattle.ts_spec.specs.Command.{Triple, Command, Create, Alter, Add, Madd, Incr}
+use Rattle.ts_spec.specs.Refusal.{Fault, UnknownCommand, Arity}
+
+-- ---- the words after a command's name
+
+-- `key`, and the options of a new series
+abbrev pub create : List Word → Result Command Fault
+create [] = Err Arity
+create (key ∷ words) = and_then (options series_options nothing 0 words) (λ given. Ok (Create key (spec given)))
+
+-- `key`, and the options of a series that is there
+abbrev pub alter : List Word → Result Command Fault
+alter [] = Err Arity
+alter (key ∷ words) = and_then (options alter_options nothing 0 words) (λ given. Ok (Alter key (change given)))
+
+-- `key time value`, and options
+abbrev pub add : List Word → Result Command Fault
+add (key ∷ time ∷ amount ∷ words) =
+    and_then (at_word time) (λ at. and_then (value_word amount) (λ v.
+    and_then (options add_options nothing 0 words) (λ given. Ok (Add key at v given.on (spec given)))))
+add _ = Err Arity
+
+-- `key time value`, again and again; a bad time or value is told in the answer of its triple
+abbrev pub triples : List Word → List Triple
+triples (key ∷ time ∷ amount ∷ words) = record { key = key; at = at_word time; value = value_word amount } ∷ triples words
+triples _ = []
+
+abbrev pub madd : List Word → Result Command Fault
+madd words = Ok (Madd (triples words))
+
+-- `key value`, and options; `signed` gives the change that the value stands for
+abbrev pub incr : (signed : ℤ → ℤ) → List Word → Result Command Fault
+incr signed (key ∷ amount ∷ words) =
+    and_then (value_word amount) (λ v.
+    and_then (options incr_options nothing 0 words) (λ given. Ok (Incr key (signed v) (unwrap_or given.at Clock) (spec given))))
+incr signed _ = Err Arity
+
+-- ---- the commands
+
+-- A command: how many words it may have, its name included, what the words after its name say, and whether it makes a list.
+pub record Form : Type 0 where
+  pub words : ℕ → Bool
+  pub says : List Word → Result Command Fault
+  pub lists : Bool
+
+-- a command of single words, and one that makes a list of them
+abbrev pub form : (ℕ → Bool) → (List Word → Result Command Fault) → Form
+form words says = record { words = words; says = says; lists = false }
+
+abbrev pub list_form : (ℕ → Bool) → (List Word → Result Command Fault) → Form
+list_form words says = record { words = words; says = says; lists = true }
+
+-- the name, and three words each
+abbrev pub by_threes : ℕ → Bool
+by_threes n = nat_le 4 n && (n % 3 == 1)
+
+unfoldable pub commands : Table Form
+commands =
+    (codes "TS.CREATE", form (nat_le 2) create)
+    ∷ (codes "TS.ALTER", form (nat_le 2) alter)
+    ∷ (codes "TS.ADD", form (nat_le 4) add)
+    ∷ (codes "TS.MADD", list_form by_threes madd)
+    ∷ (codes "TS.INCRBY", form (nat_le 3) (incr (λ v. v)))
+    ∷ (codes "TS.DECRBY", form (nat_le 3) (incr neg_ℤ))
+    ∷ []
+
+-- what so many words say in a form
+abbrev pub by_form : Option Form → ℕ → List Word → Result Command Fault
+by_form None n words = Err UnknownCommand
+by_form (Some f) n words = if f.words n then f.says words else Err Arity
+
+-- The command that the words of a request say, or the first fault in them.
+abbrev pub command : Request → Result Command Fault
+command [] = Err UnknownCommand
+command (name ∷ words) = by_form (named commands name) (suc (length words)) words
+
+abbrev pub lists_by_form : Option Form → ℕ → Bool
+lists_by_form None n = false
+lists_by_form (Some f) n = f.words n && f.lists
+
+-- whether words may want memory: a command of their name and number makes a list
+abbrev pub makes_list : Request → Bool
+makes_list [] = false
+makes_list (name ∷ words) = lists_by_form (named commands name) (suc (length words))
+
+-- ---- the clock
+
+-- whether a time is the clock's
+abbrev pub is_clock : At → Bool
+is_clock Clock = true
+is_clock (Time t) = false
+
+abbrev pub is_clock_at : Result At Fault → Bool
+is_clock_at (Ok at) = is_clock at
+is_clock_at (Err fault) = false
+
+abbrev pub any_clock : List Triple → Bool
+any_clock [] = false
+any_clock (t ∷ ts) = if is_clock_at t.at then true else any_clock ts
+
+-- Whether a command needs a reading of the clock.
+abbrev pub needs_clock : Command → Bool
+needs_clock (Add key at value on spec) = is_clock at
+needs_clock (Madd triples) = any_clock triples
+needs_clock (Incr key change at spec) = is_clock at
+needs_clock _ = false

@@ -1,0 +1,168 @@
+-- The options of commands: their words, and what they say of a series and of a sample.
+use Rattle.std.specs.Prelude.{◌≡◌, ◌≤◌, ℕ, zero, suc, ◌%◌, Bool, ◌&&◌, ◌==◌, nat_le, if◌then◌else◌, ℤ, List, [], ◌∷◌, codes, Option, None, Some, is_some, ok_or, unwrap_or, Result, Ok, Err}
+use Rattle.ts_spec.specs.declared.series.Policy.{Policy}
+use Rattle.ts_spec.specs.declared.series.Policy.TheVariants.{Block}
+use Rattle.ts_spec.specs.declared.series.Encoding.{Encoding}
+use Rattle.ts_spec.specs.declared.series.Encoding.TheVariants.{Compressed}
+use Rattle.ts_spec.specs.declared.command.At.{At}
+use Rattle.ts_spec.specs.declared.command.At.TheVariants.{Clock, Time}
+use Rattle.ts_spec.specs.declared.value.ValueFault.{ValueFault}
+use Rattle.ts_spec.specs.Sample.{MAX_TIME}
+use Rattle.ts_spec.specs.Names.{Table, named, policies, encodings}
+use Rattle.ts_spec.specs.Number.{number}
+use Rattle.ts_spec.specs.Value.{value}
+use Rattle.std.specs.Str.{bytes_eq}
+use Rattle.ts_spec.specs.Command.{Spec, Change}
+use Rattle.ts_spec.specs.Refusal.{Fault, BadTimestamp, BadValue, BadOption, RepeatedOption, BadChunkSize, BadPolicy, BadEncoding}
+
+-- a word is a list of bytes
+abbrev pub Word : Type 0
+Word = List ℕ
+
+-- what is read next, unless a fault was met
+abbrev pub and_then : {X Y : Type 0} → Result X Fault → (X → Result Y Fault) → Result Y Fault
+and_then (Err fault) next = Err fault
+and_then (Ok x) next = next x
+
+-- ---- single words
+
+-- a time that a command names is at most the greatest time
+abbrev pub IsTime : At → Type 0
+IsTime at = (t : ℕ) → at ≡ Time t → t ≤ MAX_TIME
+
+-- a time
+unfoldable pub time_word : Word → Result ℕ Fault
+time_word word = ok_or (number word) BadTimestamp
+
+-- a time, or `*` for the clock's
+unfoldable pub at_word : Word → Result At Fault
+at_word word = if bytes_eq word (codes "*") then Ok Clock else and_then (time_word word) (λ t. Ok (Time t))
+
+abbrev pub value_of : Result ℤ ValueFault → Result ℤ Fault
+value_of (Ok v) = Ok v
+value_of (Err fault) = Err (BadValue fault)
+
+-- a value
+unfoldable pub value_word : Word → Result ℤ Fault
+value_word word = value_of (value word)
+
+-- a retention in milliseconds
+unfoldable pub retention_word : Word → Result ℕ Fault
+retention_word word = ok_or (number word) BadOption
+
+-- a chunk may have so many bytes
+abbrev pub IsChunkSize : ℕ → Type 0
+IsChunkSize n = (48 ≤ n) × (n ≤ 1048576) × (n % 8 ≡ 0)
+
+-- whether it may
+abbrev pub is_chunk_size : ℕ → Bool
+is_chunk_size n = nat_le 48 n && nat_le n 1048576 && (n % 8 == 0)
+
+-- the bytes of a chunk
+unfoldable pub chunk_size_word : Word → Result ℕ Fault
+chunk_size_word word = and_then (ok_or (number word) BadChunkSize) (λ n. if is_chunk_size n then Ok n else Err BadChunkSize)
+
+unfoldable pub policy_word : Word → Result Policy Fault
+policy_word word = ok_or (named policies word) BadPolicy
+
+unfoldable pub encoding_word : Word → Result Encoding Fault
+encoding_word word = ok_or (named encodings word) BadEncoding
+
+-- ---- options
+
+-- what the options of a command have said so far
+pub record Given : Type 0 where
+  pub retention : Option ℕ
+  pub encoding : Option Encoding
+  pub chunk_size : Option ℕ
+  pub policy : Option Policy
+  -- the policy of this write alone
+  pub on : Option Policy
+  pub at : Option At
+
+abbrev pub nothing : Given
+nothing = record { retention = None; encoding = None; chunk_size = None; policy = None; on = None; at = None }
+
+-- An option: whether it stood before, how many of the words after it are its own, and what these say.
+pub record Setting : Type 0 where
+  pub stood : Given → Bool
+  pub size : ℕ
+  pub says : List Word → Given → Result Given Fault
+
+-- an option with one word of its own
+abbrev pub says_one : (Word → Given → Result Given Fault) → List Word → Given → Result Given Fault
+says_one read [] given = Err BadOption
+says_one read (word ∷ words) given = read word given
+
+abbrev pub one_word : (Given → Bool) → (Word → Given → Result Given Fault) → Setting
+one_word stood read = record { stood = stood; size = 1; says = says_one read }
+
+abbrev pub retention : Setting
+retention = one_word (λ given. is_some given.retention) (λ word given. and_then (retention_word word) (λ n. Ok (record given { retention = Some n })))
+
+abbrev pub encoding : Setting
+encoding = one_word (λ given. is_some given.encoding) (λ word given. and_then (encoding_word word) (λ e. Ok (record given { encoding = Some e })))
+
+abbrev pub chunk_size : Setting
+chunk_size = one_word (λ given. is_some given.chunk_size) (λ word given. and_then (chunk_size_word word) (λ n. Ok (record given { chunk_size = Some n })))
+
+abbrev pub duplicate_policy : Setting
+duplicate_policy = one_word (λ given. is_some given.policy) (λ word given. and_then (policy_word word) (λ p. Ok (record given { policy = Some p })))
+
+abbrev pub on_duplicate : Setting
+on_duplicate = one_word (λ given. is_some given.on) (λ word given. and_then (policy_word word) (λ p. Ok (record given { on = Some p })))
+
+abbrev pub timestamp : Setting
+timestamp = one_word (λ given. is_some given.at) (λ word given. and_then (at_word word) (λ at. Ok (record given { at = Some at })))
+
+-- the option that a word names among those that are known, unless it stood before
+abbrev pub new_setting : Given → Option Setting → Result Setting Fault
+new_setting given None = Err BadOption
+new_setting given (Some setting) = if setting.stood given then Err RepeatedOption else Ok setting
+
+-- What the options from here on say, after so many words that are the last option's own.
+abbrev pub options : Table Setting → Given → (own : ℕ) → List Word → Result Given Fault
+options known given own [] = Ok given
+options known given (suc own) (word ∷ words) = options known given own words
+options known given zero (word ∷ words) =
+    and_then (new_setting given (named known word)) (λ setting. and_then (setting.says words given) (λ more. options known more setting.size words))
+
+-- the options of a new series
+unfoldable pub series_options : Table Setting
+series_options =
+    (codes "RETENTION", retention)
+    ∷ (codes "ENCODING", encoding)
+    ∷ (codes "CHUNK_SIZE", chunk_size)
+    ∷ (codes "DUPLICATE_POLICY", duplicate_policy)
+    ∷ []
+
+-- the options of a series that is there: its encoding stays
+unfoldable pub alter_options : Table Setting
+alter_options =
+    (codes "RETENTION", retention)
+    ∷ (codes "CHUNK_SIZE", chunk_size)
+    ∷ (codes "DUPLICATE_POLICY", duplicate_policy)
+    ∷ []
+
+unfoldable pub add_options : Table Setting
+add_options = (codes "ON_DUPLICATE", on_duplicate) ∷ series_options
+
+unfoldable pub incr_options : Table Setting
+incr_options = (codes "TIMESTAMP", timestamp) ∷ series_options
+
+-- what a new series is made with: where nothing is said, it keeps samples for ever, in packed chunks of 4096 bytes, and refuses a repeated time
+abbrev pub spec : Given → Spec
+spec given =
+    record {
+      options = record {
+        retention = unwrap_or given.retention 0;
+        encoding = unwrap_or given.encoding Compressed;
+        chunk_size = unwrap_or given.chunk_size 4096;
+        policy = unwrap_or given.policy Block;
+      };
+      labels = [];
+    }
+
+-- what a series gets anew
+abbrev pub change : Given → Change
+change given = record { retention = given.retention; chunk_size = given.chunk_size; policy = given.policy; labels = None }

@@ -1,0 +1,87 @@
+-- The text of a reply in RESP2, and the text of a fault in a stream of requests.
+use Rattle.std.specs.Prelude.{◌≢◌, ℕ, suc, ◌^◌, ◌<◌, ℤ, unsigned_abs, List, [], ◌∷◌, ◌++◌, length, codes, Option, Some, None}
+use Rattle.std.specs.Fmt.{decimal, signed_decimal}
+use Rattle.ts_spec.specs.Value.{shown_value}
+use Rattle.ts_spec.specs.declared.wire.Kind.{Kind}
+use Rattle.ts_spec.specs.declared.wire.Kind.TheVariants as kind
+
+mutual
+  -- A reply. A value is a number of millionths, or none.
+  pub data Reply : Type 0 where
+    Simple : List ℕ → Reply
+    Error : List ℕ → Reply
+    Int : ℤ → Reply
+    Value : Option ℤ → Reply
+    Bulk : List ℕ → Reply
+    Nil : Reply
+    Array : Replies → Reply
+
+  pub data Replies : Type 0 where
+    Empty : Replies
+    Item : Reply → Replies → Replies
+
+-- how many replies there are
+abbrev pub count_of : Replies → ℕ
+count_of Empty = 0
+count_of (Item reply replies) = suc (count_of replies)
+
+-- a line ends with CRLF
+abbrev pub CRLF : List ℕ
+CRLF = 13 ∷ 10 ∷ []
+
+-- a line that a byte begins
+abbrev pub line : ℕ → List ℕ → List ℕ
+line first text = first ∷ text ++ CRLF
+
+-- a value's text, and `NaN` where there is none
+abbrev pub shown_cell : Option ℤ → List ℕ
+shown_cell None = codes "NaN"
+shown_cell (Some millionths) = shown_value millionths
+
+-- the text of a reply: `+`, `-`, `:`, `$` or `*`, and the rest by its kind
+abbrev mutual
+  pub text : Reply → List ℕ
+  text (Simple words) = line 43 words
+  text (Error words) = line 45 words
+  text (Int number) = line 58 (signed_decimal number)
+  text (Value cell) = line 43 (shown_cell cell)
+  text (Bulk bytes) = line 36 (decimal (length bytes)) ++ bytes ++ CRLF
+  text Nil = line 36 (codes "-1")
+  text (Array replies) = line 42 (decimal (count_of replies)) ++ texts replies
+
+  -- the texts of replies, one after another
+  pub texts : Replies → List ℕ
+  texts Empty = []
+  texts (Item reply replies) = text reply ++ texts replies
+
+-- a text has no CR
+abbrev pub IsOneLine : List ℕ → Type 0
+IsOneLine [] = Unit {0}
+IsOneLine (byte ∷ bytes) = (byte ≢ 13) × IsOneLine bytes
+
+-- what every reply of the server keeps: lines have no CR, and lengths and numbers fit 64 bits
+abbrev mutual
+  pub IsPlain : Reply → Type 0
+  IsPlain (Simple words) = IsOneLine words
+  IsPlain (Error words) = IsOneLine words
+  IsPlain (Int number) = unsigned_abs number < 2 ^ 64
+  IsPlain (Value cell) = Unit {0}
+  IsPlain (Bulk bytes) = length bytes < 2 ^ 64
+  IsPlain Nil = Unit {0}
+  IsPlain (Array replies) = (count_of replies < 2 ^ 64) × ArePlain replies
+
+  pub ArePlain : Replies → Type 0
+  ArePlain Empty = Unit {0}
+  ArePlain (Item reply replies) = IsPlain reply × ArePlain replies
+
+-- what is said of a fault
+abbrev pub fault_words : Kind → List ℕ
+fault_words kind.Multibulk = codes "ERR Protocol error: invalid multibulk length"
+fault_words kind.Bulk = codes "ERR Protocol error: invalid bulk length"
+fault_words kind.Dollar = codes "ERR Protocol error: expected '$'"
+fault_words kind.Crlf = codes "ERR Protocol error: expected CRLF"
+fault_words kind.TooLarge = codes "ERR Protocol error: request too large"
+
+-- the error reply after a fault
+abbrev pub fault_text : Kind → List ℕ
+fault_text kind = text (Error (fault_words kind))

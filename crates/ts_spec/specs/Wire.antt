@@ -1,0 +1,183 @@
+-- The request grammar of RESP2, over the whole list of bytes, with the place of each request's end and of each fault.
+-- A stream is read byte by byte. The first byte that can't continue a stream of requests breaks it, at that byte's place.
+use Rattle.std.specs.Prelude.{ℕ, zero, suc, ◌+◌, ◌-◌, ◌*◌, Bool, true, false, ◌&&◌, ◌==◌, nat_le, if◌then◌else◌, List, [], ◌∷◌, ◌++◌}
+use Rattle.ts_spec.specs.declared.wire.Kind.{Kind}
+use Rattle.ts_spec.specs.declared.wire.Kind.TheVariants.{Multibulk, Bulk, Dollar, Crlf, TooLarge}
+use Rattle.ts_spec.specs.declared.wire.WireLimits.{WireLimits}
+
+-- a request is a list of words, a word a list of bytes
+abbrev pub Request : Type 0
+Request = List (List ℕ)
+
+-- A stream: its requests that have words, each with the place after it, and then how it goes on.
+pub data Stream : Type 0 where
+  Then : Request → ℕ → Stream → Stream
+  -- it ends between two requests
+  Ended : Stream
+  -- it ends inside the request that begins at this place
+  Inside : ℕ → Stream
+  -- the byte at this place can't continue it
+  Broken : Kind → ℕ → Stream
+
+-- the bytes that the grammar names
+abbrev pub STAR : ℕ
+STAR = 42
+
+abbrev pub DOLLAR : ℕ
+DOLLAR = 36
+
+abbrev pub MINUS : ℕ
+MINUS = 45
+
+abbrev pub RETURN : ℕ
+RETURN = 13
+
+abbrev pub FEED : ℕ
+FEED = 10
+
+abbrev pub is_digit : ℕ → Bool
+is_digit byte = nat_le 48 byte && nat_le byte 57
+
+abbrev pub digit_of : ℕ → ℕ
+digit_of byte = byte - 48
+
+-- how far a line with a number has come
+pub data Line : Type 0 where
+  Blank : Line
+  Zero : Line
+  Number : ℕ → Line
+  Minus : Line
+  MinusOne : Line
+
+-- what the next byte makes of it: the line goes on, its return has come, or no number begins so
+pub data LineMove : Type 0 where
+  Goes : Line → LineMove
+  Returns : ℕ → LineMove
+  Wrong : LineMove
+
+-- one more digit, if the number stays within the limit
+abbrev pub with_digit : ℕ → ℕ → ℕ → LineMove
+with_digit limit number byte =
+    if is_digit byte && nat_le (10 * number + digit_of byte) limit then Goes (Number (10 * number + digit_of byte)) else Wrong
+
+-- A number is `0`, or digits that do not begin with 0. Where negative is set, `-1` stands for 0 too.
+abbrev pub line_step : (limit : ℕ) (negative : Bool) → Line → ℕ → LineMove
+line_step limit negative Blank byte =
+    if byte == 48 then Goes Zero else (if negative && (byte == MINUS) then Goes Minus else with_digit limit 0 byte)
+line_step limit negative Zero byte = if byte == RETURN then Returns 0 else Wrong
+line_step limit negative (Number n) byte = if byte == RETURN then Returns n else with_digit limit n byte
+line_step limit negative Minus byte = if byte == 49 then Goes MinusOne else Wrong
+line_step limit negative MinusOne byte = if byte == RETURN then Returns 0 else Wrong
+
+-- a request so far: its whole words, how many words come after the one that comes next, and the bytes that they may still take
+pub record Partial : Type 0 where
+  pub words : Request
+  pub later : ℕ
+  pub room : ℕ
+
+-- what may come next
+pub data Mode : Type 0 where
+  -- `*`
+  Start : Mode
+  -- the number of words, and its `\n`
+  Count : Line → Mode
+  CountFeed : ℕ → Mode
+  -- `$`
+  Mark : Partial → Mode
+  -- the length of a word, and its `\n`
+  Length : Partial → Line → Mode
+  LengthFeed : Partial → ℕ → Mode
+  -- so many bytes of the word of which these have come
+  Body : Partial → ℕ → List ℕ → Mode
+  -- `\r` and `\n` after the word
+  WordReturn : Partial → List ℕ → Mode
+  WordFeed : Partial → List ℕ → Mode
+
+-- what a byte does
+pub data Move : Type 0 where
+  Goto : Mode → Move
+  -- the request is whole
+  Whole : Request → Move
+  Fault : Kind → Move
+
+abbrev pub want : ℕ → ℕ → Kind → Move → Move
+want byte wanted kind move = if byte == wanted then move else Fault kind
+
+-- after the line that says how many words come
+abbrev pub after_count : WireLimits → ℕ → Move
+after_count limits zero = Whole []
+after_count limits (suc later) = Goto (Mark (record { words = []; later = later; room = limits.request_bytes }))
+
+-- after the line that says how long the next word is
+abbrev pub after_length : Partial → ℕ → Mode
+after_length so_far zero = WordReturn so_far []
+after_length so_far (suc n) = Body so_far (suc n) []
+
+-- after a whole word
+abbrev pub after_word : Request → ℕ → ℕ → Move
+after_word words zero room = Whole words
+after_word words (suc later) room = Goto (Mark (record { words = words; later = later; room = room }))
+
+abbrev pub on_count : LineMove → Move
+on_count (Goes line) = Goto (Count line)
+on_count (Returns n) = Goto (CountFeed n)
+on_count Wrong = Fault Multibulk
+
+abbrev pub on_length : Partial → LineMove → Move
+on_length so_far (Goes line) = Goto (Length so_far line)
+on_length so_far (Returns n) =
+    if nat_le n so_far.room then Goto (LengthFeed (record { words = so_far.words; later = so_far.later; room = so_far.room - n }) n) else Fault TooLarge
+on_length so_far Wrong = Fault Bulk
+
+-- a byte of a word of which n more come
+abbrev pub on_body : Partial → ℕ → List ℕ → Mode
+on_body so_far zero bytes = WordReturn so_far bytes
+on_body so_far (suc n) bytes = Body so_far (suc n) bytes
+
+abbrev pub move : WireLimits → Mode → ℕ → Move
+move limits Start byte = want byte STAR Multibulk (Goto (Count Blank))
+move limits (Count line) byte = on_count (line_step limits.words true line byte)
+move limits (CountFeed n) byte = want byte FEED Crlf (after_count limits n)
+move limits (Mark so_far) byte = want byte DOLLAR Dollar (Goto (Length so_far Blank))
+move limits (Length so_far line) byte = on_length so_far (line_step limits.word_bytes false line byte)
+move limits (LengthFeed so_far n) byte = want byte FEED Crlf (Goto (after_length so_far n))
+move limits (Body so_far n bytes) byte = Goto (on_body so_far (n - 1) (bytes ++ byte ∷ []))
+move limits (WordReturn so_far bytes) byte = want byte RETURN Crlf (Goto (WordFeed so_far bytes))
+move limits (WordFeed so_far bytes) byte = want byte FEED Crlf (after_word (so_far.words ++ bytes ∷ []) so_far.later so_far.room)
+
+-- how a stream goes on at its end, inside a request that begins at this place or before one
+abbrev pub at_end : Mode → ℕ → Stream
+at_end Start begin = Ended
+at_end _ begin = Inside begin
+
+-- A request without words is passed over.
+abbrev pub then_request : Request → ℕ → Stream → Stream
+then_request [] place rest = rest
+then_request (word ∷ words) place rest = Then (word ∷ words) place rest
+
+-- what a byte at place makes of the stream: on is the stream of the bytes after it, in a request that began there
+abbrev pub after_move : Move → (place begin : ℕ) → (ℕ → Mode → Stream) → Stream
+after_move (Goto next) place begin on = on begin next
+after_move (Whole request) place begin on = then_request request (place + 1) (on (place + 1) Start)
+after_move (Fault kind) place begin on = Broken kind place
+
+-- The stream that the bytes make, the first of which stands at place, in a request that began at begin.
+unfoldable pub read_on : WireLimits → (place begin : ℕ) → Mode → List ℕ → Stream
+read_on limits place begin mode [] = at_end mode begin
+read_on limits place begin mode (byte ∷ bytes) =
+    after_move (move limits mode byte) place begin (λ from next. read_on limits (place + 1) from next bytes)
+
+-- the stream of these bytes, the first of which stands at place
+abbrev pub stream_at : WireLimits → ℕ → List ℕ → Stream
+stream_at limits place bytes = read_on limits place place Start bytes
+
+-- the requests of a stream, and how it goes on after them
+abbrev pub requests_of : Stream → List Request
+requests_of (Then request place rest) = request ∷ requests_of rest
+requests_of Ended = []
+requests_of (Inside place) = []
+requests_of (Broken kind place) = []
+
+abbrev pub ending_of : Stream → Stream
+ending_of (Then request place rest) = ending_of rest
+ending_of ended = ended

@@ -1,0 +1,21 @@
+//! What the server means: every definition that the contracts of more than one crate cite, and the plain
+//! types that a definition has to name. It stands on nothing and runs nothing.
+#![tactic(auto)]
+
+mod bucket;
+mod command;
+mod laws;
+mod limits;
+mod series;
+mod text;
+mod value;
+mod wire;
+
+pub use bucket::{Aggregator, Stamp};
+pub use command::At;
+pub use laws::{one_bucket_shows_at_its_start, settling_twice_is_settling_once};
+pub use limits::Limits;
+pub use series::{Encoding, Merge, Options, Policy};
+pub use text::reply_texts_show_their_ends;
+pub use value::ValueFault;
+pub use wire::{Kind, WireLimits, encoded_requests_read_back};
