@@ -1,0 +1,33 @@
+-- What the adapters over std's readers and writers hold.
+use Rattle.std.specs.Prelude.{◌≡◌, ℕ, suc, ◌-◌, ◌^◌, min, List, [], ◌∷◌, Option, None, Some}
+use Rattle.ts_io.specs.declared.std_sink.StdSink.{StdSink}
+use Rattle.ts_io.specs.declared.std_source.StdSource.{StdSource}
+
+-- the reader that a source reads from, and how many of its reads failed
+abbrev pub reader_of : {R : Type 0} → StdSource R → R
+reader_of s = s.inner
+
+abbrev pub failed_reads_of : {R : Type 0} → StdSource R → ℕ
+failed_reads_of s = s.faults
+
+-- the writer that a sink writes to, how many writes failed, and how many bytes it took and did not flush
+abbrev pub writer_of : {W : Type 0} → StdSink W → W
+writer_of s = s.inner
+
+abbrev pub failed_writes_of : {W : Type 0} → StdSink W → ℕ
+failed_writes_of s = s.faults
+
+abbrev pub unacknowledged_of : {W : Type 0} → StdSink W → ℕ
+unacknowledged_of s = s.unacknowledged
+
+-- the list w stands in the other, in order, with so many more bytes among its own
+pub data IsAmong : List ℕ → List ℕ → ℕ → Type 0 where
+  none : IsAmong [] [] 0
+  ours : {b : ℕ} {w all : List ℕ} {more : ℕ} → IsAmong w all more → IsAmong (b ∷ w) (b ∷ all) more
+  other : {b : ℕ} {w all : List ℕ} {more : ℕ} → IsAmong w all more → IsAmong w (b ∷ all) (suc more)
+
+-- the writer, where it tells its bytes, holds w, and among its bytes as many more as it took and did not flush:
+-- a count that stops at the greatest u64
+abbrev pub HoldsBut : Option (List ℕ) → ℕ → List ℕ → Type 0
+HoldsBut None missed w = ⊥
+HoldsBut (Some all) missed w = (more : ℕ) × IsAmong w all more × (missed ≡ min more (2 ^ 64 - 1))

@@ -1,0 +1,7 @@
+pub mod Adapters
+pub mod Calls
+pub mod Causes
+pub mod Clocks
+pub mod Links
+pub mod Sinks
+pub mod Sources

@@ -1,0 +1,14 @@
+ghost use Rattle.std.specs.Prelude.{◌≡◌, ℕ, List, Option, IfSome};
+ghost use Rattle.std.specs.Option.{option_map};
+ghost use Rattle.ts_io.specs.Clocks.{reading_of, readings_after};
+
+/// What tells the time.
+pub trait Clock {
+    /// The readings to come, where the clock tells them.
+    ghost readings: { Self → Option (List ℕ) };
+
+    /// The time, in milliseconds since 1970. It can't fail.
+    fn now(&mut self) -> u64
+        ensures reading { IfSome (readings self.old) (λ rs. result ≡ reading_of rs) }
+        ensures after { readings self.new ≡ option_map readings_after (readings self.old) };
+}

@@ -1,0 +1,28 @@
+ghost use Rattle.std.specs.Prelude.{◌≡◌, ◌≤◌, Some, codes};
+ghost use Rattle.ts_io.specs.Causes.{counted};
+
+use std::error::Error;
+use std::fmt;
+
+/// A call on the outside failed, and the count of faults of what it was asked of rose.
+#[derive(Clone, Copy, Debug, PartialEq, Eq)]
+pub struct Failed;
+
+impl fmt::Display for Failed {
+    ghost output = { λ _. Some (codes "reading, writing or listening failed") };
+
+    fn fmt<W: fmt::Write>(&self, f: &mut fmt::Formatter<W>) -> fmt::Result {
+        f.write_str("reading, writing or listening failed")
+    }
+}
+
+impl Error for Failed {}
+
+/// Counts a failure. The count stops at the greatest `u64`.
+pub(crate) fn count_failure(faults: &mut u64) -> Failed
+    ensures counted { faults.new ≡ counted faults.old }
+    ensures later { faults.old ≤ faults.new }
+{
+    *faults = faults.saturating_add(1);
+    Failed
+}

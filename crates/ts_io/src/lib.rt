@@ -1,0 +1,37 @@
+//! The outside: where bytes come from, where they go, the clock and the listener, as traits that count their
+//! faults; devices in memory, whose failures are chosen beforehand; and adapters over std's readers, writers and
+//! clock.
+//!
+//! A count of calls or of faults is kept in a `u64` and stops at 18446744073709551615. The calls of a device in
+//! memory are numbered from 1 on, so each call from that one on has that number.
+#![tactic(auto)]
+
+mod clock;
+mod failed;
+mod listener;
+mod mem_clock;
+mod mem_listener;
+mod mem_sink;
+mod mem_source;
+mod schedule;
+mod sink;
+mod source;
+mod std_sink;
+mod std_source;
+mod system_clock;
+
+pub use clock::Clock;
+pub use failed::Failed;
+pub use listener::{Ends, Listener};
+pub use mem_clock::MemClock;
+pub use mem_listener::MemListener;
+pub use mem_sink::MemSink;
+pub use mem_source::MemSource;
+pub use sink::{Sink, write_all_counted};
+pub use source::Source;
+pub use std_sink::StdSink;
+pub use std_source::StdSource;
+pub use system_clock::SystemClock;
+
+#[cfg(test)]
+mod tests;

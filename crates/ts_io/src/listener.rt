@@ -1,0 +1,56 @@
+ghost use Rattle.std.specs.Prelude.{◌≡◌, ◌≤◌, ℕ, List, Option, Bool, true, false, is_ok, IfOk, OnErr};
+ghost use Rattle.ts_io.specs.Causes.{HasCause};
+ghost use Rattle.ts_io.specs.Links.{TakesFront, AddsAtEnd};
+ghost use Rattle.ts_io.specs.declared.listener.Ends.{Ends};
+
+use crate::{Failed, Sink, Source};
+
+/// Both ends of a link: what is read from it, and what is written to it.
+#[derive(Drop)]
+pub struct Ends<I, O> {
+    pub input: I,
+    pub out: O,
+}
+
+/// What hands out links, one at a time.
+pub trait Listener {
+    type In: Source;
+
+    type Out: Sink;
+
+    /// How often a call has failed: a count that never falls.
+    ghost faults: { Self → ℕ };
+
+    /// The links to come, where the listener tells them.
+    ghost coming: { Self → Option (List (Ends Self.In Self.Out)) };
+
+    /// The closed links as they were handed back, in that order, where the listener tells them.
+    ghost closed: { Self → Option (List (Ends Self.In Self.Out)) };
+
+    /// Whether a link is handed out.
+    ghost is_out: { Self → Bool };
+
+    /// Begins to listen at this address.
+    fn open(&mut self, address: &str) -> Result<(), Failed>
+        ensures coming { coming self.new ≡ coming self.old }
+        ensures closed { closed self.new ≡ closed self.old }
+        ensures out { is_out self.new ≡ is_out self.old }
+        ensures cause { HasCause (faults self.old) (faults self.new) result };
+
+    /// Hands out the next link.
+    fn accept(&mut self) -> Result<Ends<Self::In, Self::Out>, Failed>
+        requires { is_out self.old ≡ false }
+        ensures link { IfOk result (TakesFront (coming self.old) (coming self.new)) }
+        ensures failed { OnErr result (coming self.new ≡ coming self.old) }
+        ensures closed { closed self.new ≡ closed self.old }
+        ensures out { is_out self.new ≡ is_ok result }
+        ensures cause { HasCause (faults self.old) (faults self.new) result };
+
+    /// Takes the link back. It can't fail.
+    fn close(&mut self, ends: Ends<Self::In, Self::Out>)
+        requires { is_out self.old ≡ true }
+        ensures coming { coming self.new ≡ coming self.old }
+        ensures closed { AddsAtEnd (closed self.old) (closed self.new) ends }
+        ensures out { is_out self.new ≡ false }
+        ensures later { faults self.old ≤ faults self.new };
+}

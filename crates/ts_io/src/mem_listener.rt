@@ -1,0 +1,131 @@
+ghost use Rattle.std.specs.Prelude.{◌≡◌, ◌≤◌, ◌⊎◌, [], ◌∷◌, ◌++◌, Some, true, false, IfOk, OnErr, IsErr, Contains, is_ok, is_err, ◌↔◌};
+ghost use Rattle.ts_io.specs.Causes.{HasCause};
+
+use crate::schedule::Schedule;
+use crate::{Ends, Failed, Listener, MemSink, MemSource};
+use std::alloc::{AllocError, Global};
+use std::collections::VecDeque;
+use std::marker::Model;
+
+/// A listener with its links in memory. The calls of `open` and `accept` with chosen numbers fail.
+#[derive(Drop)]
+pub struct MemListener {
+    coming: VecDeque<Ends<MemSource, MemSink>>,
+    closed: Vec<Ends<MemSource, MemSink>>,
+    is_out: bool,
+    schedule: Schedule,
+}
+
+impl Model for MemListener {
+    ghost use Rattle.std.specs.Prelude.{◌+◌, ◌≤◌, if◌then◌else◌, vec_len, vec_capacity};
+    ghost use Rattle.std.specs.VecDeque.{deque_len};
+    ghost use Rattle.ts_io.specs.Links.{MemListenerState};
+
+    ghost Value = { MemListenerState };
+
+    ghost view = { λ s. record {
+      coming = s.coming.items;
+      closed = s.closed.items;
+      is_out = s.is_out;
+      calls = s.schedule;
+    } };
+
+    // The closed links have room for all others.
+    ghost invariant = { λ s. vec_len s.closed + deque_len s.coming + (if s.is_out then 1 else 0)
+        ≤ vec_capacity s.closed };
+}
+
+impl MemListener {
+    /// A listener that hands out these links in order. The calls of `open` and `accept` are counted together, from
+    /// 1, and those whose numbers stand in `fail` fail. It takes here the memory that closing the links needs.
+    pub fn new(
+        alloc: Global,
+        links: Vec<Ends<MemSource, MemSink>>,
+        fail: Vec<u64>,
+    ) -> Result<Self, AllocError>
+        ensures coming { IfOk result (λ s. s.coming ≡ links.items) }
+        ensures closed { IfOk result (λ s. s.closed ≡ []) }
+        ensures out { IfOk result (λ s. s.is_out ≡ false) }
+        ensures calls { IfOk result (λ s.
+            s.calls ≡ record { to_fail = fail.items; made = 0; failed = 0 }) }
+    {
+        Ok(MemListener {
+            closed: Vec::with_capacity(alloc, links.len())?,
+            coming: VecDeque::from_vec(links),
+            is_out: false,
+            schedule: Schedule::new(fail),
+        })
+    }
+
+    /// The closed links, as they were handed back.
+    pub fn done(&self) -> &[Ends<MemSource, MemSink>]
+        ensures { result.now ≡ self.now.closed }
+    {
+        &self.closed
+    }
+}
+
+impl Listener for MemListener {
+    type In = MemSource;
+
+    type Out = MemSink;
+
+    ghost use Rattle.ts_io.specs.Calls.{next_number, after_call};
+
+    ghost faults = { λ s. s.calls.failed };
+
+    ghost coming = { λ s. Some s.coming };
+
+    ghost closed = { λ s. Some s.closed };
+
+    ghost is_out = { λ s. s.is_out };
+
+    /// It listens at no address.
+    fn open(&mut self, _address: &str) -> Result<(), Failed>
+        ensures coming { self.new.coming ≡ self.old.coming }
+        ensures closed { self.new.closed ≡ self.old.closed }
+        ensures out { self.new.is_out ≡ self.old.is_out }
+        ensures cause { HasCause self.old.calls.failed self.new.calls.failed result }
+        ensures calls { self.new.calls ≡ after_call self.old.calls (is_err result) }
+        ensures fails { IsErr result ↔ Contains self.old.calls.to_fail (next_number self.old.calls) }
+    {
+        self.schedule.call()
+    }
+
+    /// Without a link left it fails, and this is counted.
+    fn accept(&mut self) -> Result<Ends<MemSource, MemSink>, Failed>
+        requires { self.old.is_out ≡ false }
+        ensures link { IfOk result (λ ends. self.old.coming ≡ ends ∷ self.new.coming) }
+        ensures failed { OnErr result (self.new.coming ≡ self.old.coming) }
+        ensures closed { self.new.closed ≡ self.old.closed }
+        ensures out { self.new.is_out ≡ is_ok result }
+        ensures cause { HasCause self.old.calls.failed self.new.calls.failed result }
+        ensures calls { self.new.calls ≡ after_call self.old.calls (is_err result) }
+
+        // It fails at these numbers and without a link left, and nowhere else.
+        ensures chosen { Contains self.old.calls.to_fail (next_number self.old.calls) → IsErr result }
+        ensures empty { self.old.coming ≡ [] → IsErr result }
+        ensures fails { IsErr result →
+            Contains self.old.calls.to_fail (next_number self.old.calls) ⊎ (self.old.coming ≡ []) }
+    {
+        self.schedule.call()?;
+        match self.coming.pop_front() {
+            Some(ends) => {
+                self.is_out = true;
+                Ok(ends)
+            }
+            None => Err(self.schedule.fault()),
+        }
+    }
+
+    fn close(&mut self, ends: Ends<MemSource, MemSink>)
+        requires { self.old.is_out ≡ true }
+        ensures coming { self.new.coming ≡ self.old.coming }
+        ensures closed { self.new.closed ≡ self.old.closed ++ ends ∷ [] }
+        ensures out { self.new.is_out ≡ false }
+        ensures calls { self.new.calls ≡ self.old.calls }
+    {
+        self.is_out = false;
+        self.closed.push_reserved(ends);
+    }
+}

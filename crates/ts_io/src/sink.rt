@@ -1,0 +1,35 @@
+ghost use Rattle.std.specs.Prelude.{ℕ, ◌<◌, List, length, IfOk, OnOk, OnErr};
+ghost use Rattle.std.specs.Io.{WritesAtMost};
+ghost use Rattle.ts_io.specs.Causes.{HasCause};
+ghost use Rattle.ts_io.specs.Sinks.{Grows, GrowsByFront, WriteGrows};
+
+use crate::Failed;
+
+/// What bytes are written to.
+pub trait Sink {
+    /// Whether the sink has these bytes: all that was written to it, in order. One that tells nothing has no list.
+    ghost has: { Self → List ℕ → Type 0 };
+
+    /// How often a write has failed: a count that never falls.
+    ghost faults: { Self → ℕ };
+
+    /// Writes a front of `bytes`, and says how many. A write that fails adds nothing to what the sink has.
+    fn write(&mut self, bytes: &[u8]) -> Result<usize, Failed>
+        ensures bound { WritesAtMost result bytes.now }
+        ensures progress { 0 < length bytes.now → IfOk result (λ n. 0 < n) }
+        ensures bytes { WriteGrows (has self.old) (has self.new) result bytes.now }
+        ensures cause { HasCause (faults self.old) (faults self.new) result };
+}
+
+/// Writes all of `bytes`, in as many writes as it takes. It stops at the first write that fails.
+pub fn write_all_counted<K: Sink>(sink: &mut K, bytes: &[u8]) -> Result<(), Failed>
+    ensures all { OnOk result (Grows (K.has sink.old) (K.has sink.new) bytes.now) }
+    ensures front { OnErr result (GrowsByFront (K.has sink.old) (K.has sink.new) bytes.now) }
+    ensures cause { HasCause (K.faults sink.old) (K.faults sink.new) result }
+{
+    let mut written = 0;
+    while written < bytes.len() {
+        written += sink.write(&bytes[written..])?;
+    }
+    Ok(())
+}

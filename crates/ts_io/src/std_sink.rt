@@ -1,0 +1,90 @@
+ghost use Rattle.std.specs.Prelude.{◌≡◌, ◌<◌, ◌≤◌, length, take, IfOk, IfErr, IfSome, OnOk, OnErr};
+ghost use Rattle.std.specs.Io.{WritesAtMost};
+ghost use Rattle.std.specs.Io.KnownBytes.{Appends};
+ghost use Rattle.ts_io.specs.Adapters.{HoldsBut, writer_of, failed_writes_of, unacknowledged_of};
+ghost use Rattle.ts_io.specs.Causes.{HasCause, counted};
+ghost use Rattle.ts_io.specs.Sinks.{WriteGrows};
+
+use crate::failed::count_failure;
+use crate::{Failed, Sink};
+use std::io::Write;
+
+/// A sink over a writer of std. It flushes after each write, and counts the writer's errors.
+///
+/// Where the writer takes bytes and then fails to flush them, the write has failed: these bytes may or may not
+/// arrive, and the sink counts them as not acknowledged.
+#[derive(Drop)]
+pub struct StdSink<W> {
+    inner: W,
+    faults: u64,
+    unacknowledged: u64,
+}
+
+impl<W: Write> StdSink<W> {
+    /// A sink that has what the writer holds.
+    pub fn new(inner: W) -> Self
+        ensures writer { writer_of result ≡ inner }
+        ensures has { IfSome (W.contents inner) (⟦<StdSink<W> as Sink>⟧.has result) }
+        ensures faults { failed_writes_of result ≡ 0 }
+        ensures unacknowledged { unacknowledged_of result ≡ 0 }
+    {
+        StdSink {
+            inner,
+            faults: 0,
+            unacknowledged: 0,
+        }
+    }
+
+    /// How many bytes the writer took and did not flush. The count stops at the greatest `u64`.
+    pub fn unacknowledged(&self) -> u64
+        ensures { result ≡ unacknowledged_of self.now }
+    {
+        self.unacknowledged
+    }
+}
+
+impl<W: Write> Sink for StdSink<W> {
+    ghost has = { λ s w. HoldsBut (W.contents (writer_of s)) (unacknowledged_of s) w };
+
+    ghost faults = { failed_writes_of };
+
+    fn write(&mut self, bytes: &[u8]) -> Result<usize, Failed>
+        ensures bound { WritesAtMost result bytes.now }
+        ensures progress { 0 < length bytes.now → IfOk result (λ n. 0 < n) }
+        ensures bytes { WriteGrows
+            (HoldsBut (W.contents (writer_of self.old)) (unacknowledged_of self.old))
+            (HoldsBut (W.contents (writer_of self.new)) (unacknowledged_of self.new))
+            result bytes.now }
+        ensures cause { HasCause (failed_writes_of self.old) (failed_writes_of self.new) result }
+        ensures ok { OnOk result ((failed_writes_of self.new ≡ failed_writes_of self.old)
+            × (unacknowledged_of self.new ≡ unacknowledged_of self.old)) }
+        ensures err { OnErr result (failed_writes_of self.new ≡ counted (failed_writes_of self.old)) }
+    {
+        match write_and_flush(&mut self.inner, bytes) {
+            Ok(count) => Ok(count),
+            Err(unflushed) => {
+                self.unacknowledged = self.unacknowledged.saturating_add(unflushed as u64);
+                Err(count_failure(&mut self.faults))
+            }
+        }
+    }
+}
+
+// Writes once, and flushes. An `Err` says how many bytes were written and not flushed.
+fn write_and_flush<W: Write>(writer: &mut W, bytes: &[u8]) -> Result<usize, usize>
+    ensures bound { IfOk result (λ n. n ≤ length bytes.now) }
+    ensures progress { 0 < length bytes.now → IfOk result (λ n. 0 < n) }
+    ensures flushed { IfOk result (λ n.
+        Appends (W.contents writer.old) (W.contents writer.new) (take n bytes.now)) }
+    ensures unflushed { IfErr result (λ n. (n ≤ length bytes.now)
+        × Appends (W.contents writer.old) (W.contents writer.new) (take n bytes.now)) }
+{
+    match writer.write(bytes) {
+        Ok(0) if !bytes.is_empty() => Err(0),
+        Ok(count) => match writer.flush() {
+            Ok(()) => Ok(count),
+            Err(_) => Err(count),
+        },
+        Err(_) => Err(0),
+    }
+}
