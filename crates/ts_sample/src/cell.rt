@@ -1,0 +1,10 @@
+use crate::units::Units;
+
+/// What a reply shows for a value that may not exist.
+#[derive(Clone, Copy, Debug, PartialEq, Eq)]
+pub enum Cell {
+    /// A value.
+    Number(Units),
+    /// There is no such value.
+    Nan,
+}

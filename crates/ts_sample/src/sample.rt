@@ -1,0 +1,41 @@
+use crate::units::Units;
+use std::marker::Model;
+
+/// The greatest time, in milliseconds.
+pub const MAX_TIME: u64 = 9_223_372_036_854_775_807;
+
+/// What a series holds at one time.
+#[derive(Clone, Copy, Debug, PartialEq, Eq)]
+pub struct Sample {
+    // The widest field stands first: fields lie in this order, and a sample takes 32 bytes.
+    pub value: Units,
+    /// In milliseconds, at most `MAX_TIME`.
+    pub time: u64,
+    /// How many rules were ever made on the series when the sample was last written.
+    pub made: u32,
+}
+
+impl Model for Sample {
+    ghost use Rattle.std.specs.Prelude.{◌≤◌};
+    ghost use Rattle.ts_spec.specs.Sample.{Point, MAX_TIME};
+
+    ghost Value = { Point };
+
+    ghost view = { λ s. record { time = s.time; value = s.value; made = s.made } };
+
+    ghost invariant = { λ s. s.time ≤ MAX_TIME };
+
+    ghost inverse = { λ p. record { time = p.time; value = p.value; made = p.made } };
+}
+
+impl Sample {
+    ghost use Rattle.ts_sample.specs.Sample.{IsFine};
+
+    /// Does nothing: it tells a caller the bounds that a reference hides.
+    pub fn known(&self)
+        ensures { IsFine self.now }
+    {
+        let _made = self.made;
+        let _value = self.value.get();
+    }
+}

@@ -1,0 +1,62 @@
+ghost use Rattle.std.specs.Prelude.{◌≡◌, ℤ, pos, neg_ℤ, ◌≤◌, ◌↔◌, unsigned_abs, IsSome, IfSome};
+ghost use Rattle.ts_spec.specs.Value.{bound};
+
+use std::marker::Model;
+
+/// The greatest magnitude of a value, in millionths.
+const BOUND: i128 = 1_000_000_000_000_000_000_000_000;
+
+/// A value: a whole number of millionths, from -10^24 to 10^24.
+#[derive(Clone, Copy, Debug, PartialEq, Eq, PartialOrd, Ord)]
+pub struct Units {
+    millionths: i128,
+}
+
+impl Model for Units {
+    ghost Value = { ℤ };
+
+    ghost view = { λ u. u.millionths };
+
+    ghost invariant = { λ u. unsigned_abs u.millionths ≤ bound };
+
+    ghost inverse = { λ z. record { millionths = z } };
+}
+
+impl Units {
+    /// No millionths.
+    pub const ZERO: Units = Units { millionths: 0 };
+
+    /// The greatest value.
+    pub const MAX: Units = Units { millionths: BOUND };
+
+    /// The least value.
+    pub const MIN: Units = Units { millionths: -BOUND };
+
+    /// The value of so many millionths, or `None` where that is out of range.
+    pub fn new(millionths: i128) -> Option<Units>
+        ensures valid { IsSome result ↔ (unsigned_abs millionths ≤ bound) }
+        ensures value { IfSome result (λ u. u ≡ millionths) }
+    {
+        if -BOUND <= millionths && millionths <= BOUND {
+            Some(Units { millionths })
+        } else {
+            None
+        }
+    }
+
+    /// The number of millionths.
+    pub fn get(self) -> i128
+        ensures value { result ≡ self }
+        ensures bounded { unsigned_abs result ≤ bound }
+    {
+        self.millionths
+    }
+    /// The value with the other sign. Zero stays.
+    pub fn negated(self) -> Units
+        ensures { result ≡ neg_ℤ self }
+    {
+        Units {
+            millionths: -self.millionths,
+        }
+    }
+}
