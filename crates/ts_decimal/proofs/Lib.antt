@@ -1,0 +1,13 @@
+pub mod Kept
+pub mod Nearest
+pub mod Nearness
+pub mod Quotients
+pub mod ReadBack
+pub mod Rooms
+pub mod Scaling
+pub mod Scanning
+pub mod Spelled
+pub mod Spelling
+pub mod Tables
+pub mod Texts
+pub mod Values

@@ -1,0 +1,38 @@
+-- What holds of the values of texts, whatever the code does.
+use Rattle.std.specs.Prelude.{◌≡◌, ℕ, ◌+◌, ◌-◌, ◌*◌, ◌^◌, ◌≤◌, ◌<◌, ℤ, unsigned_abs, List, ◌↔◌}
+use Rattle.std.specs.declared.option.Option.TheVariants.{None, Some}
+use Rattle.std.specs.declared.result.Result.TheVariants.{Err, Ok}
+use Rattle.ts_spec.specs.declared.value.ValueFault.TheVariants.{NotANumber, OutOfRange}
+use Rattle.ts_spec.specs.Value.{Decimal, PLACES, bound, signed, decimal, value, shown_value}
+
+-- a printed value reads back as itself
+abbrev pub ReadsBack : Type 0
+ReadsBack = (z : ℤ) → unsigned_abs z ≤ bound → value (shown_value z) ≡ Ok z
+
+-- how far two numbers are apart
+abbrev pub distance : ℕ → ℕ → ℕ
+distance a b = (a - b) + (b - a)
+
+-- a decimal in millionths is over / under
+abbrev pub over : Decimal → ℕ
+over d = d.digits * 10 ^ (d.up + PLACES)
+
+abbrev pub under : Decimal → ℕ
+under d = 10 ^ d.down
+
+-- m is a whole number of millionths that is nearest to the decimal's magnitude, and of two that are equally near the one farther from zero
+pub record IsNearest (m : ℕ) (d : Decimal) : Type 0 where
+  pub none_nearer : (k : ℕ) → distance (m * under d) (over d) ≤ distance (k * under d) (over d)
+  pub away : (k : ℕ) → distance (k * under d) (over d) ≡ distance (m * under d) (over d) → k ≤ m
+
+-- the value of a text is the nearest one, with the text's sign
+abbrev pub ValueIsNearest : Type 0
+ValueIsNearest = (text : List ℕ) (d : Decimal) (z : ℤ) → decimal text ≡ Some d → value text ≡ Ok z → IsNearest (unsigned_abs z) d × (z ≡ signed d.negative (unsigned_abs z))
+
+-- a text is out of range exactly where it is a decimal whose nearest whole number of millionths is above the bound
+abbrev pub OutOfRangeIsAbove : Type 0
+OutOfRangeIsAbove = (text : List ℕ) (d : Decimal) (m : ℕ) → decimal text ≡ Some d → IsNearest m d → (value text ≡ Err OutOfRange) ↔ (bound < m)
+
+-- a text is not a number exactly where it spells no decimal
+abbrev pub NotANumberIsNoDecimal : Type 0
+NotANumberIsNoDecimal = (text : List ℕ) → (value text ≡ Err NotANumber) ↔ (decimal text ≡ None)

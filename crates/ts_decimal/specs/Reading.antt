@@ -1,0 +1,20 @@
+-- A decimal as the code keeps it: by the first digits of its number.
+use Rattle.std.specs.Prelude.{◌≡◌, ℕ, ℤ, Bool, nat_le, unsigned_abs, if◌then◌else◌}
+use Rattle.std.specs.declared.option.Option.{Option}
+use Rattle.std.specs.declared.option.Option.TheVariants.{Some}
+use Rattle.std.specs.declared.result.Result.{Result}
+use Rattle.std.specs.declared.result.Result.TheVariants.{Err, Ok}
+use Rattle.ts_spec.specs.Value.{Decimal, bound}
+use Rattle.ts_spec.specs.declared.value.ValueFault.{ValueFault}
+use Rattle.ts_spec.specs.declared.value.ValueFault.TheVariants.{OutOfRange}
+use Rattle.ts_decimal.specs.Leading.{Leads}
+
+-- the decimal that a text spells has this sign and these powers, and its digits begin so
+pub record IsSpelled (negative : Bool) (first dropped up down : ℕ) (spelled : Option Decimal) : Type 0 where
+  pub digits : ℕ
+  pub begin : Leads first dropped digits
+  pub is : spelled ≡ Some (record { negative = negative; digits = digits; up = up; down = down })
+
+-- so many millionths as a value
+abbrev pub in_range_of : ℤ → Result ℤ ValueFault
+in_range_of z = if nat_le (unsigned_abs z) bound then Ok z else Err OutOfRange

@@ -1,0 +1,84 @@
+ghost use Rattle.std.specs.Prelude.{◌≡◌, ℕ, ◌+◌, ◌*◌, ◌^◌, ◌<◌, ◌≤◌, length};
+ghost use Rattle.ts_spec.specs.Value.{digits, after_digits, fraction, after_fraction, number_after};
+ghost use Rattle.ts_decimal.specs.Leading.{Leads};
+
+use crate::digit::split_digit;
+
+/// A digit is kept only below this number, so thirty digits are kept at most: more than a value's bound has.
+const KEPT: u128 = 100_000_000_000_000_000_000_000_000_000;
+
+/// A whole number by its first digits. So many more digits came after them.
+#[derive(Clone, Copy)]
+pub struct Leading {
+    pub first: u128,
+    pub dropped: usize,
+}
+
+impl Leading {
+    /// No digits yet.
+    pub fn new() -> Leading
+        ensures value { Leads result.first result.dropped 0 }
+        ensures none { result.dropped ≡ 0 }
+    {
+        Leading {
+            first: 0,
+            dropped: 0,
+        }
+    }
+
+    /// The number with one more digit.
+    fn with(self, digit: u8) -> Leading
+        requires digit { digit < 10 }
+        requires room { self.dropped < 1000 }
+        ensures value { (n : ℕ) → Leads self.first self.dropped n → Leads result.first result.dropped (n * 10 + digit) }
+        ensures bound { result.dropped ≤ self.dropped + 1 }
+    {
+        if self.first < KEPT {
+            Leading {
+                first: 10 * self.first + u128::from(digit),
+                dropped: self.dropped,
+            }
+        } else {
+            Leading {
+                first: self.first,
+                dropped: self.dropped + 1,
+            }
+        }
+    }
+
+    /// Adds the digits that the text begins with, and gives the text after them.
+    pub fn take_digits<'a>(&mut self, text: &'a [u8]) -> &'a [u8]
+        requires room { self.old.dropped + length text.now ≤ 1000 }
+        ensures rest { result.now ≡ after_digits text.now }
+        ensures value { (n : ℕ) → Leads self.old.first self.old.dropped n → Leads self.new.first self.new.dropped (number_after n (digits text.now)) }
+        ensures bound { self.new.dropped + length result.now ≤ self.old.dropped + length text.now }
+        ensures count { length result.now + length (digits text.now) ≡ length text.now }
+    {
+        let mut number = *self;
+        let mut rest = text;
+        while let Some((digit, after)) = split_digit(rest) {
+            number = number.with(digit);
+            rest = after;
+        }
+        *self = number;
+        rest
+    }
+
+    /// Adds the digits after a point, if the text begins with one. Gives their number, and the text after them.
+    pub fn take_fraction<'a>(&mut self, text: &'a [u8]) -> (usize, &'a [u8])
+        requires room { self.old.dropped + length text.now ≤ 1000 }
+        ensures places { result.0 ≡ length (fraction text.now) }
+        ensures rest { result.1.now ≡ after_fraction text.now }
+        ensures value { (n : ℕ) → Leads self.old.first self.old.dropped n → Leads self.new.first self.new.dropped (number_after n (fraction text.now)) }
+        ensures bound { self.new.dropped ≤ self.old.dropped + length text.now }
+        ensures few { result.0 ≤ length text.now }
+    {
+        match text {
+            [b'.', part @ ..] => {
+                let rest = self.take_digits(part);
+                (part.len() - rest.len(), rest)
+            }
+            _ => (0, text),
+        }
+    }
+}

@@ -1,0 +1,22 @@
+//! Values as decimal text, and the two ways in which arithmetic on them is brought back to a value.
+//! Nothing here takes memory.
+#![tactic(auto)]
+
+mod digit;
+mod exponent;
+mod laws;
+mod leading;
+mod powers;
+mod printing;
+mod reading;
+mod rounding;
+mod sign;
+
+pub use laws::{decimal_is_spelled, printed_reads_back, value_is_nearest};
+pub use printing::print;
+pub use reading::parse;
+pub use rounding::{clamp, div_round};
+pub use ts_spec::ValueFault;
+
+#[cfg(test)]
+mod tests;

@@ -1,0 +1,141 @@
+ghost use Rattle.std.specs.Prelude.{◌≡◌, ℕ, ◌+◌, ◌*◌, ◌/◌, ◌^◌, ◌≤◌, ◌<◌, Bool, length, MatchOption, IfSome};
+ghost use Rattle.ts_spec.specs.Value.{bound, value, nearest, signed, decimal_of};
+ghost use Rattle.ts_decimal.specs.Leading.{Leads};
+ghost use Rattle.ts_decimal.specs.Reading.{IsSpelled, in_range_of};
+
+use crate::exponent::read_exponent;
+use crate::leading::Leading;
+use crate::powers::power_of_ten;
+use crate::sign::split_sign;
+use ts_sample::Units;
+use ts_spec::ValueFault;
+
+/// The longest text of a value, in bytes.
+const MOST_BYTES: usize = 64;
+
+/// The decimal places of a value.
+const PLACES: usize = 6;
+
+/// The places by which one digit passes the bound of values.
+const MOST_RAISED: usize = 24;
+
+/// The places by which the digits that are kept fall below a half.
+const MOST_LOWERED: usize = 30;
+
+/// A decimal: its digits without the point, times ten to the power `up`, over ten to the power `down`.
+#[derive(Clone, Copy)]
+struct Decimal {
+    digits: Leading,
+    up: usize,
+    down: usize,
+}
+
+impl Decimal {
+    /// The decimal of a text after its sign.
+    fn read(text: &[u8]) -> Option<Decimal>
+        requires { length text.now ≤ 64 }
+        ensures value { (negative : Bool) → MatchOption result
+            (decimal_of negative text.now ≡ None)
+            (λ d. IsSpelled negative d.digits.first d.digits.dropped d.up d.down (decimal_of negative text.now)) }
+        ensures bound { IfSome result (λ d. (d.digits.dropped ≤ 64) × (d.up < 1000)) }
+        ensures kept { IfSome result (λ d. d.digits.first < 10 ^ 30) }
+    {
+        let mut digits = Leading::new();
+        let after_whole = digits.take_digits(text);
+        let whole = text.len() - after_whole.len();
+        let (places, rest) = digits.take_fraction(after_whole);
+        let scale = read_exponent(rest)?;
+        if whole + places == 0 {
+            return None;
+        }
+        Some(Decimal {
+            digits,
+            up: scale.up,
+            down: places + scale.down,
+        })
+    }
+
+    /// The rounded magnitude in millionths, if it can be within the bound of values.
+    fn millionths(&self) -> Option<u128>
+        requires kept { self.now.digits.first < 10 ^ 30 }
+        requires dropped { self.now.digits.dropped ≤ 64 }
+        requires up { self.now.up < 1000 }
+        ensures value { (n : ℕ) → Leads self.now.digits.first self.now.digits.dropped n → MatchOption result
+            (bound < nearest (n * 10 ^ (self.now.up + 6)) (10 ^ self.now.down))
+            (λ m. nearest (n * 10 ^ (self.now.up + 6)) (10 ^ self.now.down) ≡ m) }
+        ensures small { IfSome result (λ m. m < 2 ^ 127) }
+    {
+        let raised = self.digits.dropped + self.up + PLACES;
+        if self.down <= raised {
+            raise(self.digits.first, raised - self.down)
+        } else {
+            Some(lower(self.digits.first, self.down - raised))
+        }
+    }
+}
+
+/// `first` times ten to the power `k`, if that is within the bound.
+fn raise(first: u128, k: usize) -> Option<u128>
+    ensures value { MatchOption result (bound < first * 10 ^ k) (λ m. m ≡ first * 10 ^ k) }
+    ensures within { IfSome result (λ m. m ≤ bound) }
+{
+    if first == 0 {
+        return Some(0);
+    }
+    if k > MOST_RAISED || first > power_of_ten(MOST_RAISED - k) {
+        return None;
+    }
+    Some(first * power_of_ten(k))
+}
+
+/// `first` over ten to the power `k`, rounded, a half up.
+fn lower(first: u128, k: usize) -> u128
+    requires kept { first < 10 ^ 30 }
+    requires some { 0 < k }
+    ensures value { result ≡ (first + 10 ^ k / 2) / 10 ^ k }
+    ensures small { result ≤ 10 ^ 30 }
+{
+    if k > MOST_LOWERED {
+        return 0;
+    }
+    let power = power_of_ten(k);
+    (first + power / 2) / power
+}
+
+fn with_sign(negative: bool, magnitude: u128) -> i128
+    requires { magnitude < 2 ^ 127 }
+    ensures { result ≡ signed negative magnitude }
+{
+    let number = magnitude as i128;
+    if negative { -number } else { number }
+}
+
+/// The value of so many millionths.
+fn in_range(millionths: i128) -> Result<Units, ValueFault>
+    ensures { result ≡ in_range_of millionths }
+{
+    match Units::new(millionths) {
+        Some(value) => Ok(value),
+        None => Err(ValueFault::OutOfRange),
+    }
+}
+
+/// The value that a text stands for: 1 to 64 bytes of an optional `+` or `-`, digits with at most one point
+/// and at least one digit, and an optional `e` or `E` with an optional sign and one to three digits. It is
+/// rounded to a millionth, a half away from zero. Any other text is `NotANumber`, and a value that is
+/// above 10^24 millionths or below their negative is `OutOfRange`.
+pub fn parse(text: &[u8]) -> Result<Units, ValueFault>
+    ensures { result ≡ value text.now }
+{
+    if text.is_empty() || text.len() > MOST_BYTES {
+        return Err(ValueFault::NotANumber);
+    }
+    let (negative, body) = split_sign(text);
+    let Some(decimal) = Decimal::read(body) else {
+        return Err(ValueFault::NotANumber);
+    };
+    let Some(magnitude) = decimal.millionths() else {
+        return Err(ValueFault::OutOfRange);
+    };
+    in_range(with_sign(negative, magnitude))
+}
