@@ -1,0 +1,4 @@
+pub mod LineLemmas
+pub mod HeaderLemmas
+pub mod WordLemmas
+pub mod ReplyLemmas

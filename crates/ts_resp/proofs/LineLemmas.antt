@@ -1,0 +1,64 @@
+-- A line with a number, one byte at a time.
+use Rattle.std.proofs.Common.{◌≡◌, ℕ, suc, ◌+◌, ◌<◌, ◌≤◌, Bool, List, length, drop, get_or, refl, sym, ap, ◌∙◌, subst, add_assoc, add-one, add-zero, zero-add}
+use Rattle.std.proofs.Math.Seq.{drop-cons}
+use Rattle.std.proofs.Math.ListN.{drop_of_length-le}
+use Rattle.ts_spec.specs.Wire.{Line, Goes, Returns, Wrong, line_step}
+use Rattle.ts_resp.specs.declared.line.NumberLine.{NumberLine}
+use Rattle.ts_resp.specs.declared.line.NumberLine.TheVariants as found
+use Rattle.ts_resp.specs.Lines.{after, on_move, number_line}
+
+-- the line at an index is what its byte makes of it
+pub number_line-drop : (limit : ℕ) (negative : Bool) (line : Line) (bytes : List ℕ) (at : ℕ) → at < length bytes
+    → number_line limit negative line (drop at bytes)
+    ≡ on_move (line_step limit negative line (get_or bytes at 0)) (λ next. number_line limit negative next (drop (suc at) bytes))
+unfolding number_line
+number_line-drop limit negative line bytes at h = ap (number_line limit negative line) (drop-cons bytes at 0 h)
+
+pub after-after : (k j : ℕ) (r : NumberLine) → after k (after j r) ≡ after (k + j) r
+after-after k j found.Open = refl
+after-after k j (found.Whole number len) = ap (λ n. found.Whole number n) (sym (add_assoc k j len))
+after-after k j (found.Wrong at) = ap (λ n. found.Wrong n) (sym (add_assoc k j at))
+
+-- the line goes on at the next index
+pub number_line-goes : (limit : ℕ) (negative : Bool) (line next : Line) (bytes : List ℕ) (at : ℕ) (r : NumberLine) → at < length bytes
+    → Goes next ≡ line_step limit negative line (get_or bytes at 0)
+    → after at (number_line limit negative line (drop at bytes)) ≡ r
+    → after (at + 1) (number_line limit negative next (drop (at + 1) bytes)) ≡ r
+number_line-goes limit negative line next bytes at r h e so_far =
+    let step = number_line-drop limit negative line bytes at h in
+    let goes = ap (λ m. on_move m (λ next. number_line limit negative next (drop (suc at) bytes))) (sym e) in
+    let P : ℕ → Type 0 = λ n. after (at + 1) (number_line limit negative next (drop n bytes)) ≡ r in
+    subst P (sym (add-one at))
+    (sym (after-after at 1 (number_line limit negative next (drop (suc at) bytes))) ∙ sym (ap (after at) (step ∙ goes)) ∙ so_far)
+
+pub number_line-returns : (limit : ℕ) (negative : Bool) (line : Line) (number : ℕ) (bytes : List ℕ) (at : ℕ) (r : NumberLine) → at < length bytes
+    → Returns number ≡ line_step limit negative line (get_or bytes at 0)
+    → after at (number_line limit negative line (drop at bytes)) ≡ r
+    → found.Whole number at ≡ r
+number_line-returns limit negative line number bytes at r h e so_far =
+    let step = number_line-drop limit negative line bytes at h in
+    let goes = ap (λ m. on_move m (λ next. number_line limit negative next (drop (suc at) bytes))) (sym e) in
+    ap (λ n. found.Whole number n) (sym (add-zero at)) ∙ sym (ap (after at) (step ∙ goes)) ∙ so_far
+
+pub number_line-wrong : (limit : ℕ) (negative : Bool) (line : Line) (bytes : List ℕ) (at : ℕ) (r : NumberLine) → at < length bytes
+    → Wrong ≡ line_step limit negative line (get_or bytes at 0)
+    → after at (number_line limit negative line (drop at bytes)) ≡ r
+    → found.Wrong at ≡ r
+number_line-wrong limit negative line bytes at r h e so_far =
+    let step = number_line-drop limit negative line bytes at h in
+    let goes = ap (λ m. on_move m (λ next. number_line limit negative next (drop (suc at) bytes))) (sym e) in
+    ap (λ n. found.Wrong n) (sym (add-zero at)) ∙ sym (ap (after at) (step ∙ goes)) ∙ so_far
+
+-- no byte is left
+pub number_line-open : (limit : ℕ) (negative : Bool) (line : Line) (bytes : List ℕ) (at : ℕ) (r : NumberLine) → length bytes ≤ at
+    → after at (number_line limit negative line (drop at bytes)) ≡ r
+    → found.Open ≡ r
+unfolding number_line
+number_line-open limit negative line bytes at r h so_far =
+    sym (ap (λ rest. after at (number_line limit negative line rest)) (drop_of_length-le bytes h)) ∙ so_far
+
+-- before the first byte
+pub after-zero : (r : NumberLine) → after 0 r ≡ r
+after-zero found.Open = refl
+after-zero (found.Whole number len) = ap (λ n. found.Whole number n) (zero-add len)
+after-zero (found.Wrong at) = ap (λ n. found.Wrong n) (zero-add at)

@@ -1,0 +1,32 @@
+use Rattle.ts_spec.specs.declared.wire.Kind.TheVariants.{Multibulk}
+use Rattle.ts_spec.specs.Wire.{Start, CountFeed, STAR, Goto, Count, Blank, after_count}
+use Rattle.ts_resp.specs.declared.header.Header.TheVariants as header
+use Rattle.ts_resp.specs.Headers.{IsHeader}
+use Rattle.ts_spec.proofs.Lines.{want-other, count_fed}
+use Rattle.ts_resp.proofs.HeaderLemmas.{of_slice, count_led, IsHeader-none, IsHeader-first, IsHeader-open, IsHeader-wrong, IsHeader-feed}
+use Rattle.std.proofs.Common.{◌+◌, refl}
+use Rattle.ts_resp.proofs.header.count_header.Goals as goal
+
+pub returns-in_default-clause-meaning : goal.returns-in_default-clause-meaning
+returns-in_default-clause-meaning c =
+    IsHeader-none c.args.limits.now Start (after_count c.args.limits.now) c.args.bytes.now c.in_default.len_below
+
+pub returns-then-first-ne42-clause-meaning : goal.returns-then-first-ne42-clause-meaning
+returns-then-first-ne42-clause-meaning c =
+    of_slice (λ bytes. IsHeader c.args.limits.now Start (after_count c.args.limits.now) bytes (header.Broken Multibulk 0)) c.args.bytes.now c.in-len1-up.len_at_least
+    (IsHeader-first _ _ (after_count c.args.limits.now) _ _ _ (want-other _ STAR Multibulk (Goto (Count Blank)) c.if-first-ne42.true))
+
+pub returns-in-Open-clause-meaning : goal.returns-in-Open-clause-meaning
+returns-in-Open-clause-meaning c =
+    of_slice (λ bytes. IsHeader c.args.limits.now Start (after_count c.args.limits.now) bytes header.Open) c.args.bytes.now c.in-len1-up.len_at_least
+    (IsHeader-open (count_led c.args.limits.now _ c.if-first-ne42.false) (after_count c.args.limits.now) _ c.in-Open.ensures.line)
+
+pub returns-in-Whole-clause-meaning : goal.returns-in-Whole-clause-meaning
+returns-in-Whole-clause-meaning c =
+    of_slice (λ bytes. IsHeader c.args.limits.now Start (after_count c.args.limits.now) bytes c.line_feed.result) c.args.bytes.now c.in-len1-up.len_at_least
+    (IsHeader-feed (count_led c.args.limits.now _ c.if-first-ne42.false) _ (CountFeed c.in-Whole.number) _ _ _ _ c.in-Whole.ensures.line refl (count_fed c.args.limits.now c.in-Whole.number) c.line_feed.ensures.line)
+
+pub returns-in-Wrong-clause-meaning : goal.returns-in-Wrong-clause-meaning
+returns-in-Wrong-clause-meaning c =
+    of_slice (λ bytes. IsHeader c.args.limits.now Start (after_count c.args.limits.now) bytes (header.Broken Multibulk (c.in-Wrong.at + 1))) c.args.bytes.now c.in-len1-up.len_at_least
+    (IsHeader-wrong (count_led c.args.limits.now _ c.if-first-ne42.false) (after_count c.args.limits.now) _ _ c.in-Wrong.ensures.line)

@@ -1,0 +1,12 @@
+use Rattle.std.proofs.Common.{◌≡◌, ◌+◌, ◌≤◌, ◌++◌, drop, length}
+use Rattle.ts_spec.specs.Text.{Array, text, texts}
+use Rattle.ts_resp.specs.Replies.{all_of}
+use Rattle.ts_resp.proofs.reply.+put.Given as goal
+
+-- the texts that are left, after those that were written, are the text of all, and have their room
+abbrev pub invariant-put_array-loop-reply : goal.invariant-put_array-loop-reply
+invariant-put_array-loop-reply l = record {
+  bytes : l.out.bytes ++ texts (all_of (drop l.reply-index l.replies)) ≡ l.fn.out.bytes ++ text (Array (all_of l.replies));
+  room : l.out.spare + length (text (Array (all_of l.replies))) ≡ l.fn.out.spare + length (texts (all_of (drop l.reply-index l.replies)));
+  enough : length (texts (all_of (drop l.reply-index l.replies))) ≤ l.out.spare;
+}

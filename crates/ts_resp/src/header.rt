@@ -1,0 +1,145 @@
+// The first lines of a request, and a whole word, as they stand at the beginning of unread bytes.
+ghost use Rattle.std.specs.Prelude.{ℕ, ◌≡◌, ◌+◌, ◌-◌, ◌<◌, ◌≤◌, drop, length};
+ghost use Rattle.ts_spec.specs.Wire.{Request};
+ghost use Rattle.ts_resp.specs.Headers.{IsCount, IsLength, IsWord, IsHeaderWithin, IsWordWithin, HasNumber, HasAtMost, feed_at, ended_by, body_at};
+
+use crate::line::{NumberLine, number_line};
+use ts_spec::{Kind, WireLimits};
+
+// A marker, a number and CRLF. The LF stands at `feed`.
+pub(crate) enum Header {
+    Open,
+    Whole { number: u32, feed: usize },
+    Broken { kind: Kind, at: usize },
+}
+
+// A word with its length before it, from `start` to `end`, and CRLF.
+pub(crate) enum FoundWord {
+    Open,
+    Whole { start: usize, end: usize },
+    Broken { kind: Kind, at: usize },
+}
+
+// How many words the request has that begins with the bytes.
+pub(crate) fn count_header(bytes: &[u8], limits: &WireLimits) -> Header
+    ensures meaning { IsCount limits.now bytes.now result }
+    ensures within { IsHeaderWithin (length bytes.now) result }
+{
+    let [first, line @ ..] = bytes else {
+        return Header::Open;
+    };
+    if *first != b'*' {
+        return Header::Broken {
+            kind: Kind::Multibulk,
+            at: 0,
+        };
+    }
+    match number_line(line, limits.words, true) {
+        NumberLine::Open => Header::Open,
+        NumberLine::Whole { number, len } => line_feed(line, number, len),
+        NumberLine::Wrong { at } => Header::Broken {
+            kind: Kind::Multibulk,
+            at: at + 1,
+        },
+    }
+}
+
+// How long the word is that begins with the bytes, where the request's words may take `room` more.
+fn length_header(bytes: &[u8], limits: &WireLimits, room: u32) -> Header
+    ensures meaning { (words : Request) (later : ℕ)
+        → IsLength limits.now words later room bytes.now result }
+    ensures within { IsHeaderWithin (length bytes.now) result }
+    ensures room { HasAtMost room result }
+{
+    let [first, line @ ..] = bytes else {
+        return Header::Open;
+    };
+    if *first != b'$' {
+        return Header::Broken {
+            kind: Kind::Dollar,
+            at: 0,
+        };
+    }
+    match number_line(line, limits.word_bytes, false) {
+        NumberLine::Open => Header::Open,
+        NumberLine::Whole { number, len } => {
+            if number > room {
+                return Header::Broken {
+                    kind: Kind::TooLarge,
+                    at: len + 1,
+                };
+            }
+            line_feed(line, number, len)
+        }
+        NumberLine::Wrong { at } => Header::Broken {
+            kind: Kind::Bulk,
+            at: at + 1,
+        },
+    }
+}
+
+// The LF of a line that stands after the marker, and whose CR stands at `len`.
+fn line_feed(line: &[u8], number: u32, len: usize) -> Header
+    requires { len < length line.now }
+    ensures line { result ≡ feed_at number (len + 2) (drop (len + 1) line.now) }
+    ensures within { IsHeaderWithin (length line.now + 1) result }
+    ensures number { HasNumber number result }
+{
+    match line.get(len + 1) {
+        None => Header::Open,
+        Some(b'\n') => Header::Whole {
+            number,
+            feed: len + 2,
+        },
+        Some(_) => Header::Broken {
+            kind: Kind::Crlf,
+            at: len + 2,
+        },
+    }
+}
+
+// The word that begins with its header, where the request's words may take `room` more bytes.
+pub(crate) fn found_word(bytes: &[u8], limits: &WireLimits, room: u32) -> FoundWord
+    ensures meaning { (words : Request) (later : ℕ)
+        → IsWord limits.now (record { words = words; later = later; room = room }) bytes.now
+        result }
+    ensures within { IsWordWithin (length bytes.now) room result }
+{
+    match length_header(bytes, limits, room) {
+        Header::Open => FoundWord::Open,
+        Header::Whole { number, feed } => word_body(bytes, feed + 1, number),
+        Header::Broken { kind, at } => FoundWord::Broken { kind, at },
+    }
+}
+
+// The word of `len` bytes that begins at `start`.
+fn word_body(bytes: &[u8], start: usize, len: u32) -> FoundWord
+    requires { start ≤ length bytes.now }
+    ensures body { result ≡ body_at start len (drop start bytes.now) }
+    ensures within { IsWordWithin (length bytes.now) len result }
+{
+    if bytes.len() - start < len as usize {
+        return FoundWord::Open;
+    }
+    word_end(bytes, start, start + len as usize)
+}
+
+// The word from `start` to `end`, if CRLF follows.
+fn word_end(bytes: &[u8], start: usize, end: usize) -> FoundWord
+    requires { (start ≤ end) × (end ≤ length bytes.now) }
+    ensures ended { result ≡ ended_by start end (drop end bytes.now) }
+    ensures within { IsWordWithin (length bytes.now) (end - start) result }
+{
+    match &bytes[end..] {
+        [] | [b'\r'] => FoundWord::Open,
+        [b'\r', b'\n', ..] => FoundWord::Whole { start, end },
+        [b'\r', ..] => FoundWord::Broken {
+            kind: Kind::Crlf,
+            at: end + 1,
+        },
+        _ => FoundWord::Broken {
+            kind: Kind::Crlf,
+            at: end,
+        },
+    }
+}

@@ -1,0 +1,20 @@
+//! RESP2: the requests of a stream of bytes, and the text of a reply.
+#![tactic(auto)]
+
+mod header;
+mod line;
+mod out;
+mod protocol;
+mod reader;
+mod reply;
+mod word;
+
+pub use out::Out;
+pub use protocol::Protocol;
+pub use reader::{Next, Reader};
+pub use reply::{Reply, begin_array, encode, put, size_of};
+pub use ts_spec::{Kind, WireLimits};
+pub use word::Word;
+
+#[cfg(test)]
+mod tests;

@@ -1,0 +1,90 @@
+// The line that says how many words a request has, or how many bytes a word has.
+ghost use Rattle.std.specs.Prelude.{◌≡◌, ◌<◌, length};
+ghost use Rattle.ts_spec.specs.Wire.{line_step, with_digit};
+ghost use Rattle.ts_spec.specs.Wire.Line.{Blank};
+ghost use Rattle.ts_resp.specs.Lines.{line_of, move_of, number_line as line_at, IsWithin};
+
+// How far such a line has come.
+#[derive(Clone, Copy)]
+pub(crate) enum Line {
+    Blank,
+    Zero,
+    Number(u32),
+    Minus,
+    MinusOne,
+}
+
+// What the next byte makes of it.
+pub(crate) enum LineMove {
+    Goes(Line),
+    Returns(u32),
+    Wrong,
+}
+
+// What stands at the beginning of some bytes: a number up to the CR at `len`, or no number, which
+// shows at `at`.
+pub(crate) enum NumberLine {
+    Open,
+    Whole { number: u32, len: usize },
+    Wrong { at: usize },
+}
+
+impl Line {
+    #[inline]
+    fn step(self, limit: u32, negative: bool, byte: u8) -> LineMove
+        ensures { move_of result ≡ line_step limit negative (line_of self) byte }
+    {
+        match self {
+            Line::Blank => first_step(limit, negative, byte),
+            Line::Zero if byte == b'\r' => LineMove::Returns(0),
+            Line::Zero => LineMove::Wrong,
+            Line::Number(number) if byte == b'\r' => LineMove::Returns(number),
+            Line::Number(number) => one_more_digit(limit, number, byte),
+            Line::Minus if byte == b'1' => LineMove::Goes(Line::MinusOne),
+            Line::Minus => LineMove::Wrong,
+            Line::MinusOne if byte == b'\r' => LineMove::Returns(0),
+            Line::MinusOne => LineMove::Wrong,
+        }
+    }
+}
+
+fn first_step(limit: u32, negative: bool, byte: u8) -> LineMove
+    ensures { move_of result ≡ line_step limit negative Blank byte }
+{
+    if byte == b'0' {
+        return LineMove::Goes(Line::Zero);
+    }
+    if negative && byte == b'-' {
+        return LineMove::Goes(Line::Minus);
+    }
+    one_more_digit(limit, 0, byte)
+}
+
+fn one_more_digit(limit: u32, number: u32, byte: u8) -> LineMove
+    ensures { move_of result ≡ with_digit limit number byte }
+{
+    if byte < b'0' || byte > b'9' {
+        return LineMove::Wrong;
+    }
+    let longer = 10 * number as u64 + (byte - b'0') as u64;
+    if longer > limit as u64 {
+        return LineMove::Wrong;
+    }
+    LineMove::Goes(Line::Number(longer as u32))
+}
+
+// The number at the beginning of the bytes. Where `negative` is set, -1 stands for 0 too.
+pub(crate) fn number_line(bytes: &[u8], limit: u32, negative: bool) -> NumberLine
+    ensures line { result ≡ line_at limit negative Blank bytes.now }
+    ensures within { IsWithin (length bytes.now) result }
+{
+    let mut line = Line::Blank;
+    for (at, &byte) in bytes.iter().enumerate() {
+        match line.step(limit, negative, byte) {
+            LineMove::Goes(next) => line = next,
+            LineMove::Returns(number) => return NumberLine::Whole { number, len: at },
+            LineMove::Wrong => return NumberLine::Wrong { at },
+        }
+    }
+    NumberLine::Open
+}

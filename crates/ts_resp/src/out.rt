@@ -1,0 +1,76 @@
+// The room that a reply is written into.
+ghost use Rattle.std.specs.Prelude.{◌≡◌, ◌+◌, ◌<◌, ◌≤◌, [], ◌++◌, length, IfOk, OnOk, OnErr};
+
+use bytes::BytesMut;
+use std::alloc::{AllocError, Global};
+use std::marker::Model;
+
+// Every error, every number and every short reply fits.
+const FIRST_ROOM: usize = 128;
+
+/// Bytes of replies, with room that was reserved for more.
+#[derive(Drop)]
+pub struct Out {
+    bytes: BytesMut,
+}
+
+impl Model for Out {
+    ghost use Rattle.ts_resp.specs.Room.{Room};
+
+    ghost Value = { Room };
+
+    ghost view = { λ o. record { bytes = o.bytes.items; spare = o.bytes.spare } };
+}
+
+impl Out {
+    /// No bytes yet, and room for 128.
+    pub fn new(alloc: Global) -> Result<Out, AllocError>
+        ensures empty { IfOk result (λ o. o.bytes ≡ []) }
+        ensures room { IfOk result (λ o. 128 ≤ o.spare) }
+    {
+        let bytes = BytesMut::with_capacity(alloc, FIRST_ROOM)?;
+        Ok(Out { bytes })
+    }
+
+    /// Makes room for so many more bytes. After an Err the room is as before.
+    pub fn reserve(&mut self, more: usize) -> Result<(), AllocError>
+        ensures bytes { self.new.bytes ≡ self.old.bytes }
+        ensures room { OnOk result (more ≤ self.new.spare) }
+        ensures kept { self.old.spare ≤ self.new.spare }
+        ensures full { OnErr result (self.old.spare < more) }
+    {
+        self.bytes.reserve(more)?;
+        Ok(())
+    }
+
+    /// Drops the bytes and keeps the room. Takes no memory.
+    pub fn clear(&mut self)
+        ensures empty { self.new.bytes ≡ [] }
+        ensures room { length self.old.bytes + self.old.spare ≤ self.new.spare }
+    {
+        self.bytes.clear();
+    }
+
+    /// The bytes so far. Takes no memory.
+    pub fn bytes(&self) -> &[u8]
+        ensures { result.now ≡ self.now.bytes }
+    {
+        self.bytes.as_slice()
+    }
+
+    /// How many more bytes there is room for. Takes no memory.
+    pub fn spare(&self) -> usize
+        ensures { result ≡ self.now.spare }
+    {
+        self.bytes.capacity() - self.bytes.len()
+    }
+
+    // Adds bytes for which there is room.
+    pub(crate) fn add(&mut self, bytes: &[u8])
+        requires { length bytes.now ≤ self.old.spare }
+        ensures bytes { self.new.bytes ≡ self.old.bytes ++ bytes.now }
+        ensures room { self.new.spare + length bytes.now ≡ self.old.spare }
+    {
+        self.bytes.extend_reserved(bytes);
+    }
+}

@@ -1,0 +1,138 @@
+// One header or one word at a time.
+ghost use Rattle.std.specs.Prelude.{◌≡◌, ◌+◌, ◌-◌, ◌<◌, ◌≤◌, [], ◌∷◌, ◌++◌, length, drop, Some, None, OnOk, OnErr, MatchOption};
+ghost use Rattle.ts_resp.specs.Headers.{IsCount, IsWord, IsWordWithin};
+ghost use Rattle.ts_resp.specs.Steps.{GoesOn, Answers};
+
+use super::{Next, Reader, Unfinished};
+use crate::header::{FoundWord, Header, count_header, found_word};
+use crate::{Protocol, Word};
+use std::alloc::{AllocError, Global};
+use ts_spec::Kind;
+
+// Words that are made room for at once: a header may claim more words than ever come.
+const FIRST_WORDS: u32 = 16;
+
+impl Reader {
+    // Takes the header of a request or one word, or answers what `next` answers.
+    pub(super) fn step(&mut self) -> Option<Next>
+        ensures { MatchOption result (GoesOn self.old self.new) (Answers self.old self.new) }
+    {
+        match self.so_far.take() {
+            None => self.read_count(),
+            Some(so_far) => self.read_word(so_far),
+        }
+    }
+
+    fn read_count(&mut self) -> Option<Next>
+        requires { self.old.so_far ≡ None }
+        ensures { MatchOption result (GoesOn self.old self.new) (Answers self.old self.new) }
+    {
+        match count_header(self.unread.as_slice(), &self.limits) {
+            Header::Open => Some(Next::NotYet),
+            Header::Whole { number, feed } => self.begin_request(number, feed + 1),
+            Header::Broken { kind, at } => Some(Next::Broken(self.fault(kind, at))),
+        }
+    }
+
+    // After the header of a request, which takes `len` bytes.
+    fn begin_request(&mut self, number: u32, len: usize) -> Option<Next>
+        requires between { self.old.so_far ≡ None }
+        requires header { IsCount self.old.limits self.old.unread (Header.Whole number (len - 1)) }
+        requires within { (0 < len) × (len ≤ length self.old.unread) }
+        ensures { MatchOption result (GoesOn self.old self.new) (Answers self.old self.new) }
+    {
+        if number == 0 {
+            self.pass(len);
+            self.begin = self.place;
+            return None;
+        }
+        let first_room = number.min(FIRST_WORDS) as usize;
+        let Ok(words) = Vec::with_capacity(self.alloc, first_room) else {
+            return Some(Next::Memory);
+        };
+        self.pass(len);
+        self.so_far = Some(Unfinished {
+            words,
+            later: number - 1,
+            room: self.limits.request_bytes,
+        });
+        None
+    }
+
+    // Reads one more word of a request.
+    fn read_word(&mut self, so_far: Unfinished) -> Option<Next>
+        requires { self.old.so_far ≡ None }
+        ensures { MatchOption result
+            (GoesOn (record self.old { so_far = Some so_far }) self.new)
+            (Answers (record self.old { so_far = Some so_far }) self.new) }
+    {
+        match found_word(self.unread.as_slice(), &self.limits, so_far.room) {
+            FoundWord::Open => {
+                self.so_far = Some(so_far);
+                Some(Next::NotYet)
+            }
+            FoundWord::Whole { start, end } => self.take_word(so_far, start, end),
+            FoundWord::Broken { kind, at } => {
+                self.so_far = Some(so_far);
+                Some(Next::Broken(self.fault(kind, at)))
+            }
+        }
+    }
+
+    // After a whole word, which takes `end + 2` bytes with its header and CRLF.
+    fn take_word(&mut self, mut so_far: Unfinished, start: usize, end: usize) -> Option<Next>
+        requires between { self.old.so_far ≡ None }
+        requires word { IsWord self.old.limits so_far self.old.unread (FoundWord.Whole start end) }
+        requires within { IsWordWithin (length self.old.unread) so_far.room
+            (FoundWord.Whole start end) }
+        ensures { MatchOption result
+            (GoesOn (record self.old { so_far = Some so_far }) self.new)
+            (Answers (record self.old { so_far = Some so_far }) self.new) }
+    {
+        let word = &self.unread.as_slice()[start..end];
+        if push_word(self.alloc, &mut so_far.words, word).is_err() {
+            self.so_far = Some(so_far);
+            return Some(Next::Memory);
+        }
+        self.pass(end + 2);
+        if so_far.later == 0 {
+            self.begin = self.place;
+            return Some(Next::Request(so_far.words));
+        }
+        so_far.later -= 1;
+        so_far.room -= (end - start) as u32;
+        self.so_far = Some(so_far);
+        None
+    }
+
+    // Passes over unread bytes.
+    fn pass(&mut self, len: usize)
+        requires { len ≤ length self.old.unread }
+        ensures { self.new ≡ record self.old
+            { place = self.old.place + len; unread = drop len self.old.unread } }
+    {
+        self.unread.advance(len);
+        self.place += len as u64;
+    }
+
+    // The fault of an unread byte.
+    fn fault(&self, kind: Kind, at: usize) -> Protocol
+        requires { at < length self.now.unread }
+        ensures { result ≡ record { kind = kind; place = self.now.place + at } }
+    {
+        Protocol {
+            kind,
+            place: self.place + at as u64,
+        }
+    }
+}
+
+// Adds a word of these bytes. After an Err the words are as before.
+fn push_word(alloc: Global, words: &mut Vec<Word>, bytes: &[u8]) -> Result<(), AllocError>
+    ensures ok { OnOk result (words.new.items ≡ words.old.items ++ bytes.now ∷ []) }
+    ensures err { OnErr result (words.new.items ≡ words.old.items) }
+{
+    let word = Word::from_slice(alloc, bytes)?;
+    words.push(word)?;
+    Ok(())
+}

@@ -1,0 +1,185 @@
+// Replies and their text.
+ghost use Rattle.std.specs.Prelude.{◌≡◌, ◌+◌, ◌^◌, ◌<◌, ◌≤◌, ◌++◌, length, OnOk, OnErr};
+ghost use Rattle.std.specs.Option.{SomeIff};
+ghost use Rattle.std.specs.Fmt.{decimal};
+ghost use Rattle.ts_spec.specs.Text.{Bulk, Array, text, line, shown_cell};
+ghost use Rattle.ts_resp.specs.Replies.{reply_of, all_of, value_of};
+
+use crate::{Out, Word};
+use itoa::Buffer;
+use std::alloc::AllocError;
+use ts_decimal::print;
+use ts_sample::Cell;
+
+/// A reply. Its text is that of RESP2.
+///
+/// What goes through a reply calls itself for each array inside an array, so the stack that it takes
+/// grows with how deeply the arrays nest, and not with how many replies there are.
+#[derive(Debug, Drop)]
+pub enum Reply {
+    /// A simple string: `+`, the text, CRLF. The text has no CR or LF.
+    Simple(&'static str),
+    /// An error: `-`, the text, CRLF. The text has no CR or LF.
+    Error(&'static str),
+    /// An integer: `:`, the number in decimal, CRLF.
+    Int(i64),
+    /// A value, as a simple string: its decimal text, or `NaN` where there is none.
+    Value(Cell),
+    /// Bytes of any kind: `$`, their number, CRLF, the bytes, CRLF.
+    Bulk(Word),
+    /// No value: `$-1`, CRLF.
+    Nil,
+    /// Replies one after another: `*`, their number, CRLF, and their texts.
+    Array(Vec<Reply>),
+}
+
+/// The length of the reply's text in bytes, or None where it is above usize. Takes no memory.
+#[cycle(size)]
+pub fn size_of(reply: &Reply) -> Option<usize>
+    ensures { SomeIff result (length (text (reply_of reply.now)) < 2 ^ 64)
+        (length (text (reply_of reply.now))) }
+{
+    match reply {
+        Reply::Simple(words) => line_len(words.len()),
+        Reply::Error(words) => line_len(words.len()),
+        Reply::Int(number) => line_len(Buffer::new().format(*number).len()),
+        Reply::Value(cell) => line_len(shown(*cell, &mut [0; 32]).len()),
+        Reply::Bulk(word) => bulk_len(word.bytes()),
+        Reply::Nil => Some(5),
+        Reply::Array(replies) => array_len(replies),
+    }
+}
+
+// The length of the text of an array of these replies.
+#[cycle(size)]
+fn array_len(replies: &[Reply]) -> Option<usize>
+    ensures { SomeIff result (length (text (Array (all_of replies.now))) < 2 ^ 64)
+        (length (text (Array (all_of replies.now)))) }
+{
+    let mut total = count_len(replies.len());
+    for reply in replies {
+        total = total.checked_add(size_of(reply)?)?;
+    }
+    Some(total)
+}
+
+// The text of a value, or `NaN` where there is none.
+fn shown(cell: Cell, room: &mut [u8; 32]) -> &[u8]
+    ensures { result.now ≡ shown_cell (value_of cell) }
+{
+    match cell {
+        Cell::Number(value) => print(value, room),
+        Cell::Nan => b"NaN",
+    }
+}
+
+// The length of a line: its first byte, so many others, and CRLF.
+fn line_len(others: usize) -> Option<usize>
+    ensures { SomeIff result (others + 3 < 2 ^ 64) (others + 3) }
+{
+    others.checked_add(3)
+}
+
+// The length of a line with a count.
+fn count_len(count: usize) -> usize
+    ensures value { result ≡ length (decimal count) + 3 }
+    ensures short { result ≤ 43 }
+{
+    Buffer::new().format(count).len() + 3
+}
+
+fn bulk_len(bytes: &[u8]) -> Option<usize>
+    ensures { SomeIff result (length (text (Bulk bytes.now)) < 2 ^ 64)
+        (length (text (Bulk bytes.now))) }
+{
+    bytes.len().checked_add(count_len(bytes.len()) + 2)
+}
+
+/// Writes the reply's text into room that was reserved for it. Takes no memory.
+#[cycle(put)]
+pub fn put(reply: &Reply, out: &mut Out)
+    requires { length (text (reply_of reply.now)) ≤ out.old.spare }
+    ensures bytes { out.new.bytes ≡ out.old.bytes ++ text (reply_of reply.now) }
+    ensures room { out.new.spare + length (text (reply_of reply.now)) ≡ out.old.spare }
+{
+    match reply {
+        Reply::Simple(words) => put_line(b'+', words.as_bytes(), out),
+        Reply::Error(words) => put_line(b'-', words.as_bytes(), out),
+        Reply::Int(number) => {
+            let mut buffer = Buffer::new();
+            put_line(b':', buffer.format(*number).as_bytes(), out);
+        }
+        Reply::Value(cell) => put_line(b'+', shown(*cell, &mut [0; 32]), out),
+        Reply::Bulk(word) => put_bulk(word.bytes(), out),
+        Reply::Nil => out.add(b"$-1\r\n"),
+        Reply::Array(replies) => put_array(replies, out),
+    }
+}
+
+/// Reserves room for the reply's text and writes it. After an Err the bytes are as before.
+pub fn encode(reply: &Reply, out: &mut Out) -> Result<(), AllocError>
+    ensures ok { OnOk result (out.new.bytes ≡ out.old.bytes ++ text (reply_of reply.now)) }
+    ensures err { OnErr result (out.new.bytes ≡ out.old.bytes) }
+    ensures full { OnErr result (out.old.spare < length (text (reply_of reply.now))) }
+{
+    let room = out.spare();
+    match size_of(reply) {
+        Some(size) if size <= room => {}
+        Some(size) => out.reserve(size)?,
+        None => return Err(AllocError),
+    }
+    put(reply, out);
+    Ok(())
+}
+
+fn put_line(first: u8, others: &[u8], out: &mut Out)
+    requires { length (line first others.now) ≤ out.old.spare }
+    ensures bytes { out.new.bytes ≡ out.old.bytes ++ line first others.now }
+    ensures room { out.new.spare + length (line first others.now) ≡ out.old.spare }
+{
+    out.add(&[first]);
+    out.add(others);
+    out.add(b"\r\n");
+}
+
+fn put_count(first: u8, count: usize, out: &mut Out)
+    requires { length (line first (decimal count)) ≤ out.old.spare }
+    ensures bytes { out.new.bytes ≡ out.old.bytes ++ line first (decimal count) }
+    ensures room { out.new.spare + length (line first (decimal count)) ≡ out.old.spare }
+{
+    let mut buffer = Buffer::new();
+    put_line(first, buffer.format(count).as_bytes(), out);
+}
+
+/// Writes what stands before the texts of so many replies in the text of their array, into room that was reserved
+/// for it. Takes no memory.
+pub fn begin_array(count: usize, out: &mut Out)
+    requires { length (line 42 (decimal count)) ≤ out.old.spare }
+    ensures bytes { out.new.bytes ≡ out.old.bytes ++ line 42 (decimal count) }
+    ensures room { out.new.spare + length (line 42 (decimal count)) ≡ out.old.spare }
+{
+    put_count(b'*', count, out);
+}
+
+fn put_bulk(bytes: &[u8], out: &mut Out)
+    requires { length (text (Bulk bytes.now)) ≤ out.old.spare }
+    ensures bytes { out.new.bytes ≡ out.old.bytes ++ text (Bulk bytes.now) }
+    ensures room { out.new.spare + length (text (Bulk bytes.now)) ≡ out.old.spare }
+{
+    put_count(b'$', bytes.len(), out);
+    out.add(bytes);
+    out.add(b"\r\n");
+}
+
+// Writes the texts of replies, with their count before them.
+#[cycle(put)]
+fn put_array(replies: &[Reply], out: &mut Out)
+    requires { length (text (Array (all_of replies.now))) ≤ out.old.spare }
+    ensures bytes { out.new.bytes ≡ out.old.bytes ++ text (Array (all_of replies.now)) }
+    ensures room { out.new.spare + length (text (Array (all_of replies.now))) ≡ out.old.spare }
+{
+    put_count(b'*', replies.len(), out);
+    for reply in replies {
+        put(reply, out);
+    }
+}
