@@ -1,0 +1,39 @@
+-- What a fault that was answered says.
+use Rattle.std.proofs.Common.{◌≡◌, refl, ◌⊎◌, inl, inr}
+use Rattle.std.specs.Prelude.{Err, IsTrue}
+use Rattle.ts_spec.specs.Wire.{Request}
+use Rattle.ts_spec.specs.Grammar.{command, makes_list}
+use Rattle.ts_spec.specs.Messages.{fault_message, memory_message}
+use Rattle.ts_command.specs.declared.fault.CommandFault.{CommandFault}
+use Rattle.ts_command.specs.declared.fault.CommandFault.TheVariants as code
+use Rattle.ts_command.specs.Faults.{fault_of, message}
+use Rattle.ts_command.specs.Answers.{IsFaultIn}
+
+-- the fault of the words with its message
+pub record IsToldFault (words : Request) (fault : CommandFault) : Type 0 where
+  pub command : command words ≡ Err (fault_of fault)
+  pub message : message fault ≡ fault_message (fault_of fault)
+
+-- want of memory with its message
+pub record IsToldMemory (words : Request) (fault : CommandFault) : Type 0 where
+  pub lists : IsTrue (makes_list words)
+  pub message : message fault ≡ memory_message
+
+-- a fault that was answered is that of the words, or want of memory where they make a list
+pub IsFaultIn-told : (words : Request) (fault : CommandFault) → IsFaultIn words fault → IsToldFault words fault ⊎ IsToldMemory words fault
+IsFaultIn-told words code.UnknownCommand e = inl (record { command = e; message = refl })
+IsFaultIn-told words code.Arity e = inl (record { command = e; message = refl })
+IsFaultIn-told words code.BadTimestamp e = inl (record { command = e; message = refl })
+IsFaultIn-told words (code.BadValue fault) e = inl (record { command = e; message = refl })
+IsFaultIn-told words code.BadOption e = inl (record { command = e; message = refl })
+IsFaultIn-told words code.RepeatedOption e = inl (record { command = e; message = refl })
+IsFaultIn-told words code.BadLabels e = inl (record { command = e; message = refl })
+IsFaultIn-told words code.BadChunkSize e = inl (record { command = e; message = refl })
+IsFaultIn-told words code.BadPolicy e = inl (record { command = e; message = refl })
+IsFaultIn-told words code.BadEncoding e = inl (record { command = e; message = refl })
+IsFaultIn-told words code.UnknownAggregator e = inl (record { command = e; message = refl })
+IsFaultIn-told words code.AggregatorNotInProfile e = inl (record { command = e; message = refl })
+IsFaultIn-told words code.BadDuration e = inl (record { command = e; message = refl })
+IsFaultIn-told words code.BadFilter e = inl (record { command = e; message = refl })
+IsFaultIn-told words code.NoPositiveFilter e = inl (record { command = e; message = refl })
+IsFaultIn-told words (code.Memory error) e = inr (record { lists = e; message = refl })

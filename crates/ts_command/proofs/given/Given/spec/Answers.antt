@@ -1,0 +1,19 @@
+use Rattle.std.proofs.Common.{◌≡◌, ℕ, ◌≤◌, subst, sym, refl, arith}
+use Rattle.std.specs.Prelude.{Option, None, Some, unwrap_or}
+use Rattle.std.specs.Option.{ForSome}
+use Rattle.ts_spec.specs.Sample.{MAX_TIME}
+use Rattle.ts_spec.specs.Settings.{IsChunkSize}
+use Rattle.ts_command.proofs.given.Given.spec.Goals as goal
+
+-- what holds of a number if it is given, and of the usual one, holds of either
+given_or : (P : ℕ → Type 0) (o : Option ℕ) (usual n : ℕ) → n ≡ unwrap_or o usual → ForSome o P → P usual → P n
+given_or P None usual n e h k = subst P (sym e) k
+given_or P (Some x) usual n e h k = subst P (sym e) (h x refl)
+
+pub invariant_of-result-clause-retention_fits : goal.invariant_of-result-clause-retention_fits
+invariant_of-result-clause-retention_fits c =
+    given_or (λ n. n ≤ MAX_TIME) c.args.self.retention 0 _ c.unwrap_or.ensures c.args.self.retention_fits (omega arith)
+
+pub invariant_of-result-clause-chunk_size_fits : goal.invariant_of-result-clause-chunk_size_fits
+invariant_of-result-clause-chunk_size_fits c =
+    given_or IsChunkSize c.args.self.chunk_size 4096 _ c.unwrap_or-3.ensures c.args.self.chunk_size_fits (omega arith, omega arith, refl)

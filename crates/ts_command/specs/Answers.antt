@@ -1,0 +1,21 @@
+-- What `read` answers.
+use Rattle.std.specs.Prelude.{◌≡◌, ⊤, Err, IsTrue}
+use Rattle.ts_spec.specs.Wire.{Request}
+use Rattle.ts_spec.specs.Grammar.{command, makes_list}
+use Rattle.ts_spec.specs.Settings.{IsTime}
+use Rattle.ts_command.specs.declared.command.Command.{Command}
+use Rattle.ts_command.specs.declared.command.Command.TheVariants.{Add, Incr}
+use Rattle.ts_command.specs.declared.fault.CommandFault.{CommandFault}
+use Rattle.ts_command.specs.declared.fault.CommandFault.TheVariants.{Memory}
+use Rattle.ts_command.specs.Faults.{fault_of}
+
+-- Words are answered by a fault where it is the first one in them, and by want of memory only where they make a list.
+abbrev pub IsFaultIn : Request → CommandFault → Type 0
+IsFaultIn words (Memory _) = IsTrue (makes_list words)
+IsFaultIn words fault = command words ≡ Err (fault_of fault)
+
+-- the time of a command of one sample is at most the greatest time
+abbrev pub HasTime : Command → Type 0
+HasTime (Add key at value on spec) = IsTime at
+HasTime (Incr key change at spec) = IsTime at
+HasTime _ = ⊤

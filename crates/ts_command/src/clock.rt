@@ -1,0 +1,50 @@
+// Which commands need a reading of the clock.
+ghost use Rattle.std.specs.Prelude.{◌≡◌};
+ghost use Rattle.ts_spec.specs.Grammar.{is_clock, is_clock_at, any_clock, needs_clock};
+ghost use Rattle.ts_command.specs.Reading.{triple_of, triples_of, reading};
+
+use crate::command::{Command, Triple};
+use ts_spec::At;
+
+impl Command {
+    /// Whether the command needs a reading of the clock: where a time is `*`, or one that may be left out is
+    /// left out.
+    pub fn needs_clock(&self) -> bool
+        ensures { result ≡ needs_clock (reading self.now) }
+    {
+        match self {
+            Command::Create { .. } | Command::Alter { .. } => false,
+            Command::Add { at, .. } | Command::Incr { at, .. } => is_clock(*at),
+            Command::Madd { triples } => any_clock(triples),
+        }
+    }
+}
+
+fn is_clock(at: At) -> bool
+    ensures { result ≡ is_clock at }
+{
+    match at {
+        At::Clock => true,
+        At::Time(_) => false,
+    }
+}
+
+fn has_clock(triple: &Triple) -> bool
+    ensures { result ≡ is_clock_at (triple_of triple.now).at }
+{
+    match &triple.at {
+        Ok(at) => is_clock(*at),
+        Err(_) => false,
+    }
+}
+
+fn any_clock(triples: &[Triple]) -> bool
+    ensures { result ≡ any_clock (triples_of triples.now) }
+{
+    for triple in triples {
+        if has_clock(triple) {
+            return true;
+        }
+    }
+    false
+}

@@ -1,0 +1,55 @@
+ghost use Rattle.std.specs.Result.{ForErr, ForOk};
+ghost use Rattle.ts_spec.specs.Settings.{IsTime};
+ghost use Rattle.ts_command.specs.Faults.{IsNoMemory};
+
+use crate::fault::CommandFault;
+use ts_labels::{Change, Spec};
+use ts_resp::Word;
+use ts_sample::Units;
+use ts_spec::{At, Policy};
+
+/// What a client asks for.
+#[derive(Debug, Drop)]
+pub enum Command {
+    /// A new series.
+    Create {
+        key: Word,
+        spec: Spec,
+    },
+    /// Other options for a series.
+    Alter {
+        key: Word,
+        change: Change,
+    },
+    /// A sample for a series, which is made with the spec where it is missing.
+    Add {
+        key: Word,
+        at: At,
+        value: Units,
+        /// What this write does where its time already has a sample, in place of the series' own policy.
+        on: Option<Policy>,
+        spec: Spec,
+    },
+    /// Samples, one after another.
+    Madd {
+        triples: Vec<Triple>,
+    },
+    /// A sample that is the last value and a change; the series is made with the spec where it is missing.
+    Incr {
+        key: Word,
+        change: Units,
+        at: At,
+        spec: Spec,
+    },
+}
+
+/// One sample of TS.MADD. A word that is no time or no value is told in the answer of the sample.
+#[derive(Debug, Drop)]
+pub struct Triple {
+    pub key: Word,
+    pub at: Result<At, CommandFault>,
+    pub value: Result<Units, CommandFault>,
+    ghost time_fits: { ForOk at IsTime },
+    ghost time_told: { ForErr at IsNoMemory },
+    ghost value_told: { ForErr value IsNoMemory },
+}

@@ -1,0 +1,66 @@
+ghost use Rattle.std.specs.Prelude.{◌≡◌, ◌≤◌};
+ghost use Rattle.std.specs.Option.{ForSome};
+ghost use Rattle.ts_spec.specs.Sample.{MAX_TIME};
+ghost use Rattle.ts_spec.specs.Settings.{IsTime, IsChunkSize};
+
+use ts_labels::{Change, Spec};
+use ts_spec::{At, Encoding, Options, Policy};
+
+// The bytes of a chunk where none are given.
+const USUAL_CHUNK: u32 = 4096;
+
+// What the options of a command have said so far.
+#[derive(Clone, Copy)]
+pub(crate) struct Given {
+    pub(crate) retention: Option<u64>,
+    pub(crate) encoding: Option<Encoding>,
+    pub(crate) chunk_size: Option<u32>,
+    pub(crate) policy: Option<Policy>,
+    pub(crate) on: Option<Policy>,
+    pub(crate) at: Option<At>,
+    ghost retention_fits: { ForSome retention (λ n. n ≤ MAX_TIME) },
+    ghost chunk_size_fits: { ForSome chunk_size IsChunkSize },
+    ghost at_fits: { ForSome at IsTime },
+}
+
+impl Given {
+    ghost use Rattle.ts_spec.specs.Settings.{nothing, spec, change};
+    ghost use Rattle.ts_labels.specs.Spec.{spec_of, change_of};
+    ghost use Rattle.ts_command.specs.Given.{given_of};
+
+    pub(crate) fn nothing() -> Given
+        ensures { given_of result ≡ nothing }
+    {
+        Given {
+            retention: None,
+            encoding: None,
+            chunk_size: None,
+            policy: None,
+            on: None,
+            at: None,
+        }
+    }
+
+    pub(crate) fn spec(self) -> Spec
+        ensures { spec_of result ≡ spec (given_of self) }
+    {
+        Spec {
+            options: Options {
+                retention: self.retention.unwrap_or(0),
+                encoding: self.encoding.unwrap_or(Encoding::Compressed),
+                chunk_size: self.chunk_size.unwrap_or(USUAL_CHUNK),
+                policy: self.policy.unwrap_or(Policy::Block),
+            },
+        }
+    }
+
+    pub(crate) fn change(self) -> Change
+        ensures { change_of result ≡ change (given_of self) }
+    {
+        Change {
+            retention: self.retention,
+            chunk_size: self.chunk_size,
+            policy: self.policy,
+        }
+    }
+}

@@ -1,0 +1,25 @@
+//! The words of a request as a command, or the first fault in them. Names, option words, policies and
+//! encodings are those of RedisTimeSeries' command reference, with letters in either case.
+#![tactic(auto)]
+
+mod clock;
+mod command;
+mod fault;
+mod forms;
+mod given;
+mod names;
+mod number;
+mod option;
+mod request;
+mod triple;
+mod verb;
+mod words;
+
+pub use command::{Command, Triple};
+pub use fault::CommandFault;
+pub use request::read;
+pub use ts_labels::{Change, Spec};
+pub use ts_spec::{At, Encoding, Options, Policy, ValueFault};
+
+#[cfg(test)]
+mod tests;

@@ -1,0 +1,53 @@
+// Words that are names, with letters in either case.
+ghost use Rattle.std.specs.Prelude.{◌≡◌, map};
+ghost use Rattle.std.specs.Str.{str_eq_ignore_ascii_case};
+ghost use Rattle.ts_spec.specs.Names.{named, policies, encodings};
+
+use ts_spec::{Encoding, Policy};
+
+const POLICIES: [(&[u8], Policy); 6] = [
+    (b"BLOCK", Policy::Block),
+    (b"FIRST", Policy::First),
+    (b"LAST", Policy::Last),
+    (b"MIN", Policy::Min),
+    (b"MAX", Policy::Max),
+    (b"SUM", Policy::Sum),
+];
+
+const ENCODINGS: [(&[u8], Encoding); 2] = [
+    (b"COMPRESSED", Encoding::Compressed),
+    (b"UNCOMPRESSED", Encoding::Uncompressed),
+];
+
+fn is_name(name: &[u8], word: &[u8]) -> bool
+    ensures { result ≡ str_eq_ignore_ascii_case name.now word.now }
+{
+    name.eq_ignore_ascii_case(word)
+}
+
+// What a word stands for in a table of names.
+pub(crate) fn named<T: Copy>(mut table: &[(&[u8], T)], word: &[u8]) -> Option<T>
+    ensures { result ≡ named (map (λ row. (row.0.now, row.1)) table.entry.now) word.now }
+{
+    while let [row, rest @ ..] = table {
+        if is_name(row.0, word) {
+            return Some(row.1);
+        }
+        table = rest;
+    }
+    None
+}
+
+#[tactic(auto, unfolding(ts_spec::specs::Names::policies))]
+pub(crate) fn policy_named(word: &[u8]) -> Option<Policy>
+    ensures { result ≡ named policies word.now }
+{
+    named(&POLICIES, word)
+}
+
+#[tactic(auto, unfolding(ts_spec::specs::Names::encodings))]
+pub(crate) fn encoding_named(word: &[u8]) -> Option<Encoding>
+    ensures { result ≡ named encodings word.now }
+{
+    named(&ENCODINGS, word)
+}

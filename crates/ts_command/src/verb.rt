@@ -1,0 +1,46 @@
+// The names of commands, and how many words each may have.
+ghost use Rattle.std.specs.Prelude.{◌≡◌, option_map};
+ghost use Rattle.ts_spec.specs.Names.{named};
+ghost use Rattle.ts_spec.specs.Grammar.{commands};
+ghost use Rattle.ts_command.specs.Forms.{form_of};
+
+use crate::names::named;
+
+#[derive(Clone, Copy)]
+pub(crate) enum Verb {
+    Create,
+    Alter,
+    Add,
+    Madd,
+    IncrBy,
+    DecrBy,
+}
+
+const VERBS: [(&[u8], Verb); 6] = [
+    (b"TS.CREATE", Verb::Create),
+    (b"TS.ALTER", Verb::Alter),
+    (b"TS.ADD", Verb::Add),
+    (b"TS.MADD", Verb::Madd),
+    (b"TS.INCRBY", Verb::IncrBy),
+    (b"TS.DECRBY", Verb::DecrBy),
+];
+
+impl Verb {
+    pub(crate) fn named(word: &[u8]) -> Option<Verb>
+        ensures { option_map form_of result ≡ named commands word.now }
+    {
+        named(&VERBS, word)
+    }
+
+    // Whether the command may have so many words, its name included.
+    pub(crate) fn takes(self, count: usize) -> bool
+        ensures { result ≡ (form_of self).words count }
+    {
+        match self {
+            Verb::Create | Verb::Alter => count >= 2,
+            Verb::Add => count >= 4,
+            Verb::Madd => count >= 4 && count % 3 == 1,
+            Verb::IncrBy | Verb::DecrBy => count >= 3,
+        }
+    }
+}

@@ -1,0 +1,85 @@
+// Single words of a command.
+ghost use Rattle.std.specs.Prelude.{◌≤◌, IfOk};
+ghost use Rattle.ts_spec.specs.Settings.{IsTime, IsChunkSize, time_word, at_word, value_word, retention_word, chunk_size_word, policy_word, encoding_word};
+ghost use Rattle.ts_spec.specs.Sample.{MAX_TIME};
+ghost use Rattle.std.specs.Result.{ForErr};
+ghost use Rattle.ts_command.specs.Faults.{IsNoMemory, SaysSame};
+
+use crate::fault::CommandFault;
+use crate::names::{encoding_named, policy_named};
+use crate::number::number_of;
+use ts_decimal::parse;
+use ts_sample::Units;
+use ts_spec::{At, Encoding, Policy};
+
+// The least and the greatest number of bytes of a chunk, which has a multiple of so many.
+const LEAST_CHUNK: u64 = 48;
+
+const GREATEST_CHUNK: u64 = 1_048_576;
+
+const CHUNK_STEP: u64 = 8;
+
+#[tactic(auto, unfolding(ts_spec::specs::Settings::time_word))]
+pub(crate) fn time_word(word: &[u8]) -> Result<u64, CommandFault>
+    ensures answer { SaysSame result (time_word word.now) }
+    ensures bound { IfOk result (λ n. n ≤ MAX_TIME) }
+    ensures told { ForErr result IsNoMemory }
+{
+    number_of(word).ok_or(CommandFault::BadTimestamp)
+}
+
+#[tactic(auto, unfolding(ts_spec::specs::Settings::at_word))]
+pub(crate) fn at_word(word: &[u8]) -> Result<At, CommandFault>
+    ensures answer { SaysSame result (at_word word.now) }
+    ensures bound { IfOk result IsTime }
+    ensures told { ForErr result IsNoMemory }
+{
+    if word == b"*".as_slice() {
+        return Ok(At::Clock);
+    }
+    Ok(At::Time(time_word(word)?))
+}
+
+#[tactic(auto, unfolding(ts_spec::specs::Settings::value_word))]
+pub(crate) fn value_word(word: &[u8]) -> Result<Units, CommandFault>
+    ensures answer { SaysSame result (value_word word.now) }
+    ensures told { ForErr result IsNoMemory }
+{
+    match parse(word) {
+        Ok(value) => Ok(value),
+        Err(fault) => Err(CommandFault::BadValue(fault)),
+    }
+}
+
+#[tactic(auto, unfolding(ts_spec::specs::Settings::retention_word))]
+pub(crate) fn retention_word(word: &[u8]) -> Result<u64, CommandFault>
+    ensures answer { SaysSame result (retention_word word.now) }
+    ensures bound { IfOk result (λ n. n ≤ MAX_TIME) }
+{
+    number_of(word).ok_or(CommandFault::BadOption)
+}
+
+#[tactic(auto, unfolding(ts_spec::specs::Settings::chunk_size_word))]
+pub(crate) fn chunk_size_word(word: &[u8]) -> Result<u32, CommandFault>
+    ensures answer { SaysSame result (chunk_size_word word.now) }
+    ensures bound { IfOk result IsChunkSize }
+{
+    match number_of(word) {
+        Some(n) if n >= LEAST_CHUNK && n <= GREATEST_CHUNK && n % CHUNK_STEP == 0 => Ok(n as u32),
+        _ => Err(CommandFault::BadChunkSize),
+    }
+}
+
+#[tactic(auto, unfolding(ts_spec::specs::Settings::policy_word))]
+pub(crate) fn policy_word(word: &[u8]) -> Result<Policy, CommandFault>
+    ensures { SaysSame result (policy_word word.now) }
+{
+    policy_named(word).ok_or(CommandFault::BadPolicy)
+}
+
+#[tactic(auto, unfolding(ts_spec::specs::Settings::encoding_word))]
+pub(crate) fn encoding_word(word: &[u8]) -> Result<Encoding, CommandFault>
+    ensures { SaysSame result (encoding_word word.now) }
+{
+    encoding_named(word).ok_or(CommandFault::BadEncoding)
+}

@@ -1,0 +1,26 @@
+ghost use Rattle.std.specs.Prelude.{◌≤◌};
+ghost use Rattle.std.specs.Option.{ForSome};
+ghost use Rattle.ts_spec.specs.Sample.{MAX_TIME};
+ghost use Rattle.ts_spec.specs.Settings.{IsChunkSize};
+
+use ts_spec::{Options, Policy};
+
+/// What a new series is made with.
+#[derive(Debug, Drop)]
+pub struct Spec {
+    pub options: Options,
+    ghost retention_fits: { options.retention ≤ MAX_TIME },
+    ghost chunk_size_fits: { IsChunkSize options.chunk_size },
+}
+
+/// What a series gets anew, where it is given.
+#[derive(Debug, Drop)]
+pub struct Change {
+    /// In milliseconds; 0 keeps samples for ever.
+    pub retention: Option<u64>,
+    /// In bytes. It holds for chunks that are begun later.
+    pub chunk_size: Option<u32>,
+    pub policy: Option<Policy>,
+    ghost retention_fits: { ForSome retention (λ n. n ≤ MAX_TIME) },
+    ghost chunk_size_fits: { ForSome chunk_size IsChunkSize },
+}
