@@ -1,0 +1,4 @@
+pub mod Placing
+pub mod Counting
+pub mod Keeping
+pub mod Putting

@@ -1,0 +1,114 @@
+-- Samples that take their place in a list.
+use Rattle.std.proofs.Common.{◌≡◌, ℕ, zero, suc, ◌+◌, ◌<◌, ◌≤◌, true, false, cond, List, [], ◌∷◌, ◌++◌, length, take, drop, refl, sym, ◌∙◌, ap, subst, arith}
+use Rattle.std.specs.Prelude.{◌-◌, nat_lt, nat_le, slice_get, slice_set, Option, None, Some, IsSomeAnd}
+use Rattle.std.specs.List.{insert}
+use Rattle.std.proofs.lemmas.List.{drop-set-add}
+use Rattle.std.proofs.lemmas.Bool.Decides.{nat_tests}
+use Rattle.ts_spec.specs.Sample.{Point, IsAscending, IsAfter, at, at_times, put, last_of}
+use Rattle.ts_spec.proofs.Samples.{at-time}
+
+pub none-before : (t : ℕ) (ps : List Point) → IsAfter t ps → at_times (λ u. nat_lt u t) ps ≡ []
+none-before t [] h = refl
+none-before t (p ∷ ps) h =
+    let no : nat_lt p.time t ≡ false = (let up : t < p.time = h.0 in grind (arith, nat_tests)) in
+    ap (λ b. cond b (p ∷ at_times (λ u. nat_lt u t) ps) (at_times (λ u. nat_lt u t) ps)) no ∙ none-before t ps h.1
+
+pub all-after : (t : ℕ) (ps : List Point) → IsAfter t ps → at_times (nat_lt t) ps ≡ ps
+all-after t [] h = refl
+all-after t (p ∷ ps) h =
+    let yes : nat_lt t p.time ≡ true = (let up : t < p.time = h.0 in grind (arith, nat_tests)) in
+    ap (λ b. cond b (p ∷ at_times (nat_lt t) ps) (at_times (nat_lt t) ps)) yes ∙ ap (λ (l : List Point). p ∷ l) (all-after t ps h.1)
+
+after-get : (t : ℕ) (ps : List Point) (i : ℕ) (q : Point) → IsAfter t ps → slice_get ps i ≡ Some q → t < q.time
+after-get t [] i q h is = absurd (cc is)
+after-get t (p ∷ ps) zero q h is = let same : p ≡ q = cc is in subst (λ (r : Point). t < r.time) same h.0
+after-get t (p ∷ ps) (suc i) q h is = after-get t ps i q h.1 is
+
+-- a sample in the place of one of its time is put there
+pub set-put : (ps : List Point) (i : ℕ) (p q : Point) → IsAscending ps → slice_get ps i ≡ Some q → q.time ≡ p.time → slice_set ps i p ≡ put p ps
+set-put [] i p q h is same = absurd (cc is)
+set-put (r ∷ ps) zero p q h is same =
+    let there : r.time ≡ p.time = (let one : r ≡ q = cc is in ap (λ (x : Point). x.time) one ∙ same) in
+    let after : IsAfter p.time ps = subst (λ t. IsAfter t ps) there h.0 in
+    let low : nat_lt r.time p.time ≡ false = grind (arith, nat_tests) in
+    let high : nat_lt p.time r.time ≡ false = grind (arith, nat_tests) in
+    sym (ap (λ b. cond b (r ∷ at_times (λ u. nat_lt u p.time) ps) (at_times (λ u. nat_lt u p.time) ps) ++ p ∷ at_times (nat_lt p.time) (r ∷ ps)) low
+    ∙ ap (λ (l : List Point). l ++ p ∷ at_times (nat_lt p.time) (r ∷ ps)) (none-before p.time ps after)
+    ∙ ap (λ b. p ∷ cond b (r ∷ at_times (nat_lt p.time) ps) (at_times (nat_lt p.time) ps)) high
+    ∙ ap (λ (l : List Point). p ∷ l) (all-after p.time ps after))
+set-put (r ∷ ps) (suc i) p q h is same =
+    let up : r.time < q.time = after-get r.time ps i q h.0 is in
+    let low : nat_lt r.time p.time ≡ true = grind (arith, nat_tests) in
+    let high : nat_lt p.time r.time ≡ false = grind (arith, nat_tests) in
+    ap (λ (l : List Point). r ∷ l) (set-put ps i p q h.1 is same)
+    ∙ sym (ap (λ b. cond b (r ∷ at_times (λ u. nat_lt u p.time) ps) (at_times (λ u. nat_lt u p.time) ps) ++ p ∷ at_times (nat_lt p.time) (r ∷ ps)) low
+    ∙ ap (λ b. r ∷ at_times (λ u. nat_lt u p.time) ps ++ p ∷ cond b (r ∷ at_times (nat_lt p.time) ps) (at_times (nat_lt p.time) ps)) high)
+
+-- the same behind a start
+pub set-behind : (start : ℕ) (ps : List Point) (i : ℕ) (p q : Point) → IsAscending (drop start ps) → slice_get (drop start ps) i ≡ Some q → q.time ≡ p.time
+    → drop start (slice_set ps (start + i) p) ≡ put p (drop start ps)
+set-behind start ps i p q h is same = drop-set-add start ps i p ∙ set-put (drop start ps) i p q h is same
+
+insert-at : (start : ℕ) (ps : List Point) (i j : ℕ) (p : Point) → j ≡ start + i → start ≤ length ps
+    → drop start (insert ps j p) ≡ take i (drop start ps) ++ p ∷ drop i (drop start ps)
+insert-at zero ps i j p is le = let same : j ≡ i = omega arith in ap (λ n. take n ps ++ p ∷ drop n ps) same
+insert-at (suc start) [] i j p is le = absurd (omega arith)
+insert-at (suc start) (q ∷ ps) i zero p is le = absurd (omega arith)
+insert-at (suc start) (q ∷ ps) i (suc j) p is le = insert-at start ps i j p (omega arith) (omega arith)
+
+-- a sample that is inserted behind a start
+pub insert-behind : (start : ℕ) (ps : List Point) (i : ℕ) (p : Point) → start ≤ length ps
+    → drop start (insert ps (start + i) p) ≡ take i (drop start ps) ++ p ∷ drop i (drop start ps)
+insert-behind start ps i p le = insert-at start ps i (start + i) p refl le
+
+pub drop-twice : (n m : ℕ) (ps : List Point) → drop (n + m) ps ≡ drop m (drop n ps)
+drop-twice n m ps = steps n m (n + m) ps refl
+  where
+    steps : (n m j : ℕ) (ps : List Point) → j ≡ n + m → drop j ps ≡ drop m (drop n ps)
+    steps zero m j ps is = ap (λ k. drop k ps) (let same : j ≡ m = omega arith in same)
+    steps (suc n) m zero ps is = absurd (omega arith)
+    steps (suc n) zero (suc j) [] is = refl
+    steps (suc n) (suc m) (suc j) [] is = refl
+    steps (suc n) m (suc j) (p ∷ ps) is = steps n m j ps (omega arith)
+
+-- the sample of that time gives way
+pub set-found : (start : ℕ) (ps : List Point) (i : ℕ) (p : Point) → IsAscending (drop start ps) → IsSomeAnd (at p.time (drop start ps)) (λ q. slice_get (drop start ps) i ≡ Some q)
+    → drop start (slice_set ps (start + i) p) ≡ put p (drop start ps)
+set-found start ps i p h found = go (at p.time (drop start ps)) refl found
+  where
+    go : (o : Option Point) → at p.time (drop start ps) ≡ o → IsSomeAnd o (λ q. slice_get (drop start ps) i ≡ Some q) → drop start (slice_set ps (start + i) p) ≡ put p (drop start ps)
+    go None is found = absurd found
+    go (Some q) is found = set-behind start ps i p q h found (at-time p.time (drop start ps) q is)
+
+last-at : (p : Point) (ps : List Point) (i : ℕ) → i ≡ length ps → slice_get (p ∷ ps) i ≡ last_of (p ∷ ps)
+last-at p [] zero is = refl
+last-at p [] (suc i) is = absurd (omega arith)
+last-at p (q ∷ ps) zero is = absurd (omega arith)
+last-at p (q ∷ ps) (suc i) is = last-at q ps i (omega arith)
+
+-- the last of a list
+pub last-get : (ps : List Point) → slice_get ps (length ps - 1) ≡ last_of ps
+last-get [] = refl
+last-get (p ∷ ps) = last-at p ps (length (p ∷ ps) - 1) (omega arith)
+
+-- nothing is before the edge of an ascending list that begins at it
+pub all-kept : (low : ℕ) (p : Point) (ps : List Point) → IsAscending (p ∷ ps) → low ≤ p.time → p ∷ ps ≡ at_times (nat_le low) (p ∷ ps)
+all-kept low p ps h le = sym (here ∙ ap (λ (l : List Point). p ∷ l) (later low p.time ps h.0 le))
+  where
+    yes : nat_le low p.time ≡ true
+    yes = grind (arith, nat_tests)
+
+    here : at_times (nat_le low) (p ∷ ps) ≡ p ∷ at_times (nat_le low) ps
+    here = ap (λ b. cond b (p ∷ at_times (nat_le low) ps) (at_times (nat_le low) ps)) yes
+
+    later : (low t : ℕ) (ps : List Point) → IsAfter t ps → low ≤ t → at_times (nat_le low) ps ≡ ps
+    later low t [] h le = refl
+    later low t (q ∷ qs) h le =
+        let up : t < q.time = h.0 in
+        let passes : nat_le low q.time ≡ true = grind (arith, nat_tests) in
+        ap (λ b. cond b (q ∷ at_times (nat_le low) qs) (at_times (nat_le low) qs)) passes ∙ ap (λ (l : List Point). q ∷ l) (later low t qs h.1 le)
+
+-- the same for the first of a list
+pub first-kept : (low : ℕ) (p : Point) (ps : List Point) → IsAscending ps → slice_get ps 0 ≡ Some p → low ≤ p.time → ps ≡ at_times (nat_le low) ps
+first-kept low p [] h is le = refl
+first-kept low p (q ∷ qs) h is le = let same : q ≡ p = cc is in all-kept low q qs h (subst (λ (r : Point). low ≤ r.time) (sym same) le)

@@ -1,0 +1,4 @@
+pub mod History
+pub mod Line
+pub mod Plan
+pub mod Put

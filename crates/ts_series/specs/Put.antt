@@ -1,0 +1,91 @@
+-- What a write to a series comes to.
+use Rattle.std.specs.Prelude.{◌≡◌, ℕ, ℤ, ◌<◌, ◌≤◌, nat_lt, if◌then◌else◌, ⊤, List, length, Option, None, Some, option_map, Result, Ok, Err}
+use Rattle.ts_spec.specs.declared.series.Merge.{Merge}
+use Rattle.ts_spec.specs.Sample.{Point, at}
+use Rattle.ts_spec.specs.Refusal as refusal
+use Rattle.ts_spec.specs.Refusal.{Refusal}
+use Rattle.ts_spec.specs.Rules.{Merged, Refuse, Keep, To, merge}
+use Rattle.ts_spec.specs.Step.{value_at}
+use Rattle.ts_series.specs.declared.plan.PutFault.{PutFault}
+use Rattle.ts_series.specs.declared.plan.PutFault.TheVariants.{TooOld, Duplicate, OutOfRange, Full, Memory}
+use Rattle.ts_series.specs.History.{History, list_of, low}
+use Rattle.ts_series.specs.Plan.{Plan, after}
+
+-- whether a write is refused, keeps what is there, or writes a value
+abbrev pub met : Merge → (time : ℕ) → (value : ℤ) → History → Merged
+met how t v h = if nat_lt t (low h) then Refuse refusal.TooOld else merge how (value_at t (list_of h)) v
+
+-- the refusal that a fault stands for
+abbrev pub refusal_of : PutFault → Option Refusal
+refusal_of TooOld = Some refusal.TooOld
+refusal_of Duplicate = Some refusal.Duplicate
+refusal_of OutOfRange = Some refusal.OutOfRange
+refusal_of Full = Some refusal.SamplesFull
+refusal_of (Memory e) = None
+
+-- the sample of a write to a series
+abbrev pub sample_of : (time : ℕ) → (value : ℤ) → History → Point
+sample_of t v h = record { time = t; value = v; made = h.born }
+
+-- a plan that changes nothing
+abbrev pub is_nothing : Plan
+is_nothing = record { wrote = None; options = None; removed = 0; room = None }
+
+-- a plan that writes this value, if there is one, at a time that has a sample
+abbrev pub rewrites : (time : ℕ) → Option ℤ → (made : ℕ) → Plan
+rewrites t v made = record { wrote = option_map (λ (x : ℤ). record { time = t; value = x; made = made }) v; options = None; removed = 0; room = None }
+
+-- a plan that writes this sample, and changes nothing else
+pub record Writes (p : Point) (plan : Plan) : Type 0 where
+  pub wrote : plan.wrote ≡ Some p
+  pub options : plan.options ≡ None
+  pub removed : plan.removed ≡ 0
+
+-- the list of a series after this write
+abbrev pub list_after : Point → History → List Point
+list_after p h = list_of (after (record { wrote = Some p; options = None; removed = 0; room = None }) h)
+
+-- a write at a time without a sample would make the list longer than the limit
+pub record IsFull (limit : ℕ) (p : Point) (h : History) : Type 0 where
+  pub absent : at p.time (list_of h) ≡ None
+  pub longer : limit < length (list_after p h)
+
+-- at a time without a sample the list stays within the limit
+abbrev pub Fits : ℕ → Point → History → Type 0
+Fits limit p h = at p.time (list_of h) ≡ None → length (list_after p h) ≤ limit
+
+-- ---- the answers to a write, by what it comes to
+
+abbrev pub IsRefused : Refusal → Result Plan PutFault → Type 0
+IsRefused r (Ok plan) = ⊥
+IsRefused r (Err fault) = refusal_of fault ≡ Some r
+
+abbrev pub IsNothing : Result Plan PutFault → Type 0
+IsNothing (Ok plan) = plan ≡ is_nothing
+IsNothing (Err fault) = ⊥
+
+abbrev pub IsFullFault : ℕ → Point → History → PutFault → Type 0
+IsFullFault limit p h Full = IsFull limit p h
+IsFullFault limit p h (Memory e) = ⊤
+IsFullFault limit p h fault = ⊥
+
+abbrev pub IsWrite : ℕ → Point → History → Result Plan PutFault → Type 0
+IsWrite limit p h (Ok plan) = Writes p plan × Fits limit p h
+IsWrite limit p h (Err fault) = IsFullFault limit p h fault
+
+-- A write that is refused answers so, one that keeps what is there plans nothing, and another plans the sample, unless the series
+-- is full or there is no memory.
+abbrev pub Answers : Merged → (limit : ℕ) → (time : ℕ) → History → Result Plan PutFault → Type 0
+Answers (Refuse r) limit t h result = IsRefused r result
+Answers Keep limit t h result = IsNothing result
+Answers (To v) limit t h result = IsWrite limit (sample_of t v h) h result
+
+-- ---- how a value meets the one that is there
+
+abbrev pub IsMerged : Merged → Result (Option ℤ) PutFault → Type 0
+IsMerged (Refuse r) (Ok value) = ⊥
+IsMerged (Refuse r) (Err fault) = refusal_of fault ≡ Some r
+IsMerged Keep (Ok value) = value ≡ None
+IsMerged Keep (Err fault) = ⊥
+IsMerged (To v) (Ok value) = value ≡ Some v
+IsMerged (To v) (Err fault) = ⊥

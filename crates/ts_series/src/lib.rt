@@ -1,0 +1,18 @@
+//! One series: its samples in order of time, how it is kept, and how it is written. A change is planned
+//! first, which may fail, and then committed, which can't.
+#![tactic(auto)]
+
+mod alter;
+mod edge;
+mod line;
+mod merged;
+mod plan;
+mod put;
+mod series;
+
+pub use plan::{PutFault, SeriesPlan};
+pub use series::Series;
+pub use ts_spec::{Encoding, Merge, Options, Policy};
+
+#[cfg(test)]
+mod tests;
