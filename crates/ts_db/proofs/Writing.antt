@@ -1,0 +1,33 @@
+-- What a committed plan leaves of a series.
+use Rattle.std.proofs.Common.{◌≡◌, ◌≤◌, ℕ, [], length, sym, ◌∙◌, ap, subst}
+use Rattle.std.specs.Prelude.{None, Ok}
+use Rattle.ts_spec.specs.Sample.{Point}
+use Rattle.ts_spec.specs.State.{Record, edge_of}
+use Rattle.ts_spec.specs.Rules.{Merged, Refuse, Keep, To, raised}
+use Rattle.ts_series.specs.History.{History, list_of, record_of, IsKept}
+use Rattle.ts_series.specs.Plan.{Plan, after}
+use Rattle.ts_series.specs.Put.{Answers, Writes, sample_of, is_nothing}
+use Rattle.ts_series.proofs.Counting.{length-after}
+use Rattle.ts_db.specs.Writes.{IsWritten, with_point}
+
+-- a plan that changes nothing leaves the record
+nothing-after : (h : History) → IsKept h → record_of [] (after is_nothing h) ≡ record_of [] h
+nothing-after h k = λ i. record { options = h.options; labels = []; plain = k.past_edge i; high = h.high; born = h.born; rules = [] }
+
+-- a plan that writes a sample leaves the record with it
+writes-after : (h : History) (plan : Plan) (p : Point) → Writes p plan → record_of [] (after plan h) ≡ with_point p h
+writes-after h plan p w = λ i. record_of [] (after (record { wrote = w.wrote i; options = w.options i; removed = 0; room = None }) h)
+
+module _ (h new : History) (plan : Plan) (kept : IsKept h) (done : new ≡ record (after plan h) { room = new.room }) where
+  pub written-plan : {T : Type 0} (x : T) (m : Merged) (limit t : ℕ) → Answers m limit t h (Ok plan) → IsWritten m limit t h (Ok x) new
+  written-plan x (Refuse r) limit t a = a
+  written-plan x Keep limit t a = ap (record_of []) done ∙ ap (λ (p : Plan). record_of [] (after p h)) a ∙ nothing-after h kept
+  written-plan x (To v) limit t a = ap (record_of []) done ∙ writes-after h plan (sample_of t v h) a.0
+
+  pub within-plan : (m : Merged) (limit t : ℕ) → Answers m limit t h (Ok plan) → length (list_of h) ≤ limit → length (list_of new) ≤ limit
+  within-plan (Refuse r) limit t a le = absurd a
+  within-plan Keep limit t a le =
+      subst (λ (d : Record). length d.plain ≤ limit) (sym (ap (record_of []) done ∙ ap (λ (p : Plan). record_of [] (after p h)) a ∙ nothing-after h kept)) le
+  within-plan (To v) limit t a le =
+      subst (λ (d : Record). length d.plain ≤ limit) (sym (ap (record_of []) done ∙ writes-after h plan (sample_of t v h) a.0))
+      (length-after limit (edge_of h.options.retention (raised t h.high)) (sample_of t v h) h.samples kept.ascending a.1 le)

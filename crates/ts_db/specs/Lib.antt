@@ -1,0 +1,4 @@
+pub mod Faults
+pub mod Held
+pub mod Store
+pub mod Writes

@@ -1,0 +1,55 @@
+ghost use Rattle.std.specs.Prelude.{◌≡◌};
+ghost use Rattle.ts_series.specs.Put.{refusal_of as put_refusal};
+ghost use Rattle.ts_db.specs.Faults.{refusal_of, IsOwn};
+
+use std::alloc::AllocError;
+use thiserror::Error;
+use ts_sample::Id;
+use ts_series::PutFault;
+
+/// Why the database refuses a command. It is then as it was.
+#[derive(Debug, Drop, Error)]
+pub enum DbFault {
+    /// The key is there already.
+    #[error("key already exists")]
+    KeyExists,
+    /// There is no such key.
+    #[error("no such key")]
+    NoKey,
+    /// There are as many keys as there may be.
+    #[error("too many keys")]
+    KeysFull,
+    /// The time is before the edge of the series.
+    #[error("the time is before the retention")]
+    TooOld,
+    /// The time has a sample, and the policy refuses another one.
+    #[error("duplicate sample")]
+    Duplicate,
+    /// The value is out of range.
+    #[error("value out of range")]
+    OutOfRange,
+    /// The time is before that of the last sample.
+    #[error("the time is before the last sample")]
+    BeforeLast,
+    /// The series would show too many samples. It is the one to be written where `written` is true, and
+    /// else a destination.
+    #[error("too many samples")]
+    SamplesFull { id: Id, written: bool },
+    /// There was no memory.
+    #[error(transparent)]
+    Memory(AllocError),
+}
+
+// The same fault of the series with this number.
+pub(crate) fn fault_at(id: Id, fault: PutFault) -> DbFault
+    ensures refusal { refusal_of result ≡ put_refusal fault }
+    ensures own { IsOwn result }
+{
+    match fault {
+        PutFault::TooOld => DbFault::TooOld,
+        PutFault::Duplicate => DbFault::Duplicate,
+        PutFault::OutOfRange => DbFault::OutOfRange,
+        PutFault::Full => DbFault::SamplesFull { id, written: true },
+        PutFault::Memory(fault) => DbFault::Memory(fault),
+    }
+}
