@@ -1,0 +1,169 @@
+-- What `pipe` did is what the headline says.
+use Rattle.std.specs.Prelude.{Option, Some, None}
+use Rattle.std.specs.Io.KnownBytes.{Consumes, IsAtEnd}
+use Rattle.std.proofs.Common.{◌≡◌, inl, inr, ℕ, List, [], ◌∷◌, ◌++◌, length, refl, sym, ◌∙◌, ap, subst, append_assoc}
+use Rattle.std.proofs.lemmas.List.{append-nil}
+use Rattle.ts_resp.specs.Reading.{stream_of, ended_at, unfinished}
+use Rattle.ts_spec.specs.Run.{Runs, then_all, requests_in}
+use Rattle.ts_spec.specs.Wire.{Request, Stream, Ended, Inside, Broken, stream_at, requests_of, ending_of}
+use Rattle.ts_spec.proofs.Runs.{requests_of-then_all, ending_of-then_all, requests_in-append}
+use Rattle.ts_engine.specs.declared.piped.End.{End}
+use Rattle.ts_engine.specs.declared.piped.End.TheVariants as end
+use Rattle.ts_engine.specs.declared.piped.Outcome.{Outcome}
+use Rattle.ts_spec.specs.State.{empty}
+use Rattle.ts_spec.specs.declared.limits.Limits.{Limits}
+use Rattle.ts_db.specs.Held.{Held}
+use Rattle.ts_engine.specs.Turn.{World, turn}
+use Rattle.ts_engine.specs.Session.{Spot, Went, WentSome, CutReply, CutFault, IsUpToDate}
+use Rattle.ts_engine.specs.Piping.{beginning, Ends, Piped}
+use Rattle.ts_engine.specs.Headline.{requests, ending, start, Seen, AllAnswered, SomeAnswered, LastCut, FaultCut, FrontAnswered, Writes}
+
+-- an input that told its bytes still tells what is left
+abbrev pub Splits : List ℕ → Option (List ℕ) → List ℕ → Type 0
+Splits bytes left front = (rest : List ℕ) × (bytes ≡ front ++ rest) × (left ≡ Some rest)
+
+splits : (bytes : List ℕ) (left : Option (List ℕ)) (front : List ℕ) → Consumes (Some bytes) left front → Splits bytes left front
+splits bytes None front took = absurd took
+splits bytes (Some rest) front took = (rest, took, refl)
+
+module _ (seen : Seen) (last : Spot) (readings : last.world.readings ≡ seen.readings_left) where
+  -- the world at the end, with the readings that are left
+  world_is : last.world ≡ record { held = last.world.held; readings = seen.readings_left }
+  world_is = ap (λ (q : Option (List ℕ)). record { held = last.world.held; readings = q }) readings
+
+  module _ (front tail : List ℕ) (went : Went (beginning seen.limits.wire (start seen.limits seen.readings)) last seen.had seen.has front tail) where
+    -- the requests in the bytes and whatever follows them
+    follows : (more : List ℕ) → stream_at seen.limits.wire 0 (front ++ more) ≡ then_all went.done (stream_of last.reader more)
+    follows more = went.stream more
+
+    first_requests : (more : List ℕ) → requests seen.limits.wire (front ++ more) ≡ requests_in went.done ++ requests_of (stream_of last.reader more)
+    first_requests more = ap requests_of (follows more) ∙ requests_of-then_all went.done (stream_of last.reader more)
+
+    its_ending : (more : List ℕ) → ending seen.limits.wire (front ++ more) ≡ ending_of (stream_of last.reader more)
+    its_ending more = ap ending_of (follows more) ∙ ending_of-then_all went.done (stream_of last.reader more)
+
+    -- all requests had their turns, where no further one follows
+    all_answered : (bytes more : List ℕ) → bytes ≡ front ++ more → requests_of (stream_of last.reader more) ≡ [] → AllAnswered seen bytes tail
+    all_answered bytes more whole none = record {
+      text = went.text;
+      held = last.world.held;
+      run = subst (λ (w : World). Runs turn (start seen.limits seen.readings) (requests seen.limits.wire bytes) went.text w) world_is
+          (subst (λ (l : List Request). Runs turn (start seen.limits seen.readings) l went.text last.world)
+          (sym (ap (requests seen.limits.wire) whole ∙ first_requests more ∙ ap (λ (l : List Request). requests_in went.done ++ l) none ∙ append-nil (requests_in went.done)))
+          went.run);
+      grown = went.grown;
+    }
+
+    -- the ending of the bytes, where the rest of the stream is known
+    ends_as : (bytes more : List ℕ) (stream : Stream) → bytes ≡ front ++ more → stream_of last.reader more ≡ stream → ending seen.limits.wire bytes ≡ ending_of stream
+    ends_as bytes more stream whole is = ap (ending seen.limits.wire) whole ∙ its_ending more ∙ ap ending_of is
+
+no_requests : (place : Option ℕ) → requests_of (ended_at place) ≡ []
+no_requests None = refl
+no_requests (Some place) = refl
+
+its_own_ending : (place : Option ℕ) → ending_of (ended_at place) ≡ ended_at place
+its_own_ending None = refl
+its_own_ending (Some place) = refl
+
+module _ (seen : Seen) (last : Spot) (readings : last.world.readings ≡ seen.readings_left) (bytes front : List ℕ) (left : Option (List ℕ)) (split : Splits bytes left front) where
+  from : Spot
+  from = beginning seen.limits.wire (start seen.limits seen.readings)
+
+  -- the whole of the bytes was taken
+  whole : IsAtEnd left → (bytes ≡ front ++ []) × (left ≡ Some [])
+  whole at_end =
+      let none : split.0 ≡ [] = subst IsAtEnd split.2 at_end in
+      (split.1 ∙ ap (λ (l : List ℕ). front ++ l) none, split.2 ∙ ap Some none)
+
+  abbrev front_answered : Went (beginning seen.limits.wire (start seen.limits seen.readings)) last seen.had seen.has front [] → IsUpToDate last → FrontAnswered seen bytes left
+  front_answered went current = record {
+    front = front;
+    rest = split.0;
+    split = split.1;
+    left_is = split.2;
+    place = unfinished last.reader;
+    unbroken = ends_as seen last readings front [] went front [] (ended_at (unfinished last.reader)) (sym (append-nil front)) current.rest
+        ∙ its_own_ending (unfinished last.reader);
+    answered = all_answered seen last readings front [] went front [] (sym (append-nil front)) (ap requests_of current.rest ∙ no_requests (unfinished last.reader));
+  }
+
+  some_answered : WentSome (beginning seen.limits.wire (start seen.limits seen.readings)) last seen.had seen.has front → SomeAnswered seen bytes
+  some_answered went =
+      let rest = went.stream split.0 in
+      record {
+        done = requests_in went.done;
+        others = requests_of rest.0;
+        first = ap (requests seen.limits.wire) split.1 ∙ ap requests_of rest.1 ∙ requests_of-then_all went.done rest.0;
+        text = went.text;
+        held = last.world.held;
+        run = subst (λ (w : World). Runs turn (start seen.limits seen.readings) (requests_in went.done) went.text w) (world_is seen last readings) went.run;
+        grown = went.grown;
+      }
+
+  last_cut : CutReply (beginning seen.limits.wire (start seen.limits seen.readings)) last seen.had seen.has front → LastCut seen bytes
+  last_cut cut = record {
+    done = requests_in cut.done;
+    last = cut.last.request;
+    others = requests_of (stream_of last.reader split.0);
+    first = ap (requests seen.limits.wire) split.1 ∙ ap requests_of (cut.stream split.0) ∙ requests_of-then_all (cut.done ++ cut.last ∷ []) (stream_of last.reader split.0)
+        ∙ ap (λ (l : List Request). l ++ requests_of (stream_of last.reader split.0)) (requests_in-append cut.done (cut.last ∷ []))
+        ∙ append_assoc (requests_in cut.done) (cut.last.request ∷ []) (requests_of (stream_of last.reader split.0));
+    text = cut.text;
+    mid = cut.mid;
+    reply = cut.reply;
+    kept = cut.kept;
+    held = last.world.held;
+    run = cut.run;
+    turned = subst (λ (w : World). turn cut.mid cut.last.request cut.reply w) (world_is seen last readings) cut.turned;
+    grown = cut.grown;
+  }
+
+  fault_cut : CutFault (beginning seen.limits.wire (start seen.limits seen.readings)) last seen.had seen.has front → FaultCut seen bytes
+  fault_cut cut = record {
+    kind = cut.fault.kind;
+    place = cut.fault.place;
+    kept = cut.kept;
+    broken = ends_as seen last readings front _ cut.went bytes split.0 (Broken cut.fault.kind cut.fault.place) split.1 (cut.broken split.0);
+    answered = all_answered seen last readings front _ cut.went bytes split.0 split.1 (ap requests_of (cut.broken split.0));
+  }
+
+  -- what was done over the bytes taken is what the headline says of its end
+  pub writes : (budget : ℕ) (e : End) → (e ≡ end.Budget → length front ≡ budget) → Ends e left (beginning seen.limits.wire (start seen.limits seen.readings)) last seen.had seen.has front
+      → Writes seen budget bytes left e
+  writes budget end.Ended spent ends =
+      let all = whole ends.2 in (
+        all_answered seen last readings front [] ends.0 bytes [] all.0 (ap requests_of ends.1),
+        ends_as seen last readings front [] ends.0 bytes [] Ended all.0 ends.1,
+        all.1,
+      )
+  writes budget (end.Truncated place) spent ends =
+      let all = whole ends.2 in (
+        all_answered seen last readings front [] ends.0 bytes [] all.0 (ap requests_of ends.1),
+        ends_as seen last readings front [] ends.0 bytes [] (Inside place) all.0 ends.1,
+        all.1,
+      )
+  writes budget (end.Protocol fault) spent ends = (
+    all_answered seen last readings front _ ends.0 bytes split.0 split.1 (ap requests_of (ends.1 split.0)),
+    ends_as seen last readings front _ ends.0 bytes split.0 (Broken fault.kind fault.place) split.1 (ends.1 split.0),
+  )
+  writes budget end.ReadFault spent ends = front_answered ends.0 ends.1
+  writes budget end.Budget spent ends = (front_answered ends.0 ends.1, spent refl)
+  writes budget end.Memory spent ends = some_answered ends
+  writes budget end.WriteFault spent (inl cut) = inl (last_cut cut)
+  writes budget end.WriteFault spent (inr cut) = inr (fault_cut cut)
+
+-- what `pipe` did from the empty database with an input that told its bytes
+pub piped_writes : (seen : Seen) (budget : ℕ) (outcome : Outcome) (held held' : Held) (bytes : List ℕ) (told left : Option (List ℕ)) → held.limits ≡ seen.limits → held.state ≡ empty → told ≡ Some bytes
+    → Piped seen.limits.wire budget outcome (record { held = held; readings = seen.readings }) (record { held = held'; readings = seen.readings_left }) told left seen.had seen.has
+    → Writes seen budget bytes left outcome.end
+piped_writes seen budget outcome held held' bytes told left same none tells given =
+    let to : World = record { held = held'; readings = seen.readings_left } in
+    let begins : held ≡ record { limits = seen.limits; state = empty } = starts held seen.limits same none in
+    let piped = subst (λ (o : Option (List ℕ)). Piped seen.limits.wire budget outcome (start seen.limits seen.readings) to o left seen.had seen.has) tells
+    (subst (λ (h : Held). Piped seen.limits.wire budget outcome (record { held = h; readings = seen.readings }) to told left seen.had seen.has) begins given) in
+    writes seen piped.last (ap (λ (w : World). w.readings) piped.world) bytes piped.bytes left (splits bytes left piped.bytes piped.took) budget outcome.end
+    (λ is. piped.count ∙ piped.spent is) piped.ends
+  where
+    starts : (h : Held) (limits : Limits) → h.limits ≡ limits → h.state ≡ empty → h ≡ record { limits = limits; state = empty }
+    starts h limits one two = ap (λ l. record { limits = l; state = h.state }) one ∙ ap (λ s. record { limits = limits; state = s }) two

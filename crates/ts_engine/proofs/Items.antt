@@ -1,0 +1,83 @@
+-- How the items of TS.MADD add up.
+use Rattle.std.proofs.Common.{◌≡◌, ◌+◌, ℕ, List, [], ◌∷◌, ◌++◌, length, refl, sym, ◌∙◌, ap, subst, append_assoc, arith, length-append}
+use Rattle.std.proofs.lemmas.List.{append-nil, length-map}
+use Rattle.std.specs.Fmt.{decimal}
+use Rattle.ts_spec.specs.Command.{Triple}
+use Rattle.ts_spec.specs.Replies.{listed, array}
+use Rattle.ts_spec.specs.State.{State}
+use Rattle.ts_spec.specs.Text.{Reply, text, texts, line, count_of}
+use Rattle.ts_spec.specs.declared.limits.Limits.{Limits}
+use Rattle.ts_command.specs.declared.command.Triple.{Triple as Given}
+use Rattle.ts_command.specs.Reading.{triple_of, triples_of}
+use Rattle.ts_db.specs.Held.{Held}
+use Rattle.ts_engine.specs.Turn.{IsTold, AreTold, WritesAll}
+
+pub no_items : {X : Type 0} (xs : List X) → length xs ≡ 0 → xs ≡ []
+no_items [] none = refl
+no_items (x ∷ xs) none = absurd (omega (arith, none))
+
+pub length-triples : (triples : List Given) → length (triples_of triples) ≡ length triples
+length-triples triples = length-map triples triple_of
+
+-- the items so far were told of the first triples; with those of the rest they are the items of all
+pub record SoFar (reading : ℕ) (all rest : List Triple) (old now : Held) (written : List ℕ) : Type 0 where
+  pub items : List Reply
+  pub goes_on : (others : List Reply) (to : State) → AreTold old.limits reading rest now.state others to → AreTold old.limits reading all old.state (items ++ others) to
+  pub bytes : written ≡ line 42 (decimal (length all)) ++ texts (listed items)
+  pub count : length items + length rest ≡ length all
+  pub limits : now.limits ≡ old.limits
+
+pub so_far_none : (reading : ℕ) (all : List Triple) (old : Held) (written : List ℕ) → written ≡ line 42 (decimal (length all)) → SoFar reading all all old old written
+so_far_none reading all old written is = record {
+  items = [];
+  goes_on = λ others to told. told;
+  bytes = is ∙ sym (append-nil (line 42 (decimal (length all))));
+  count = omega arith;
+  limits = refl;
+}
+
+texts-append : (a b : List Reply) → texts (listed (a ++ b)) ≡ texts (listed a) ++ texts (listed b)
+texts-append [] b = refl
+texts-append (r ∷ a) b = ap (λ (l : List ℕ). text r ++ l) (texts-append a b) ∙ sym (append_assoc (text r) (texts (listed a)) (texts (listed b)))
+
+-- one more triple had its item
+pub so_far_more : (reading : ℕ) (all rest : List Triple) (triple : Triple) (old mid new : Held) (item : Reply) (before after : List ℕ) → SoFar reading all (triple ∷ rest) old mid before
+    → IsTold mid.limits reading triple mid.state item new.state → new.limits ≡ mid.limits → after ≡ before ++ text item → SoFar reading all rest old new after
+so_far_more reading all rest triple old mid new item before after so_far told limits is = record {
+  items = so_far.items ++ item ∷ [];
+  goes_on = λ others to rest_told.
+      subst (λ (l : List Reply). AreTold old.limits reading all old.state l to) (sym (append_assoc so_far.items (item ∷ []) others))
+      (so_far.goes_on (item ∷ others) to (record {
+        first = item;
+        others = others;
+        mid = new.state;
+        split = refl;
+        here = subst (λ (l : Limits). IsTold l reading triple mid.state item new.state) so_far.limits told;
+        after = rest_told;
+      }));
+  bytes = is ∙ ap (λ (l : List ℕ). l ++ text item) so_far.bytes
+      ∙ append_assoc (line 42 (decimal (length all))) (texts (listed so_far.items)) (text item)
+      ∙ ap (λ (l : List ℕ). line 42 (decimal (length all)) ++ l)
+      (ap (λ (l : List ℕ). texts (listed so_far.items) ++ l) (sym (append-nil (text item))) ∙ sym (texts-append so_far.items (item ∷ [])));
+  count = omega (arith, so_far.count, length-append so_far.items (item ∷ []));
+  limits = limits ∙ so_far.limits;
+}
+
+count-listed : (items : List Reply) → count_of (listed items) ≡ length items
+count-listed [] = refl
+count-listed (r ∷ items) = omega (arith, count-listed items)
+
+-- all of them had
+pub all_told : (reading : ℕ) (all : List Triple) (old new : Held) (written : List ℕ) → SoFar reading all [] old new written → WritesAll reading all old written new
+all_told reading all old new written so_far =
+    let size : length all ≡ count_of (listed so_far.items) = omega (arith, so_far.count, count-listed so_far.items) in
+    record {
+      reply = array so_far.items;
+      its_text = so_far.bytes ∙ ap (λ n. line 42 (decimal n) ++ texts (listed so_far.items)) size;
+      all = record {
+        items = so_far.items;
+        told = subst (λ (l : List Reply). AreTold old.limits reading all old.state l new.state) (append-nil so_far.items) (so_far.goes_on [] new.state (refl, refl));
+        says = refl;
+        limits = so_far.limits;
+      };
+    }

@@ -1,0 +1,13 @@
+pub mod Answered
+pub mod Faulted
+pub mod Fronts
+pub mod Headlines
+pub mod Items
+pub mod OneStep
+pub mod Pipes
+pub mod Sessions
+pub mod Short
+pub mod Times
+pub mod Tops
+pub mod Wants
+pub mod Words

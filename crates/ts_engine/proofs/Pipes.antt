@@ -1,0 +1,123 @@
+-- How what was read and answered adds up over a whole input.
+use Rattle.std.specs.Prelude.{Option, Some, None}
+use Rattle.std.specs.Io.KnownBytes.{Consumes}
+use Rattle.std.proofs.Common.{◌≡◌, ℕ, ◌+◌, ◌≤◌, List, [], ◌++◌, length, refl, sym, ◌∙◌, ap, subst, append_assoc, arith, length-append}
+use Rattle.ts_resp.specs.Reading.{stream_of, ended_at, unfinished}
+use Rattle.ts_spec.specs.Wire.{stream_at, read_on}
+use Rattle.ts_spec.specs.declared.wire.WireLimits.{WireLimits}
+use Rattle.ts_engine.specs.declared.piped.End.{End}
+use Rattle.ts_engine.specs.declared.piped.End.TheVariants as end
+use Rattle.ts_engine.specs.declared.piped.Step.{Step}
+use Rattle.ts_engine.specs.declared.session.Go.TheVariants as go
+use Rattle.ts_engine.specs.Turn.{World}
+use Rattle.ts_engine.specs.Session.{Spot, Went, IsUpToDate}
+use Rattle.ts_engine.specs.Piping.{beginning, Ends, EndsOr, Pumped, Piped}
+use Rattle.ts_engine.proofs.Sessions.{fed_only, not_fed, went_on, answers_on}
+
+-- so many bytes were taken, and what they hold was answered
+pub record SoFar (limits : WireLimits) (taken : ℕ) (from : World) (now : Spot) (left rest : Option (List ℕ)) (had has : List ℕ → Type 0) : Type 0 where
+  pub bytes : List ℕ
+  pub count : length bytes ≡ taken
+  pub took : Consumes left rest bytes
+  pub went : Went (beginning limits from) now had has bytes []
+
+consumes_none : (left : Option (List ℕ)) → Consumes left left []
+consumes_none None = tt
+consumes_none (Some xs) = refl
+
+consumes_both : (a b c : Option (List ℕ)) (x y : List ℕ) → Consumes a b x → Consumes b c y → Consumes a c (x ++ y)
+consumes_both None b c x y one two = tt
+consumes_both (Some xs) None c x y one two = absurd one
+consumes_both (Some xs) (Some ys) None x y one two = absurd two
+consumes_both (Some xs) (Some ys) (Some zs) x y one two = one ∙ ap (λ (l : List ℕ). x ++ l) two ∙ sym (append_assoc x y zs)
+
+-- nothing was taken yet
+pub so_far_none : (limits : WireLimits) (now : Spot) (left : Option (List ℕ)) (has : List ℕ → Type 0)
+    → ((more : List ℕ) → stream_of now.reader more ≡ stream_at limits 0 more) → now.executed ≡ 0 → SoFar limits 0 now.world now left left has has
+so_far_none limits now left has stream executed = record {
+  bytes = [];
+  count = refl;
+  took = consumes_none left;
+  went = fed_only (beginning limits now.world) now has [] stream executed refl;
+}
+
+-- an end after some bytes is an end over all of them
+ends_on : (e : End) (first mid last : Spot) (had has' has : List ℕ → Type 0) (x y : List ℕ) (rest : Option (List ℕ))
+    → Went first mid had has' x [] → Ends e rest mid last has' has y → Ends e rest first last had has (x ++ y)
+ends_on end.Ended first mid last had has' has x y rest went ends = (went_on first mid had has' x went last has y [] ends.0, ends.1, ends.2)
+ends_on (end.Truncated place) first mid last had has' has x y rest went ends = (went_on first mid had has' x went last has y [] ends.0, ends.1, ends.2)
+ends_on (end.Protocol fault) first mid last had has' has x y rest went ends = answers_on first mid had has' x went (go.Broken fault) last has y ends
+ends_on end.ReadFault first mid last had has' has x y rest went ends = answers_on first mid had has' x went go.More last has y ends
+ends_on end.WriteFault first mid last had has' has x y rest went ends = answers_on first mid had has' x went go.WriteFault last has y ends
+ends_on end.Memory first mid last had has' has x y rest went ends = answers_on first mid had has' x went go.Memory last has y ends
+ends_on end.Budget first mid last had has' has x y rest went ends = answers_on first mid had has' x went go.More last has y ends
+
+module _ (limits : WireLimits) (taken : ℕ) (from : World) (mid : Spot) (left between : Option (List ℕ)) (had has' : List ℕ → Type 0)
+    (so_far : SoFar limits taken from mid left between had has') where
+  -- one more piece was answered
+  pub so_far_more : (step : Step) (now : Spot) (rest : Option (List ℕ)) (has : List ℕ → Type 0) → step.end ≡ None
+      → Pumped step between rest mid now has' has → SoFar limits (taken + step.taken) from now left rest had has × IsUpToDate now
+  so_far_more step now rest has is pumped =
+      let ends = subst (λ e. EndsOr e rest mid now has' has pumped.bytes) is pumped.ends in (
+        record {
+          bytes = so_far.bytes ++ pumped.bytes;
+          count = omega (arith, so_far.count, pumped.count, length-append so_far.bytes pumped.bytes);
+          took = consumes_both left between rest so_far.bytes pumped.bytes so_far.took pumped.took;
+          went = went_on (beginning limits from) mid had has' so_far.bytes so_far.went now has pumped.bytes [] ends.0;
+        },
+        ends.1,
+      )
+
+  -- the last piece was answered
+  pub piped_end : (budget executed : ℕ) (step : Step) (e : End) (now : Spot) (rest : Option (List ℕ)) (has : List ℕ → Type 0)
+      → executed ≡ now.executed → taken + step.taken ≤ budget → step.end ≡ Some e → (step.end ≡ Some end.Budget → ⊥)
+      → Pumped step between rest mid now has' has
+      → Piped limits budget (record { executed = executed; taken = taken + step.taken; end = e }) from now.world left rest had has
+  piped_end budget executed step e now rest has done within is unspent pumped =
+      let ends = subst (λ e'. EndsOr e' rest mid now has' has pumped.bytes) is pumped.ends in
+      record {
+        bytes = so_far.bytes ++ pumped.bytes;
+        last = now;
+        count = omega (arith, so_far.count, pumped.count, length-append so_far.bytes pumped.bytes);
+        within = within;
+        spent = λ same. absurd (unspent (is ∙ ap Some same));
+        took = consumes_both left between rest so_far.bytes pumped.bytes so_far.took pumped.took;
+        world = refl;
+        executed = sym done;
+        ends = ends_on e (beginning limits from) mid now had has' has so_far.bytes pumped.bytes rest so_far.went ends;
+      }
+
+  -- the budget is used up
+  pub piped_budget : (budget executed : ℕ) → executed ≡ mid.executed → taken ≡ budget → IsUpToDate mid
+      → Piped limits budget (record { executed = executed; taken = taken; end = end.Budget }) from mid.world left between had has'
+  piped_budget budget executed done spent current = record {
+    bytes = so_far.bytes;
+    last = mid;
+    count = so_far.count;
+    within = omega (arith, spent);
+    spent = λ _. spent;
+    took = so_far.took;
+    world = refl;
+    executed = sym done;
+    ends = (so_far.went, current);
+  }
+
+-- there was no memory to begin
+pub piped_none : (limits : WireLimits) (budget : ℕ) (from : World) (left : Option (List ℕ)) (has : List ℕ → Type 0)
+    → Piped limits budget (record { executed = 0; taken = 0; end = end.Memory }) from from left left has has
+piped_none limits budget from left has = record {
+  bytes = [];
+  last = beginning limits from;
+  count = refl;
+  within = omega arith;
+  spent = λ same. (cc);
+  took = consumes_none left;
+  world = refl;
+  executed = refl;
+  ends = not_fed (beginning limits from) (beginning limits from) has [] refl refl;
+}
+
+-- a session that begins is where an input begins
+pub begins_current : (now : Spot) (limits : WireLimits) → ((more : List ℕ) → stream_of now.reader more ≡ stream_at limits 0 more)
+    → unfinished now.reader ≡ None → IsUpToDate now
+begins_current now limits stream none = record { rest = stream [] ∙ unfold read_on in ap ended_at (sym none) }

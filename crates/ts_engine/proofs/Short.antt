@@ -1,0 +1,76 @@
+-- Every reply to a command of one series, and every item of TS.MADD, is short.
+use Rattle.std.proofs.Common.{◌<◌, ◌≤◌, ◌^◌, ℕ, length, arith, length-append}
+use Rattle.std.specs.Prelude.{Option, None, Some, Result, Ok, Err, IfOk}
+use Rattle.std.specs.Fmt.{decimal}
+use Rattle.std.proofs.lemmas.Fmt.{length-decimal-le}
+use Rattle.ts_spec.specs.Refusal as refusal
+use Rattle.ts_spec.specs.Refusal.{Fault, Refusal}
+use Rattle.ts_spec.specs.declared.value.ValueFault.TheVariants as value
+use Rattle.ts_spec.specs.Replies.{number, fault_reply, memory_reply}
+use Rattle.ts_spec.specs.Sample.{MAX_TIME}
+use Rattle.ts_spec.specs.Text.{CRLF, Error, line}
+use Rattle.ts_db.specs.Faults.{refusal_of}
+use Rattle.ts_db.specs.declared.fault.DbFault.{DbFault}
+use Rattle.ts_engine.specs.Answering.{message_of, done_reply, time_reply, IsShort}
+
+-- a number of 64 bits has at most 20 digits
+pub short_number : (n : ℕ) → n < 2 ^ 64 → IsShort (number n)
+short_number n within = omega (arith, length-append (decimal n) CRLF, length-decimal-le 20 n (omega arith) (omega arith) within)
+
+-- nor has what stands before an array more
+pub short_head : (n : ℕ) → n < 2 ^ 64 → length (line 42 (decimal n)) ≤ 64
+short_head n within = omega (arith, length-append (decimal n) CRLF, length-decimal-le 20 n (omega arith) (omega arith) within)
+
+pub short_fault : (fault : Fault) → IsShort (fault_reply fault)
+short_fault refusal.UnknownCommand = omega arith
+short_fault refusal.Arity = omega arith
+short_fault refusal.BadTimestamp = omega arith
+short_fault (refusal.BadValue value.NotANumber) = omega arith
+short_fault (refusal.BadValue value.OutOfRange) = omega arith
+short_fault refusal.BadOption = omega arith
+short_fault refusal.RepeatedOption = omega arith
+short_fault refusal.BadLabels = omega arith
+short_fault refusal.BadChunkSize = omega arith
+short_fault refusal.BadPolicy = omega arith
+short_fault refusal.BadEncoding = omega arith
+short_fault refusal.UnknownAggregator = omega arith
+short_fault refusal.AggregatorNotInProfile = omega arith
+short_fault refusal.BadDuration = omega arith
+short_fault refusal.BadFilter = omega arith
+short_fault refusal.NoPositiveFilter = omega arith
+
+short_refusal : (r : Refusal) → IsShort (Error (message_of (Some r)))
+short_refusal refusal.NoKey = omega arith
+short_refusal refusal.KeyExists = omega arith
+short_refusal refusal.KeysFull = omega arith
+short_refusal refusal.LabelsFull = omega arith
+short_refusal refusal.TooOld = omega arith
+short_refusal refusal.Duplicate = omega arith
+short_refusal refusal.OutOfRange = omega arith
+short_refusal refusal.BeforeLast = omega arith
+short_refusal refusal.SamplesFull = omega arith
+short_refusal (refusal.DestinationFull key) = omega arith
+short_refusal refusal.DeleteBeyondRetention = omega arith
+short_refusal refusal.SameKey = omega arith
+short_refusal refusal.SourceIsDest = omega arith
+short_refusal refusal.DestIsSource = omega arith
+short_refusal refusal.DestHasSource = omega arith
+short_refusal refusal.RulesSpent = omega arith
+short_refusal refusal.RulesFull = omega arith
+short_refusal refusal.NoRule = omega arith
+short_refusal refusal.EmptyRows = omega arith
+
+pub short_memory : IsShort memory_reply
+short_memory = omega arith
+
+short_error : (o : Option Refusal) → IsShort (Error (message_of o))
+short_error None = short_memory
+short_error (Some r) = short_refusal r
+
+pub short_done : (outcome : Result (Unit {0}) DbFault) → IsShort (done_reply outcome)
+short_done (Ok x) = omega arith
+short_done (Err fault) = short_error (refusal_of fault)
+
+pub short_time : (outcome : Result ℕ DbFault) → IfOk outcome (λ t. t ≤ MAX_TIME) → IsShort (time_reply outcome)
+short_time (Ok time) bounded = short_number time (omega (arith, bounded))
+short_time (Err fault) bounded = short_error (refusal_of fault)

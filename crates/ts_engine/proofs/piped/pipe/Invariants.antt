@@ -1,0 +1,23 @@
+use Rattle.std.proofs.Common.{◌-◌, ◌≡◌, ◌≤◌, None}
+use Rattle.ts_resp.specs.Reading.{fed}
+use Rattle.ts_engine.specs.Standing.{spot, reading, ended_of}
+use Rattle.ts_engine.specs.Session.{IsUpToDate}
+use Rattle.ts_engine.proofs.Pipes.{SoFar}
+use Rattle.ts_engine.proofs.piped.pipe.Given as goal
+
+-- every whole request in the bytes taken had its turn, and the session goes on
+abbrev pub invariant-loop-taken : goal.invariant-loop-taken
+invariant-loop-taken g l = record {
+  so_far : SoFar l.fn.limits l.taken (record { held = l.initial.db; readings = g.C.Clock.readings l.initial.clock })
+      (spot l.session l.db (g.C.Clock.readings l.clock)) (g.S.Source.left l.initial.input) (g.S.Source.left l.input)
+      (g.K.Sink.has l.initial.out) (g.K.Sink.has l.out);
+  current : IsUpToDate (spot l.session l.db (g.C.Clock.readings l.clock));
+  goes_on : ended_of l.session ≡ None;
+  fed : fed (reading l.session) ≡ l.taken;
+  within : l.taken ≤ l.budget;
+  reads : g.S.Source.faults l.initial.input ≤ g.S.Source.faults l.input;
+  writes : g.K.Sink.faults l.initial.out ≤ g.K.Sink.faults l.out;
+}
+
+abbrev pub decreases-loop-taken : goal.decreases-loop-taken
+decreases-loop-taken g l = l.budget - l.taken

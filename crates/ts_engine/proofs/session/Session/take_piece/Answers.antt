@@ -1,0 +1,9 @@
+use Rattle.std.proofs.Common.{refl}
+use Rattle.ts_engine.proofs.Sessions.{piece_answers, not_fed}
+use Rattle.ts_engine.proofs.session.Session.take_piece.Goals as goal
+
+pub returns-in-Ok-clause-goes : goal.returns-in-Ok-clause-goes
+returns-in-Ok-clause-goes g c = piece_answers c.answer_all.result _ _ _ _ _ _ c.in-Ok.ensures.ok refl refl c.answer_all.ensures.goes
+
+pub returns-clause-goes : goal.returns-clause-goes
+returns-clause-goes g c = not_fed _ _ _ _ refl refl

@@ -1,0 +1,10 @@
+pub mod Answering
+pub mod Ending
+pub mod Going
+pub mod Headline
+pub mod Piping
+pub mod Session
+pub mod Standing
+pub mod Status
+pub mod Top
+pub mod Turn

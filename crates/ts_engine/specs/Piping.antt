@@ -1,0 +1,67 @@
+-- What `pipe` does to an input, an output and a database.
+use Rattle.std.specs.Prelude.{◌≡◌, ℕ, ◌≤◌, List, [], length, Option, None, Some}
+use Rattle.std.specs.Io.KnownBytes.{Consumes, IsAtEnd}
+use Rattle.ts_io.specs.Causes.{Rose}
+use Rattle.ts_resp.specs.Reading.{stream_of}
+use Rattle.ts_spec.specs.Wire.{Ended, Inside}
+use Rattle.ts_spec.specs.declared.wire.WireLimits.{WireLimits}
+use Rattle.ts_engine.specs.declared.piped.End.{End}
+use Rattle.ts_engine.specs.declared.piped.End.TheVariants as end
+use Rattle.ts_engine.specs.declared.piped.Outcome.{Outcome}
+use Rattle.ts_engine.specs.declared.piped.Step.{Step}
+use Rattle.ts_engine.specs.declared.session.Go.TheVariants as go
+use Rattle.ts_engine.specs.Turn.{World}
+use Rattle.ts_engine.specs.Session.{Spot, Went, Answers}
+
+-- where a session begins: nothing was read or executed
+abbrev pub beginning : WireLimits → World → Spot
+beginning limits world = record {
+  reader = record { limits = limits; begin = 0; place = 0; so_far = None; unread = [] };
+  executed = 0;
+  world = world;
+}
+
+-- how the requests in these bytes went, by the end; left is what the input still has
+abbrev pub Ends : End → Option (List ℕ) → Spot → Spot → (List ℕ → Type 0) → (List ℕ → Type 0) → List ℕ → Type 0
+Ends end.Ended left old new had has bytes = Went old new had has bytes [] × (stream_of new.reader [] ≡ Ended) × IsAtEnd left
+Ends (end.Truncated place) left old new had has bytes = Went old new had has bytes [] × (stream_of new.reader [] ≡ Inside place) × IsAtEnd left
+Ends (end.Protocol fault) left old new had has bytes = Answers (go.Broken fault) old new had has bytes
+Ends end.ReadFault left old new had has bytes = Answers go.More old new had has bytes
+Ends end.WriteFault left old new had has bytes = Answers go.WriteFault old new had has bytes
+Ends end.Memory left old new had has bytes = Answers go.Memory old new had has bytes
+Ends end.Budget left old new had has bytes = Answers go.More old new had has bytes
+
+-- the input goes on, or it has ended so
+abbrev pub EndsOr : Option End → Option (List ℕ) → Spot → Spot → (List ℕ → Type 0) → (List ℕ → Type 0) → List ℕ → Type 0
+EndsOr None left old new had has bytes = Answers go.More old new had has bytes
+EndsOr (Some e) left old new had has bytes = Ends e left old new had has bytes
+
+-- one read took these bytes, and what they hold was answered
+pub record Pumped (step : Step) (left rest : Option (List ℕ)) (old new : Spot) (had has : List ℕ → Type 0) : Type 0 where
+  pub bytes : List ℕ
+  pub count : length bytes ≡ step.taken
+  pub took : Consumes left rest bytes
+  pub ends : EndsOr step.end rest old new had has bytes
+
+-- these bytes were taken, at most the budget, and what they hold was answered from the start on
+pub record Piped (limits : WireLimits) (budget : ℕ) (outcome : Outcome) (from to : World) (left rest : Option (List ℕ)) (had has : List ℕ → Type 0) : Type 0 where
+  pub bytes : List ℕ
+  pub last : Spot
+  pub count : length bytes ≡ outcome.taken
+  pub within : outcome.taken ≤ budget
+  pub spent : outcome.end ≡ end.Budget → outcome.taken ≡ budget
+  pub took : Consumes left rest bytes
+  pub world : last.world ≡ to
+  pub executed : last.executed ≡ outcome.executed
+  pub ends : Ends outcome.end rest (beginning limits from) last had has bytes
+
+-- the counts of faults did not fall, and a fault is an end only where its count rose
+pub record HasCauses (e : End) (reads reads' writes writes' : ℕ) : Type 0 where
+  pub reads_later : reads ≤ reads'
+  pub writes_later : writes ≤ writes'
+  pub read : e ≡ end.ReadFault → Rose reads reads'
+  pub write : e ≡ end.WriteFault → Rose writes writes'
+
+abbrev pub HasCausesOr : Option End → (reads reads' writes writes' : ℕ) → Type 0
+HasCausesOr None reads reads' writes writes' = (reads ≤ reads') × (writes ≤ writes')
+HasCausesOr (Some e) reads reads' writes writes' = HasCauses e reads reads' writes writes'

@@ -1,0 +1,103 @@
+-- What a session does over a piece of its stream.
+use Rattle.ts_io.specs.Causes.{Rose}
+use Rattle.std.specs.Prelude.{◌≡◌, ◌⊎◌, ℕ, ◌+◌, ◌≤◌, ◌<◌, List, [], ◌∷◌, ◌++◌, length, take, Option, None, Some}
+use Rattle.ts_io.specs.Sinks.{Grows, GrowsByFront}
+use Rattle.ts_resp.specs.Reading.{Reading, stream_of, unfinished, ended_at}
+use Rattle.ts_resp.specs.declared.protocol.Protocol.{Protocol}
+use Rattle.ts_spec.specs.Run.{Placed, Runs, then_all, requests_in}
+use Rattle.ts_spec.specs.Text.{fault_text}
+use Rattle.ts_spec.specs.Wire.{Request, Stream, Broken}
+use Rattle.ts_engine.specs.Turn.{World, turn}
+use Rattle.ts_engine.specs.declared.session.Go.{Go}
+use Rattle.ts_engine.specs.declared.session.Go.TheVariants as go
+
+-- where a session stands: what its reader holds, how many requests were executed, and the world
+pub record Spot : Type 0 where
+  pub reader : Reading
+  pub executed : ℕ
+  pub world : World
+
+-- Over these bytes these requests had their turns, and the sink grew by the text of the turns and then the tail.
+pub record Went (old new : Spot) (had has : List ℕ → Type 0) (bytes tail : List ℕ) : Type 0 where
+  pub done : List Placed
+  pub text : List ℕ
+  pub stream : (more : List ℕ) → stream_of old.reader (bytes ++ more) ≡ then_all done (stream_of new.reader more)
+  pub run : Runs turn old.world (requests_in done) text new.world
+  pub grown : Grows had has (text ++ tail)
+  pub executed : new.executed ≡ old.executed + length done
+
+-- a request had its turn, and only a front of its text was written
+pub record CutReply (old new : Spot) (had has : List ℕ → Type 0) (bytes : List ℕ) : Type 0 where
+  pub done : List Placed
+  pub text : List ℕ
+  pub mid : World
+  pub last : Placed
+  pub reply : List ℕ
+  pub kept : ℕ
+  pub stream : (more : List ℕ) → stream_of old.reader (bytes ++ more) ≡ then_all (done ++ last ∷ []) (stream_of new.reader more)
+  pub run : Runs turn old.world (requests_in done) text mid
+  pub turned : turn mid last.request reply new.world
+  pub grown : Grows had has (text ++ take kept reply)
+  pub executed : new.executed ≡ old.executed + (length done + 1)
+
+-- these requests come first over the bytes, and had their turns; what else there is was left
+pub record WentSome (old new : Spot) (had has : List ℕ → Type 0) (bytes : List ℕ) : Type 0 where
+  pub done : List Placed
+  pub text : List ℕ
+  pub stream : (more : List ℕ) → (rest : Stream) × (stream_of old.reader (bytes ++ more) ≡ then_all done rest)
+  pub run : Runs turn old.world (requests_in done) text new.world
+  pub grown : Grows had has text
+  pub executed : new.executed ≡ old.executed + length done
+
+-- the stream is broken here, however it goes on
+abbrev pub IsBroken : Protocol → Spot → Type 0
+IsBroken fault spot = (more : List ℕ) → stream_of spot.reader more ≡ Broken fault.kind fault.place
+
+-- the stream is broken, and only a front of the fault's text was written
+pub record CutFault (old new : Spot) (had has : List ℕ → Type 0) (bytes : List ℕ) : Type 0 where
+  pub fault : Protocol
+  pub kept : ℕ
+  pub went : Went old new had has bytes (take kept (fault_text fault.kind))
+  pub broken : IsBroken fault new
+
+-- every whole request had its turn, and the rest is no whole request
+pub record IsUpToDate (spot : Spot) : Type 0 where
+  pub rest : stream_of spot.reader [] ≡ ended_at (unfinished spot.reader)
+
+-- how a session went over a piece, by its answer
+abbrev pub Answers : Go → Spot → Spot → (List ℕ → Type 0) → (List ℕ → Type 0) → List ℕ → Type 0
+Answers go.More old new had has bytes = Went old new had has bytes [] × IsUpToDate new
+Answers (go.Broken fault) old new had has bytes = Went old new had has bytes (fault_text fault.kind) × IsBroken fault new
+Answers go.WriteFault old new had has bytes = CutReply old new had has bytes ⊎ CutFault old new had has bytes
+Answers go.Memory old new had has bytes = WentSome old new had has bytes
+
+-- one request had its turn and there may be more, or the session answered
+abbrev pub GoesOn : Option Go → Spot → Spot → (List ℕ → Type 0) → (List ℕ → Type 0) → Type 0
+GoesOn None old new had has = Went old new had has [] [] × (old.reader.begin < new.reader.begin)
+GoesOn (Some answer) old new had has = Answers answer old new had has []
+
+-- the whole text was written, or a write failed after a front of it
+abbrev pub Wrote : Option Go → (List ℕ → Type 0) → (List ℕ → Type 0) → List ℕ → Type 0
+Wrote None had has text = Grows had has text
+Wrote (Some go.WriteFault) had has text = GrowsByFront had has text
+Wrote (Some other) had has text = ⊥
+
+-- a request had its turn, and its reply was written unless a write failed
+pub record Replied (answer : Option Go) (request : Request) (old new : Spot) (had has : List ℕ → Type 0) : Type 0 where
+  pub reply : List ℕ
+  pub turned : turn old.world request reply new.world
+  pub wrote : Wrote answer had has reply
+  pub reader : new.reader ≡ old.reader
+  pub executed : new.executed ≡ old.executed + 1
+
+-- the fault was answered, unless a write failed
+abbrev pub Refused : Go → Protocol → (List ℕ → Type 0) → (List ℕ → Type 0) → Type 0
+Refused (go.Broken told) fault had has = (told ≡ fault) × Grows had has (fault_text fault.kind)
+Refused go.WriteFault fault had has = GrowsByFront had has (fault_text fault.kind)
+Refused go.More fault had has = ⊥
+Refused go.Memory fault had has = ⊥
+
+-- the count of faults did not fall, and a write fault comes only where it rose
+abbrev pub WroteOrFault : ℕ → ℕ → Option Go → Type 0
+WroteOrFault before now (Some go.WriteFault) = (before ≤ now) × Rose before now
+WroteOrFault before now other = before ≤ now

@@ -1,0 +1,30 @@
+-- What a session shows: what its reader holds, how many requests it executed, and how it ended.
+use Rattle.std.specs.Prelude.{◌≡◌, ℕ, List, Option, None}
+use Rattle.ts_resp.specs.Reading.{Reading, stream_of, fed, unfinished}
+use Rattle.ts_spec.specs.Wire.{stream_at}
+use Rattle.ts_spec.specs.declared.wire.WireLimits.{WireLimits}
+use Rattle.ts_engine.specs.declared.session.Go.{Go}
+use Rattle.ts_engine.specs.declared.session.Session.{Session as Kept}
+use Rattle.ts_db.specs.Held.{Held}
+use Rattle.ts_engine.specs.Session.{Spot}
+
+abbrev pub reading : Kept → Reading
+reading s = s.reader
+
+abbrev pub executed_by : Kept → ℕ
+executed_by s = s.executed
+
+abbrev pub ended_of : Kept → Option Go
+ended_of s = s.ended
+
+-- where it stands over this database, with these readings left
+abbrev pub spot : Kept → Held → Option (List ℕ) → Spot
+spot s held readings = record { reader = s.reader; executed = s.executed; world = record { held = held; readings = readings } }
+
+-- a session to which no byte came
+pub record Begins (limits : WireLimits) (s : Kept) : Type 0 where
+  pub stream : (more : List ℕ) → stream_of s.reader more ≡ stream_at limits 0 more
+  pub fed : fed s.reader ≡ 0
+  pub place : unfinished s.reader ≡ None
+  pub executed : s.executed ≡ 0
+  pub ended : s.ended ≡ None

@@ -1,0 +1,56 @@
+-- What the top call does.
+use Rattle.std.specs.Prelude.{◌≡◌, ◌⊎◌, ℕ, ◌≤◌, List, [], ◌∷◌, map, codes, Option, String}
+use Rattle.std.specs.String.{string_bytes}
+use Rattle.ts_io.specs.Causes.{Rose}
+use Rattle.ts_io.specs.Sinks.{Grows, GrowsByFront}
+use Rattle.ts_spec.specs.Wire.{Stream, Then, Ended, Inside, Broken}
+use Rattle.ts_spec.specs.declared.limits.Limits.{Limits}
+use Rattle.std.specs.declared.alloc.Global.{Global}
+use Rattle.ts_engine.specs.declared.piped.End.{End}
+use Rattle.ts_engine.specs.declared.status.Status.{Status}
+use Rattle.ts_engine.specs.declared.status.Status.TheVariants as status
+use Rattle.ts_engine.specs.Status.{status_of, place_of, line_of}
+use Rattle.ts_engine.specs.Headline.{Seen, Writes}
+
+-- each limit lets something through
+pub record AreUsable (limits : Limits) : Type 0 where
+  pub words : 1 ≤ limits.wire.words
+  pub word_bytes : 1 ≤ limits.wire.word_bytes
+  pub request_bytes : 1 ≤ limits.wire.request_bytes
+  pub keys : 1 ≤ limits.keys
+  pub labels : 1 ≤ limits.labels
+  pub rules : 1 ≤ limits.rules
+  pub samples : 1 ≤ limits.samples
+  pub empty_rows : 1 ≤ limits.empty_rows
+  pub born : 1 ≤ limits.born
+
+-- the one word `pipe`
+abbrev pub IsPipe : List (String Global) → Type 0
+IsPipe words = map string_bytes words ≡ codes "pipe" ∷ []
+
+-- the line of a status was written; the good end has none
+abbrev pub Tells : Status → Option ℕ → (List ℕ → Type 0) → (List ℕ → Type 0) → Type 0
+Tells status.Ended place had has = Grows had has []
+Tells s place had has = Grows had has (line_of s place)
+
+-- the status is the one meant, and its line was written; or a write failed within that line
+abbrev pub Reports : (meant : Status) → Option ℕ → (given : Status) → (List ℕ → Type 0) → (List ℕ → Type 0) → Type 0
+Reports meant place given had has =
+    ((given ≡ meant) × Tells meant place had has) ⊎ ((given ≡ status.WriteFault) × GrowsByFront had has (line_of meant place))
+
+-- how an input with these bytes was answered: what its end says was written, and the end was reported
+pub record Headline (seen : Seen) (budget : ℕ) (bytes : List ℕ) (left : Option (List ℕ)) (had has : List ℕ → Type 0) (given : Status) : Type 0 where
+  pub end : End
+  pub written : Writes seen budget bytes left end
+  pub reported : Reports (status_of end) (place_of end) given had has
+
+-- the status that the grammar gives to an input that was read to its end
+abbrev pub status_by : Stream → Status
+status_by (Inside place) = status.Truncated
+status_by (Broken kind place) = status.Protocol
+status_by Ended = status.Ended
+status_by (Then request place rest) = status.Ended
+
+-- no count of faults rose
+abbrev pub NoneRose : (reads reads' writes writes' told told' : ℕ) → Type 0
+NoneRose reads reads' writes writes' told told' = (Rose reads reads' → ⊥) × (Rose writes writes' → ⊥) × (Rose told told' → ⊥)

@@ -1,0 +1,146 @@
+-- One turn: what a request is answered, and what it does to the database.
+use Rattle.std.specs.Prelude.{◌≡◌, ◌⊎◌, ◌<◌, ◌^◌, ℕ, Bool, true, false, ◌&&◌, List, [], ◌∷◌, map, Option, None, Some, option_map, Result, Ok, Err, IsTrue}
+use Rattle.std.specs.Result.{is_ok}
+use Rattle.ts_io.specs.Clocks.{reading_of, readings_after}
+use Rattle.ts_spec.specs.Command.{Triple, Command, Madd}
+use Rattle.ts_spec.specs.Grammar.{command, needs_clock}
+use Rattle.ts_spec.specs.Refusal.{Fault, UnknownCommand, Arity}
+use Rattle.ts_spec.specs.Replies.{array, fault_reply, memory_reply, item_reply, reply_to}
+use Rattle.ts_spec.specs.State.{State}
+use Rattle.ts_spec.specs.Step.{Outcome, step, triple_step, item_of}
+use Rattle.ts_spec.specs.Text.{Reply, text}
+use Rattle.ts_spec.specs.Wire.{Request}
+use Rattle.ts_spec.specs.declared.limits.Limits.{Limits}
+use Rattle.ts_db.specs.Held.{Held}
+
+-- the database, and the readings of the clock that are left, where they are told
+pub record World : Type 0 where
+  pub held : Held
+  pub readings : Option (List ℕ)
+
+-- ---- one step
+
+-- the reply is that of a step of the definitions, which leaves the new state; the limits stay
+pub record IsStep (step : Outcome) (old : Held) (reply : Reply) (new : Held) : Type 0 where
+  pub says : reply ≡ reply_to step.response
+  pub state : new.state ≡ step.state
+  pub limits : new.limits ≡ old.limits
+
+-- want of memory is said, and nothing is changed
+pub record IsOutOfMemory (old : Held) (reply : Reply) (new : Held) : Type 0 where
+  pub says : reply ≡ memory_reply
+  pub same : new ≡ old
+
+-- the answer of the definitions, or want of memory
+abbrev pub StepOrMemory : Outcome → Held → Reply → Held → Type 0
+StepOrMemory step old reply new = IsStep step old reply new ⊎ IsOutOfMemory old reply new
+
+-- ---- TS.MADD
+
+-- whether the time and the value of a triple are a time and a value
+abbrev pub is_well_formed : Triple → Bool
+is_well_formed triple = is_ok triple.at && is_ok triple.value
+
+-- the item is that of a step, which leaves the new state
+pub record IsItem (step : Outcome) (item : Reply) (new : State) : Type 0 where
+  pub told : map item_reply (item_of step.response) ≡ item ∷ []
+  pub state : new ≡ step.state
+
+-- want of memory is said of a triple that is well formed, and the state stays
+pub record IsItemLost (triple : Triple) (old : State) (item : Reply) (new : State) : Type 0 where
+  pub well_formed : IsTrue (is_well_formed triple)
+  pub told : item ≡ memory_reply
+  pub same : new ≡ old
+
+-- what is told of a triple, and what it does to the state
+abbrev pub IsTold : Limits → (reading : ℕ) → Triple → State → Reply → State → Type 0
+IsTold limits reading triple old item new =
+    IsItem (triple_step limits old reading triple.key triple.at triple.value) item new ⊎ IsItemLost triple old item new
+
+-- a triple has the first item, and what is told after it is told from there on
+pub record ToldThen (limits : Limits) (reading : ℕ) (triple : Triple) (old : State) (later : State → List Reply → Type 0) (items : List Reply) : Type 0 where
+  pub first : Reply
+  pub others : List Reply
+  pub mid : State
+  pub split : items ≡ first ∷ others
+  pub here : IsTold limits reading triple old first mid
+  pub after : later mid others
+
+-- the items of triples, one after another, with the same reading
+abbrev pub AreTold : Limits → (reading : ℕ) → List Triple → State → List Reply → State → Type 0
+AreTold limits reading [] old items new = (items ≡ []) × (new ≡ old)
+AreTold limits reading (triple ∷ triples) old items new =
+    ToldThen limits reading triple old (λ mid others. AreTold limits reading triples mid others new) items
+
+-- all triples have their items in the reply
+pub record AllTold (reading : ℕ) (triples : List Triple) (old : Held) (reply : Reply) (new : Held) : Type 0 where
+  pub items : List Reply
+  pub told : AreTold old.limits reading triples old.state items new.state
+  pub says : reply ≡ array items
+  pub limits : new.limits ≡ old.limits
+
+-- the text of all items is written
+pub record WritesAll (reading : ℕ) (triples : List Triple) (old : Held) (written : List ℕ) (new : Held) : Type 0 where
+  pub reply : Reply
+  pub its_text : written ≡ text reply
+  pub all : AllTold reading triples old reply new
+
+-- ---- commands
+
+-- what a command is answered, and what it does
+abbrev pub IsAnswered : (reading : ℕ) → Command → Held → Reply → Held → Type 0
+IsAnswered reading (Madd triples) old reply new = AllTold reading triples old reply new
+IsAnswered reading other old reply new = IsStep (step old.limits old.state reading other) old reply new
+
+-- what `execute` writes of a command: the text of its answer, or of want of memory
+pub record Executes (reading : ℕ) (command : Command) (old : Held) (written : List ℕ) (new : Held) : Type 0 where
+  pub reply : Reply
+  pub its_text : written ≡ text reply
+  pub done : IsAnswered reading command old reply new ⊎ IsOutOfMemory old reply new
+
+-- ---- the clock
+
+-- the reading of a command: the next one that is told, or else any; 0 where it needs none
+abbrev pub IsReading : (needed : Bool) → Option (List ℕ) → ℕ → Type 0
+IsReading false readings reading = reading ≡ 0
+IsReading true None reading = reading < 2 ^ 64
+IsReading true (Some readings) reading = reading ≡ reading_of readings
+
+-- the readings that are left
+abbrev pub left_by : (needed : Bool) → Option (List ℕ) → Option (List ℕ)
+left_by false readings = readings
+left_by true readings = option_map readings_after readings
+
+-- ---- requests
+
+-- a command is executed with its reading
+pub record IsExecuted (command : Command) (from : World) (written : List ℕ) (to : World) : Type 0 where
+  pub reading : ℕ
+  pub read : IsReading (needs_clock command) from.readings reading
+  pub executes : Executes reading command from.held written to.held
+  pub left : to.readings ≡ left_by (needs_clock command) from.readings
+
+-- words that are no command are answered by their fault, and nothing is changed
+pub record IsRefused (fault : Fault) (from : World) (written : List ℕ) (to : World) : Type 0 where
+  pub says : written ≡ text (fault_reply fault)
+  pub same : to ≡ from
+
+-- want of memory may be said where the first word and the number of words are those of a command
+abbrev pub may_want_memory : Result Command Fault → Bool
+may_want_memory (Err UnknownCommand) = false
+may_want_memory (Err Arity) = false
+may_want_memory other = true
+
+-- want of memory is said of the words, and nothing is changed
+pub record IsUnread (said : Result Command Fault) (from : World) (written : List ℕ) (to : World) : Type 0 where
+  pub may : IsTrue (may_want_memory said)
+  pub says : written ≡ text memory_reply
+  pub same : to ≡ from
+
+-- by what the words say
+abbrev pub TurnBy : Result Command Fault → World → List ℕ → World → Type 0
+TurnBy (Ok command) from written to = IsExecuted command from written to
+TurnBy (Err fault) from written to = IsRefused fault from written to
+
+abbrev pub turn : World → Request → List ℕ → World → Type 0
+turn from request written to = TurnBy (command request) from written to ⊎ IsUnread (command request) from written to

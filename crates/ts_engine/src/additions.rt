@@ -1,0 +1,89 @@
+// TS.MADD.
+ghost use Rattle.std.specs.Prelude.{◌≡◌, ◌+◌, ◌*◌, ◌≤◌, [], length, OnOk};
+ghost use Rattle.ts_resp.specs.Replies.{reply_of};
+ghost use Rattle.ts_command.specs.Reading.{triple_of, triples_of};
+ghost use Rattle.ts_engine.specs.Answering.{IsShort};
+ghost use Rattle.ts_engine.specs.Turn.{IsTold, Executes, WritesAll};
+ghost use Rattle.ts_spec.specs.Command.{Madd};
+
+use crate::answers::{at_time, time_at};
+use std::alloc::AllocError;
+use std::sync::ledger::Ledger;
+use ts_command::Triple;
+use ts_db::Db;
+use ts_resp::{Out, Reply, begin_array, put};
+use ts_sample::Steps;
+
+/// The most bytes of an item, and of what stands before all of them.
+const ITEM: usize = 64;
+
+/// Writes the reply to TS.MADD: takes the room for it, and then executes the triples one after another.
+pub(crate) fn put_items<L: Ledger>(
+    db: &mut Db,
+    triples: Vec<Triple>,
+    reading: u64,
+    out: &mut Out,
+    steps: &mut Steps<L>,
+)
+    requires empty { out.old.bytes ≡ [] }
+    requires room { 128 ≤ out.old.spare }
+    ensures executes { Executes reading (Madd (triples_of triples.items)) db.old out.new.bytes db.new }
+    ensures room { 128 ≤ length out.new.bytes + out.new.spare }
+{
+    match reserve_items(triples.len(), out) {
+        Ok(()) => add_all(db, triples, reading, out, steps),
+        Err(_) => put(&Reply::Error("OOM out of memory"), out),
+    }
+}
+
+// Makes room for an array of so many items.
+fn reserve_items(count: usize, out: &mut Out) -> Result<(), AllocError>
+    ensures room { OnOk result (64 * count + 64 ≤ out.new.spare) }
+    ensures bytes { out.new.bytes ≡ out.old.bytes }
+    ensures kept { out.old.spare ≤ out.new.spare }
+{
+    let Some(items) = count.checked_mul(ITEM) else {
+        return Err(AllocError);
+    };
+    let Some(room) = items.checked_add(ITEM) else {
+        return Err(AllocError);
+    };
+    out.reserve(room)
+}
+
+// Executes the triples, and writes their items as an array into room that was reserved.
+fn add_all<L: Ledger>(
+    db: &mut Db,
+    triples: Vec<Triple>,
+    reading: u64,
+    out: &mut Out,
+    steps: &mut Steps<L>,
+)
+    requires empty { out.old.bytes ≡ [] }
+    requires room { 128 ≤ out.old.spare }
+    requires items { 64 * length triples.items + 64 ≤ out.old.spare }
+    ensures told { WritesAll reading (triples_of triples.items) db.old out.new.bytes db.new }
+    ensures room { 128 ≤ length out.new.bytes + out.new.spare }
+{
+    begin_array(triples.len(), out);
+    for triple in triples {
+        let item = add_one(db, triple, reading, steps);
+        put(&item, out);
+    }
+}
+
+// Executes one triple, and answers its item.
+fn add_one<L: Ledger>(db: &mut Db, triple: Triple, reading: u64, steps: &mut Steps<L>) -> Reply
+    ensures told { IsTold db.old.limits reading (triple_of triple) db.old.state (reply_of result) db.new.state }
+    ensures limits { db.new.limits ≡ db.old.limits }
+    ensures short { IsShort (reply_of result) }
+{
+    let at = match triple.at {
+        Ok(at) => at,
+        Err(fault) => return Reply::Error(fault.message()),
+    };
+    match triple.value {
+        Ok(value) => at_time(db.put(&triple.key, time_at(at, reading), value, steps)),
+        Err(fault) => Reply::Error(fault.message()),
+    }
+}

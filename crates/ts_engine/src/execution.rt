@@ -1,0 +1,55 @@
+ghost use Rattle.std.specs.Prelude.{◌≡◌, ◌+◌, ◌≤◌, length};
+ghost use Rattle.ts_command.specs.Answers.{HasTime};
+ghost use Rattle.ts_command.specs.Reading.{reading as command_of};
+ghost use Rattle.ts_engine.specs.Turn.{Executes};
+
+use crate::additions::put_items;
+use crate::answers::{add, alter, create, incr, time_at};
+use std::sync::ledger::Ledger;
+use ts_command::Command;
+use ts_db::Db;
+use ts_resp::{Out, put};
+use ts_sample::Steps;
+
+/// Executes a command and leaves exactly the text of its reply in `out`. Want of memory is answered by its text,
+/// and then the database is unchanged. TS.MADD takes the room of its reply first, and then executes its triples
+/// one after another, each of which may answer want of memory by itself. `reading` is that of the clock, in
+/// milliseconds; one past `MAX_TIME` counts as that.
+pub fn execute<L: Ledger>(
+    db: &mut Db,
+    command: Command,
+    reading: u64,
+    out: &mut Out,
+    steps: &mut Steps<L>,
+)
+    requires room { 128 ≤ length out.old.bytes + out.old.spare }
+    requires time { HasTime command }
+    ensures executes { Executes reading (command_of command) db.old out.new.bytes db.new }
+    ensures room { 128 ≤ length out.new.bytes + out.new.spare }
+{
+    out.clear();
+    match command {
+        Command::Create { key, spec } => put(&create(db, key, spec), out),
+        Command::Alter { key, change } => put(&alter(db, &key, change, steps), out),
+        Command::Add {
+            key,
+            at,
+            value,
+            on,
+            spec,
+        } => put(
+            &add(db, key, time_at(at, reading), value, on, spec, steps),
+            out,
+        ),
+        Command::Madd { triples } => put_items(db, triples, reading, out, steps),
+        Command::Incr {
+            key,
+            change,
+            at,
+            spec,
+        } => put(
+            &incr(db, key, change, time_at(at, reading), spec, steps),
+            out,
+        ),
+    }
+}

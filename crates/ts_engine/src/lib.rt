@@ -1,0 +1,21 @@
+//! Execution: the replies to commands, sessions over a stream, and the top call.
+#![tactic(auto)]
+
+mod additions;
+mod answers;
+mod execution;
+mod laws;
+mod piped;
+mod running;
+mod session;
+mod status;
+mod turn;
+
+pub use execution::execute;
+pub use laws::triples_with_memory_are_one_step;
+pub use piped::{End, Outcome, pipe};
+pub use running::top;
+pub use session::{Go, Session};
+pub use status::Status;
+pub use ts_command::{Command, CommandFault, read};
+pub use ts_db::{Db, DbFault, Limits};

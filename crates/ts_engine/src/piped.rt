@@ -1,0 +1,162 @@
+ghost use Rattle.std.specs.Prelude.{◌≡◌, ◌+◌, ◌<◌, ◌≤◌, ◌^◌, length, None, Some};
+ghost use Rattle.ts_resp.specs.Reading.{fed, unfinished};
+ghost use Rattle.ts_engine.specs.Standing.{spot, reading, ended_of};
+ghost use Rattle.ts_engine.specs.Session.{IsUpToDate};
+ghost use Rattle.ts_engine.specs.Piping.{Piped, Pumped, HasCauses, HasCausesOr};
+ghost use Rattle.ts_engine.specs.Ending.{ending, end_by};
+
+use crate::session::{Go, Session};
+use std::alloc::Global;
+use ts_db::Db;
+use ts_io::{Clock, Sink, Source};
+use ts_resp::{Protocol, WireLimits};
+
+/// How a stream ended.
+#[derive(Clone, Copy, Debug, PartialEq, Eq)]
+pub enum End {
+    /// The input ends between requests.
+    Ended,
+    /// The input ends inside the request that begins at this place.
+    Truncated(u64),
+    /// The stream is broken.
+    Protocol(Protocol),
+    /// A read failed.
+    ReadFault,
+    /// A reply could not be written.
+    WriteFault,
+    /// There was no memory to read a request.
+    Memory,
+    /// As many bytes were taken as may be.
+    Budget,
+}
+
+/// What became of a stream.
+#[derive(Clone, Copy, Debug, PartialEq, Eq)]
+pub struct Outcome {
+    /// How many requests were executed, the one whose reply failed among them.
+    pub executed: u64,
+    /// How many bytes were taken from the input.
+    pub taken: u64,
+    pub end: End,
+}
+
+// What one read and the answers to its bytes came to.
+#[derive(Clone, Copy)]
+struct Step {
+    taken: usize,
+    end: Option<End>,
+}
+
+/// The most bytes that one read asks for.
+const PIECE: usize = 4096;
+
+/// Answers the requests of an input, at most `budget` bytes of it. Each reply is written before the next request
+/// is executed, and a read is made only when every whole request was answered.
+pub fn pipe<S: Source, K: Sink, C: Clock>(
+    alloc: Global,
+    db: &mut Db,
+    input: &mut S,
+    out: &mut K,
+    clock: &mut C,
+    limits: WireLimits,
+    budget: u64,
+) -> Outcome
+    requires words { 1 ≤ limits.words }
+    requires word_bytes { 1 ≤ limits.word_bytes }
+    requires request_bytes { 1 ≤ limits.request_bytes }
+    requires budget { 1 ≤ budget }
+    ensures piped { Piped limits budget result
+        (record { held = db.old; readings = C.readings clock.old }) (record { held = db.new; readings = C.readings clock.new })
+        (S.left input.old) (S.left input.new) (K.has out.old) (K.has out.new) }
+    ensures causes { HasCauses result.end (S.faults input.old) (S.faults input.new) (K.faults out.old) (K.faults out.new) }
+{
+    let Ok(mut session) = Session::new(alloc, limits) else {
+        return Outcome {
+            executed: 0,
+            taken: 0,
+            end: End::Memory,
+        };
+    };
+    let mut buffer = [0; PIECE];
+    let mut taken = 0;
+    while taken < budget {
+        let most = (budget - taken).min(PIECE as u64) as usize;
+        let step = pump(&mut session, db, input, out, clock, &mut buffer[..most]);
+        taken += step.taken as u64;
+        if let Some(end) = step.end {
+            return Outcome {
+                executed: session.executed(),
+                taken,
+                end,
+            };
+        }
+    }
+    Outcome {
+        executed: session.executed(),
+        taken,
+        end: End::Budget,
+    }
+}
+
+// Reads one piece and answers what is whole with it.
+fn pump<S: Source, K: Sink, C: Clock>(
+    session: &mut Session,
+    db: &mut Db,
+    input: &mut S,
+    out: &mut K,
+    clock: &mut C,
+    buffer: &mut [u8],
+) -> Step
+    requires ended { ended_of session.old ≡ None }
+    requires current { IsUpToDate (spot session.old db.old (C.readings clock.old)) }
+    requires within { fed (reading session.old) + length buffer.old < 2 ^ 64 }
+    requires room { 0 < length buffer.old }
+    ensures pumped { Pumped result (S.left input.old) (S.left input.new)
+        (spot session.old db.old (C.readings clock.old)) (spot session.new db.new (C.readings clock.new)) (K.has out.old) (K.has out.new) }
+    ensures causes { HasCausesOr result.end (S.faults input.old) (S.faults input.new) (K.faults out.old) (K.faults out.new) }
+    ensures ended { result.end ≡ None → ended_of session.new ≡ None }
+    ensures fed { result.end ≡ None → fed (reading session.new) ≡ fed (reading session.old) + result.taken }
+    ensures within { result.taken ≤ length buffer.old }
+    ensures some { result.end ≡ None → 0 < result.taken }
+    ensures unspent { result.end ≡ Some End.Budget → ⊥ }
+{
+    match input.read(buffer) {
+        Ok(0) => Step {
+            taken: 0,
+            end: Some(end_of_input(session)),
+        },
+        Ok(count) => {
+            let go = session.piece(db, &buffer[..count], clock, out);
+            Step {
+                taken: count,
+                end: end_of_piece(go),
+            }
+        }
+        Err(_) => Step {
+            taken: 0,
+            end: Some(End::ReadFault),
+        },
+    }
+}
+
+// How the stream ends where the input does.
+fn end_of_input(session: &Session) -> End
+    ensures { result ≡ ending (unfinished (reading session.now)) }
+{
+    match session.place() {
+        None => End::Ended,
+        Some(place) => End::Truncated(place),
+    }
+}
+
+// How the stream ends with an answer of the session, if it does.
+fn end_of_piece(go: Go) -> Option<End>
+    ensures { result ≡ end_by go }
+{
+    match go {
+        Go::More => None,
+        Go::Broken(fault) => Some(End::Protocol(fault)),
+        Go::WriteFault => Some(End::WriteFault),
+        Go::Memory => Some(End::Memory),
+    }
+}

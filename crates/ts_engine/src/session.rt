@@ -1,0 +1,215 @@
+ghost use Rattle.std.specs.Prelude.{◌≡◌, ◌+◌, ◌<◌, ◌≤◌, ◌^◌, [], length, IfOk, IfNone, IfSome};
+ghost use Rattle.ts_engine.specs.Going.{end_of};
+
+use crate::turn::take_turn;
+use std::alloc::{AllocError, Global};
+use std::marker::Brand;
+use std::sync::ledger::{Blank, Ledger};
+use ts_db::Db;
+use ts_io::{Clock, Sink, write_all_counted};
+use ts_resp::{Next, Out, Protocol, Reader, Reply, WireLimits, Word, put};
+use ts_sample::Steps;
+
+/// How a session goes on after a piece of its stream.
+#[derive(Clone, Copy, Debug, PartialEq, Eq)]
+pub enum Go {
+    /// Every whole request so far was answered: more bytes may come.
+    More,
+    /// The stream is broken, and the fault was answered.
+    Broken(Protocol),
+    /// A reply could not be written.
+    WriteFault,
+    /// There was no memory to read a request.
+    Memory,
+}
+
+impl Go {
+    // The end that the answer is, if it is one.
+    fn end(self) -> Option<Go>
+        ensures { result ≡ end_of self }
+    {
+        match self {
+            Go::More => None,
+            end => Some(end),
+        }
+    }
+}
+
+/// Answers the requests of one stream, which comes in pieces.
+#[derive(Drop)]
+pub struct Session {
+    reader: Reader,
+    room: Out,
+    executed: u64,
+    ended: Option<Go>,
+    ghost fits: { 128 ≤ length room.bytes + room.spare },
+    ghost counted: { executed ≤ reader.begin },
+}
+
+impl Session {
+    ghost use Rattle.ts_resp.specs.Reading.{fed, unfinished};
+    ghost use Rattle.ts_engine.specs.Session.{GoesOn, Answers, Replied, Refused, WroteOrFault};
+    ghost use Rattle.ts_engine.specs.Standing.{spot, reading, executed_by, ended_of, Begins};
+
+    /// A session to which no byte came.
+    pub fn new(alloc: Global, limits: WireLimits) -> Result<Session, AllocError>
+        requires words { 1 ≤ limits.words }
+        requires word_bytes { 1 ≤ limits.word_bytes }
+        requires request_bytes { 1 ≤ limits.request_bytes }
+        ensures { IfOk result (Begins limits) }
+    {
+        let room = Out::new(alloc)?;
+        Ok(Session {
+            reader: Reader::new(alloc, limits),
+            room,
+            executed: 0,
+            ended: None,
+        })
+    }
+
+    /// Answers the requests that are whole with these further bytes of the stream, each before the next one is
+    /// executed. After any answer but `More` the session has ended: it answers the same again, and does nothing.
+    pub fn piece<C: Clock, K: Sink>(
+        &mut self,
+        db: &mut Db,
+        bytes: &[u8],
+        clock: &mut C,
+        out: &mut K,
+    ) -> Go
+        requires { fed (reading self.old) + length bytes.now < 2 ^ 64 }
+        ensures goes { IfNone (ended_of self.old) (Answers result
+            (spot self.old db.old (C.readings clock.old)) (spot self.new db.new (C.readings clock.new))
+            (K.has out.old) (K.has out.new) bytes.now) }
+        ensures again { IfSome (ended_of self.old) (λ go. (result ≡ go)
+            × (self.new ≡ self.old) × (db.new ≡ db.old) × (clock.new ≡ clock.old) × (out.new ≡ out.old)) }
+        ensures ended { IfNone (ended_of self.old) (ended_of self.new ≡ end_of result) }
+        ensures fed { ended_of self.new ≡ None → fed (reading self.new) ≡ fed (reading self.old) + length bytes.now }
+        ensures cause { IfNone (ended_of self.old) (WroteOrFault (K.faults out.old) (K.faults out.new) (Some result)) }
+    {
+        if let Some(go) = self.ended {
+            return go;
+        }
+        let go = self.take_piece::<C, K, Brand>(db, bytes, clock, out, Blank::new(1));
+        self.ended = go.end();
+        go
+    }
+
+    /// How many requests were executed.
+    pub fn executed(&self) -> u64
+        ensures { result ≡ executed_by self.now }
+    {
+        self.executed
+    }
+
+    /// Where an unfinished request begins, counted in bytes from the start of the stream, or `None` between requests.
+    pub fn place(&self) -> Option<u64>
+        ensures { result ≡ unfinished (reading self.now) }
+    {
+        self.reader.place()
+    }
+
+    // Feeds the piece, and answers what is whole.
+    fn take_piece<C: Clock, K: Sink, L: Ledger>(
+        &mut self,
+        db: &mut Db,
+        bytes: &[u8],
+        clock: &mut C,
+        out: &mut K,
+        blank: Blank,
+    ) -> Go
+        requires within { fed (reading self.old) + length bytes.now < 2 ^ 64 }
+        requires name { blank.name ≡ L.name }
+        requires parts { blank.parts ≡ L.parts }
+        requires some { 0 < blank.parts }
+        ensures goes { Answers result
+            (spot self.old db.old (C.readings clock.old)) (spot self.new db.new (C.readings clock.new))
+            (K.has out.old) (K.has out.new) bytes.now }
+        ensures fed { result ≡ Go.More → fed (reading self.new) ≡ fed (reading self.old) + length bytes.now }
+        ensures cause { WroteOrFault (K.faults out.old) (K.faults out.new) (Some result) }
+    {
+        let mut steps = Steps::<L>::new(blank);
+        match self.reader.feed(bytes) {
+            Ok(()) => self.answer_all(db, clock, out, &mut steps),
+            Err(_) => Go::Memory,
+        }
+    }
+
+    // Answers every request that is whole.
+    fn answer_all<C: Clock, K: Sink, L: Ledger>(
+        &mut self,
+        db: &mut Db,
+        clock: &mut C,
+        out: &mut K,
+        steps: &mut Steps<L>,
+    ) -> Go
+        ensures goes { Answers result
+            (spot self.old db.old (C.readings clock.old)) (spot self.new db.new (C.readings clock.new))
+            (K.has out.old) (K.has out.new) [] }
+        ensures fed { fed (reading self.new) ≡ fed (reading self.old) }
+        ensures cause { WroteOrFault (K.faults out.old) (K.faults out.new) (Some result) }
+    {
+        loop {
+            if let Some(go) = self.answer_next(db, clock, out, steps) {
+                return go;
+            }
+        }
+    }
+
+    // Takes the next request and answers it. None: one was answered, and there may be more.
+    fn answer_next<C: Clock, K: Sink, L: Ledger>(
+        &mut self,
+        db: &mut Db,
+        clock: &mut C,
+        out: &mut K,
+        steps: &mut Steps<L>,
+    ) -> Option<Go>
+        ensures goes { GoesOn result (spot self.old db.old (C.readings clock.old)) (spot self.new db.new (C.readings clock.new)) (K.has out.old) (K.has out.new) }
+        ensures fed { fed (reading self.new) ≡ fed (reading self.old) }
+        ensures within { (reading self.new).begin ≤ fed (reading self.new) }
+        ensures cause { WroteOrFault (K.faults out.old) (K.faults out.new) result }
+    {
+        match self.reader.next() {
+            Next::Request(words) => self.answer(words, db, clock, out, steps),
+            Next::NotYet => Some(Go::More),
+            Next::Memory => Some(Go::Memory),
+            Next::Broken(fault) => Some(self.refuse(fault, out)),
+        }
+    }
+
+    // Gives the request its turn and writes its reply.
+    fn answer<C: Clock, K: Sink, L: Ledger>(
+        &mut self,
+        words: Vec<Word>,
+        db: &mut Db,
+        clock: &mut C,
+        out: &mut K,
+        steps: &mut Steps<L>,
+    ) -> Option<Go>
+        requires counted { executed_by self.old < (reading self.old).begin }
+        requires bounded { (reading self.old).begin < 2 ^ 64 }
+        ensures replied { Replied result words.items (spot self.old db.old (C.readings clock.old)) (spot self.new db.new (C.readings clock.new)) (K.has out.old) (K.has out.new) }
+        ensures cause { WroteOrFault (K.faults out.old) (K.faults out.new) result }
+    {
+        take_turn(db, words, clock, &mut self.room, steps);
+        self.executed += 1;
+        match write_all_counted(out, self.room.bytes()) {
+            Ok(()) => None,
+            Err(_) => Some(Go::WriteFault),
+        }
+    }
+
+    // Writes the error that answers a broken stream.
+    fn refuse<K: Sink>(&mut self, fault: Protocol, out: &mut K) -> Go
+        ensures refused { Refused result fault (K.has out.old) (K.has out.new) }
+        ensures reader { reading self.new ≡ reading self.old }
+        ensures executed { executed_by self.new ≡ executed_by self.old }
+        ensures cause { WroteOrFault (K.faults out.old) (K.faults out.new) (Some result) }
+    {
+        self.room.clear();
+        put(&Reply::Error(fault.message()), &mut self.room);
+        match write_all_counted(out, self.room.bytes()) {
+            Ok(()) => Go::Broken(fault),
+            Err(_) => Go::WriteFault,
+        }
+    }
+}

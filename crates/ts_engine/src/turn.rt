@@ -1,0 +1,59 @@
+ghost use Rattle.std.specs.Prelude.{◌≡◌, ◌+◌, ◌≤◌, length};
+ghost use Rattle.ts_spec.specs.Grammar.{needs_clock};
+ghost use Rattle.ts_spec.specs.Text.{Error};
+ghost use Rattle.ts_resp.specs.Replies.{reply_of};
+ghost use Rattle.ts_command.specs.Faults.{message};
+ghost use Rattle.ts_command.specs.Reading.{reading as command_of};
+ghost use Rattle.ts_engine.specs.Turn.{turn, IsReading, left_by};
+
+use crate::execution::execute;
+use std::sync::ledger::Ledger;
+use ts_command::{Command, CommandFault, read};
+use ts_db::Db;
+use ts_io::Clock;
+use ts_resp::{Out, Reply, Word, put};
+use ts_sample::Steps;
+
+/// Gives a request its turn, and leaves its reply in `room`.
+pub(crate) fn take_turn<C: Clock, L: Ledger>(
+    db: &mut Db,
+    words: Vec<Word>,
+    clock: &mut C,
+    room: &mut Out,
+    steps: &mut Steps<L>,
+)
+    requires { 128 ≤ length room.old.bytes + room.old.spare }
+    ensures turn { turn (record { held = db.old; readings = C.readings clock.old }) words.items room.new.bytes
+        (record { held = db.new; readings = C.readings clock.new }) }
+    ensures room { 128 ≤ length room.new.bytes + room.new.spare }
+{
+    match read(words) {
+        Ok(command) => {
+            let reading = reading_for(&command, clock);
+            execute(db, command, reading, room, steps);
+        }
+        Err(fault) => {
+            room.clear();
+            put(&refusal(fault), room);
+        }
+    }
+}
+
+// The error reply to words that are no command.
+fn refusal(fault: CommandFault) -> Reply
+    ensures { reply_of result ≡ Error (message fault) }
+{
+    Reply::Error(fault.message())
+}
+
+// The time, for a command that needs it, and else 0.
+fn reading_for<C: Clock>(command: &Command, clock: &mut C) -> u64
+    ensures reading { IsReading (needs_clock (command_of command.now)) (C.readings clock.old) result }
+    ensures left { C.readings clock.new ≡ left_by (needs_clock (command_of command.now)) (C.readings clock.old) }
+{
+    if command.needs_clock() {
+        clock.now()
+    } else {
+        0
+    }
+}
