@@ -1,0 +1,378 @@
+// A yardstick for `tsd pipe`: the same work in plain Rust, without crates and without proofs.
+//
+// It reads requests from standard input, at most 4096 bytes a read, checks them as the server does, keeps
+// `TS.ADD key time value` in a BTreeMap from keys to ascending vectors, and makes one write for each reply.
+//   yardstick          copies each word of a request, as the server does
+//   yardstick slices   takes the words as slices of the buffer, and copies a key only where it is new
+use std::collections::BTreeMap;
+use std::fs::File;
+use std::io::{Read, Write};
+use std::ops::Range;
+use std::os::fd::FromRawFd;
+use std::process::exit;
+
+const PIECE: usize = 4096;
+const WORDS: u64 = 1_048_576;
+const WORD_BYTES: u64 = 1_048_576;
+const REQUEST_BYTES: u64 = 16_777_216;
+const MAX_TIME: u64 = i64::MAX as u64;
+const BOUND: i128 = 1_000_000_000_000_000_000_000_000;
+
+const MULTIBULK: &[u8] = b"-ERR Protocol error: invalid multibulk length\r\n";
+const BULK: &[u8] = b"-ERR Protocol error: invalid bulk length\r\n";
+const MARK: &[u8] = b"-ERR Protocol error: expected '$'\r\n";
+const CRLF: &[u8] = b"-ERR Protocol error: expected CRLF\r\n";
+const TOO_LARGE: &[u8] = b"-ERR Protocol error: request too large\r\n";
+
+/// How a part of a request stands in the buffer: whole, not yet, or broken at a place.
+enum Part<T> {
+    Whole(T),
+    Open,
+    Broken(&'static [u8], usize),
+}
+
+/// The number of a header line after its first byte, and the place after the line.
+fn header(buf: &[u8], from: usize, limit: u64, negative: bool, room: u64, kind: &'static [u8]) -> Part<(u64, usize)> {
+    let mut at = from;
+    let number = match buf.get(at) {
+        None => return Part::Open,
+        Some(b'0') => {
+            at += 1;
+            0
+        }
+        Some(b'-') if negative => {
+            match buf.get(at + 1) {
+                None => return Part::Open,
+                Some(b'1') => {}
+                Some(_) => return Part::Broken(kind, at + 1),
+            }
+            at += 2;
+            0
+        }
+        Some(_) => {
+            let mut number = 0;
+            while let Some(byte @ b'0'..=b'9') = buf.get(at) {
+                let more = 10 * number + u64::from(byte - b'0');
+                if more > limit {
+                    return Part::Broken(kind, at);
+                }
+                number = more;
+                at += 1;
+            }
+            if at == from {
+                return Part::Broken(kind, at);
+            }
+            number
+        }
+    };
+    match buf.get(at) {
+        None => return Part::Open,
+        Some(b'\r') if number > room => return Part::Broken(TOO_LARGE, at),
+        Some(b'\r') => {}
+        Some(_) => return Part::Broken(kind, at),
+    }
+    match buf.get(at + 1) {
+        None => Part::Open,
+        Some(b'\n') => Part::Whole((number, at + 2)),
+        Some(_) => Part::Broken(CRLF, at + 1),
+    }
+}
+
+/// Where the next word stands, and the place after it.
+fn word(buf: &[u8], from: usize, room: u64) -> Part<(Range<usize>, usize)> {
+    match buf.get(from) {
+        None => return Part::Open,
+        Some(b'$') => {}
+        Some(_) => return Part::Broken(MARK, from),
+    }
+    let (length, start) = match header(buf, from + 1, WORD_BYTES, false, room, BULK) {
+        Part::Whole(found) => found,
+        Part::Open => return Part::Open,
+        Part::Broken(kind, at) => return Part::Broken(kind, at),
+    };
+    let end = start + length as usize;
+    match (buf.get(end), buf.get(end + 1)) {
+        (Some(b'\r'), Some(b'\n')) => Part::Whole((start..end, end + 2)),
+        (None, _) | (Some(b'\r'), None) => Part::Open,
+        (Some(b'\r'), Some(_)) => Part::Broken(CRLF, end + 1),
+        (Some(_), _) => Part::Broken(CRLF, end),
+    }
+}
+
+/// The requests of a stream: bytes of it, the place of the first of them, where the request at hand begins among
+/// them, and how far it was read.
+struct Reader {
+    buf: Vec<u8>,
+    place: u64,
+    begin: usize,
+    at: usize,
+    left: Option<u64>,
+    room: u64,
+    words: Vec<Range<usize>>,
+}
+
+impl Reader {
+    /// Reads on until a request is whole.
+    fn next(&mut self) -> Part<()> {
+        loop {
+            match self.left {
+                None => match self.buf.get(self.at) {
+                    None => return Part::Open,
+                    Some(b'*') => match header(&self.buf, self.at + 1, WORDS, true, u64::MAX, MULTIBULK) {
+                        Part::Whole((0, after)) => {
+                            self.at = after;
+                            self.pass();
+                        }
+                        Part::Whole((count, after)) => {
+                            self.at = after;
+                            self.left = Some(count);
+                            self.room = REQUEST_BYTES;
+                        }
+                        Part::Open => return Part::Open,
+                        Part::Broken(kind, at) => return Part::Broken(kind, at),
+                    },
+                    Some(_) => return Part::Broken(MULTIBULK, self.at),
+                },
+                Some(0) => {
+                    self.left = None;
+                    return Part::Whole(());
+                }
+                Some(count) => match word(&self.buf, self.at, self.room) {
+                    Part::Whole((range, after)) => {
+                        self.room -= range.len() as u64;
+                        self.words.push(range);
+                        self.at = after;
+                        self.left = Some(count - 1);
+                    }
+                    Part::Open => return Part::Open,
+                    Part::Broken(kind, at) => return Part::Broken(kind, at),
+                },
+            }
+        }
+    }
+
+    /// Passes over a whole request.
+    fn pass(&mut self) {
+        self.words.clear();
+        self.begin = self.at;
+    }
+
+    /// Drops the bytes of whole requests. Called once a read.
+    fn drop_front(&mut self) {
+        if self.begin == 0 {
+            return;
+        }
+        self.buf.drain(..self.begin);
+        for range in &mut self.words {
+            *range = range.start - self.begin..range.end - self.begin;
+        }
+        self.place += self.begin as u64;
+        self.at -= self.begin;
+        self.begin = 0;
+    }
+}
+
+fn number(text: &[u8]) -> Option<u64> {
+    if text.is_empty() || text.len() > 19 || !text.iter().all(u8::is_ascii_digit) {
+        return None;
+    }
+    let number = text.iter().fold(0, |n: u64, b| 10 * n + u64::from(b - b'0'));
+    (number <= MAX_TIME).then_some(number)
+}
+
+fn split_sign(text: &[u8]) -> (bool, &[u8]) {
+    match text {
+        [b'-', rest @ ..] => (true, rest),
+        [b'+', rest @ ..] => (false, rest),
+        _ => (false, text),
+    }
+}
+
+/// The digits that a number keeps, and how many more there were.
+struct Digits {
+    first: u128,
+    dropped: usize,
+}
+
+impl Digits {
+    fn take<'a>(&mut self, mut text: &'a [u8]) -> &'a [u8] {
+        while let [byte @ b'0'..=b'9', rest @ ..] = text {
+            if self.first < 100_000_000_000_000_000_000_000_000_000 {
+                self.first = 10 * self.first + u128::from(byte - b'0');
+            } else {
+                self.dropped += 1;
+            }
+            text = rest;
+        }
+        text
+    }
+}
+
+const NOT_A_NUMBER: &[u8] = b"-ERR TSDB: invalid value\r\n";
+const OUT_OF_RANGE: &[u8] = b"-ERR TSDB: value out of range\r\n";
+
+/// A decimal text in millionths, rounded half away from zero.
+fn value(text: &[u8]) -> Result<i128, &'static [u8]> {
+    if text.is_empty() || text.len() > 64 {
+        return Err(NOT_A_NUMBER);
+    }
+    let (negative, body) = split_sign(text);
+    let mut digits = Digits { first: 0, dropped: 0 };
+    let after_whole = digits.take(body);
+    let mut count = body.len() - after_whole.len();
+    let (mut down, mut up) = (0, 0);
+    let mut rest = after_whole;
+    if let [b'.', part @ ..] = rest {
+        rest = digits.take(part);
+        down = part.len() - rest.len();
+        count += down;
+    }
+    if let [b'e' | b'E', power @ ..] = rest {
+        let (lower, power) = split_sign(power);
+        if power.is_empty() || power.len() > 3 || !power.iter().all(u8::is_ascii_digit) {
+            return Err(NOT_A_NUMBER);
+        }
+        let power = power.iter().fold(0, |n: usize, b| 10 * n + usize::from(b - b'0'));
+        if lower { down += power } else { up = power }
+        rest = &[];
+    }
+    if count == 0 || !rest.is_empty() {
+        return Err(NOT_A_NUMBER);
+    }
+    let raised = digits.dropped + up + 6;
+    let magnitude = if digits.first == 0 {
+        0
+    } else if down <= raised {
+        let power = raised - down;
+        if power > 24 || digits.first > 10u128.pow(24 - power as u32) {
+            return Err(OUT_OF_RANGE);
+        }
+        digits.first * 10u128.pow(power as u32)
+    } else if down - raised > 30 {
+        0
+    } else {
+        let power = 10u128.pow((down - raised) as u32);
+        (digits.first + power / 2) / power
+    };
+    let magnitude = magnitude as i128;
+    if magnitude > BOUND {
+        return Err(OUT_OF_RANGE);
+    }
+    Ok(if negative { -magnitude } else { magnitude })
+}
+
+#[derive(Clone, Copy)]
+struct Sample {
+    time: u64,
+    #[allow(dead_code)]
+    value: i128,
+    #[allow(dead_code)]
+    made: u32,
+}
+
+type Series = BTreeMap<Vec<u8>, Vec<Sample>>;
+
+/// Adds a sample, unless its time has one.
+fn insert(list: &mut Vec<Sample>, sample: Sample) -> bool {
+    let place = match list.last() {
+        Some(last) if last.time >= sample.time => list.partition_point(|s| s.time < sample.time),
+        _ => list.len(),
+    };
+    if list.get(place).is_some_and(|s| s.time == sample.time) {
+        return false;
+    }
+    list.insert(place, sample);
+    true
+}
+
+/// The reply to a request, in the room.
+fn answer<W: AsRef<[u8]>>(words: &[W], series: &mut Series, room: &mut Vec<u8>) -> Result<(), &'static [u8]> {
+    let [name, key, time, amount] = words else {
+        return Err(b"-ERR unknown command\r\n");
+    };
+    if !name.as_ref().eq_ignore_ascii_case(b"TS.ADD") {
+        return Err(b"-ERR unknown command\r\n");
+    }
+    let time = number(time.as_ref()).ok_or(&b"-ERR TSDB: invalid timestamp\r\n"[..])?;
+    let value = value(amount.as_ref())?;
+    let sample = Sample { time, value, made: 0 };
+    match series.get_mut(key.as_ref()) {
+        Some(list) => {
+            if !insert(list, sample) {
+                return Err(b"-ERR TSDB: duplicate sample\r\n");
+            }
+        }
+        None => {
+            series.insert(key.as_ref().to_vec(), vec![sample]);
+        }
+    }
+    let mut digits = [0; 20];
+    let (mut at, mut rest) = (20, time);
+    loop {
+        at -= 1;
+        digits[at] = b'0' + (rest % 10) as u8;
+        rest /= 10;
+        if rest == 0 {
+            break;
+        }
+    }
+    room.push(b':');
+    room.extend_from_slice(&digits[at..]);
+    room.extend_from_slice(b"\r\n");
+    Ok(())
+}
+
+fn end(line: &str, status: i32) -> ! {
+    eprintln!("{line}");
+    exit(status)
+}
+
+fn write(out: &mut File, reply: &[u8]) {
+    if out.write_all(reply).is_err() {
+        end("yardstick: write fault", 5);
+    }
+}
+
+fn main() {
+    let slices = std::env::args().nth(1).as_deref() == Some("slices");
+    let (mut input, mut out) = unsafe { (File::from_raw_fd(0), File::from_raw_fd(1)) };
+    let mut reader = Reader { buf: Vec::new(), place: 0, begin: 0, at: 0, left: None, room: 0, words: Vec::new() };
+    let mut series = Series::new();
+    let mut room = Vec::with_capacity(128);
+    let mut piece = [0; PIECE];
+    loop {
+        let count = match input.read(&mut piece) {
+            Ok(0) if reader.begin == reader.buf.len() => return,
+            Ok(0) => end(&format!("yardstick: input ends inside a request that begins at byte {}", reader.place), 2),
+            Ok(count) => count,
+            Err(_) => end("yardstick: read fault", 4),
+        };
+        reader.buf.extend_from_slice(&piece[..count]);
+        loop {
+            match reader.next() {
+                Part::Whole(()) => {
+                    room.clear();
+                    let buf = &reader.buf;
+                    let outcome = if slices {
+                        let words: Vec<&[u8]> = reader.words.iter().map(|r| &buf[r.clone()]).collect();
+                        answer(&words, &mut series, &mut room)
+                    } else {
+                        let words: Vec<Vec<u8>> = reader.words.iter().map(|r| buf[r.clone()].to_vec()).collect();
+                        answer(&words, &mut series, &mut room)
+                    };
+                    match outcome {
+                        Ok(()) => write(&mut out, &room),
+                        Err(text) => write(&mut out, text),
+                    }
+                    reader.pass();
+                }
+                Part::Open => break,
+                Part::Broken(text, at) => {
+                    write(&mut out, text);
+                    end(&format!("yardstick: protocol fault at byte {}", reader.place + at as u64), 3);
+                }
+            }
+        }
+        reader.drop_front();
+    }
+}
