@@ -5,6 +5,7 @@ pub mod Headlines
 pub mod Items
 pub mod OneStep
 pub mod Pipes
+pub mod Places
 pub mod Sessions
 pub mod Short
 pub mod Times

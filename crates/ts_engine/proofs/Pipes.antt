@@ -1,8 +1,8 @@
 -- How what was read and answered adds up over a whole input.
-use Rattle.std.specs.Prelude.{Option, Some, None}
+use Rattle.std.specs.Prelude.{Option, Some, None, IfSome}
 use Rattle.std.specs.Io.KnownBytes.{Consumes}
-use Rattle.std.proofs.Common.{◌≡◌, ℕ, ◌+◌, ◌≤◌, List, [], ◌++◌, length, refl, sym, ◌∙◌, ap, subst, append_assoc, arith, length-append}
-use Rattle.ts_resp.specs.Reading.{stream_of, ended_at, unfinished}
+use Rattle.std.proofs.Common.{◌≡◌, inl, inr, ◌<◌, ℕ, ◌+◌, ◌≤◌, List, [], ◌++◌, length, refl, sym, ◌∙◌, ap, subst, append_assoc, arith, length-append}
+use Rattle.ts_resp.specs.Reading.{stream_of, fed, ended_at, unfinished}
 use Rattle.ts_spec.specs.Wire.{stream_at, read_on}
 use Rattle.ts_spec.specs.declared.wire.WireLimits.{WireLimits}
 use Rattle.ts_engine.specs.declared.piped.End.{End}
@@ -11,7 +11,8 @@ use Rattle.ts_engine.specs.declared.piped.Step.{Step}
 use Rattle.ts_engine.specs.declared.session.Go.TheVariants as go
 use Rattle.ts_engine.specs.Turn.{World}
 use Rattle.ts_engine.specs.Session.{Spot, Went, IsUpToDate}
-use Rattle.ts_engine.specs.Piping.{beginning, Ends, EndsOr, Pumped, Piped}
+use Rattle.ts_engine.specs.Piping.{beginning, Ends, EndsOr, PIECE, shown_at, Pumped, Piped}
+use Rattle.ts_engine.proofs.Places.{reply_past, break_past}
 use Rattle.ts_engine.proofs.Sessions.{fed_only, not_fed, went_on, answers_on}
 
 -- so many bytes were taken, and what they hold was answered
@@ -42,7 +43,7 @@ so_far_none limits now left has stream executed = record {
 }
 
 -- an end after some bytes is an end over all of them
-ends_on : (e : End) (first mid last : Spot) (had has' has : List ℕ → Type 0) (x y : List ℕ) (rest : Option (List ℕ))
+abbrev ends_on : (e : End) (first mid last : Spot) (had has' has : List ℕ → Type 0) (x y : List ℕ) (rest : Option (List ℕ))
     → Went first mid had has' x [] → Ends e rest mid last has' has y → Ends e rest first last had has (x ++ y)
 ends_on end.Ended first mid last had has' has x y rest went ends = (went_on first mid had has' x went last has y [] ends.0, ends.1, ends.2)
 ends_on (end.Truncated place) first mid last had has' has x y rest went ends = (went_on first mid had has' x went last has y [] ends.0, ends.1, ends.2)
@@ -51,6 +52,26 @@ ends_on end.ReadFault first mid last had has' has x y rest went ends = answers_o
 ends_on end.WriteFault first mid last had has' has x y rest went ends = answers_on first mid had has' x went go.WriteFault last has y ends
 ends_on end.Memory first mid last had has' has x y rest went ends = answers_on first mid had has' x went go.Memory last has y ends
 ends_on end.Budget first mid last had has' has x y rest went ends = answers_on first mid had has' x went go.More last has y ends
+
+-- and it shows itself past what the session was fed before
+ends_past : (e : End) (first mid last : Spot) (had has' has : List ℕ → Type 0) (x y : List ℕ) (rest : Option (List ℕ))
+    → (went : Went first mid had has' x []) → IsUpToDate mid → (ends : Ends e rest mid last has' has y)
+    → IfSome (shown_at e rest first last had has (x ++ y) (ends_on e first mid last had has' has x y rest went ends)) (λ place. fed mid.reader ≤ place)
+ends_past end.Ended first mid last had has' has x y rest went current ends = tt
+ends_past (end.Truncated place) first mid last had has' has x y rest went current ends = tt
+ends_past (end.Protocol fault) first mid last had has' has x y rest went current ends = break_past mid last has' has y _ fault current ends.0 ends.1
+ends_past end.ReadFault first mid last had has' has x y rest went current ends = tt
+ends_past end.WriteFault first mid last had has' has x y rest went current (inl cut) =
+    let past : fed mid.reader < cut.last.after = reply_past mid last has' has y current cut in
+    omega (arith, past)
+ends_past end.WriteFault first mid last had has' has x y rest went current (inr cut) = break_past mid last has' has y _ cut.fault current cut.went cut.broken
+ends_past end.Memory first mid last had has' has x y rest went current ends = tt
+ends_past end.Budget first mid last had has' has x y rest went current ends = tt
+
+-- so the last read went at most one piece past it
+near_by : (shown : Option ℕ) (before taken : ℕ) → taken ≤ before + PIECE → IfSome shown (λ place. before ≤ place) → IfSome shown (λ place. taken ≤ place + PIECE)
+near_by None before taken piece past = tt
+near_by (Some place) before taken piece past = omega (arith, piece, past)
 
 module _ (limits : WireLimits) (taken : ℕ) (from : World) (mid : Spot) (left between : Option (List ℕ)) (had has' : List ℕ → Type 0)
     (so_far : SoFar limits taken from mid left between had has') where
@@ -71,9 +92,10 @@ module _ (limits : WireLimits) (taken : ℕ) (from : World) (mid : Spot) (left b
   -- the last piece was answered
   pub piped_end : (budget executed : ℕ) (step : Step) (e : End) (now : Spot) (rest : Option (List ℕ)) (has : List ℕ → Type 0)
       → executed ≡ now.executed → taken + step.taken ≤ budget → step.end ≡ Some e → (step.end ≡ Some end.Budget → ⊥)
+      → IsUpToDate mid → fed mid.reader ≡ taken → step.taken ≤ PIECE
       → Pumped step between rest mid now has' has
       → Piped limits budget (record { executed = executed; taken = taken + step.taken; end = e }) from now.world left rest had has
-  piped_end budget executed step e now rest has done within is unspent pumped =
+  piped_end budget executed step e now rest has done within is unspent current fed_is piece pumped =
       let ends = subst (λ e'. EndsOr e' rest mid now has' has pumped.bytes) is pumped.ends in
       record {
         bytes = so_far.bytes ++ pumped.bytes;
@@ -85,6 +107,8 @@ module _ (limits : WireLimits) (taken : ℕ) (from : World) (mid : Spot) (left b
         world = refl;
         executed = sym done;
         ends = ends_on e (beginning limits from) mid now had has' has so_far.bytes pumped.bytes rest so_far.went ends;
+        near = near_by (shown_at e rest (beginning limits from) now had has (so_far.bytes ++ pumped.bytes) (ends_on e (beginning limits from) mid now had has' has so_far.bytes pumped.bytes rest so_far.went ends)) (fed mid.reader) (taken + step.taken) (omega (arith, fed_is, piece))
+            (ends_past e (beginning limits from) mid now had has' has so_far.bytes pumped.bytes rest so_far.went current ends);
       }
 
   -- the budget is used up
@@ -100,6 +124,7 @@ module _ (limits : WireLimits) (taken : ℕ) (from : World) (mid : Spot) (left b
     world = refl;
     executed = sym done;
     ends = (so_far.went, current);
+    near = tt;
   }
 
 -- there was no memory to begin
@@ -115,6 +140,7 @@ piped_none limits budget from left has = record {
   world = refl;
   executed = refl;
   ends = not_fed (beginning limits from) (beginning limits from) has [] refl refl;
+  near = tt;
 }
 
 -- a session that begins is where an input begins

@@ -47,19 +47,19 @@ module _ (first mid : Spot) (had has' : List ℕ → Type 0) (x : List ℕ) (bef
   had_text : Grows had has' before.text
   had_text = grows_as had has' (before.text ++ []) before.text (append-nil before.text) before.grown
 
-  streams : (last : Spot) (y : List ℕ) (done : List Placed) → ((more : List ℕ) → stream_of mid.reader (y ++ more) ≡ then_all done (stream_of last.reader more))
+  pub streams : (last : Spot) (y : List ℕ) (done : List Placed) → ((more : List ℕ) → stream_of mid.reader (y ++ more) ≡ then_all done (stream_of last.reader more))
       → (more : List ℕ) → stream_of first.reader ((x ++ y) ++ more) ≡ then_all (before.done ++ done) (stream_of last.reader more)
   streams last y done after more =
       ap (stream_of first.reader) (append_assoc x y more) ∙ before.stream (y ++ more) ∙ ap (then_all before.done) (after more)
       ∙ sym (then_all-append before.done done (stream_of last.reader more))
 
-  runs : (to : World) (done : List Placed) (text : List ℕ) → Runs turn mid.world (requests_in done) text to
+  pub runs : (to : World) (done : List Placed) (text : List ℕ) → Runs turn mid.world (requests_in done) text to
       → Runs turn first.world (requests_in (before.done ++ done)) (before.text ++ text) to
   runs to done text run =
       subst (λ (l : List Request). Runs turn first.world l (before.text ++ text) to) (sym (requests_in-append before.done done))
       (Runs-append turn first.world mid.world to (requests_in before.done) (requests_in done) before.text text before.run run)
 
-  grew : (has : List ℕ → Type 0) (text tail : List ℕ) → Grows has' has (text ++ tail) → Grows had has ((before.text ++ text) ++ tail)
+  pub grew : (has : List ℕ → Type 0) (text tail : List ℕ) → Grows has' has (text ++ tail) → Grows had has ((before.text ++ text) ++ tail)
   grew has text tail grown =
       grows_as had has (before.text ++ (text ++ tail)) ((before.text ++ text) ++ tail) (sym (append_assoc before.text text tail))
       (grows_twice had has' has before.text (text ++ tail) had_text grown)
@@ -75,7 +75,7 @@ module _ (first mid : Spot) (had has' : List ℕ → Type 0) (x : List ℕ) (bef
     executed = omega (arith, before.executed, after.executed, length-append before.done after.done);
   }
 
-  cut_reply_on : (last : Spot) (has : List ℕ → Type 0) (y : List ℕ) → CutReply mid last has' has y → CutReply first last had has (x ++ y)
+  abbrev pub cut_reply_on : (last : Spot) (has : List ℕ → Type 0) (y : List ℕ) → CutReply mid last has' has y → CutReply first last had has (x ++ y)
   cut_reply_on last has y cut = record {
     done = before.done ++ cut.done;
     text = before.text ++ cut.text;
@@ -91,7 +91,7 @@ module _ (first mid : Spot) (had has' : List ℕ → Type 0) (x : List ℕ) (bef
     executed = omega (arith, before.executed, cut.executed, length-append before.done cut.done);
   }
 
-  went_some_on : (last : Spot) (has : List ℕ → Type 0) (y : List ℕ) → WentSome mid last has' has y → WentSome first last had has (x ++ y)
+  pub went_some_on : (last : Spot) (has : List ℕ → Type 0) (y : List ℕ) → WentSome mid last has' has y → WentSome first last had has (x ++ y)
   went_some_on last has y after = record {
     done = before.done ++ after.done;
     text = before.text ++ after.text;
@@ -106,11 +106,11 @@ module _ (first mid : Spot) (had has' : List ℕ → Type 0) (x : List ℕ) (bef
     executed = omega (arith, before.executed, after.executed, length-append before.done after.done);
   }
 
-  cut_fault_on : (last : Spot) (has : List ℕ → Type 0) (y : List ℕ) → CutFault mid last has' has y → CutFault first last had has (x ++ y)
+  abbrev pub cut_fault_on : (last : Spot) (has : List ℕ → Type 0) (y : List ℕ) → CutFault mid last has' has y → CutFault first last had has (x ++ y)
   cut_fault_on last has y cut = record { fault = cut.fault; kept = cut.kept; went = went_on last has y _ cut.went; broken = cut.broken }
 
   -- an answer after a stretch is an answer over both
-  pub answers_on : (answer : Go) (last : Spot) (has : List ℕ → Type 0) (y : List ℕ) → Answers answer mid last has' has y → Answers answer first last had has (x ++ y)
+  abbrev pub answers_on : (answer : Go) (last : Spot) (has : List ℕ → Type 0) (y : List ℕ) → Answers answer mid last has' has y → Answers answer first last had has (x ++ y)
   answers_on go.More last has y after = (went_on last has y [] after.0, after.1)
   answers_on (go.Broken fault) last has y after = (went_on last has y _ after.0, after.1)
   answers_on go.WriteFault last has y after = ⊎_elim (λ cut. inl (cut_reply_on last has y cut)) (λ cut. inr (cut_fault_on last has y cut)) after

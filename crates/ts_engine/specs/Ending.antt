@@ -6,9 +6,9 @@ use Rattle.ts_engine.specs.declared.session.Go.{Go}
 use Rattle.ts_engine.specs.declared.session.Go.TheVariants as go
 
 -- at the end of the input, between requests or inside the one that begins at a place
-abbrev pub ending : Option ℕ → End
-ending None = end.Ended
-ending (Some place) = end.Truncated place
+abbrev pub end_at : Option ℕ → End
+end_at None = end.Ended
+end_at (Some place) = end.Truncated place
 
 -- with an answer of the session, if that is an end
 abbrev pub end_by : Go → Option End

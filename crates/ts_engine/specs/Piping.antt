@@ -1,6 +1,7 @@
 -- What `pipe` does to an input, an output and a database.
-use Rattle.std.specs.Prelude.{◌≡◌, ℕ, ◌≤◌, List, [], length, Option, None, Some}
+use Rattle.std.specs.Prelude.{◌≡◌, ◌⊎◌, ℕ, ◌+◌, ◌≤◌, List, [], length, Option, None, Some, IfSome}
 use Rattle.std.specs.Io.KnownBytes.{Consumes, IsAtEnd}
+use Rattle.std.proofs.Common.{inl, inr}
 use Rattle.ts_io.specs.Causes.{Rose}
 use Rattle.ts_resp.specs.Reading.{stream_of}
 use Rattle.ts_spec.specs.Wire.{Ended, Inside}
@@ -11,7 +12,7 @@ use Rattle.ts_engine.specs.declared.piped.Outcome.{Outcome}
 use Rattle.ts_engine.specs.declared.piped.Step.{Step}
 use Rattle.ts_engine.specs.declared.session.Go.TheVariants as go
 use Rattle.ts_engine.specs.Turn.{World}
-use Rattle.ts_engine.specs.Session.{Spot, Went, Answers}
+use Rattle.ts_engine.specs.Session.{Spot, Went, CutReply, CutFault, Answers}
 
 -- where a session begins: nothing was read or executed
 abbrev pub beginning : WireLimits → World → Spot
@@ -43,7 +44,26 @@ pub record Pumped (step : Step) (left rest : Option (List ℕ)) (old new : Spot)
   pub took : Consumes left rest bytes
   pub ends : EndsOr step.end rest old new had has bytes
 
--- these bytes were taken, at most the budget, and what they hold was answered from the start on
+-- the place after the request whose reply failed, or of the fault whose text did
+abbrev pub cut_at : (old new : Spot) (had has : List ℕ → Type 0) (bytes : List ℕ) → CutReply old new had has bytes ⊎ CutFault old new had has bytes → ℕ
+cut_at old new had has bytes (inl cut) = cut.last.after
+cut_at old new had has bytes (inr cut) = cut.fault.place
+
+-- where an end shows itself in the input, if it does before the input ends
+abbrev pub shown_at : (e : End) (left : Option (List ℕ)) (old new : Spot) (had has : List ℕ → Type 0) (bytes : List ℕ) → Ends e left old new had has bytes → Option ℕ
+shown_at end.Ended left old new had has bytes ends = None
+shown_at (end.Truncated place) left old new had has bytes ends = None
+shown_at (end.Protocol fault) left old new had has bytes ends = Some fault.place
+shown_at end.ReadFault left old new had has bytes ends = None
+shown_at end.WriteFault left old new had has bytes ends = Some (cut_at old new had has bytes ends)
+shown_at end.Memory left old new had has bytes ends = None
+shown_at end.Budget left old new had has bytes ends = None
+
+-- the most bytes that one read asks for
+abbrev pub PIECE : ℕ
+PIECE = 4096
+
+-- These bytes were taken, at most the budget, and what they hold was answered from the start on. No read was made past an end that showed itself.
 pub record Piped (limits : WireLimits) (budget : ℕ) (outcome : Outcome) (from to : World) (left rest : Option (List ℕ)) (had has : List ℕ → Type 0) : Type 0 where
   pub bytes : List ℕ
   pub last : Spot
@@ -54,6 +74,7 @@ pub record Piped (limits : WireLimits) (budget : ℕ) (outcome : Outcome) (from 
   pub world : last.world ≡ to
   pub executed : last.executed ≡ outcome.executed
   pub ends : Ends outcome.end rest (beginning limits from) last had has bytes
+  pub near : IfSome (shown_at outcome.end rest (beginning limits from) last had has bytes ends) (λ place. outcome.taken ≤ place + PIECE)
 
 -- the counts of faults did not fall, and a fault is an end only where its count rose
 pub record HasCauses (e : End) (reads reads' writes writes' : ℕ) : Type 0 where

@@ -3,7 +3,7 @@ ghost use Rattle.ts_resp.specs.Reading.{fed, unfinished};
 ghost use Rattle.ts_engine.specs.Standing.{spot, reading, ended_of};
 ghost use Rattle.ts_engine.specs.Session.{IsUpToDate};
 ghost use Rattle.ts_engine.specs.Piping.{Piped, Pumped, HasCauses, HasCausesOr};
-ghost use Rattle.ts_engine.specs.Ending.{ending, end_by};
+ghost use Rattle.ts_engine.specs.Ending.{end_at, end_by};
 
 use crate::session::{Go, Session};
 use std::alloc::Global;
@@ -51,7 +51,8 @@ struct Step {
 const PIECE: usize = 4096;
 
 /// Answers the requests of an input, at most `budget` bytes of it. Each reply is written before the next request
-/// is executed, and a read is made only when every whole request was answered.
+/// is executed, and a read is made only when every whole request was answered. So where the stream breaks or a reply
+/// can't be written, at most 4096 bytes were taken past the fault, or past that reply's request.
 pub fn pipe<S: Source, K: Sink, C: Clock>(
     alloc: Global,
     db: &mut Db,
@@ -141,7 +142,7 @@ fn pump<S: Source, K: Sink, C: Clock>(
 
 // How the stream ends where the input does.
 fn end_of_input(session: &Session) -> End
-    ensures { result ≡ ending (unfinished (reading session.now)) }
+    ensures { result ≡ end_at (unfinished (reading session.now)) }
 {
     match session.place() {
         None => End::Ended,

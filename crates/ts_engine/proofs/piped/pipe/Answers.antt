@@ -35,7 +35,8 @@ loop-taken-preserved g c =
 
 pub returns-in-Some-clause-piped : goal.returns-in-Some-clause-piped
 returns-in-Some-clause-piped g c =
-    piped_end _ _ _ _ _ _ _ _ c.loop-taken.invariant.so_far c.args.budget c.executed.result c.pump-step.result c.in-Some.end _ _ _ c.executed.ensures (search rules) c.in-Some.is c.pump-step.ensures.unspent c.pump-step.ensures.pumped
+    piped_end _ _ _ _ _ _ _ _ c.loop-taken.invariant.so_far c.args.budget c.executed.result c.pump-step.result c.in-Some.end _ _ _ c.executed.ensures (search rules) c.in-Some.is c.pump-step.ensures.unspent
+    c.loop-taken.invariant.current c.loop-taken.invariant.fed (search rules) c.pump-step.ensures.pumped
 
 pub returns-clause-piped : goal.returns-clause-piped
 returns-clause-piped g c =
