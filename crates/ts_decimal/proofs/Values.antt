@@ -47,9 +47,6 @@ in_range-signed negative d m e f = rw (e, sym f, unsigned_abs-signed d.negative 
 pub in_range-fits : (z : ℤ) → unsigned_abs z ≤ bound → in_range_of z ≡ Ok z
 in_range-fits z h = rw (at_most (unsigned_abs z) h) refl
 
-pub in_range-large : (z : ℤ) → bound < unsigned_abs z → in_range_of z ≡ Err OutOfRange
-in_range-large z h = rw (above (unsigned_abs z) h) refl
-
 pub empty_from : (n : ℕ) (b : Bool) → b ≡ (n == 0) → b ≡ true → n ≡ 0
 empty_from n b e h = grind (arith, nat_tests)
 

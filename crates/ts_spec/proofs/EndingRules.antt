@@ -84,9 +84,6 @@ module _ (limits : Limits) (m : State) (ends : Key → Key → Bool) (v : IsVali
           again true e = Gone l x e
           again false e = Left l x e
 
-  rule-of : Option Link → Option Rule
-  rule-of o = option_map (λ (l : Link). l.rule) o
-
   -- what its record shows by the link that is left is what it showed
   shown-kept : (k : Key) (d : Record) → get k m ≡ Some d → Fate k → shown_by (rule_into (ended ends m) k) (ended_in ends m k d) ≡ shown_by (rule_into m k) d
   shown-kept k d x (Free y) =

@@ -25,15 +25,6 @@ shown-there m k d e = ap (λ (o : Option Record). shown_at o (rule_into m k)) e
 pub shown-missing : (m : State) (k : Key) → get k m ≡ None → shown m k ≡ []
 shown-missing m k e = ap (λ (o : Option Record). shown_at o (rule_into m k)) e
 
--- what a settled key shows is what its tidied record shows by its expired rule
-pub shown-settled : (m : State) (k : Key) (d : Record) → get k m ≡ Some d →
-    shown (settled m) k ≡ shown_by (option_map (expired_in (tidied m)) (rule_into m k)) (tidied_by (rule_into m k) d)
-shown-settled m k d e =
-    shown-there (settled m) k (settled_record m k d) (get-settled m k ∙ ap (option_map (settled_record m k)) e)
-    ∙ ap (λ (o : Option Rule). shown_by o (settled_record m k d)) (rule-settled m k)
-    ∙ shown-alike (option_map (expired_in (tidied m)) (rule_into m k)) (settled_record m k d) (tidied_by (rule_into m k) d)
-    (record { options = refl; labels = refl; plain = refl; high = refl; born = refl })
-
 pub first-same : (a b : Rule) (xs ys : List Rule) → a ∷ xs ≡ b ∷ ys → a ≡ b
 first-same a b xs ys h = cc h
 

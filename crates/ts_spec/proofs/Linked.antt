@@ -55,19 +55,6 @@ link-target m k l h e =
     let s : IsSoleLink m l.source l.rule = link-sole m k l h e in
     subst (IsTarget m) (link-dest m k l e) (record { record_of = s.dest; there = s.there; no_rules = s.no_rules })
 
--- a key with rules is no destination
-pub ruled-unlinked : (m : State) (k : Key) (d : Record) (r : Rule) (rs : List Rule) → IsLinked m → get k m ≡ Some d → d.rules ≡ r ∷ rs → link_to m k ≡ None
-ruled-unlinked m k d r rs h e x = go (link_to m k) refl
-  where
-    go : (o : Option Link) → link_to m k ≡ o → o ≡ None
-    go None y = refl
-    go (Some l) y =
-        let t : IsTarget m k = link-target m k l h y in
-        let same_record : Some t.record_of ≡ Some d = sym t.there ∙ e in
-        let one : t.record_of ≡ d = cc same_record in
-        let two : [] ≡ r ∷ rs = sym t.no_rules ∙ ap (λ (q : Record). q.rules) one ∙ x in
-        absurd (cc two)
-
 sole-each : (f : Key → Record → Record) (g : Key → Record → Rule → Rule) → IsReshape f g → (m : State) (k : Key) (d : Record) (r : Rule) →
     get k m ≡ Some d → IsSoleLink m k r → IsSoleLink (each f m) k (g k d r)
 sole-each f g h m k d r e s = record {

@@ -25,9 +25,6 @@ part-times test ps h = record { ascending = ascending-times test ps h; of = λ t
     go t p true e = e
     go t p false e = absurd (cc e)
 
-pub part-all : (ps : List Point) → IsAscending ps → IsPart ps ps
-part-all ps h = record { ascending = h; of = λ t p e. e }
-
 -- ---- where own samples go and the highest time rises
 
 rule-smaller : (d : Record) (plain : List Point) (high : Option ℕ) → IsPart plain d.plain → ((t : ℕ) → IsUpTo d.high t → IsUpTo high t) →

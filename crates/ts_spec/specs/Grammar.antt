@@ -4,9 +4,9 @@ use Rattle.ts_spec.specs.declared.command.At.{At}
 use Rattle.ts_spec.specs.declared.command.At.TheVariants.{Clock, Time}
 use Rattle.ts_spec.specs.Wire.{Request}
 use Rattle.ts_spec.specs.Names.{Table, named}
-use Rattle.ts_spec.specs.Settings.{Word, and_then, at_word, value_word, nothing, options, series_options, alter_options, add_options, incr_options, spec, change}
-use Rattle.ts_spec.specs.Command.{Triple, Command, Create, Alter, Add, Madd, Incr}
-use Rattle.ts_spec.specs.Refusal.{Fault, UnknownCommand, Arity}
+use Rattle.ts_spec.specs.Settings.{Word, and_then, at_word, end_word, value_word, nothing, options, series_options, alter_options, add_options, incr_options, range_options, has_list, spec, change, query}
+use Rattle.ts_spec.specs.Command.{Triple, Command, Create, Alter, Add, Madd, Incr, DelRange, Range, Get, Ping, Echo, Quit, Drop, Exists}
+use Rattle.ts_spec.specs.Refusal.{Fault, UnknownCommand, Arity, BadOption}
 
 -- ---- the words after a command's name
 
@@ -42,20 +42,52 @@ incr signed (key ∷ amount ∷ words) =
     and_then (options incr_options nothing 0 words) (λ given. Ok (Incr key (signed v) (unwrap_or given.at Clock) (spec given))))
 incr signed _ = Err Arity
 
+-- `key from to`, both ends included
+abbrev pub del_range : List Word → Result Command Fault
+del_range (key ∷ from ∷ to ∷ words) = and_then (end_word from) (λ first. and_then (end_word to) (λ last. Ok (DelRange key first last)))
+del_range _ = Err Arity
+
+-- `key from to`, both ends included, and options
+abbrev pub range : (reverse : Bool) → List Word → Result Command Fault
+range reverse (key ∷ from ∷ to ∷ words) =
+    and_then (end_word from) (λ first. and_then (end_word to) (λ last.
+    and_then (options range_options nothing 0 words) (λ given. Ok (Range key false (query reverse first last given)))))
+range reverse _ = Err Arity
+
+-- `key`; no option is known
+abbrev pub get_last : List Word → Result Command Fault
+get_last [] = Err Arity
+get_last (key ∷ []) = Ok (Get key false)
+get_last (key ∷ word ∷ words) = Err BadOption
+
+-- nothing, or a word to send back
+abbrev pub ping : List Word → Result Command Fault
+ping [] = Ok (Ping None)
+ping (word ∷ words) = Ok (Ping (Some word))
+
+-- a word to send back
+abbrev pub echo : List Word → Result Command Fault
+echo [] = Err Arity
+echo (word ∷ words) = Ok (Echo word)
+
 -- ---- the commands
 
--- A command: how many words it may have, its name included, what the words after its name say, and whether it makes a list.
+-- A command: how many words it may have, its name included, what the words after its name say, and whether reading them makes a list.
 pub record Form : Type 0 where
   pub words : ℕ → Bool
   pub says : List Word → Result Command Fault
-  pub lists : Bool
+  pub lists : List Word → Bool
 
 -- a command of single words, and one that makes a list of them
 abbrev pub form : (ℕ → Bool) → (List Word → Result Command Fault) → Form
-form words says = record { words = words; says = says; lists = false }
+form words says = record { words = words; says = says; lists = λ own. false }
 
 abbrev pub list_form : (ℕ → Bool) → (List Word → Result Command Fault) → Form
-list_form words says = record { words = words; says = says; lists = true }
+list_form words says = record { words = words; says = says; lists = λ own. true }
+
+-- a command that makes a list where an option with one is named
+abbrev pub option_form : (ℕ → Bool) → (List Word → Result Command Fault) → Form
+option_form words says = record { words = words; says = says; lists = has_list }
 
 -- the name, and three words each
 abbrev pub by_threes : ℕ → Bool
@@ -69,6 +101,15 @@ commands =
     ∷ (codes "TS.MADD", list_form by_threes madd)
     ∷ (codes "TS.INCRBY", form (nat_le 3) (incr (λ v. v)))
     ∷ (codes "TS.DECRBY", form (nat_le 3) (incr neg_ℤ))
+    ∷ (codes "TS.DEL", form (λ n. n == 4) del_range)
+    ∷ (codes "TS.RANGE", option_form (nat_le 4) (range false))
+    ∷ (codes "TS.REVRANGE", option_form (nat_le 4) (range true))
+    ∷ (codes "TS.GET", form (λ n. nat_le 2 n && nat_le n 3) get_last)
+    ∷ (codes "PING", form (λ n. nat_le 1 n && nat_le n 2) ping)
+    ∷ (codes "ECHO", form (λ n. n == 2) echo)
+    ∷ (codes "QUIT", form (nat_le 1) (λ words. Ok Quit))
+    ∷ (codes "DEL", form (nat_le 2) (λ keys. Ok (Drop keys)))
+    ∷ (codes "EXISTS", form (nat_le 2) (λ keys. Ok (Exists keys)))
     ∷ []
 
 -- what so many words say in a form
@@ -81,14 +122,14 @@ abbrev pub command : Request → Result Command Fault
 command [] = Err UnknownCommand
 command (name ∷ words) = by_form (named commands name) (suc (length words)) words
 
-abbrev pub lists_by_form : Option Form → ℕ → Bool
-lists_by_form None n = false
-lists_by_form (Some f) n = f.words n && f.lists
+abbrev pub lists_by_form : Option Form → ℕ → List Word → Bool
+lists_by_form None n words = false
+lists_by_form (Some f) n words = f.words n && f.lists words
 
--- whether words may want memory: a command of their name and number makes a list
+-- whether words may want memory as they are read: a command of their name and number makes a list of them
 abbrev pub makes_list : Request → Bool
 makes_list [] = false
-makes_list (name ∷ words) = lists_by_form (named commands name) (suc (length words))
+makes_list (name ∷ words) = lists_by_form (named commands name) (suc (length words)) words
 
 -- ---- the clock
 

@@ -1,7 +1,10 @@
 -- Runs: each request has its turn, in order, and what is written is the text of the turns.
-use Rattle.std.specs.Prelude.{◌≡◌, ℕ, List, [], ◌∷◌, ◌++◌, map}
+use Rattle.std.specs.Prelude.{◌≡◌, ℕ, Bool, true, false, ◌||◌, if◌then◌else◌, List, [], ◌∷◌, ◌++◌, map, Result, Ok}
 use Rattle.ts_spec.specs.Wire.{Request, Stream}
 use Rattle.ts_spec.specs.Wire.Stream.{Then}
+use Rattle.ts_spec.specs.Command.{Command, Quit}
+use Rattle.ts_spec.specs.Refusal.{Fault}
+use Rattle.ts_spec.specs.Grammar.{command}
 
 -- A turn leads from one state of the world to the next, and writes a text.
 module _ {World : Type 0} (turn : World → Request → List ℕ → World → Type 0) where
@@ -31,3 +34,23 @@ then_all (placed ∷ more) rest = Then placed.request placed.after (then_all mor
 
 abbrev pub requests_in : List Placed → List Request
 requests_in done = map (λ p. p.request) done
+
+-- ---- the end that a client asks for
+
+abbrev pub says_quit : Result Command Fault → Bool
+says_quit (Ok Quit) = true
+says_quit other = false
+
+-- whether a request is the command QUIT
+abbrev pub is_quit : Request → Bool
+is_quit request = says_quit (command request)
+
+-- whether one of the requests is
+abbrev pub has_quit : List Request → Bool
+has_quit [] = false
+has_quit (request ∷ requests) = is_quit request || has_quit requests
+
+-- the requests up to and with the first QUIT: those that have their turns
+abbrev pub until_quit : List Request → List Request
+until_quit [] = []
+until_quit (request ∷ requests) = request ∷ (if is_quit request then [] else until_quit requests)

@@ -1,5 +1,5 @@
 -- The options of commands: their words, and what they say of a series and of a sample.
-use Rattle.std.specs.Prelude.{◌≡◌, ◌≤◌, ℕ, zero, suc, ◌%◌, Bool, ◌&&◌, ◌==◌, nat_le, if◌then◌else◌, ℤ, List, [], ◌∷◌, codes, Option, None, Some, is_some, ok_or, unwrap_or, Result, Ok, Err}
+use Rattle.std.specs.Prelude.{◌≡◌, ◌≤◌, ℕ, zero, suc, ◌%◌, Bool, false, ◌&&◌, ◌||◌, ◌==◌, nat_le, if◌then◌else◌, ℤ, List, [], ◌∷◌, take, codes, Option, None, Some, is_some, ok_or, unwrap_or, Result, Ok, Err}
 use Rattle.ts_spec.specs.declared.series.Policy.{Policy}
 use Rattle.ts_spec.specs.declared.series.Policy.TheVariants.{Block}
 use Rattle.ts_spec.specs.declared.series.Encoding.{Encoding}
@@ -11,8 +11,8 @@ use Rattle.ts_spec.specs.Sample.{MAX_TIME}
 use Rattle.ts_spec.specs.Names.{Table, named, policies, encodings}
 use Rattle.ts_spec.specs.Number.{number}
 use Rattle.ts_spec.specs.Value.{value}
-use Rattle.std.specs.Str.{bytes_eq}
-use Rattle.ts_spec.specs.Command.{Spec, Change}
+use Rattle.std.specs.Str.{bytes_eq, str_eq_ignore_ascii_case}
+use Rattle.ts_spec.specs.Command.{Spec, Change, Span, Query}
 use Rattle.ts_spec.specs.Refusal.{Fault, BadTimestamp, BadValue, BadOption, RepeatedOption, BadChunkSize, BadPolicy, BadEncoding}
 
 -- a word is a list of bytes
@@ -33,6 +33,12 @@ IsTime at = (t : ℕ) → at ≡ Time t → t ≤ MAX_TIME
 -- a time
 unfoldable pub time_word : Word → Result ℕ Fault
 time_word word = ok_or (number word) BadTimestamp
+
+-- an end of an interval: a time, or `-` for the first one or `+` for the last
+unfoldable pub end_word : Word → Result ℕ Fault
+end_word word =
+    if bytes_eq word (codes "-") then Ok 0
+    else (if bytes_eq word (codes "+") then Ok MAX_TIME else time_word word)
 
 -- a time, or `*` for the clock's
 unfoldable pub at_word : Word → Result At Fault
@@ -62,6 +68,10 @@ is_chunk_size n = nat_le 48 n && nat_le n 1048576 && (n % 8 == 0)
 unfoldable pub chunk_size_word : Word → Result ℕ Fault
 chunk_size_word word = and_then (ok_or (number word) BadChunkSize) (λ n. if is_chunk_size n then Ok n else Err BadChunkSize)
 
+-- how many rows
+unfoldable pub count_word : Word → Result ℕ Fault
+count_word word = ok_or (number word) BadOption
+
 unfoldable pub policy_word : Word → Result Policy Fault
 policy_word word = ok_or (named policies word) BadPolicy
 
@@ -79,14 +89,29 @@ pub record Given : Type 0 where
   -- the policy of this write alone
   pub on : Option Policy
   pub at : Option At
+  -- the times and the values that a question lets through, and how many rows it wants
+  pub times : Option (List ℕ)
+  pub values : Option Span
+  pub count : Option ℕ
 
 abbrev pub nothing : Given
-nothing = record { retention = None; encoding = None; chunk_size = None; policy = None; on = None; at = None }
+nothing = record {
+  retention = None;
+  encoding = None;
+  chunk_size = None;
+  policy = None;
+  on = None;
+  at = None;
+  times = None;
+  values = None;
+  count = None;
+}
 
--- An option: whether it stood before, how many of the words after it are its own, and what these say.
+-- An option: whether it stood before, how many of the words after it are its own, by which words are options themselves, and what
+-- its own words say.
 pub record Setting : Type 0 where
   pub stood : Given → Bool
-  pub size : ℕ
+  pub size : (is_option : Word → Bool) → List Word → ℕ
   pub says : List Word → Given → Result Given Fault
 
 -- an option with one word of its own
@@ -95,7 +120,28 @@ says_one read [] given = Err BadOption
 says_one read (word ∷ words) given = read word given
 
 abbrev pub one_word : (Given → Bool) → (Word → Given → Result Given Fault) → Setting
-one_word stood read = record { stood = stood; size = 1; says = says_one read }
+one_word stood read = record { stood = stood; size = λ is_option words. 1; says = says_one read }
+
+-- an option with two words of its own
+abbrev pub says_two : (Word → Word → Given → Result Given Fault) → List Word → Given → Result Given Fault
+says_two read (one ∷ two ∷ words) given = read one two given
+says_two read words given = Err BadOption
+
+abbrev pub two_words : (Given → Bool) → (Word → Word → Given → Result Given Fault) → Setting
+two_words stood read = record { stood = stood; size = λ is_option words. 2; says = says_two read }
+
+-- how many words come before the first one that is an option
+abbrev pub count_own : (is_option : Word → Bool) → List Word → ℕ
+count_own is_option [] = 0
+count_own is_option (word ∷ words) = if is_option word then 0 else suc (count_own is_option words)
+
+-- an option with a list, which has one word at least and goes on to the next option
+abbrev pub says_some : (List Word → Given → Result Given Fault) → List Word → Given → Result Given Fault
+says_some read [] given = Err BadOption
+says_some read (word ∷ words) given = read (word ∷ words) given
+
+abbrev pub some_words : (Given → Bool) → (List Word → Given → Result Given Fault) → Setting
+some_words stood read = record { stood = stood; size = count_own; says = says_some read }
 
 abbrev pub retention : Setting
 retention = one_word (λ given. is_some given.retention) (λ word given. and_then (retention_word word) (λ n. Ok (record given { retention = Some n })))
@@ -115,17 +161,39 @@ on_duplicate = one_word (λ given. is_some given.on) (λ word given. and_then (p
 abbrev pub timestamp : Setting
 timestamp = one_word (λ given. is_some given.at) (λ word given. and_then (at_word word) (λ at. Ok (record given { at = Some at })))
 
+-- times, one after another
+abbrev pub times_of : List Word → Result (List ℕ) Fault
+times_of [] = Ok []
+times_of (word ∷ words) = and_then (time_word word) (λ t. and_then (times_of words) (λ ts. Ok (t ∷ ts)))
+
+abbrev pub filter_by_ts : Setting
+filter_by_ts = some_words (λ given. is_some given.times) (λ words given. and_then (times_of words) (λ ts. Ok (record given { times = Some ts })))
+
+-- the least value and the greatest one
+abbrev pub filter_by_value : Setting
+filter_by_value = two_words (λ given. is_some given.values) (λ least greatest given.
+    and_then (value_word least) (λ low. and_then (value_word greatest) (λ high. Ok (record given { values = Some (record { least = low; greatest = high }) }))))
+
+abbrev pub count : Setting
+count = one_word (λ given. is_some given.count) (λ word given. and_then (count_word word) (λ n. Ok (record given { count = Some n })))
+
 -- the option that a word names among those that are known, unless it stood before
 abbrev pub new_setting : Given → Option Setting → Result Setting Fault
 new_setting given None = Err BadOption
 new_setting given (Some setting) = if setting.stood given then Err RepeatedOption else Ok setting
+
+-- whether a word is one of the options that are known
+abbrev pub is_known : Table Setting → Word → Bool
+is_known known word = is_some (named known word)
 
 -- What the options from here on say, after so many words that are the last option's own.
 abbrev pub options : Table Setting → Given → (own : ℕ) → List Word → Result Given Fault
 options known given own [] = Ok given
 options known given (suc own) (word ∷ words) = options known given own words
 options known given zero (word ∷ words) =
-    and_then (new_setting given (named known word)) (λ setting. and_then (setting.says words given) (λ more. options known more setting.size words))
+    and_then (new_setting given (named known word)) (λ setting.
+    and_then (setting.says (take (setting.size (is_known known) words) words) given) (λ more.
+    options known more (setting.size (is_known known) words) words))
 
 -- the options of a new series
 unfoldable pub series_options : Table Setting
@@ -150,6 +218,19 @@ add_options = (codes "ON_DUPLICATE", on_duplicate) ∷ series_options
 unfoldable pub incr_options : Table Setting
 incr_options = (codes "TIMESTAMP", timestamp) ∷ series_options
 
+-- the options of a question over an interval
+unfoldable pub range_options : Table Setting
+range_options =
+    (codes "FILTER_BY_TS", filter_by_ts)
+    ∷ (codes "FILTER_BY_VALUE", filter_by_value)
+    ∷ (codes "COUNT", count)
+    ∷ []
+
+-- whether one of the words is the name of the option with a list
+abbrev pub has_list : List Word → Bool
+has_list [] = false
+has_list (word ∷ words) = str_eq_ignore_ascii_case (codes "FILTER_BY_TS") word || has_list words
+
 -- what a new series is made with: where nothing is said, it keeps samples for ever, in packed chunks of 4096 bytes, and refuses a repeated time
 abbrev pub spec : Given → Spec
 spec given =
@@ -166,3 +247,15 @@ spec given =
 -- what a series gets anew
 abbrev pub change : Given → Change
 change given = record { retention = given.retention; chunk_size = given.chunk_size; policy = given.policy; labels = None }
+
+-- what is asked of an interval
+abbrev pub query : (reverse : Bool) → (from to : ℕ) → Given → Query
+query reverse from to given = record {
+  from = from;
+  to = to;
+  times = given.times;
+  values = given.values;
+  count = given.count;
+  buckets = None;
+  reverse = reverse;
+}
