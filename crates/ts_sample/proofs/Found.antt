@@ -50,9 +50,6 @@ module _ (x i : ℕ) (ps : List Point) (rises : IsAscending ps) (before : take i
   pub absent_past : length ps ≤ i → at x ps ≡ None
   absent_past past = sym at_rest ∙ ap (at x) (drop_all i ps past)
 
-  pub absent_end : drop i ps ≡ [] → at x ps ≡ None
-  absent_end is = sym at_rest ∙ ap (at x) is
-
   -- the sample at the place is later
   absent_later : (p : Point) (rest : List Point) → drop i ps ≡ p ∷ rest → p.time ≢ x → at x ps ≡ None
   absent_later p rest is other =

@@ -1,2 +1,4 @@
+pub mod Between
 pub mod Found
 pub mod Parted
+pub mod Visiting

@@ -35,7 +35,10 @@ rising (p ∷ ps) h (suc i) (suc j) d le lt = rising ps h.1 i j d (omega arith) 
 not_before : (t n : ℕ) → not (nat_lt n t) ≡ nat_le t n
 not_before t n = grind (arith, nat_tests)
 
-filter_alike : {X : Type 0} (p q : X → Bool) → ((x : X) → p x ≡ q x) → (xs : List X) → filter p xs ≡ filter q xs
+not_past : (t n : ℕ) → not (nat_le n t) ≡ nat_lt t n
+not_past t n = grind (arith, nat_tests)
+
+pub filter_alike : {X : Type 0} (p q : X → Bool) → ((x : X) → p x ≡ q x) → (xs : List X) → filter p xs ≡ filter q xs
 filter_alike p q same [] = refl
 filter_alike {X} p q same (x ∷ xs) = rw (same x) (ap (λ (l : List X). cond (q x) (x ∷ l) l) (filter_alike p q same xs))
 
@@ -46,12 +49,29 @@ cut_at t ps i h le =
     let both = parted (λ p. nat_lt p.time t) ps i h le in
     (both.0, both.1 ∙ filter_alike (λ p. not (nat_lt p.time t)) (λ p. nat_le t p.time) (λ p. not_before t p.time) ps)
 
+-- the place where the times pass t cuts the samples up to t from the others
+pub cut_past : (t : ℕ) (ps : List Point) (i : ℕ) → IsPartitionPoint (λ p. nat_le p.time t ≡ true) (λ p. nat_le p.time t ≡ false) ps i → i ≤ length ps
+    → (take i ps ≡ at_times (λ n. nat_le n t) ps) × (drop i ps ≡ at_times (nat_lt t) ps)
+cut_past t ps i h le =
+    let both = parted (λ p. nat_le p.time t) ps i h le in
+    (both.0, both.1 ∙ filter_alike (λ p. not (nat_le p.time t)) (λ p. nat_lt t p.time) (λ p. not_past t p.time) ps)
+
 -- a time past the last sample stands at the end
 pub past_all : (t : ℕ) (ps : List Point) → IsAscending ps → ((d : Point) → 0 < length ps → (get_or ps (length ps - 1) d).time < t)
     → IsPartitionPoint (λ p. nat_lt p.time t ≡ true) (λ p. nat_lt p.time t ≡ false) ps (length ps)
 past_all t ps h last = (
   (λ k d low high.
       let below : (get_or ps k d).time < t = omega (arith, rising ps h k (length ps - 1) d (omega arith) (omega arith), last d (omega arith)) in
+      grind (arith, nat_tests)),
+  (λ k d low high. absurd (omega arith)),
+)
+
+-- the samples up to a time from the last sample on are all of them
+pub upto_all : (t : ℕ) (ps : List Point) → IsAscending ps → ((d : Point) → 0 < length ps → (get_or ps (length ps - 1) d).time ≤ t)
+    → IsPartitionPoint (λ p. nat_le p.time t ≡ true) (λ p. nat_le p.time t ≡ false) ps (length ps)
+upto_all t ps h last = (
+  (λ k d low high.
+      let below : (get_or ps k d).time ≤ t = omega (arith, rising ps h k (length ps - 1) d (omega arith) (omega arith), last d (omega arith)) in
       grind (arith, nat_tests)),
   (λ k d low high. absurd (omega arith)),
 )

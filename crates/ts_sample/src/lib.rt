@@ -1,21 +1,25 @@
 //! A sample of a series, and what it is made of: its value in millionths, and the cell that a reply shows
-//! for a value. Also the number of a series in a database, and the counter of steps, which costs nothing
-//! when it runs.
+//! for a value. Visitors take samples one after another. Also the number of a series in a database, and
+//! the counter of steps, which costs nothing when it runs.
 #![tactic(auto)]
 
 mod cell;
+mod gathered;
 mod id;
 mod place;
 mod sample;
 mod steps;
 mod units;
+mod visit;
 
 pub use cell::Cell;
+pub use gathered::Gathered;
 pub use id::Id;
-pub use place::{find, place_of};
+pub use place::{find, place_of, places_between};
 pub use sample::{MAX_TIME, Sample};
 pub use steps::Steps;
 pub use units::Units;
+pub use visit::Visit;
 
 #[cfg(test)]
 mod tests;

@@ -1,7 +1,8 @@
-ghost use Rattle.std.specs.Prelude.{◌≡◌, ◌≤◌, nat_lt, nat_le, ◌∷◌, ◌++◌, length, take, drop, slice_get, None, Some, IfOk, IfErr, IsSomeAnd};
-ghost use Rattle.ts_spec.specs.Sample.{Point, IsAscending, at, at_times, put};
+ghost use Rattle.std.specs.Prelude.{◌≡◌, ◌≤◌, nat_lt, nat_le, ◌∷◌, ◌++◌, length, take, drop, slice_get, slice_range, None, Some, IfOk, IfErr, IsSomeAnd};
+ghost use Rattle.ts_spec.specs.Sample.{Point, IsAscending, at, at_times, between, outside, put};
 
 use crate::sample::Sample;
+use std::ops::Range;
 
 /// How many samples of an ascending list are before this time. A time past the last sample costs no search.
 pub fn place_of(list: &[Sample], time: u64) -> usize
@@ -35,4 +36,32 @@ pub fn find(list: &[Sample], time: u64) -> Result<usize, usize>
     } else {
         Err(place)
     }
+}
+
+/// Where the samples from one time to another, both included, stand in an ascending list.
+pub fn places_between(list: &[Sample], from: u64, to: u64) -> Range<usize>
+    requires { IsAscending list.now }
+    ensures ordered { result.start ≤ result.end }
+    ensures within { result.end ≤ length list.now }
+    ensures inside { slice_range list.now result.start result.end ≡ between from to list.now }
+    ensures outside { take result.start list.now ++ drop result.end list.now ≡ outside from to list.now }
+{
+    let end = place_past(list, to);
+    place_of(&list[..end], from)..end
+}
+
+// How many samples of an ascending list are up to this time. A time from the last sample on costs no search.
+fn place_past(list: &[Sample], time: u64) -> usize
+    requires { IsAscending list.now }
+    ensures within { result ≤ length list.now }
+    ensures upto { take result list.now ≡ at_times (λ t. nat_le t time) list.now }
+    ensures past { drop result list.now ≡ at_times (nat_lt time) list.now }
+{
+    let Some(last) = list.last() else {
+        return 0;
+    };
+    if last.time <= time {
+        return list.len();
+    }
+    list.partition_point(|sample| sample.time <= time)
 }

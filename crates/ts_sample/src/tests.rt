@@ -1,6 +1,7 @@
 ghost use Rattle.std.specs.Prelude.{◌≡◌, ◌<◌};
 
 use super::*;
+use std::alloc::AllocError;
 use std::marker::Brand;
 use std::sync::ledger::{Blank, Ledger};
 use std::test::*;
@@ -60,4 +61,22 @@ fn two_steps<L: Ledger>(blank: Blank)
 fn steps_are_counted_without_bytes(rt: HostRuntime) {
     two_steps::<Brand>(Blank::new(1));
     assert!(rt; size_of::<Steps<Brand>>() == 0);
+}
+
+#[test]
+fn samples_are_gathered_in_their_order(rt: HostRuntime) -> Result<(), AllocError> {
+    let first = Sample {
+        time: 1,
+        value: Units::ZERO,
+        made: 0,
+    };
+    let second = Sample { time: 2, ..first };
+    let mut gathered = Gathered::with_room(rt.alloc(), 2)?;
+    gathered.sample(&first);
+    gathered.sample(&second);
+    assert_eq!(rt;
+        gathered.into_samples().as_slice(),
+        [first, second].as_slice()
+    );
+    Ok(())
 }
