@@ -4,12 +4,14 @@
 mod header;
 mod line;
 mod out;
+mod pair;
 mod protocol;
 mod reader;
 mod reply;
 mod word;
 
 pub use out::Out;
+pub use pair::{PAIR, put_pair};
 pub use protocol::Protocol;
 pub use reader::{Next, Reader};
 pub use reply::{Reply, begin_array, encode, put, size_of};

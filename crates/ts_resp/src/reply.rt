@@ -64,8 +64,9 @@ fn array_len(replies: &[Reply]) -> Option<usize>
 }
 
 // The text of a value, or `NaN` where there is none.
-fn shown(cell: Cell, room: &mut [u8; 32]) -> &[u8]
-    ensures { result.now ≡ shown_cell (value_of cell) }
+pub(crate) fn shown(cell: Cell, room: &mut [u8; 32]) -> &[u8]
+    ensures text { result.now ≡ shown_cell (value_of cell) }
+    ensures short { length result.now ≤ 27 }
 {
     match cell {
         Cell::Number(value) => print(value, room),
@@ -121,6 +122,7 @@ pub fn encode(reply: &Reply, out: &mut Out) -> Result<(), AllocError>
     ensures ok { OnOk result (out.new.bytes ≡ out.old.bytes ++ text (reply_of reply.now)) }
     ensures err { OnErr result (out.new.bytes ≡ out.old.bytes) }
     ensures full { OnErr result (out.old.spare < length (text (reply_of reply.now))) }
+    ensures room { length out.old.bytes + out.old.spare ≤ length out.new.bytes + out.new.spare }
 {
     let room = out.spare();
     match size_of(reply) {
@@ -132,7 +134,7 @@ pub fn encode(reply: &Reply, out: &mut Out) -> Result<(), AllocError>
     Ok(())
 }
 
-fn put_line(first: u8, others: &[u8], out: &mut Out)
+pub(crate) fn put_line(first: u8, others: &[u8], out: &mut Out)
     requires { length (line first others.now) ≤ out.old.spare }
     ensures bytes { out.new.bytes ≡ out.old.bytes ++ line first others.now }
     ensures room { out.new.spare + length (line first others.now) ≡ out.old.spare }

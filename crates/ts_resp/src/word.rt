@@ -43,6 +43,7 @@ impl Word {
         Word::from_slice(*self.bytes.allocator(), self.bytes())
     }
 
+    /// Its bytes.
     #[inline]
     pub fn bytes(&self) -> &[u8]
         ensures { result.now ≡ self.now }
