@@ -1,0 +1,14 @@
+//! What is told of the samples of a bucket, over a list that grows at its end. Nothing here takes memory.
+#![tactic(auto)]
+
+mod fault;
+mod names;
+mod running;
+
+pub use fault::AggFault;
+pub use names::{name, read_aggregator};
+pub use running::Running;
+pub use ts_spec::Aggregator;
+
+#[cfg(test)]
+mod tests;

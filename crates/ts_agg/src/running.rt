@@ -1,0 +1,128 @@
+ghost use Rattle.std.specs.Prelude.{◌≡◌, ◌<◌, ◌^◌, ◌↔◌, List, [], ◌∷◌, ◌++◌, length, int_lt, if◌then◌else◌, Some, IsNone};
+ghost use Rattle.ts_spec.specs.Sample.{Point};
+ghost use Rattle.ts_spec.specs.Aggregate.{aggregate, result_of};
+ghost use Rattle.ts_agg.specs.Running.{StandsFor};
+
+use std::marker::Model;
+use ts_decimal::{clamp, div_round};
+use ts_sample::{Sample, Units};
+use ts_spec::Aggregator;
+
+/// What is told of the values of a list: how many there are, their sum, the least, the greatest, the first and
+/// the last. It stands for each list that has these.
+#[derive(Clone, Copy, Debug, PartialEq, Eq)]
+pub struct Running {
+    sum: i128,
+    least: Units,
+    greatest: Units,
+    first: Units,
+    last: Units,
+    count: u64,
+}
+
+impl Model for Running {
+    ghost use Rattle.ts_spec.specs.Aggregate.{Summary};
+    ghost use Rattle.ts_agg.specs.Running.{IsSmall};
+
+    ghost Value = { Summary };
+
+    ghost view = { λ r. record {
+      count = r.count;
+      sum = r.sum;
+      least = r.least;
+      greatest = r.greatest;
+      first = r.first;
+      last = r.last;
+    } };
+
+    ghost invariant = { λ r. IsSmall r.count r.sum };
+
+    ghost inverse = { λ s. record {
+      sum = s.sum;
+      least = s.least;
+      greatest = s.greatest;
+      first = s.first;
+      last = s.last;
+      count = s.count;
+    } };
+}
+
+impl Running {
+    /// Of no samples.
+    pub fn new() -> Running
+        ensures { StandsFor result [] }
+    {
+        Running {
+            sum: 0,
+            least: Units::ZERO,
+            greatest: Units::ZERO,
+            first: Units::ZERO,
+            last: Units::ZERO,
+            count: 0,
+        }
+    }
+
+    /// Adds a sample at the end. It takes 10^14 samples at most.
+    pub fn push(&mut self, s: &Sample)
+        requires { self.old.count < 10 ^ 14 }
+        ensures { (ps : List Point) → StandsFor self.old ps
+            → StandsFor self.new (ps ++ s.now ∷ []) }
+    {
+        let value = s.value;
+        if self.count == 0 {
+            self.least = value;
+            self.greatest = value;
+            self.first = value;
+        } else {
+            self.least = lesser(self.least, value);
+            self.greatest = greater(self.greatest, value);
+        }
+        self.last = value;
+        self.sum += value.get();
+        self.count += 1;
+    }
+
+    /// What an aggregator tells of the samples, or `None` where there are none.
+    pub fn result(&self, agg: Aggregator) -> Option<Units>
+        ensures value { (ps : List Point) → StandsFor self.now ps → 0 < length ps
+            → result ≡ Some (aggregate agg ps) }
+        ensures none { IsNone result ↔ (self.now.count ≡ 0) }
+    {
+        if self.count == 0 {
+            None
+        } else {
+            Some(self.value(agg))
+        }
+    }
+
+    // What an aggregator tells of at least one sample.
+    fn value(&self, agg: Aggregator) -> Units
+        requires { 0 < self.now.count }
+        ensures { result ≡ result_of agg self.now }
+    {
+        match agg {
+            Aggregator::Avg => clamp(div_round(self.sum, self.count)),
+            Aggregator::Sum => clamp(self.sum),
+            Aggregator::Min => self.least,
+            Aggregator::Max => self.greatest,
+            Aggregator::Range => clamp(self.greatest.get() - self.least.get()),
+            Aggregator::Count => clamp(i128::from(self.count) * 1_000_000),
+            Aggregator::First => self.first,
+            Aggregator::Last => self.last,
+        }
+    }
+}
+
+// The lesser of two values.
+fn lesser(old: Units, new: Units) -> Units
+    ensures { result ≡ (if int_lt new old then new else old) }
+{
+    if new < old { new } else { old }
+}
+
+// The greater of two values.
+fn greater(old: Units, new: Units) -> Units
+    ensures { result ≡ (if int_lt old new then new else old) }
+{
+    if old < new { new } else { old }
+}

@@ -1,0 +1,81 @@
+// Names, and what is told of short lists.
+ghost use Rattle.std.specs.Prelude.{◌≤◌, length};
+
+use super::*;
+use std::test::*;
+use ts_sample::{Sample, Units};
+
+const ALL: [Aggregator; 8] = [
+    Aggregator::Avg,
+    Aggregator::Sum,
+    Aggregator::Min,
+    Aggregator::Max,
+    Aggregator::Range,
+    Aggregator::Count,
+    Aggregator::First,
+    Aggregator::Last,
+];
+
+#[test]
+fn names(rt: HostRuntime) {
+    for (agg, lower) in ALL.iter().zip([
+        "avg", "sum", "min", "max", "range", "count", "first", "last",
+    ]) {
+        assert!(rt; name(*agg) == lower);
+    }
+    let read: [(&[u8], Result<Aggregator, AggFault>); 6] = [
+        (b"AVG", Ok(Aggregator::Avg)),
+        (b"Range", Ok(Aggregator::Range)),
+        (b"twa", Err(AggFault::NotInProfile)),
+        (b"STD.p", Err(AggFault::NotInProfile)),
+        (b"median", Err(AggFault::Unknown)),
+        (b"", Err(AggFault::Unknown)),
+    ];
+    for (word, want) in read {
+        assert!(rt; read_aggregator(word) == want);
+    }
+}
+
+// What is told of so many millionths.
+fn told(values: &[i128]) -> [Option<i128>; 8]
+    requires { length values.now ≤ 100 }
+{
+    let mut running = Running::new();
+    for millionths in values {
+        running.push(&Sample {
+            time: 0,
+            value: ts_decimal::clamp(*millionths),
+            made: 0,
+        });
+    }
+    ALL.map(|agg| running.result(agg).map(Units::get))
+}
+
+#[test]
+fn lists(rt: HostRuntime) {
+    const MOST: i128 = 1_000_000_000_000_000_000_000_000;
+    assert!(rt; told(&[]) == [None; 8]);
+    assert!(rt; told(&[5, -2, 4]) == [2, 7, -2, 5, 7, 3_000_000, 5, 4].map(Some));
+    assert!(rt;
+        told(&[1_000_000, 0, 0])
+            == [
+                333_333, 1_000_000, 0, 1_000_000, 1_000_000, 3_000_000, 1_000_000, 0
+            ]
+            .map(Some)
+    );
+    assert!(rt; told(&[-1, 0]) == [-1, -1, -1, 0, 1, 2_000_000, -1, 0].map(Some));
+    assert!(rt;
+        told(&[MOST, MOST, -MOST])
+            == [
+                333_333_333_333_333_333_333_333,
+                MOST,
+                -MOST,
+                MOST,
+                MOST,
+                3_000_000,
+                MOST,
+                -MOST
+            ]
+            .map(Some)
+    );
+}

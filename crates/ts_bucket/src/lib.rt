@@ -1,0 +1,10 @@
+//! Grids of buckets over time, and the times that stand for a bucket. Nothing here takes memory.
+#![tactic(auto)]
+
+mod grid;
+
+pub use grid::Grid;
+pub use ts_spec::Stamp;
+
+#[cfg(test)]
+mod tests;
