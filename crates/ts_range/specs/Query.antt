@@ -1,0 +1,30 @@
+-- A question over one series and its rows, as the definitions have them.
+use Rattle.std.specs.Prelude.{ℤ, None, option_map}
+use Rattle.ts_spec.specs.Command as spec
+use Rattle.ts_spec.specs.Answer as answer
+use Rattle.ts_sample.specs.declared.cell.Cell.{Cell}
+use Rattle.ts_sample.specs.declared.cell.Cell.TheVariants as cell
+use Rattle.ts_range.specs.declared.query.Query.{Query}
+use Rattle.ts_range.specs.declared.row.Row.{Row}
+
+-- values from the first to the second
+abbrev pub span_of : ℤ × ℤ → spec.Span
+span_of values = record { least = values.0; greatest = values.1 }
+
+abbrev pub query_of : Query → spec.Query
+query_of q = record {
+  from = q.from;
+  to = q.to;
+  times = option_map (λ times. times.items) q.times;
+  values = option_map span_of q.values;
+  count = q.count;
+  buckets = None;
+  reverse = q.reverse;
+}
+
+abbrev pub cell_of : Cell → answer.Cell
+cell_of (cell.Number value) = answer.Number value
+cell_of cell.Nan = answer.Nan
+
+abbrev pub row_of : Row → answer.Row
+row_of row = record { time = row.time; value = cell_of row.value }

@@ -1,0 +1,79 @@
+ghost use Rattle.std.specs.Prelude.{◌≡◌, ℕ, IfOk, option_map};
+ghost use Rattle.std.specs.Option.{ForSome};
+ghost use Rattle.std.specs.List.Sorted.{IsNonDecreasing};
+ghost use Rattle.ts_spec.specs.Answer.{is_listed};
+
+use crate::query::Query;
+use std::alloc::{AllocError, Global};
+use ts_sample::{Sample, Units};
+
+// What a question lets through, in a form that is asked quickly.
+#[derive(Drop)]
+pub(crate) struct Filters {
+    // In ascending order.
+    times: Option<Vec<u64>>,
+    values: Option<(Units, Units)>,
+    ghost times_rise: { ForSome times (λ times. IsNonDecreasing times.items) },
+}
+
+impl Filters {
+    ghost use Rattle.ts_spec.specs.Sample.{Point};
+    ghost use Rattle.ts_spec.specs.Answer.{is_let_through, lets_time, lets_value};
+    ghost use Rattle.ts_range.specs.Query.{query_of, span_of};
+    ghost use Rattle.ts_range.specs.Filters.{passes};
+
+    // What this question lets through.
+    pub(crate) fn of(alloc: Global, query: &Query) -> Result<Filters, AllocError>
+        ensures { IfOk result (λ f. (p : Point) →
+            passes f p ≡ is_let_through (query_of query.now) p) }
+    {
+        let values = query.values;
+        let Some(times) = &query.times else {
+            return Ok(Filters {
+                times: None,
+                values,
+            });
+        };
+        Ok(Filters {
+            times: Some(sorted(alloc, times)?),
+            values,
+        })
+    }
+
+    // Whether both filters let a sample through.
+    pub(crate) fn let_through(&self, sample: &Sample) -> bool
+        ensures { result ≡ passes self.now sample.now }
+    {
+        self.let_time(sample.time) && self.let_value(sample.value)
+    }
+
+    // Whether the time is among those asked for.
+    fn let_time(&self, time: u64) -> bool
+        ensures { result ≡ lets_time (option_map (λ times. times.items) self.now.times) time }
+    {
+        match &self.times {
+            None => true,
+            Some(times) => times.binary_search(&time).is_ok(),
+        }
+    }
+
+    // Whether the value is among those asked for, the ends included.
+    fn let_value(&self, value: Units) -> bool
+        ensures { result ≡ lets_value (option_map span_of self.now.values) value }
+    {
+        match self.values {
+            None => true,
+            Some((least, greatest)) => least <= value && value <= greatest,
+        }
+    }
+}
+
+// The times in ascending order.
+fn sorted(alloc: Global, times: &[u64]) -> Result<Vec<u64>, AllocError>
+    ensures rising { IfOk result (λ sorted. IsNonDecreasing sorted.items) }
+    ensures same { IfOk result (λ sorted. (t : ℕ) → is_listed sorted.items t ≡ is_listed times.now t) }
+{
+    let mut sorted = times.to_vec(alloc)?;
+    sorted.sort_unstable();
+    Ok(sorted)
+}
