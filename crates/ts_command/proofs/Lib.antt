@@ -1,2 +1,5 @@
 mod TableLemmas
+pub mod FaultLemmas
+pub mod OptionLemmas
+pub mod RangeLemmas
 pub mod AnswerLemmas

@@ -1,6 +1,6 @@
 -- Tables whose rows are seen in another way.
-use Rattle.std.proofs.Common.{◌≡◌, ℕ, Bool, true, false, if◌then◌else◌, List, [], ◌∷◌, map, refl}
-use Rattle.std.specs.Prelude.{Option, Some, option_map}
+use Rattle.std.proofs.Common.{◌≡◌, ℕ, Bool, true, false, if◌then◌else◌, List, [], ◌∷◌, ◌++◌, map, refl, ap, ◌∙◌}
+use Rattle.std.specs.Prelude.{Option, None, Some, option_map}
 use Rattle.std.specs.Str.{str_eq_ignore_ascii_case}
 use Rattle.ts_spec.specs.Names.{Table, named}
 
@@ -14,3 +14,23 @@ chosen f x false other seen h = h
 pub named-map : {X Y : Type 0} (f : X → Y) (table : Table X) (word : List ℕ) → option_map f (named table word) ≡ named (map (λ row. (row.0, f row.1)) table) word
 named-map f [] word = refl
 named-map f (row ∷ rows) word = chosen f row.1 (str_eq_ignore_ascii_case row.0 word) _ _ (named-map f rows word)
+
+-- what is found in a table, and else in another one
+abbrev pub found_else : {X : Type 0} → Option X → Option X → Option X
+found_else None other = other
+found_else (Some x) other = Some x
+
+chosen-else : {X : Type 0} (x : X) (test : Bool) (front back whole : Option X)
+    → found_else front back ≡ whole → found_else (if test then Some x else front) back ≡ (if test then Some x else whole)
+chosen-else x true front back whole h = refl
+chosen-else x false front back whole h = h
+
+-- two tables, one looked through after the other, are one
+named-append : {X : Type 0} (front back : Table X) (word : List ℕ) → found_else (named front word) (named back word) ≡ named (front ++ back) word
+named-append [] back word = refl
+named-append (row ∷ rows) back word = chosen-else row.1 (str_eq_ignore_ascii_case row.0 word) _ _ _ (named-append rows back word)
+
+-- the same, with rows seen in another way
+pub named-append-map : {X Y : Type 0} (f : X → Y) (front back : Table X) (word : List ℕ)
+    → option_map f (found_else (named front word) (named back word)) ≡ named (map (λ row. (row.0, f row.1)) (front ++ back)) word
+named-append-map f front back word = ap (option_map f) (named-append front back word) ∙ named-map f (front ++ back) word

@@ -1,10 +1,11 @@
 -- What `read` answers.
-use Rattle.std.specs.Prelude.{◌≡◌, ⊤, Err, IsTrue}
+use Rattle.std.specs.Prelude.{◌≡◌, ◌≤◌, ⊤, Err, IsTrue}
 use Rattle.ts_spec.specs.Wire.{Request}
 use Rattle.ts_spec.specs.Grammar.{command, makes_list}
+use Rattle.ts_spec.specs.Sample.{MAX_TIME}
 use Rattle.ts_spec.specs.Settings.{IsTime}
 use Rattle.ts_command.specs.declared.command.Command.{Command}
-use Rattle.ts_command.specs.declared.command.Command.TheVariants.{Add, Incr}
+use Rattle.ts_command.specs.declared.command.Command.TheVariants.{Add, Incr, DelRange}
 use Rattle.ts_command.specs.declared.fault.CommandFault.{CommandFault}
 use Rattle.ts_command.specs.declared.fault.CommandFault.TheVariants.{Memory}
 use Rattle.ts_command.specs.Faults.{fault_of}
@@ -14,8 +15,9 @@ abbrev pub IsFaultIn : Request → CommandFault → Type 0
 IsFaultIn words (Memory _) = IsTrue (makes_list words)
 IsFaultIn words fault = command words ≡ Err (fault_of fault)
 
--- the time of a command of one sample is at most the greatest time
+-- the time of a command of one sample is at most the greatest time, and so are the ends of what is deleted
 abbrev pub HasTime : Command → Type 0
 HasTime (Add key at value on spec) = IsTime at
 HasTime (Incr key change at spec) = IsTime at
+HasTime (DelRange key from to) = (from ≤ MAX_TIME) × (to ≤ MAX_TIME)
 HasTime _ = ⊤

@@ -40,7 +40,17 @@ abbrev pub Says : {X Y : Type 0} → (X → Y) → Result X CommandFault → Res
 Says view (Ok x) wanted = wanted ≡ Ok (view x)
 Says view (Err fault) wanted = IsInWords fault × (wanted ≡ Err (fault_of fault))
 
--- the same for what needs no other view
+-- a fault is the one that is wanted, or want of memory where that is allowed
+abbrev pub IsFaultOr : {Y : Type 0} → (allowed : Type 0) → CommandFault → Result Y Fault → Type 0
+IsFaultOr allowed (code.Memory _) wanted = allowed
+IsFaultOr allowed fault wanted = wanted ≡ Err (fault_of fault)
+
+-- An answer says what is wanted, seen by this view. It is want of memory only where that is allowed.
+abbrev pub SaysOr : {X Y : Type 0} → (allowed : Type 0) → (X → Y) → Result X CommandFault → Result Y Fault → Type 0
+SaysOr allowed view (Ok x) wanted = wanted ≡ Ok (view x)
+SaysOr allowed view (Err fault) wanted = IsFaultOr allowed fault wanted
+
+-- an answer says what is wanted, which needs no other view, and is no want of memory
 abbrev pub SaysSame : {X : Type 0} → Result X CommandFault → Result X Fault → Type 0
 SaysSame (Ok x) wanted = wanted ≡ Ok x
 SaysSame (Err fault) wanted = IsInWords fault × (wanted ≡ Err (fault_of fault))

@@ -1,6 +1,32 @@
 -- What options say, as the definitions have it.
+use Rattle.std.specs.Prelude.{None, option_map}
 use Rattle.ts_spec.specs.Settings as spec
+use Rattle.ts_range.specs.Query.{span_of}
 use Rattle.ts_command.specs.declared.given.Given.{Given}
+use Rattle.ts_command.specs.declared.range_given.RangeGiven.{RangeGiven}
 
 abbrev pub given_of : Given → spec.Given
-given_of g = record { retention = g.retention; encoding = g.encoding; chunk_size = g.chunk_size; policy = g.policy; on = g.on; at = g.at }
+given_of g = record {
+  retention = g.retention;
+  encoding = g.encoding;
+  chunk_size = g.chunk_size;
+  policy = g.policy;
+  on = g.on;
+  at = g.at;
+  times = None;
+  values = None;
+  count = None;
+}
+
+abbrev pub range_given_of : RangeGiven → spec.Given
+range_given_of g = record {
+  retention = None;
+  encoding = None;
+  chunk_size = None;
+  policy = None;
+  on = None;
+  at = None;
+  times = option_map (λ times. times.items) g.times;
+  values = option_map span_of g.values;
+  count = g.count;
+}

@@ -2,8 +2,9 @@
 use Rattle.std.specs.Prelude.{List, map}
 use Rattle.ts_spec.specs.Command as spec
 use Rattle.ts_labels.specs.Spec.{spec_of, change_of}
+use Rattle.ts_range.specs.Query.{query_of}
 use Rattle.ts_command.specs.declared.command.Command.{Command}
-use Rattle.ts_command.specs.declared.command.Command.TheVariants.{Create, Alter, Add, Madd, Incr}
+use Rattle.ts_command.specs.declared.command.Command.TheVariants.{Create, Alter, Add, Madd, Incr, DelRange, Range, Get, Ping, Echo, Quit, Drop, Exists}
 use Rattle.ts_command.specs.declared.command.Triple.{Triple}
 use Rattle.ts_command.specs.Faults.{said_same}
 
@@ -19,3 +20,11 @@ reading (Alter key c) = spec.Alter key (change_of c)
 reading (Add key at value on s) = spec.Add key at value on (spec_of s)
 reading (Madd triples) = spec.Madd (triples_of triples.items)
 reading (Incr key change at s) = spec.Incr key change at (spec_of s)
+reading (DelRange key from to) = spec.DelRange key from to
+reading (Range key latest query) = spec.Range key latest (query_of query)
+reading (Get key latest) = spec.Get key latest
+reading (Ping word) = spec.Ping word
+reading (Echo word) = spec.Echo word
+reading Quit = spec.Quit
+reading (Drop keys) = spec.Drop keys.items
+reading (Exists keys) = spec.Exists keys.items

@@ -13,9 +13,9 @@ impl Command {
         ensures { result ≡ needs_clock (reading self.now) }
     {
         match self {
-            Command::Create { .. } | Command::Alter { .. } => false,
             Command::Add { at, .. } | Command::Incr { at, .. } => is_clock(*at),
             Command::Madd { triples } => any_clock(triples),
+            _ => false,
         }
     }
 }

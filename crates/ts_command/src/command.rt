@@ -4,6 +4,7 @@ ghost use Rattle.ts_command.specs.Faults.{IsNoMemory};
 
 use crate::fault::CommandFault;
 use ts_labels::{Change, Spec};
+use ts_range::Query;
 use ts_resp::Word;
 use ts_sample::Units;
 use ts_spec::{At, Policy};
@@ -40,6 +41,45 @@ pub enum Command {
         change: Units,
         at: At,
         spec: Spec,
+    },
+    /// No samples for a series from one time to another, both included.
+    DelRange {
+        key: Word,
+        /// In milliseconds, at most `MAX_TIME`.
+        from: u64,
+        /// In milliseconds, at most `MAX_TIME`.
+        to: u64,
+    },
+    /// The rows of a series that a question asks for.
+    Range {
+        key: Word,
+        /// Whether the bucket that is still open counts too. No option says so yet.
+        latest: bool,
+        query: Query,
+    },
+    /// The last sample of a series.
+    Get {
+        key: Word,
+        /// Whether the bucket that is still open counts too. No option says so yet.
+        latest: bool,
+    },
+    /// A sign of life, or a word back.
+    Ping {
+        word: Option<Word>,
+    },
+    /// A word back.
+    Echo {
+        word: Word,
+    },
+    /// The end of the stream.
+    Quit,
+    /// No series under these keys.
+    Drop {
+        keys: Vec<Word>,
+    },
+    /// How many of these words name a series.
+    Exists {
+        keys: Vec<Word>,
     },
 }
 

@@ -1,7 +1,7 @@
-// The words after a command's name, which are as many as it takes.
-ghost use Rattle.std.specs.Prelude.{◌≡◌, [], ◌∷◌, IfOk, MatchResult};
-ghost use Rattle.std.specs.Vec.Iter.{into_iter_items};
-ghost use Rattle.ts_spec.specs.Grammar.{create, alter, add, incr};
+// The commands that change one series. Their words are the whole request, with its name; they are read where they
+// stand, and the key is taken out of them at the end.
+ghost use Rattle.std.specs.Prelude.{◌≡◌, drop, IfOk};
+ghost use Rattle.ts_spec.specs.Grammar.{create, alter, add, incr, del_range};
 ghost use Rattle.ts_command.specs.Answers.{HasTime};
 ghost use Rattle.ts_command.specs.Faults.{Says};
 ghost use Rattle.ts_command.specs.Forms.{signed_by};
@@ -9,9 +9,8 @@ ghost use Rattle.ts_command.specs.Reading.{reading};
 
 use crate::command::Command;
 use crate::fault::CommandFault;
-use crate::option::{OptionSet, read_options};
-use crate::words::{at_word, value_word};
-use std::vec::IntoIter;
+use crate::series_options::{OptionSet, read_options};
+use crate::words::{at_word, end_word, value_word};
 use ts_resp::Word;
 use ts_sample::Units;
 use ts_spec::At;
@@ -34,49 +33,46 @@ impl Sign {
     }
 }
 
-fn next_word(words: &mut IntoIter<Word>) -> Result<Word, CommandFault>
-    ensures { MatchResult result (λ word. into_iter_items words.old ≡ word ∷ into_iter_items words.new)
-        (λ fault. (fault ≡ CommandFault.Arity) × (into_iter_items words.old ≡ [])) }
-{
-    words.next().ok_or(CommandFault::Arity)
-}
-
-pub(crate) fn read_create(mut words: IntoIter<Word>) -> Result<Command, CommandFault>
-    ensures command { Says reading result (create (into_iter_items words)) }
+pub(crate) fn read_create(words: &mut Vec<Word>) -> Result<Command, CommandFault>
+    ensures command { Says reading result (create (drop 1 words.old.items)) }
     ensures time { IfOk result HasTime }
 {
-    let key = next_word(&mut words)?;
-    let given = read_options(OptionSet::Create, words)?;
+    let [_, _, options @ ..] = words.as_slice() else {
+        return Err(CommandFault::Arity);
+    };
+    let given = read_options(OptionSet::Create, options)?;
     Ok(Command::Create {
-        key,
+        key: words.swap_remove(1),
         spec: given.spec(),
     })
 }
 
-pub(crate) fn read_alter(mut words: IntoIter<Word>) -> Result<Command, CommandFault>
-    ensures command { Says reading result (alter (into_iter_items words)) }
+pub(crate) fn read_alter(words: &mut Vec<Word>) -> Result<Command, CommandFault>
+    ensures command { Says reading result (alter (drop 1 words.old.items)) }
     ensures time { IfOk result HasTime }
 {
-    let key = next_word(&mut words)?;
-    let given = read_options(OptionSet::Alter, words)?;
+    let [_, _, options @ ..] = words.as_slice() else {
+        return Err(CommandFault::Arity);
+    };
+    let given = read_options(OptionSet::Alter, options)?;
     Ok(Command::Alter {
-        key,
+        key: words.swap_remove(1),
         change: given.change(),
     })
 }
 
-pub(crate) fn read_add(mut words: IntoIter<Word>) -> Result<Command, CommandFault>
-    ensures command { Says reading result (add (into_iter_items words)) }
+pub(crate) fn read_add(words: &mut Vec<Word>) -> Result<Command, CommandFault>
+    ensures command { Says reading result (add (drop 1 words.old.items)) }
     ensures time { IfOk result HasTime }
 {
-    let key = next_word(&mut words)?;
-    let time = next_word(&mut words)?;
-    let value = next_word(&mut words)?;
+    let [_, _, time, value, options @ ..] = words.as_slice() else {
+        return Err(CommandFault::Arity);
+    };
     let at = at_word(time.bytes())?;
     let value = value_word(value.bytes())?;
-    let given = read_options(OptionSet::Add, words)?;
+    let given = read_options(OptionSet::Add, options)?;
     Ok(Command::Add {
-        key,
+        key: words.swap_remove(1),
         at,
         value,
         on: given.on,
@@ -84,18 +80,35 @@ pub(crate) fn read_add(mut words: IntoIter<Word>) -> Result<Command, CommandFaul
     })
 }
 
-pub(crate) fn read_incr(sign: Sign, mut words: IntoIter<Word>) -> Result<Command, CommandFault>
-    ensures command { Says reading result (incr (signed_by sign) (into_iter_items words)) }
+pub(crate) fn read_incr(sign: Sign, words: &mut Vec<Word>) -> Result<Command, CommandFault>
+    ensures command { Says reading result (incr (signed_by sign) (drop 1 words.old.items)) }
     ensures time { IfOk result HasTime }
 {
-    let key = next_word(&mut words)?;
-    let value = next_word(&mut words)?;
+    let [_, _, value, options @ ..] = words.as_slice() else {
+        return Err(CommandFault::Arity);
+    };
     let value = value_word(value.bytes())?;
-    let given = read_options(OptionSet::Incr, words)?;
+    let given = read_options(OptionSet::Incr, options)?;
     Ok(Command::Incr {
-        key,
+        key: words.swap_remove(1),
         change: sign.of(value),
         at: given.at.unwrap_or(At::Clock),
         spec: given.spec(),
+    })
+}
+
+pub(crate) fn read_del_range(words: &mut Vec<Word>) -> Result<Command, CommandFault>
+    ensures command { Says reading result (del_range (drop 1 words.old.items)) }
+    ensures time { IfOk result HasTime }
+{
+    let [_, _, from, to, ..] = words.as_slice() else {
+        return Err(CommandFault::Arity);
+    };
+    let from = end_word(from.bytes())?;
+    let to = end_word(to.bytes())?;
+    Ok(Command::DelRange {
+        key: words.swap_remove(1),
+        from,
+        to,
     })
 }

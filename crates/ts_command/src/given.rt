@@ -9,7 +9,7 @@ use ts_spec::{At, Encoding, Options, Policy};
 // The bytes of a chunk where none are given.
 const USUAL_CHUNK: u32 = 4096;
 
-// What the options of a command have said so far.
+// What the options of a series and of a sample have said so far.
 #[derive(Clone, Copy)]
 pub(crate) struct Given {
     pub(crate) retention: Option<u64>,

@@ -9,8 +9,12 @@ mod forms;
 mod given;
 mod names;
 mod number;
-mod option;
+mod range;
+mod range_given;
+mod range_options;
 mod request;
+mod series_options;
+mod small;
 mod triple;
 mod verb;
 mod words;
@@ -19,6 +23,7 @@ pub use command::{Command, Triple};
 pub use fault::CommandFault;
 pub use request::read;
 pub use ts_labels::{Change, Spec};
+pub use ts_range::Query;
 pub use ts_spec::{At, Encoding, Options, Policy, ValueFault};
 
 #[cfg(test)]

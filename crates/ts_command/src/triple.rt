@@ -1,10 +1,13 @@
 // The samples of TS.MADD.
-ghost use Rattle.std.specs.Prelude.{◌≡◌, ◌<◌, ◌∷◌, [], length, IfOk, OnSome, MatchOption};
+ghost use Rattle.std.specs.Prelude.{◌≡◌, ◌<◌, ⊤, ◌∷◌, [], drop, length, IfOk, OnSome, MatchOption};
 ghost use Rattle.std.specs.Vec.Iter.{into_iter_items};
-ghost use Rattle.ts_spec.specs.Grammar.{triples};
-ghost use Rattle.ts_command.specs.Reading.{triple_of, triples_of};
+ghost use Rattle.ts_spec.specs.Grammar.{madd, triples};
+ghost use Rattle.ts_command.specs.Answers.{HasTime};
+ghost use Rattle.ts_command.specs.Faults.{SaysOr};
+ghost use Rattle.ts_command.specs.Reading.{reading, triple_of, triples_of};
 
-use crate::command::Triple;
+use crate::command::{Command, Triple};
+use crate::fault::CommandFault;
 use crate::words::{at_word, value_word};
 use std::alloc::{AllocError, Global};
 use std::vec::IntoIter;
@@ -27,10 +30,7 @@ fn next_triple(words: &mut IntoIter<Word>) -> Option<Triple>
 }
 
 // Three words each.
-pub(crate) fn read_triples(
-    alloc: Global,
-    mut words: IntoIter<Word>,
-) -> Result<Vec<Triple>, AllocError>
+fn read_triples(alloc: Global, mut words: IntoIter<Word>) -> Result<Vec<Triple>, AllocError>
     ensures { IfOk result (λ ts. triples_of ts.items ≡ triples (into_iter_items words)) }
 {
     let mut triples = Vec::with_capacity(alloc, words.len() / 3)?;
@@ -38,4 +38,18 @@ pub(crate) fn read_triples(
         triples.push(triple)?;
     }
     Ok(triples)
+}
+
+// The words are the whole request, with its name.
+pub(crate) fn read_madd(words: Vec<Word>) -> Result<Command, CommandFault>
+    ensures command { SaysOr ⊤ reading result (madd (drop 1 words.items)) }
+    ensures time { IfOk result HasTime }
+{
+    let alloc = *words.allocator();
+    let mut words = words.into_iter();
+    let _name = words.next();
+    match read_triples(alloc, words) {
+        Ok(triples) => Ok(Command::Madd { triples }),
+        Err(error) => Err(CommandFault::Memory(error)),
+    }
 }

@@ -14,9 +14,19 @@ pub(crate) enum Verb {
     Madd,
     IncrBy,
     DecrBy,
+    DelRange,
+    Range,
+    RevRange,
+    Get,
+    Ping,
+    Echo,
+    Quit,
+    Drop,
+    Exists,
 }
 
-const VERBS: [(&[u8], Verb); 6] = [
+// The commands that come most often: their table is short enough that the look-up needs no loop.
+const WRITES: [(&[u8], Verb); 6] = [
     (b"TS.CREATE", Verb::Create),
     (b"TS.ALTER", Verb::Alter),
     (b"TS.ADD", Verb::Add),
@@ -25,11 +35,26 @@ const VERBS: [(&[u8], Verb); 6] = [
     (b"TS.DECRBY", Verb::DecrBy),
 ];
 
+const OTHERS: [(&[u8], Verb); 9] = [
+    (b"TS.DEL", Verb::DelRange),
+    (b"TS.RANGE", Verb::Range),
+    (b"TS.REVRANGE", Verb::RevRange),
+    (b"TS.GET", Verb::Get),
+    (b"PING", Verb::Ping),
+    (b"ECHO", Verb::Echo),
+    (b"QUIT", Verb::Quit),
+    (b"DEL", Verb::Drop),
+    (b"EXISTS", Verb::Exists),
+];
+
 impl Verb {
     pub(crate) fn named(word: &[u8]) -> Option<Verb>
         ensures { option_map form_of result ≡ named commands word.now }
     {
-        named(&VERBS, word)
+        match named(&WRITES, word) {
+            Some(verb) => Some(verb),
+            None => named(&OTHERS, word),
+        }
     }
 
     // Whether the command may have so many words, its name included.
@@ -41,6 +66,13 @@ impl Verb {
             Verb::Add => count >= 4,
             Verb::Madd => count >= 4 && count % 3 == 1,
             Verb::IncrBy | Verb::DecrBy => count >= 3,
+            Verb::DelRange => count == 4,
+            Verb::Range | Verb::RevRange => count >= 4,
+            Verb::Get => matches!(count, 2 | 3),
+            Verb::Ping => matches!(count, 1 | 2),
+            Verb::Echo => count == 2,
+            Verb::Quit => count >= 1,
+            Verb::Drop | Verb::Exists => count >= 2,
         }
     }
 }

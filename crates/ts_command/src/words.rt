@@ -1,6 +1,6 @@
 // Single words of a command.
 ghost use Rattle.std.specs.Prelude.{◌≤◌, IfOk};
-ghost use Rattle.ts_spec.specs.Settings.{IsTime, IsChunkSize, time_word, at_word, value_word, retention_word, chunk_size_word, policy_word, encoding_word};
+ghost use Rattle.ts_spec.specs.Settings.{IsTime, IsChunkSize, time_word, end_word, at_word, value_word, retention_word, chunk_size_word, count_word, policy_word, encoding_word};
 ghost use Rattle.ts_spec.specs.Sample.{MAX_TIME};
 ghost use Rattle.std.specs.Result.{ForErr};
 ghost use Rattle.ts_command.specs.Faults.{IsNoMemory, SaysSame};
@@ -9,7 +9,7 @@ use crate::fault::CommandFault;
 use crate::names::{encoding_named, policy_named};
 use crate::number::number_of;
 use ts_decimal::parse;
-use ts_sample::Units;
+use ts_sample::{MAX_TIME, Units};
 use ts_spec::{At, Encoding, Policy};
 
 // The least and the greatest number of bytes of a chunk, which has a multiple of so many.
@@ -26,6 +26,20 @@ pub(crate) fn time_word(word: &[u8]) -> Result<u64, CommandFault>
     ensures told { ForErr result IsNoMemory }
 {
     number_of(word).ok_or(CommandFault::BadTimestamp)
+}
+
+#[tactic(auto, unfolding(ts_spec::specs::Settings::end_word))]
+pub(crate) fn end_word(word: &[u8]) -> Result<u64, CommandFault>
+    ensures answer { SaysSame result (end_word word.now) }
+    ensures bound { IfOk result (λ n. n ≤ MAX_TIME) }
+{
+    if word == b"-".as_slice() {
+        return Ok(0);
+    }
+    if word == b"+".as_slice() {
+        return Ok(MAX_TIME);
+    }
+    time_word(word)
 }
 
 #[tactic(auto, unfolding(ts_spec::specs::Settings::at_word))]
@@ -68,6 +82,13 @@ pub(crate) fn chunk_size_word(word: &[u8]) -> Result<u32, CommandFault>
         Some(n) if n >= LEAST_CHUNK && n <= GREATEST_CHUNK && n % CHUNK_STEP == 0 => Ok(n as u32),
         _ => Err(CommandFault::BadChunkSize),
     }
+}
+
+#[tactic(auto, unfolding(ts_spec::specs::Settings::count_word))]
+pub(crate) fn count_word(word: &[u8]) -> Result<u64, CommandFault>
+    ensures { SaysSame result (count_word word.now) }
+{
+    number_of(word).ok_or(CommandFault::BadOption)
 }
 
 #[tactic(auto, unfolding(ts_spec::specs::Settings::policy_word))]

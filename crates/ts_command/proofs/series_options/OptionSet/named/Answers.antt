@@ -1,10 +1,10 @@
 use Rattle.std.proofs.Common.{map, ap, ◌∙◌}
 use Rattle.std.specs.Prelude.{option_map}
 use Rattle.ts_spec.specs.Settings.{series_options, alter_options, add_options, incr_options}
-use Rattle.ts_command.specs.declared.option.TheConstants.{CREATE, ALTER, ADD, INCR}
+use Rattle.ts_command.specs.declared.series_options.TheConstants.{CREATE, ALTER, ADD, INCR}
 use Rattle.ts_command.specs.Forms.{setting_of}
 use Rattle.ts_command.proofs.TableLemmas.{named-map}
-use Rattle.ts_command.proofs.option.OptionSet.named.Goals as goal
+use Rattle.ts_command.proofs.series_options.OptionSet.named.Goals as goal
 
 pub returns-in-Create : goal.returns-in-Create
 unfolding series_options

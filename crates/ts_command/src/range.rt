@@ -1,0 +1,57 @@
+// TS.RANGE and TS.REVRANGE.
+ghost use Rattle.std.specs.Prelude.{drop, IfOk, IsTrue};
+ghost use Rattle.ts_spec.specs.Grammar.{range};
+ghost use Rattle.ts_spec.specs.Settings.{has_list};
+ghost use Rattle.ts_range.specs.Query.{query_of};
+ghost use Rattle.ts_command.specs.Answers.{HasTime};
+ghost use Rattle.ts_command.specs.Asked.{asked};
+ghost use Rattle.ts_command.specs.Faults.{SaysOr};
+ghost use Rattle.ts_command.specs.Reading.{reading};
+
+use crate::command::Command;
+use crate::fault::CommandFault;
+use crate::range_options::read_range_options;
+use crate::words::end_word;
+use std::alloc::Global;
+use ts_range::Query;
+use ts_resp::Word;
+
+// What the words after the key ask: the ends of an interval, and options.
+fn read_query(
+    alloc: Global,
+    reverse: bool,
+    from: &[u8],
+    to: &[u8],
+    options: &[Word],
+) -> Result<Query, CommandFault>
+    ensures { SaysOr (IsTrue (has_list options.now)) query_of result (asked reverse from.now to.now options.now) }
+{
+    let from = end_word(from)?;
+    let to = end_word(to)?;
+    let given = read_range_options(alloc, options)?;
+    Ok(Query {
+        from,
+        to,
+        times: given.times,
+        values: given.values,
+        count: given.count,
+        reverse,
+    })
+}
+
+// The words are the whole request, with its name; the key is taken out of them at the end.
+pub(crate) fn read_range(reverse: bool, words: &mut Vec<Word>) -> Result<Command, CommandFault>
+    ensures command { SaysOr (IsTrue (has_list (drop 1 words.old.items))) reading result (range reverse (drop 1 words.old.items)) }
+    ensures time { IfOk result HasTime }
+{
+    let alloc = *words.allocator();
+    let [_, _, from, to, options @ ..] = words.as_slice() else {
+        return Err(CommandFault::Arity);
+    };
+    let query = read_query(alloc, reverse, from.bytes(), to.bytes(), options)?;
+    Ok(Command::Range {
+        key: words.swap_remove(1),
+        latest: false,
+        query,
+    })
+}

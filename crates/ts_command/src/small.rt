@@ -1,0 +1,75 @@
+// The commands whose words are keys, or are sent back. Their words are the whole request, with its name.
+ghost use Rattle.std.specs.Prelude.{◌≡◌, drop, IfOk};
+ghost use Rattle.ts_spec.specs.Command as spec;
+ghost use Rattle.ts_spec.specs.Grammar.{get_last, ping, echo};
+ghost use Rattle.ts_command.specs.Answers.{HasTime};
+ghost use Rattle.ts_command.specs.Faults.{Says};
+ghost use Rattle.ts_command.specs.Reading.{reading};
+
+use crate::command::Command;
+use crate::fault::CommandFault;
+use ts_resp::Word;
+
+pub(crate) fn read_get(words: &mut Vec<Word>) -> Result<Command, CommandFault>
+    ensures command { Says reading result (get_last (drop 1 words.old.items)) }
+    ensures time { IfOk result HasTime }
+{
+    if words.len() < 2 {
+        return Err(CommandFault::Arity);
+    }
+    if words.len() > 2 {
+        return Err(CommandFault::BadOption);
+    }
+    Ok(Command::Get {
+        key: words.swap_remove(1),
+        latest: false,
+    })
+}
+
+pub(crate) fn read_ping(words: &mut Vec<Word>) -> Result<Command, CommandFault>
+    ensures command { Says reading result (ping (drop 1 words.old.items)) }
+    ensures time { IfOk result HasTime }
+{
+    if words.len() < 2 {
+        return Ok(Command::Ping { word: None });
+    }
+    Ok(Command::Ping {
+        word: Some(words.swap_remove(1)),
+    })
+}
+
+pub(crate) fn read_echo(words: &mut Vec<Word>) -> Result<Command, CommandFault>
+    ensures command { Says reading result (echo (drop 1 words.old.items)) }
+    ensures time { IfOk result HasTime }
+{
+    if words.len() < 2 {
+        return Err(CommandFault::Arity);
+    }
+    Ok(Command::Echo {
+        word: words.swap_remove(1),
+    })
+}
+
+// The words after the name, in the memory of the request.
+fn keys(mut words: Vec<Word>) -> Vec<Word>
+    ensures { result.items ≡ drop 1 words.items }
+{
+    if !words.is_empty() {
+        let _name = words.remove(0);
+    }
+    words
+}
+
+pub(crate) fn read_drop(words: Vec<Word>) -> Result<Command, CommandFault>
+    ensures command { Says reading result (Ok (spec.Drop (drop 1 words.items))) }
+    ensures time { IfOk result HasTime }
+{
+    Ok(Command::Drop { keys: keys(words) })
+}
+
+pub(crate) fn read_exists(words: Vec<Word>) -> Result<Command, CommandFault>
+    ensures command { Says reading result (Ok (spec.Exists (drop 1 words.items))) }
+    ensures time { IfOk result HasTime }
+{
+    Ok(Command::Exists { keys: keys(words) })
+}
