@@ -14,7 +14,8 @@ use Rattle.ts_spec.proofs.SoundWrites.{put-from}
 use Rattle.ts_spec.proofs.Settles.{times-within, upto-raised, upto-here}
 use Rattle.ts_series.specs.History.{History, record_of, IsKept}
 use Rattle.ts_series.specs.Line.{Points, room_after, HasPlace}
-use Rattle.ts_series.specs.Plan.{Plan, HasRoom, after, with_written, high_after}
+use Rattle.ts_series.specs.Plan.{Plan, HasRoom, after, with_written, without_cut, high_after}
+use Rattle.ts_series.proofs.Cutting.{part-cut}
 
 pub ascending-written : (o : Option Point) (ps : List Point) → IsAscending ps → IsAscending (with_written o ps)
 ascending-written None ps h = h
@@ -38,23 +39,25 @@ own-written born high (Some q) ps made own t p is = pick (put-from q ps t p is)
 -- a series after a plan is in order
 pub kept-after : (plan : Plan) (h : History) (room : ℕ) → IsKept h → ((p : Point) → plan.wrote ≡ Some p → p.made ≤ h.born) → IsKept (record (after plan h) { room = room })
 kept-after plan h room k made =
-    let rises : IsAscending (with_written plan.wrote h.samples) = ascending-written plan.wrote h.samples k.ascending in
+    let left : List Point = without_cut plan.cut h.samples in
+    let old : IsPart left h.samples = part-cut plan.cut h.samples k.ascending in
+    let rises : IsAscending (with_written plan.wrote left) = ascending-written plan.wrote left old.ascending in
     let low : ℕ = edge_of (unwrap_or plan.options h.options).retention (high_after plan.wrote h.high) in
-    let part : IsPart (at_times (nat_le low) (with_written plan.wrote h.samples)) (with_written plan.wrote h.samples) = part-times (nat_le low) (with_written plan.wrote h.samples) rises in
+    let part : IsPart (at_times (nat_le low) (with_written plan.wrote left)) (with_written plan.wrote left) = part-times (nat_le low) (with_written plan.wrote left) rises in
     record {
-      ascending = ascending-times (nat_le low) (with_written plan.wrote h.samples) rises;
-      past_edge = times-within (nat_le low) (nat_le low) (with_written plan.wrote h.samples) (λ t x. x);
-      own = λ t p is. (let o = own-written h.born h.high plan.wrote h.samples made (λ u q e. (let own : IsOwn (record_of [] h) q = k.own u q e in (own.time, own.made))) t p (part.of t p is) in record { time = o.0; made = o.1 });
+      ascending = ascending-times (nat_le low) (with_written plan.wrote left) rises;
+      past_edge = times-within (nat_le low) (nat_le low) (with_written plan.wrote left) (λ t x. x);
+      own = λ t p is. (let o = own-written h.born h.high plan.wrote left made (λ u q e. (let own : IsOwn (record_of [] h) q = k.own u q (old.of u q e) in (own.time, own.made))) t p (part.of t p is) in record { time = o.0; made = o.1 });
     }
 
 -- the parts of a series after a plan
 pub after-is : (plan : Plan) (h : History) (o : Options) (high : Option ℕ) (ps : List Point) (room : ℕ) → o ≡ unwrap_or plan.options h.options → high ≡ high_after plan.wrote h.high
-    → ps ≡ at_times (nat_le (edge_of o.retention high)) (with_written plan.wrote h.samples)
+    → ps ≡ at_times (nat_le (edge_of o.retention high)) (with_written plan.wrote (without_cut plan.cut h.samples))
     → ◌≡◌ {A = History} (record { options = o; samples = ps; high = high; born = h.born; room = room }) (record (after plan h) { room = room })
 after-is plan h o high ps room eo eh is =
     let samples : ps ≡ (after plan h).samples =
-    is ∙ ap (λ (r : Options). at_times (nat_le (edge_of r.retention high)) (with_written plan.wrote h.samples)) eo
-    ∙ ap (λ (t : Option ℕ). at_times (nat_le (edge_of (unwrap_or plan.options h.options).retention t)) (with_written plan.wrote h.samples)) eh in
+    is ∙ ap (λ (r : Options). at_times (nat_le (edge_of r.retention high)) (with_written plan.wrote (without_cut plan.cut h.samples))) eo
+    ∙ ap (λ (t : Option ℕ). at_times (nat_le (edge_of (unwrap_or plan.options h.options).retention t)) (with_written plan.wrote (without_cut plan.cut h.samples))) eh in
     λ i. record { options = eo i; samples = samples i; high = eh i; born = h.born; room = room }
 
 -- the place that a plan brings, or finds

@@ -22,7 +22,7 @@ pub answers-merged : (m : Merged) (limit t : ℕ) (h : History) (w : Option ℤ)
 answers-merged (Refuse r) limit t h w there is merges = merges
 answers-merged Keep limit t h w there is merges = ap (λ (o : Option ℤ). rewrites t o h.born) merges
 answers-merged (To v) limit t h w there is merges = (
-  record { wrote = ap (option_map (λ (x : ℤ). record { time = t; value = x; made = h.born })) merges; options = refl; removed = refl },
+  record { cut = refl; removed = refl; wrote = ap (option_map (λ (x : ℤ). record { time = t; value = x; made = h.born })) merges; options = refl },
   λ none. absurd (cc (none, is)),
 )
 

@@ -3,18 +3,25 @@ use Rattle.std.specs.Prelude.{◌≡◌, ℕ, ◌≤◌, ◌<◌, nat_le, List, 
 use Rattle.std.specs.Option.{unwrap_or}
 use Rattle.ts_spec.specs.declared.series.Options.{Options}
 use Rattle.ts_spec.specs.declared.series.Policy.{Policy}
-use Rattle.ts_spec.specs.Sample.{Point, at, at_times, put}
+use Rattle.ts_spec.specs.Sample.{Point, at, at_times, outside, put}
 use Rattle.ts_spec.specs.State.{edge_of}
 use Rattle.ts_spec.specs.Rules.{raised}
+use Rattle.ts_series.specs.declared.plan.Interval.{Interval}
 use Rattle.ts_series.specs.History.{History, list_of}
 
--- The sample that is written, the options from then on, where they change, how many samples a deletion takes out, and for how many
--- samples the plan brings new room, if it does.
+-- The interval that is taken out, with the number of samples in it, the sample that is written, the options from then on, where they
+-- change, and for how many samples the plan brings new room, if it does.
 pub record Plan : Type 0 where
+  pub cut : Option Interval
+  pub removed : ℕ
   pub wrote : Option Point
   pub options : Option Options
-  pub removed : ℕ
   pub room : Option ℕ
+
+-- a list without the interval that is taken out, if one is
+abbrev pub without_cut : Option Interval → List Point → List Point
+without_cut None ps = ps
+without_cut (Some i) ps = outside i.from i.to ps
 
 -- a list with the sample that is written, if one is
 abbrev pub with_written : Option Point → List Point → List Point
@@ -26,17 +33,26 @@ abbrev pub high_after : Option Point → Option ℕ → Option ℕ
 high_after None high = high
 high_after (Some p) high = raised p.time high
 
--- A series after a plan: with the sample written and the options changed, and without the samples before its edge.
+-- A series after a plan: without the interval, with the sample written and the options changed, and without the samples before its
+-- edge.
 abbrev pub after : Plan → History → History
 after plan h = record h {
   options = unwrap_or plan.options h.options;
-  samples = at_times (nat_le (edge_of (unwrap_or plan.options h.options).retention (high_after plan.wrote h.high))) (with_written plan.wrote h.samples);
+  samples = at_times (nat_le (edge_of (unwrap_or plan.options h.options).retention (high_after plan.wrote h.high))) (with_written plan.wrote (without_cut plan.cut h.samples));
   high = high_after plan.wrote h.high;
 }
 
+-- a plan that writes this sample alone
+abbrev pub writes_one : Point → Plan
+writes_one p = record { cut = None; removed = 0; wrote = Some p; options = None; room = None }
+
+-- a plan that takes out an interval with so many samples
+abbrev pub cuts : (from to : ℕ) → (removed : ℕ) → Plan
+cuts from to n = record { cut = Some (record { from = from; to = to }); removed = n; wrote = None; options = None; room = None }
+
 -- a plan that changes the options alone
 abbrev pub alters : Options → Plan
-alters options = record { wrote = None; options = Some options; removed = 0; room = None }
+alters options = record { cut = None; removed = 0; wrote = None; options = Some options; room = None }
 
 -- options with what is given anew
 abbrev pub options_with : (retention chunk_size : Option ℕ) → Option Policy → Options → Options

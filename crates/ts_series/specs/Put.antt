@@ -9,7 +9,7 @@ use Rattle.ts_spec.specs.Step.{value_at}
 use Rattle.ts_series.specs.declared.plan.PutFault.{PutFault}
 use Rattle.ts_series.specs.declared.plan.PutFault.TheVariants.{TooOld, Duplicate, OutOfRange, Full, Memory}
 use Rattle.ts_series.specs.History.{History, list_of, low}
-use Rattle.ts_series.specs.Plan.{Plan, after}
+use Rattle.ts_series.specs.Plan.{Plan, after, writes_one}
 
 -- whether a write is refused, keeps what is there, or writes a value
 abbrev pub met : Merge → (time : ℕ) → (value : ℤ) → History → Merged
@@ -29,21 +29,22 @@ sample_of t v h = record { time = t; value = v; made = h.born }
 
 -- a plan that changes nothing
 abbrev pub is_nothing : Plan
-is_nothing = record { wrote = None; options = None; removed = 0; room = None }
+is_nothing = record { cut = None; removed = 0; wrote = None; options = None; room = None }
 
 -- a plan that writes this value, if there is one, at a time that has a sample
 abbrev pub rewrites : (time : ℕ) → Option ℤ → (made : ℕ) → Plan
-rewrites t v made = record { wrote = option_map (λ (x : ℤ). record { time = t; value = x; made = made }) v; options = None; removed = 0; room = None }
+rewrites t v made = record { cut = None; removed = 0; wrote = option_map (λ (x : ℤ). record { time = t; value = x; made = made }) v; options = None; room = None }
 
 -- a plan that writes this sample, and changes nothing else
 pub record Writes (p : Point) (plan : Plan) : Type 0 where
+  pub cut : plan.cut ≡ None
+  pub removed : plan.removed ≡ 0
   pub wrote : plan.wrote ≡ Some p
   pub options : plan.options ≡ None
-  pub removed : plan.removed ≡ 0
 
 -- the list of a series after this write
 abbrev pub list_after : Point → History → List Point
-list_after p h = list_of (after (record { wrote = Some p; options = None; removed = 0; room = None }) h)
+list_after p h = list_of (after (writes_one p) h)
 
 -- a write at a time without a sample would make the list longer than the limit
 pub record IsFull (limit : ℕ) (p : Point) (h : History) : Type 0 where

@@ -30,9 +30,10 @@ impl Series {
             policy: policy.unwrap_or(old.policy),
         };
         Ok(SeriesPlan {
+            cut: None,
+            removed: 0,
             wrote: None,
             options: Some(options),
-            removed: 0,
             larger: None,
         })
     }

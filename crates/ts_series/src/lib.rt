@@ -1,13 +1,15 @@
-//! One series: its samples in order of time, how it is kept, and how it is written. A change is planned
-//! first, which may fail, and then committed, which can't.
+//! One series: its samples in order of time, how it is kept, what is asked of it, and how it is written. A
+//! change is planned first, which may fail, and then committed, which can't.
 #![tactic(auto)]
 
 mod alter;
+mod cut;
 mod edge;
 mod line;
 mod merged;
 mod plan;
 mod put;
+mod questions;
 mod series;
 
 pub use plan::{PutFault, SeriesPlan};

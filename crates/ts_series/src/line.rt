@@ -1,12 +1,13 @@
-ghost use Rattle.std.specs.Prelude.{◌≡◌, ◌≤◌, ◌<◌, nat_le, drop, length, [], vec_len, vec_capacity, None, IfOk, IfSome};
+ghost use Rattle.std.specs.Prelude.{◌≡◌, ◌≤◌, ◌<◌, ◌+◌, ◌-◌, nat_le, ◌++◌, take, drop, length, [], vec_len, vec_capacity, None, IfOk, IfSome};
 ghost use Rattle.ts_spec.specs.Sample.{IsAscending, at, at_times, put};
 ghost use Rattle.ts_series.specs.Line.{HoldsLine, room_after, HasPlace};
-ghost use Rattle.ts_series.specs.Plan.{with_written};
+ghost use Rattle.ts_series.specs.Plan.{with_written, without_cut};
 
 use crate::edge::expired;
+use crate::plan::Interval;
 use std::alloc::{AllocError, Global};
 use std::marker::Model;
-use ts_sample::{Sample, find};
+use ts_sample::{Sample, find, places_between};
 
 // Samples in ascending time, behind those that left from the front.
 #[derive(Drop)]
@@ -74,6 +75,22 @@ impl Line {
         self.start = 0;
     }
 
+    // Takes out the samples of an interval, if there is one.
+    pub(crate) fn cut(&mut self, interval: Option<Interval>)
+        ensures list { self.new.list ≡ without_cut interval self.old.list }
+        ensures room { self.new.room + length self.new.list ≡ self.old.room + length self.old.list }
+    {
+        let Some(interval) = interval else {
+            return;
+        };
+        let places = places_between(tail(&self.samples, self.start), interval.from, interval.to);
+        take_out(
+            &mut self.samples,
+            self.start + places.start,
+            self.start + places.end,
+        );
+    }
+
     // Puts a sample at its time, if there is one.
     pub(crate) fn write(&mut self, sample: Option<Sample>)
         requires { IfSome sample (HasPlace self.old) }
@@ -116,4 +133,16 @@ fn place(samples: &mut Vec<Sample>, start: usize, sample: Sample)
             Err(_) => unreachable!(),
         },
     }
+}
+
+// Takes out the samples from one place up to another.
+fn take_out(samples: &mut Vec<Sample>, from: usize, to: usize)
+    requires ordered { from ≤ to }
+    requires within { to ≤ vec_len samples.old }
+    ensures items { samples.new.items ≡ take from samples.old.items ++ drop to samples.old.items }
+    ensures len { vec_len samples.new + (to - from) ≡ vec_len samples.old }
+    ensures capacity { vec_capacity samples.new ≡ vec_capacity samples.old }
+{
+    samples.copy_within(to.., from);
+    samples.truncate(samples.len() - (to - from));
 }

@@ -26,12 +26,20 @@ pub enum PutFault {
     Memory(AllocError),
 }
 
+// The times from one to another, both included. Where `from` is above `to` there are none.
+#[derive(Clone, Copy)]
+pub(crate) struct Interval {
+    pub(crate) from: u64,
+    pub(crate) to: u64,
+}
+
 /// A change of a series that can be committed: it has the memory that it takes.
 #[derive(Drop)]
 pub struct SeriesPlan {
+    pub(crate) cut: Option<Interval>,
+    pub(crate) removed: u64,
     pub(crate) wrote: Option<Sample>,
     pub(crate) options: Option<Options>,
-    pub(crate) removed: u64,
     pub(crate) larger: Option<Vec<Sample>>,
 }
 
@@ -41,7 +49,7 @@ impl Model for SeriesPlan {
 
     ghost Value = { Plan };
 
-    ghost view = { λ p. record { wrote = p.wrote; options = p.options; removed = p.removed; room = option_map (λ v. vec_capacity v) p.larger } };
+    ghost view = { λ p. record { cut = p.cut; removed = p.removed; wrote = p.wrote; options = p.options; room = option_map (λ v. vec_capacity v) p.larger } };
 
     ghost invariant = { λ p. IfSome p.larger (λ v. v.items ≡ []) };
 }

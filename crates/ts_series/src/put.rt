@@ -57,9 +57,10 @@ impl Series {
         }
         match self.line.larger(self.alloc) {
             Ok(larger) => Ok(SeriesPlan {
+                cut: None,
+                removed: 0,
                 wrote: Some(sample),
                 options: None,
-                removed: 0,
                 larger,
             }),
             Err(fault) => Err(PutFault::Memory(fault)),
@@ -92,9 +93,10 @@ fn rewritten(time: u64, value: Option<Units>, made: u32) -> SeriesPlan
         Some(value) => Some(Sample { time, value, made }),
     };
     SeriesPlan {
+        cut: None,
+        removed: 0,
         wrote,
         options: None,
-        removed: 0,
         larger: None,
     }
 }

@@ -92,13 +92,15 @@ impl Series {
     {
         let high = high_after(plan.wrote(), self.high);
         let SeriesPlan {
+            cut,
+            removed: _,
             wrote,
             options,
-            removed: _,
             larger,
         } = plan;
         let options = options.unwrap_or(self.options);
         self.line.grow(larger);
+        self.line.cut(cut);
         self.line.write(wrote);
         self.line.expire(edge_at(options.retention, high));
         self.options = options;
