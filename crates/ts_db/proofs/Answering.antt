@@ -5,26 +5,26 @@ use Rattle.ts_spec.specs.declared.limits.Limits.{Limits}
 use Rattle.ts_spec.specs.declared.series.Merge.{Merge}
 use Rattle.ts_spec.specs.Refusal as refusal
 use Rattle.ts_spec.specs.Refusal.{Refusal}
-use Rattle.ts_spec.specs.Sample.{Point, last_of}
+use Rattle.ts_spec.specs.Sample.{Point, between, last_of}
 use Rattle.ts_spec.specs.Key.{Key, same}
 use Rattle.ts_spec.specs.Keyed.{get, with_key}
-use Rattle.ts_spec.specs.State.{Record, State}
-use Rattle.ts_spec.specs.Rules.{Merged, Refuse, Keep, To, merge, shown, written, within_bound}
+use Rattle.ts_spec.specs.State.{Record, State, edge}
+use Rattle.ts_spec.specs.Rules.{Merged, Refuse, Keep, To, merge, shown, written, deleted, within_bound}
 use Rattle.ts_spec.specs.Response.{Count, Done}
 use Rattle.ts_spec.specs.declared.series.Policy.{Policy}
 use Rattle.ts_spec.specs.Command.{Spec}
 use Rattle.ts_series.specs.Plan.{after, alters, options_with}
-use Rattle.ts_spec.specs.Step.{Outcome, refused, value_at, write, write_merged, within_destinations, first_full, unless_full, rules_at, incr_at, incr_by, is_before_last, changed_value, alter_at}
+use Rattle.ts_spec.specs.Step.{Outcome, refused, told, value_at, write, write_merged, within_destinations, first_full, unless_full, rules_at, incr_at, incr_by, is_before_last, changed_value, alter_at, meets_expired, delete_at}
 use Rattle.ts_spec.proofs.Keys.{same-refl, same-true}
 use Rattle.ts_spec.proofs.Maps.{get-with, maps-same}
-use Rattle.ts_spec.proofs.PlainWrite.{IsPlain, plain-written, plain-shown, plain-altered, no-rules-with}
+use Rattle.ts_spec.proofs.PlainWrite.{IsPlain, plain-written, plain-shown, plain-altered, plain-deleted, no-rules-with}
 use Rattle.ts_spec.proofs.Unmoved.{HasNoRules, no-rules-no-link}
 use Rattle.ts_series.specs.History.{History, list_of, record_of, low}
 use Rattle.ts_series.specs.Put.{met, sample_of}
 use Rattle.ts_db.specs.declared.fault.DbFault.{DbFault}
 use Rattle.ts_db.specs.Faults.{refusal_of}
 use Rattle.ts_db.specs.Held.{IsAnswer}
-use Rattle.ts_db.specs.Writes.{IsWritten, IsFull, with_point, increased}
+use Rattle.ts_db.specs.Writes.{IsWritten, IsFull, with_point, without_range, increased}
 
 -- a refusal that is known
 pub refusal-known : (o : Option Refusal) (r : Refusal) (m : State) (step : Outcome) → o ≡ Some r → step ≡ refused m r → IsAnswer o m step
@@ -118,3 +118,19 @@ module _ (limits : Limits) (m : State) (key : Key) (h : History) (none : HasNoRu
   alter-met retention chunk_size policy =
       ap (λ (s : State). record { state = s; response = Done })
       (plain-altered m key (record_of [] h) (record { retention = retention; chunk_size = chunk_size; policy = policy; labels = None }) plain)
+
+  -- a deletion from a time to none before it
+  pub delete-met : (from to : ℕ) → nat_lt to from ≡ false
+      → delete_at limits m key from to (Some (record_of [] h)) ≡ record { state = with_key key (without_range from to h) m; response = Count (length (between from to (list_of h))) }
+  delete-met from to ordered =
+      ap (λ b. if b then told m (Count 0) else within_destinations limits m key (record { state = deleted key from to m; response = Count (length (between from to (shown m key))) })) ordered
+      ∙ ap (λ (ps : List Point). within_destinations limits m key (record { state = deleted key from to m; response = Count (length (between from to ps)) }))
+      (plain-shown m key (record_of [] h) plain.there plain.no_source)
+      ∙ ap (λ (r : Option Record). unless_full m (first_full limits.samples (deleted key from to m) (rules_at r)) (record { state = deleted key from to m; response = Count (length (between from to (list_of h))) })) plain.there
+      ∙ ap (λ (s : State). record { state = s; response = Count (length (between from to (list_of h))) }) (plain-deleted m key (record_of [] h) from to plain)
+
+-- a deletion from a time to one before it
+pub delete-none : (limits : Limits) (m : State) (key : Key) (d : Record) (from to : ℕ) → nat_lt to from ≡ true → delete_at limits m key from to (Some d) ≡ told m (Count 0)
+delete-none limits m key d from to crossed =
+    ap (λ b. if b then told m (Count 0) else (if meets_expired from (edge d) d.rules then refused m refusal.DeleteBeyondRetention
+    else within_destinations limits m key (record { state = deleted key from to m; response = Count (length (between from to (shown m key))) }))) crossed

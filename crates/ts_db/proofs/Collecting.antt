@@ -1,12 +1,12 @@
 -- The state that numbered series stand for, by what each key has.
-use Rattle.std.proofs.Common.{◌≡◌, ℕ, Bool, true, false, cond, List, [], ◌∷◌, refl, sym, ◌∙◌, ap, ◌⊎◌, inl, inr}
+use Rattle.std.proofs.Common.{◌≡◌, ◌≢◌, ℕ, Bool, true, false, cond, List, [], ◌∷◌, refl, sym, ◌∙◌, ap, ◌⊎◌, inl, inr}
 use Rattle.std.specs.Prelude.{slice_index_or, ◌&&◌, ◌==◌, Option, None, Some, option_map, if◌then◌else◌, nat_eq}
 use Rattle.std.specs.Cmp.Lexicographic.{pointwise}
 use Rattle.std.proofs.lemmas.Bool.{cases_Bool}
 use Rattle.std.proofs.lemmas.Map.Text.{is_eq-slice_cmp}
 use Rattle.slab.specs.Slab as slab
 use Rattle.ts_spec.specs.Key.{Key, same}
-use Rattle.ts_spec.specs.Keyed.{get, with_key}
+use Rattle.ts_spec.specs.Keyed.{get, with_key, without_key}
 use Rattle.ts_spec.specs.State.{Record, State}
 use Rattle.ts_spec.proofs.Keys.{same-sym, same-true}
 use Rattle.ts_spec.proofs.Maps.{get-with, get-without, maps-same}
@@ -50,8 +50,17 @@ get-collected q nodes (e ∷ es) =
 pub number-same : (j k : Key) (es : Numbers) → same j k ≡ true → number_of j es ≡ number_of k es
 number-same j k es is = ap (λ q. number_of q es) (same-true j k is)
 
-id-same : (a b : Id) → a.0 ≡ b.0 → a ≡ b
+pub id-same : (a b : Id) → a.0 ≡ b.0 → a ≡ b
 id-same a b is = λ i. record { 0 = is i }
+
+-- where one series changes, other keys have what they had
+others-found : (nodes new : Series) (es : Numbers) (key : Key) (id : Id)
+    → ((j k : Key) (i : Id) → number_of j es ≡ Some i → number_of k es ≡ Some i → same j k ≡ true)
+    → number_of key es ≡ Some id → ((other : ℕ) → other ≢ id.0 → slab.get new other ≡ slab.get nodes other)
+    → (q : Key) (o : Option Id) → number_of q es ≡ o → same key q ≡ false → found new o ≡ found nodes o
+others-found nodes new es key id apart is others q None at unlike = refl
+others-found nodes new es key id apart is others q (Some i) at unlike =
+    ap (option_map (record_of [])) (others i.0 (λ e. absurd (cc (apart key q i (is ∙ ap (λ (x : Id). Some x) (sym (id-same i id e))) at, unlike))))
 
 -- a series that changed is that of its key alone
 pub collected-written : (nodes new : Series) (es : Numbers) (key : Key) (id : Id) (h : History)
@@ -63,16 +72,12 @@ collected-written nodes new es key id h apart is change = maps-same _ _ (λ q.
     here : found new (Some id) ≡ Some (record_of [] h)
     here = ap (option_map (record_of [])) change.changed
 
-    other : (q : Key) (o : Option Id) → number_of q es ≡ o → same key q ≡ false → found new o ≡ found nodes o
-    other q None at unlike = refl
-    other q (Some i) at unlike = ap (option_map (record_of [])) (change.others i.0 (λ e. absurd (cc (apart key q i (is ∙ ap (λ (x : Id). Some x) (sym (id-same i id e))) at, unlike))))
-
     pick : (q : Key) (o : Option Id) → number_of q es ≡ o → (same key q ≡ true) ⊎ (same key q ≡ false)
         → found new o ≡ (if same key q then Some (record_of [] h) else get q (collected nodes es))
     pick q o at (inl alike) =
         ap (found new) (sym at ∙ sym (number-same key q es alike) ∙ is) ∙ here ∙ ap (λ b. if b then Some (record_of [] h) else get q (collected nodes es)) (sym alike)
     pick q o at (inr unlike) =
-        other q o at unlike ∙ ap (found nodes) (sym at) ∙ sym (get-collected q nodes es) ∙ ap (λ b. if b then Some (record_of [] h) else get q (collected nodes es)) (sym unlike)
+        others-found nodes new es key id apart is change.others q o at unlike ∙ ap (found nodes) (sym at) ∙ sym (get-collected q nodes es) ∙ ap (λ b. if b then Some (record_of [] h) else get q (collected nodes es)) (sym unlike)
 
 -- a series under a new key
 pub collected-added : (nodes new : Series) (es fs : Numbers) (key : Key) (id : Id) (h : History)
@@ -95,6 +100,19 @@ collected-added nodes new es fs key id h stored vacant change differs = maps-sam
     pick : (q : Key) (b : Bool) (o : Option Id) → number_of q es ≡ o → found new (cond b (Some id) o) ≡ (if b then Some (record_of [] h) else get q (collected nodes es))
     pick q true o at = here
     pick q false o at = other q o at ∙ ap (found nodes) (sym at) ∙ sym (get-collected q nodes es)
+
+-- a key that is taken out, with its series
+pub collected-removed : (nodes new : Series) (es fs : Numbers) (key : Key) (id : Id)
+    → ((j k : Key) (i : Id) → number_of j es ≡ Some i → number_of k es ≡ Some i → same j k ≡ true)
+    → number_of key es ≡ Some id → slab.Updates nodes new id.0 None → ((q : Key) → number_of q fs ≡ cond (has_key key q) None (number_of q es))
+    → collected new fs ≡ without_key key (collected nodes es)
+collected-removed nodes new es fs key id apart is change differs = maps-same _ _ (λ q.
+    get-collected q new fs ∙ ap (found new) (differs q ∙ ap (λ b. cond b None (number_of q es)) (sym (same-at key q)))
+    ∙ pick q (same key q) refl ∙ sym (get-without q key (collected nodes es)))
+  where
+    pick : (q : Key) (b : Bool) → same key q ≡ b → found new (cond b None (number_of q es)) ≡ (if b then None else get q (collected nodes es))
+    pick q true x = refl
+    pick q false x = others-found nodes new es key id apart is change.others q (number_of q es) refl x ∙ sym (get-collected q nodes es)
 
 -- the series of a record
 pub record IsOf (nodes : Series) (d : Record) : Type 0 where

@@ -1,10 +1,10 @@
--- How many keys a map has once one is put in.
-use Rattle.std.proofs.Common.{◌≡◌, suc, Bool, true, false, cond, List, [], ◌∷◌, length, refl, sym, ◌∙◌, ap}
+-- How many keys a map has once one is put in, or taken out.
+use Rattle.std.proofs.Common.{◌≡◌, suc, Bool, true, false, cond, List, [], ◌∷◌, length, refl, sym, ◌∙◌, ap, subst}
 use Rattle.std.specs.Prelude.{None, Some, if◌then◌else◌}
 use Rattle.std.proofs.lemmas.Bool.{and_parts, false≢true}
 use Rattle.std.specs.Cmp.Derive.{both_true}
 use Rattle.ts_spec.specs.Key.{Key, same, is_before}
-use Rattle.ts_spec.specs.Keyed.{Entry, Keyed, get_in, put_in, is_below, is_sorted, get, with_key, count_keys, below_trans}
+use Rattle.ts_spec.specs.Keyed.{Entry, Keyed, get_in, put_in, without_in, is_below, is_sorted, get, with_key, without_key, count_keys, below_trans}
 use Rattle.ts_spec.proofs.Keys.{same-refl, same-true, before-irrefl, before-total}
 use Rattle.ts_spec.proofs.Maps.{below-get}
 
@@ -48,3 +48,27 @@ count-more k x m none = longer-put k x m.entries none
 -- a key that was there is not
 pub count-same : {X : Type 0} (k : Key) (x y : X) (m : Keyed X) → get k m ≡ Some y → count_keys (with_key k x m) ≡ count_keys m
 count-same k x y m is = same-put k x y m.entries m.sorted is
+
+-- a key that is missing is not taken out
+absent-without : {X : Type 0} (k : Key) (es : List (Entry X)) → get_in k es ≡ None → without_in k es ≡ es
+absent-without k [] none = refl
+absent-without {X} k (e ∷ es) none = go (same e.key k) none (absent-without k es)
+  where
+    go : (b : Bool) → cond b (Some e.value) (get_in k es) ≡ None → (get_in k es ≡ None → without_in k es ≡ es) → (if b then without_in k es else e ∷ without_in k es) ≡ e ∷ es
+    go true h ih = absurd (cc h)
+    go false h ih = ap (λ (fs : List (Entry X)). e ∷ fs) (ih h)
+
+shorter-without : {X : Type 0} (k : Key) (x : X) (es : List (Entry X)) → is_sorted es ≡ true → get_in k es ≡ Some x → suc (length (without_in k es)) ≡ length es
+shorter-without k x [] h is = absurd (cc is)
+shorter-without {X} k x (e ∷ es) h is = go (same e.key k) refl is (shorter-without k x es (and_parts (is_below e.key es) (is_sorted es) h).1)
+  where
+    go : (b : Bool) → same e.key k ≡ b → cond b (Some e.value) (get_in k es) ≡ Some x → (get_in k es ≡ Some x → suc (length (without_in k es)) ≡ length es)
+        → suc (length (if b then without_in k es else e ∷ without_in k es)) ≡ suc (length es)
+    go true s g ih =
+        let none : get_in k es ≡ None = subst (λ (j : Key). get_in j es ≡ None) (same-true e.key k s) (below-get e.key es (and_parts (is_below e.key es) (is_sorted es) h).0) in
+        ap (λ (fs : List (Entry X)). suc (length fs)) (absent-without k es none)
+    go false s g ih = ap suc (ih g)
+
+-- a key that was there is one less once it is taken out
+pub count-less : {X : Type 0} (k : Key) (x : X) (m : Keyed X) → get k m ≡ Some x → suc (count_keys (without_key k m)) ≡ count_keys m
+count-less k x m is = shorter-without k x m.entries m.sorted is

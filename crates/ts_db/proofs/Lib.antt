@@ -5,3 +5,5 @@ pub mod Storing
 pub mod Answering
 pub mod Touching
 pub mod Validity
+pub mod Removal
+pub mod Asking

@@ -6,7 +6,7 @@ use Rattle.slab.specs.Slab as slab
 use Rattle.ts_spec.specs.declared.limits.Limits.{Limits}
 use Rattle.ts_spec.specs.Sample.{at_times}
 use Rattle.ts_spec.specs.Key.{Key, same}
-use Rattle.ts_spec.specs.Keyed.{get, count_keys}
+use Rattle.ts_spec.specs.Keyed.{get, without_key, count_keys}
 use Rattle.ts_spec.specs.State.{Record, edge}
 use Rattle.ts_spec.specs.Rules.{settled}
 use Rattle.ts_spec.proofs.Keys.{same-true}
@@ -16,8 +16,8 @@ use Rattle.ts_spec.proofs.Unmoved.{HasNoRules, no-rules-no-link}
 use Rattle.ts_sample.specs.declared.id.Id.{Id}
 use Rattle.ts_series.specs.History.{History, list_of, record_of, IsKept}
 use Rattle.ts_db.specs.Store.{Series, Numbers, collected, has_key, number_of, IsStore}
-use Rattle.ts_db.proofs.Counts.{count-more, count-same}
-use Rattle.ts_db.proofs.Collecting.{same-at, found, get-collected, collected-written, collected-added, collected-slots, IsOf, record-from}
+use Rattle.ts_db.proofs.Counts.{count-more, count-same, count-less}
+use Rattle.ts_db.proofs.Collecting.{same-at, found, get-collected, id-same, collected-written, collected-added, collected-removed, collected-slots, IsOf, record-from}
 
 -- what a number has after one was updated
 after-update : (nodes new : Series) (i : ℕ) (h : History) → slab.Updates nodes new i (Some h) → (P : History → Type 0) → P h
@@ -111,6 +111,38 @@ module _ (limits : Limits) (nodes : Series) (es : Numbers) (store : IsStore limi
       both j k i true false x y e f = absurd (lost k i (some-same id i e) f)
       both j k i false true x y e f = absurd (lost j i (some-same id i f) e)
       both j k i false false x y e f = store.apart j k i e f
+
+  -- after a series was taken away
+  pub store-removed : (new : Series) (fs : Numbers) (key : Key) (id : Id) → number_of key es ≡ Some id → slab.Updates nodes new id.0 None
+      → ((q : Key) → number_of q fs ≡ cond (has_key key q) None (number_of q es)) → length fs + 1 ≡ length es → IsStore limits new fs
+  store-removed new fs key id is change differs fewer = record {
+    stored = λ k i e. (let before = was k i (has_key key k) refl (sym (differs k) ∙ e) in let g = store.stored k i before.1 in (g.0, change.others i.0 (apart_from k i before.0 before.1) ∙ g.1));
+    apart = λ j k i e f. store.apart j k i (was j i (has_key key j) refl (sym (differs j) ∙ e)).1 (was k i (has_key key k) refl (sym (differs k) ∙ f)).1;
+    kept = λ i h e. store.kept i h (left i h e);
+    within = λ i h e. store.within i h (left i h e);
+    born = λ i h e. store.born i h (left i h e);
+    counted =
+        (let h = store.stored key id is in
+        let one : count_keys (collected new fs) ≡ count_keys (without_key key (collected nodes es)) = ap count_keys (collected-removed nodes new es fs key id store.apart is change differs) in
+        let two : suc (count_keys (without_key key (collected nodes es))) ≡ count_keys (collected nodes es) = count-less key (record_of [] h.0) (collected nodes es) (there key id h.0 is h.1) in
+        omega (arith, one, two, store.counted, fewer));
+    few = omega (arith, store.few, fewer);
+    some_samples = store.some_samples;
+  }
+    where
+      was : (k : Key) (i : Id) (b : Bool) → has_key key k ≡ b → cond b None (number_of k es) ≡ Some i → (same key k ≡ false) × (number_of k es ≡ Some i)
+      was k i true x e = absurd (cc e)
+      was k i false x e = (same-at key k ∙ x, e)
+
+      apart_from : (k : Key) (i : Id) → same key k ≡ false → number_of k es ≡ Some i → i.0 ≢ id.0
+      apart_from k i unlike at e = cc (store.apart key k i (is ∙ ap (λ (x : Id). Some x) (sym (id-same i id e))) at, unlike)
+
+      left : (i : ℕ) (h : History) → slab.get new i ≡ Some h → slab.get nodes i ≡ Some h
+      left i h e = pick (cases_eq i id.0)
+        where
+          pick : (i ≡ id.0) ⊎ (i ≢ id.0) → slab.get nodes i ≡ Some h
+          pick (inl same) = absurd (cc (ap (slab.get new) same, change.changed, e))
+          pick (inr other) = sym (change.others i other) ∙ e
 
   -- a key is there exactly where it has a number
   pub found-some : (key : Key) → is_some (get key (collected nodes es)) ≡ is_some (number_of key es)

@@ -1,15 +1,16 @@
 -- What a change of one series is to the database.
-use Rattle.std.proofs.Common.{◌≡◌, ◌≤◌, ℕ, ℤ, [], length, refl, sym, ◌∙◌, ap, subst}
-use Rattle.std.specs.Prelude.{Option, None, Some, Result, Ok, Err, IfOk, IsSome}
+use Rattle.std.proofs.Common.{◌≡◌, ◌≤◌, ℕ, ℤ, true, false, [], length, refl, sym, ◌∙◌, ap, subst}
+use Rattle.std.specs.Prelude.{nat_lt, Option, None, Some, Result, Ok, Err, IfOk, IsSome}
 use Rattle.slab.specs.Slab as slab
 use Rattle.slab.proofs.SlabLemmas.{Updates-with_value}
 use Rattle.ts_spec.specs.declared.limits.Limits.{Limits}
 use Rattle.ts_spec.specs.declared.series.Merge.{Merge}
+use Rattle.ts_spec.specs.Sample.{between}
 use Rattle.ts_spec.specs.Key.{Key}
 use Rattle.ts_spec.specs.Keyed.{get, with_key}
 use Rattle.ts_spec.specs.State.{Record, State}
 use Rattle.ts_spec.specs.Response.{Count, Done}
-use Rattle.ts_spec.specs.Step.{Outcome, write, write_merged, incr_at, alter_at}
+use Rattle.ts_spec.specs.Step.{Outcome, write, write_merged, incr_at, alter_at, delete_at}
 use Rattle.ts_spec.specs.Rules.{Merged}
 use Rattle.ts_spec.specs.Command.{Spec}
 use Rattle.ts_spec.specs.declared.series.Policy.{Policy}
@@ -18,12 +19,12 @@ use Rattle.ts_series.specs.History.{History, list_of, record_of, IsKept}
 use Rattle.ts_series.specs.Put.{met}
 use Rattle.ts_db.specs.declared.fault.DbFault.{DbFault}
 use Rattle.ts_db.specs.Faults.{refusal_of}
-use Rattle.ts_db.specs.Held.{AnswersTime, AnswersDone}
+use Rattle.ts_db.specs.Held.{AnswersNumber, AnswersDone}
 use Rattle.ts_db.specs.Store.{Series, Numbers, collected, number_of, IsStore}
-use Rattle.ts_db.specs.Writes.{IsWritten, IsAltered, increased}
+use Rattle.ts_db.specs.Writes.{IsWritten, IsAltered, IsCut, increased}
 use Rattle.ts_db.proofs.Collecting.{collected-written}
 use Rattle.ts_db.proofs.Storing.{no_rules, plain, there, store-written}
-use Rattle.ts_db.proofs.Answering.{merged-ok, merged-err, write-met, incr-met, alter-met, refusal-none, unchanged}
+use Rattle.ts_db.proofs.Answering.{merged-ok, merged-err, write-met, incr-met, alter-met, delete-met, delete-none, refusal-none, unchanged}
 
 -- The database holds this series under this key.
 pub record Holds (limits : Limits) (nodes : Series) (es : Numbers) (key : Key) (id : Id) (h : History) : Type 0 where
@@ -57,7 +58,7 @@ module _ (limits : Limits) (nodes : Series) (es : Numbers) (key : Key) (id : Id)
   -- a write to the series answers as the step does
   answers-merged : (what : Merged) (t : ℕ) (step : Outcome) (r : Result ℕ DbFault) → step ≡ write_merged limits (collected nodes es) key t what
       → IsWritten what limits.samples t h r new → IfOk r (λ x. x ≡ t) → (length (list_of h) ≤ limits.samples → length (list_of new) ≤ limits.samples)
-      → AnswersTime (record { limits = limits; state = collected nodes es }) step r (record { limits = limits; state = collected (slab.with_value nodes id.0 new) es })
+      → AnswersNumber (record { limits = limits; state = collected nodes es }) step r (record { limits = limits; state = collected (slab.with_value nodes id.0 new) es })
   answers-merged what t step (Ok x) is w time within = (
     is ∙ merged-ok limits (collected nodes es) key h (no_rules limits nodes es holds.store) (plain limits nodes es holds.store key id h holds.number holds.series)
         x what t new (collected (slab.with_value nodes id.0 new) es) w (within (holds.store.within id.0 h holds.series)) touched-state
@@ -71,7 +72,7 @@ module _ (limits : Limits) (nodes : Series) (es : Numbers) (key : Key) (id : Id)
 
   pub answers-write : (how : Merge) (t : ℕ) (v : ℤ) (r : Result ℕ DbFault) → IsWritten (met how t v h) limits.samples t h r new → IfOk r (λ x. x ≡ t)
       → (length (list_of h) ≤ limits.samples → length (list_of new) ≤ limits.samples)
-      → AnswersTime (record { limits = limits; state = collected nodes es }) (write limits (collected nodes es) key (record_of [] h) how t v) r
+      → AnswersNumber (record { limits = limits; state = collected nodes es }) (write limits (collected nodes es) key (record_of [] h) how t v) r
       (record { limits = limits; state = collected (slab.with_value nodes id.0 new) es })
   answers-write how t v r w time within =
       answers-merged (met how t v h) t (write limits (collected nodes es) key (record_of [] h) how t v) r
@@ -79,7 +80,7 @@ module _ (limits : Limits) (nodes : Series) (es : Numbers) (key : Key) (id : Id)
 
   pub answers-incr : (change : ℤ) (t : ℕ) (spec : Spec) (r : Result ℕ DbFault) → IsWritten (increased change t h) limits.samples t h r new → IfOk r (λ x. x ≡ t)
       → (length (list_of h) ≤ limits.samples → length (list_of new) ≤ limits.samples)
-      → AnswersTime (record { limits = limits; state = collected nodes es }) (incr_at limits (collected nodes es) key change t spec (Some (record_of [] h))) r
+      → AnswersNumber (record { limits = limits; state = collected nodes es }) (incr_at limits (collected nodes es) key change t spec (Some (record_of [] h))) r
       (record { limits = limits; state = collected (slab.with_value nodes id.0 new) es })
   answers-incr change t spec r w time within =
       answers-merged (increased change t h) t (incr_at limits (collected nodes es) key change t spec (Some (record_of [] h))) r
@@ -101,6 +102,32 @@ module _ (limits : Limits) (nodes : Series) (es : Numbers) (key : Key) (id : Id)
     ap (λ (s : State). record { limits = limits; state = s }) (untouched a.1),
   )
 
+  -- a deletion answers as the step does
+  pub answers-delete : (from to : ℕ) (r : Result ℕ DbFault) → nat_lt to from ≡ false → IsCut from to h r new
+      → AnswersNumber (record { limits = limits; state = collected nodes es }) (delete_at limits (collected nodes es) key from to (Some (record_of [] h))) r
+      (record { limits = limits; state = collected (slab.with_value nodes id.0 new) es })
+  answers-delete from to (Ok removed) ordered cut = (
+    delete-met limits (collected nodes es) key h (no_rules limits nodes es holds.store) (plain limits nodes es holds.store key id h holds.number holds.series) from to ordered
+        ∙ ap (λ (s : State). record { state = s; response = Count (length (between from to (list_of h))) }) (sym (touched-state ∙ ap (λ (d : Record). with_key key d (collected nodes es)) cut.1))
+        ∙ ap (λ (n : ℕ). record { state = collected (slab.with_value nodes id.0 new) es; response = Count n }) (sym cut.0),
+    refl,
+  )
+  answers-delete from to (Err fault) ordered cut = (
+    refusal-none (refusal_of fault) (collected nodes es) (delete_at limits (collected nodes es) key from to (Some (record_of [] h))) cut.0,
+    ap (λ (s : State). record { limits = limits; state = s }) (untouched cut.1),
+  )
+
   -- what the key has, and so how its write answers
   pub answers-there : (P : Option Record → Type 0) → P (Some (record_of [] h)) → P (get key (collected nodes es))
   answers-there P p = subst P (sym touched-there) p
+
+-- a deletion to a time before the first one takes nothing out
+pub answers-crossed : (limits : Limits) (nodes : Series) (es : Numbers) (store : IsStore limits nodes es) (key : Key) (id : Id) (from to : ℕ) → number_of key es ≡ Some id → nat_lt to from ≡ true
+    → AnswersNumber (record { limits = limits; state = collected nodes es }) (delete_at limits (collected nodes es) key from to (get key (collected nodes es))) (Ok 0)
+    (record { limits = limits; state = collected nodes es })
+answers-crossed limits nodes es store key id from to is crossed =
+    let h = store.stored key id is in (
+      ap (delete_at limits (collected nodes es) key from to) (there limits nodes es store key id h.0 is h.1)
+          ∙ delete-none limits (collected nodes es) key (record_of [] h.0) from to crossed,
+      refl,
+    )

@@ -1,8 +1,8 @@
 -- What a database holds, and how its answers follow from those of the definitions.
 use Rattle.std.specs.Prelude.{◌≡◌, ℕ, ⊤, Option, None, Some, Result, Ok, Err}
 use Rattle.ts_spec.specs.declared.limits.Limits.{Limits}
-use Rattle.ts_spec.specs.Refusal.{Refusal}
-use Rattle.ts_spec.specs.State.{State}
+use Rattle.ts_spec.specs.Refusal.{Refusal, NoKey}
+use Rattle.ts_spec.specs.State.{Record, State}
 use Rattle.ts_spec.specs.Step.{Outcome, refused}
 use Rattle.ts_spec.specs.Response.{Response, Done, Count}
 use Rattle.ts_db.specs.declared.fault.DbFault.{DbFault}
@@ -27,9 +27,16 @@ abbrev pub Answers : {T : Type 0} → (T → Response) → Held → Outcome → 
 Answers response old step (Ok x) new = Leaves (response x) old new step
 Answers response old step (Err fault) new = IsAnswer (refusal_of fault) old.state step × (new ≡ old)
 
--- a call that answers nothing, and one that answers a time
+-- a call that answers nothing, and one that answers a time, or how many
 abbrev pub AnswersDone : Held → Outcome → Result (Unit {0}) DbFault → Held → Type 0
 AnswersDone old step result new = Answers (λ x. Done) old step result new
 
-abbrev pub AnswersTime : Held → Outcome → Result ℕ DbFault → Held → Type 0
-AnswersTime old step result new = Answers (λ t. Count t) old step result new
+abbrev pub AnswersNumber : Held → Outcome → Result ℕ DbFault → Held → Type 0
+AnswersNumber old step result new = Answers (λ t. Count t) old step result new
+
+-- A question about a record is refused where there is none; else such an answer is given, or there is no memory.
+abbrev pub Finds : {T : Type 0} → Option Record → (T → Type 0) → Result T DbFault → Type 0
+Finds None what (Ok x) = ⊥
+Finds None what (Err fault) = refusal_of fault ≡ Some NoKey
+Finds (Some d) what (Ok x) = what x
+Finds (Some d) what (Err fault) = refusal_of fault ≡ None

@@ -1,4 +1,4 @@
-ghost use Rattle.std.specs.Prelude.{◌≡◌, ◌≤◌, is_some, IfErr};
+ghost use Rattle.std.specs.Prelude.{◌≡◌, ◌≤◌, is_some, IfOk, IfErr};
 ghost use Rattle.ts_spec.specs.Sample.{MAX_TIME};
 ghost use Rattle.ts_spec.specs.Keyed.{get, count_keys};
 ghost use Rattle.ts_spec.specs.State.{empty};
@@ -6,7 +6,7 @@ ghost use Rattle.ts_spec.specs.Valid.{IsValid};
 ghost use Rattle.ts_spec.specs.Step.{create, alter_at, add_at, put_at, incr_at};
 ghost use Rattle.ts_labels.specs.Spec.{spec_of, change_of};
 ghost use Rattle.ts_db.specs.Faults.{IsOwn};
-ghost use Rattle.ts_db.specs.Held.{AnswersDone, AnswersTime};
+ghost use Rattle.ts_db.specs.Held.{AnswersDone, AnswersNumber};
 
 use crate::alter::alter;
 use crate::fault::DbFault;
@@ -72,6 +72,13 @@ impl Db {
         self.keys.len().min(self.limits.keys as usize) as u32
     }
 
+    /// How much it may hold.
+    pub fn limits(&self) -> Limits
+        ensures { result ≡ self.now.limits }
+    {
+        self.limits
+    }
+
     /// Does nothing: it tells a caller that the state is one that commands lead to.
     pub fn known(&self)
         ensures { IsValid self.now.limits self.now.state }
@@ -126,7 +133,8 @@ impl Db {
         steps: &mut Steps<L>,
     ) -> Result<u64, DbFault>
         requires time { time ≤ MAX_TIME }
-        ensures added { AnswersTime self.old (add_at self.old.limits self.old.state key time value on (spec_of spec) (get key self.old.state)) result self.new }
+        ensures added { AnswersNumber self.old (add_at self.old.limits self.old.state key time value on (spec_of spec) (get key self.old.state)) result self.new }
+        ensures bounded { IfOk result (λ t. t ≤ MAX_TIME) }
         ensures own { IfErr result IsOwn }
         ensures steps { steps.new ≡ steps.old }
     {
@@ -152,7 +160,8 @@ impl Db {
         steps: &mut Steps<L>,
     ) -> Result<u64, DbFault>
         requires time { time ≤ MAX_TIME }
-        ensures changed { AnswersTime self.old (incr_at self.old.limits self.old.state key change time (spec_of spec) (get key self.old.state)) result self.new }
+        ensures changed { AnswersNumber self.old (incr_at self.old.limits self.old.state key change time (spec_of spec) (get key self.old.state)) result self.new }
+        ensures bounded { IfOk result (λ t. t ≤ MAX_TIME) }
         ensures own { IfErr result IsOwn }
         ensures steps { steps.new ≡ steps.old }
     {
@@ -175,7 +184,8 @@ impl Db {
         steps: &mut Steps<L>,
     ) -> Result<u64, DbFault>
         requires time { time ≤ MAX_TIME }
-        ensures put { AnswersTime self.old (put_at self.old.limits self.old.state key.now time value (get key.now self.old.state)) result self.new }
+        ensures put { AnswersNumber self.old (put_at self.old.limits self.old.state key.now time value (get key.now self.old.state)) result self.new }
+        ensures bounded { IfOk result (λ t. t ≤ MAX_TIME) }
         ensures own { IfErr result IsOwn }
         ensures steps { steps.new ≡ steps.old }
     {

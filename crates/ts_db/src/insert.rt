@@ -5,7 +5,7 @@ ghost use Rattle.ts_spec.specs.Step.{fresh, create_with};
 ghost use Rattle.ts_labels.specs.Spec.{spec_of};
 ghost use Rattle.ts_series.specs.History.{list_of, record_of, IsKept};
 ghost use Rattle.ts_db.specs.Faults.{IsMemory, IsOwn};
-ghost use Rattle.ts_db.specs.Held.{AnswersTime};
+ghost use Rattle.ts_db.specs.Held.{AnswersNumber};
 
 use crate::db::Db;
 use crate::fault::DbFault;
@@ -60,7 +60,8 @@ impl Db {
     ) -> Result<u64, DbFault>
         requires time { time ≤ MAX_TIME }
         requires absent { get key self.old.state ≡ None }
-        ensures begun { AnswersTime self.old (create_with self.old.limits self.old.state key (spec_of spec) time value) result self.new }
+        ensures begun { AnswersNumber self.old (create_with self.old.limits self.old.state key (spec_of spec) time value) result self.new }
+        ensures bounded { IfOk result (λ t. t ≤ MAX_TIME) }
         ensures own { IfErr result IsOwn }
         ensures steps { steps.new ≡ steps.old }
     {

@@ -3,9 +3,12 @@
 
 mod alter;
 mod db;
+mod deletion;
+mod dropping;
 mod fault;
 mod increase;
 mod insert;
+mod questions;
 mod write;
 
 pub use db::Db;

@@ -9,7 +9,7 @@ use Rattle.ts_db.specs.Writes.{IsWritten}
 use Rattle.ts_spec.specs.Keyed.{get}
 use Rattle.ts_spec.specs.State.{Record}
 use Rattle.ts_series.specs.History.{record_of}
-use Rattle.ts_db.specs.Held.{Held, AnswersTime}
+use Rattle.ts_db.specs.Held.{Held, AnswersNumber}
 use Rattle.ts_db.specs.Store.{collected}
 use Rattle.ts_db.specs.contracts.db.Db as db
 use Rattle.ts_db.proofs.Storing.{missing}
@@ -26,7 +26,7 @@ begin-requires-clause-absent g c =
 
 pub returns-in_default-clause-added : goal.returns-in_default-clause-added
 returns-in_default-clause-added g c =
-    subst (λ (o : Option Record). AnswersTime c.args.self.now (add_at c.args.self.now.limits c.args.self.now.state c.args.key c.args.time c.args.value c.args.on (spec_of c.args.spec) o) c.begin.result c.begin.new.self)
+    subst (λ (o : Option Record). AnswersNumber c.args.self.now (add_at c.args.self.now.limits c.args.self.now.state c.args.key c.args.time c.args.value c.args.on (spec_of c.args.spec) o) c.begin.result c.begin.new.self)
     (sym (ap (λ (h : Held). get c.args.key h.state) (sym c.self.view_is)
     ∙ missing c.self.inside.limits c.self.inside.nodes c.self.inside.keys.entries c.self.invariant c.args.key (sym (c.in_default.ensures ∙ c.get.ensures.value))))
     c.begin.ensures.begun
@@ -46,10 +46,10 @@ returns-clause-added g c =
     let holds : Holds c.self.inside.limits c.self.inside.nodes c.self.inside.keys.entries c.args.key c.in-Some.id c.in-Some-get_mut.series.now =
     record { store = c.self.invariant; number = sym (c.in-Some.ensures ∙ c.get.ensures.value); series = sym c.in-Some-get_mut.ensures.value } in
     let new = db.the_view (record { alloc = c.self.inside.alloc; limits = c.self.inside.limits; nodes = with_value c.self.inside.nodes c.in-Some.id.0 c.write.new.series; keys = c.self.inside.keys }) in
-    subst (λ (h : Held). AnswersTime h (add_at h.limits h.state c.args.key c.args.time c.args.value c.args.on (spec_of c.args.spec) (get c.args.key h.state)) c.write.result new) c.self.view_is
+    subst (λ (h : Held). AnswersNumber h (add_at h.limits h.state c.args.key c.args.time c.args.value c.args.on (spec_of c.args.spec) (get c.args.key h.state)) c.write.result new) c.self.view_is
     (answers-there c.self.inside.limits c.self.inside.nodes c.self.inside.keys.entries c.args.key c.in-Some.id c.in-Some-get_mut.series.now holds c.write.new.series
-    (λ (o : Option Record). AnswersTime (db.the_view c.self.inside) (add_at c.self.inside.limits (collected c.self.inside.nodes c.self.inside.keys.entries) c.args.key c.args.time c.args.value c.args.on (spec_of c.args.spec) o) c.write.result new)
-    (subst (λ (o : Options). AnswersTime (db.the_view c.self.inside)
+    (λ (o : Option Record). AnswersNumber (db.the_view c.self.inside) (add_at c.self.inside.limits (collected c.self.inside.nodes c.self.inside.keys.entries) c.args.key c.args.time c.args.value c.args.on (spec_of c.args.spec) o) c.write.result new)
+    (subst (λ (o : Options). AnswersNumber (db.the_view c.self.inside)
     (write c.self.inside.limits (collected c.self.inside.nodes c.self.inside.keys.entries) c.args.key (record_of [] c.in-Some-get_mut.series.now) (By (unwrap_or c.args.on o.policy)) c.args.time c.args.value) c.write.result new)
     c.options.ensures
     (answers-write c.self.inside.limits c.self.inside.nodes c.self.inside.keys.entries c.args.key c.in-Some.id c.in-Some-get_mut.series.now holds c.write.new.series
