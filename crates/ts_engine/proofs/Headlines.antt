@@ -1,12 +1,12 @@
 -- What `pipe` did is what the headline says.
 use Rattle.std.specs.Prelude.{Option, Some, None}
 use Rattle.std.specs.Io.KnownBytes.{Consumes, IsAtEnd}
-use Rattle.std.proofs.Common.{◌≡◌, inl, inr, ℕ, List, [], ◌∷◌, ◌++◌, length, refl, sym, ◌∙◌, ap, subst, append_assoc}
+use Rattle.std.proofs.Common.{◌≡◌, inl, inr, true, false, if◌then◌else◌, take, ℕ, List, [], ◌∷◌, ◌++◌, length, refl, sym, ◌∙◌, ap, subst, append_assoc}
 use Rattle.std.proofs.lemmas.List.{append-nil}
 use Rattle.ts_resp.specs.Reading.{stream_of, ended_at, unfinished}
-use Rattle.ts_spec.specs.Run.{Runs, then_all, requests_in}
+use Rattle.ts_spec.specs.Run.{Runs, then_all, requests_in, is_quit, has_quit, until_quit}
 use Rattle.ts_spec.specs.Wire.{Request, Stream, Ended, Inside, Broken, stream_at, requests_of, ending_of}
-use Rattle.ts_spec.proofs.Runs.{requests_of-then_all, ending_of-then_all, requests_in-append}
+use Rattle.ts_spec.proofs.Runs.{Runs-append, Runs-one, requests_of-then_all, ending_of-then_all, requests_in-append}
 use Rattle.ts_engine.specs.declared.piped.End.{End}
 use Rattle.ts_engine.specs.declared.piped.End.TheVariants as end
 use Rattle.ts_engine.specs.declared.piped.Outcome.{Outcome}
@@ -14,9 +14,11 @@ use Rattle.ts_spec.specs.State.{empty}
 use Rattle.ts_spec.specs.declared.limits.Limits.{Limits}
 use Rattle.ts_db.specs.Held.{Held}
 use Rattle.ts_engine.specs.Turn.{World, turn}
-use Rattle.ts_engine.specs.Session.{Spot, Went, WentSome, CutReply, CutFault, IsUpToDate}
+use Rattle.ts_engine.specs.Session.{Spot, Went, WentSome, LastReply, Quitted, CutFault, IsUpToDate}
 use Rattle.ts_engine.specs.Piping.{beginning, Ends, Piped}
-use Rattle.ts_engine.specs.Headline.{requests, ending, start, Seen, AllAnswered, SomeAnswered, LastCut, FaultCut, FrontAnswered, Writes}
+use Rattle.ts_engine.specs.Headline.{requests, asks_to_quit, ending, start, Seen, AllAnswered, WholeAnswered, SomeAnswered, LastCut, FaultCut, FrontAnswered, Writes}
+use Rattle.ts_engine.proofs.Quits.{has_quit-append, until_quit-append, until_quit-last, has_quit-last}
+use Rattle.ts_engine.proofs.Sessions.{grows_as}
 
 -- an input that told its bytes still tells what is left
 abbrev pub Splits : List ℕ → Option (List ℕ) → List ℕ → Type 0
@@ -36,8 +38,11 @@ module _ (seen : Seen) (last : Spot) (readings : last.world.readings ≡ seen.re
     follows : (more : List ℕ) → stream_at seen.limits.wire 0 (front ++ more) ≡ then_all went.done (stream_of last.reader more)
     follows more = went.stream more
 
-    first_requests : (more : List ℕ) → requests seen.limits.wire (front ++ more) ≡ requests_in went.done ++ requests_of (stream_of last.reader more)
-    first_requests more = ap requests_of (follows more) ∙ requests_of-then_all went.done (stream_of last.reader more)
+    its_requests : (more : List ℕ) → requests_of (stream_at seen.limits.wire 0 (front ++ more)) ≡ requests_in went.done ++ requests_of (stream_of last.reader more)
+    its_requests more = ap requests_of (follows more) ∙ requests_of-then_all went.done (stream_of last.reader more)
+
+    first_requests : (more : List ℕ) → requests seen.limits.wire (front ++ more) ≡ requests_in went.done ++ until_quit (requests_of (stream_of last.reader more))
+    first_requests more = ap until_quit (its_requests more) ∙ until_quit-append (requests_in went.done) (requests_of (stream_of last.reader more)) went.goes_on
 
     its_ending : (more : List ℕ) → ending seen.limits.wire (front ++ more) ≡ ending_of (stream_of last.reader more)
     its_ending more = ap ending_of (follows more) ∙ ending_of-then_all went.done (stream_of last.reader more)
@@ -49,10 +54,15 @@ module _ (seen : Seen) (last : Spot) (readings : last.world.readings ≡ seen.re
       held = last.world.held;
       run = subst (λ (w : World). Runs turn (start seen.limits seen.readings) (requests seen.limits.wire bytes) went.text w) world_is
           (subst (λ (l : List Request). Runs turn (start seen.limits seen.readings) l went.text last.world)
-          (sym (ap (requests seen.limits.wire) whole ∙ first_requests more ∙ ap (λ (l : List Request). requests_in went.done ++ l) none ∙ append-nil (requests_in went.done)))
+          (sym (ap (requests seen.limits.wire) whole ∙ first_requests more ∙ ap (λ (l : List Request). requests_in went.done ++ until_quit l) none ∙ append-nil (requests_in went.done)))
           went.run);
       grown = went.grown;
     }
+
+    -- none of them is QUIT, where no further one follows
+    no_quit : (bytes more : List ℕ) → bytes ≡ front ++ more → requests_of (stream_of last.reader more) ≡ [] → asks_to_quit seen.limits.wire bytes ≡ false
+    no_quit bytes more whole none =
+        ap (asks_to_quit seen.limits.wire) whole ∙ ap has_quit (its_requests more) ∙ has_quit-append (requests_in went.done) (requests_of (stream_of last.reader more)) went.goes_on ∙ ap has_quit none
 
     -- the ending of the bytes, where the rest of the stream is known
     ends_as : (bytes more : List ℕ) (stream : Stream) → bytes ≡ front ++ more → stream_of last.reader more ≡ stream → ending seen.limits.wire bytes ≡ ending_of stream
@@ -85,6 +95,7 @@ module _ (seen : Seen) (last : Spot) (readings : last.world.readings ≡ seen.re
     place = unfinished last.reader;
     unbroken = ends_as seen last readings front [] went front [] (ended_at (unfinished last.reader)) (sym (append-nil front)) current.rest
         ∙ its_own_ending (unfinished last.reader);
+    goes_on = no_quit seen last readings front [] went front [] (sym (append-nil front)) (ap requests_of current.rest ∙ no_requests (unfinished last.reader));
     answered = all_answered seen last readings front [] went front [] (sym (append-nil front)) (ap requests_of current.rest ∙ no_requests (unfinished last.reader));
   }
 
@@ -93,22 +104,30 @@ module _ (seen : Seen) (last : Spot) (readings : last.world.readings ≡ seen.re
       let rest = went.stream split.0 in
       record {
         done = requests_in went.done;
-        others = requests_of rest.0;
-        first = ap (requests seen.limits.wire) split.1 ∙ ap requests_of rest.1 ∙ requests_of-then_all went.done rest.0;
+        others = until_quit (requests_of rest.0);
+        first = ap (requests seen.limits.wire) split.1 ∙ ap until_quit (ap requests_of rest.1 ∙ requests_of-then_all went.done rest.0)
+            ∙ until_quit-append (requests_in went.done) (requests_of rest.0) went.goes_on;
         text = went.text;
         held = last.world.held;
         run = subst (λ (w : World). Runs turn (start seen.limits seen.readings) (requests_in went.done) went.text w) (world_is seen last readings) went.run;
         grown = went.grown;
       }
 
-  last_cut : CutReply (beginning seen.limits.wire (start seen.limits seen.readings)) last seen.had seen.has front → LastCut seen bytes
+  -- the requests of the bytes, with the last one that had its turn
+  with_last : (cut : LastReply (beginning seen.limits.wire (start seen.limits seen.readings)) last seen.had seen.has front)
+      → requests_of (stream_at seen.limits.wire 0 bytes) ≡ requests_in cut.done ++ cut.last.request ∷ requests_of (stream_of last.reader split.0)
+  with_last cut =
+      ap (λ (l : List ℕ). requests_of (stream_at seen.limits.wire 0 l)) split.1 ∙ ap requests_of (cut.stream split.0)
+      ∙ requests_of-then_all (cut.done ++ cut.last ∷ []) (stream_of last.reader split.0)
+      ∙ ap (λ (l : List Request). l ++ requests_of (stream_of last.reader split.0)) (requests_in-append cut.done (cut.last ∷ []))
+      ∙ append_assoc (requests_in cut.done) (cut.last.request ∷ []) (requests_of (stream_of last.reader split.0))
+
+  last_cut : LastReply (beginning seen.limits.wire (start seen.limits seen.readings)) last seen.had seen.has front → LastCut seen bytes
   last_cut cut = record {
     done = requests_in cut.done;
     last = cut.last.request;
-    others = requests_of (stream_of last.reader split.0);
-    first = ap (requests seen.limits.wire) split.1 ∙ ap requests_of (cut.stream split.0) ∙ requests_of-then_all (cut.done ++ cut.last ∷ []) (stream_of last.reader split.0)
-        ∙ ap (λ (l : List Request). l ++ requests_of (stream_of last.reader split.0)) (requests_in-append cut.done (cut.last ∷ []))
-        ∙ append_assoc (requests_in cut.done) (cut.last.request ∷ []) (requests_of (stream_of last.reader split.0));
+    others = if is_quit cut.last.request then [] else until_quit (requests_of (stream_of last.reader split.0));
+    first = ap until_quit (with_last cut) ∙ until_quit-append (requests_in cut.done) (cut.last.request ∷ requests_of (stream_of last.reader split.0)) cut.goes_on;
     text = cut.text;
     mid = cut.mid;
     reply = cut.reply;
@@ -119,32 +138,58 @@ module _ (seen : Seen) (last : Spot) (readings : last.world.readings ≡ seen.re
     grown = cut.grown;
   }
 
+  -- QUIT was answered
+  quitted_all : (quitted : Quitted (beginning seen.limits.wire (start seen.limits seen.readings)) last seen.had seen.has front)
+      → AllAnswered seen bytes [] × (asks_to_quit seen.limits.wire bytes ≡ true)
+  quitted_all quitted =
+      let cut = quitted.reply in
+      let rest : List Request = requests_of (stream_of last.reader split.0) in (
+        record {
+          text = cut.text ++ cut.reply;
+          held = last.world.held;
+          run = subst (λ (w : World). Runs turn (start seen.limits seen.readings) (requests seen.limits.wire bytes) (cut.text ++ cut.reply) w) (world_is seen last readings)
+              (subst (λ (l : List Request). Runs turn (start seen.limits seen.readings) l (cut.text ++ cut.reply) last.world)
+              (sym (ap until_quit (with_last cut) ∙ until_quit-last (requests_in cut.done) cut.last.request rest cut.goes_on quitted.asked))
+              (Runs-append turn (start seen.limits seen.readings) cut.mid last.world (requests_in cut.done) (cut.last.request ∷ []) cut.text cut.reply cut.run
+              (Runs-one turn cut.mid last.world cut.last.request cut.reply cut.turned)));
+          grown = grows_as seen.had seen.has (cut.text ++ take cut.kept cut.reply) ((cut.text ++ cut.reply) ++ [])
+              (ap (λ (l : List ℕ). cut.text ++ l) quitted.whole ∙ sym (append-nil (cut.text ++ cut.reply))) cut.grown;
+        },
+        ap has_quit (with_last cut) ∙ has_quit-last (requests_in cut.done) cut.last.request rest cut.goes_on quitted.asked,
+      )
+
+  -- the input was read to its end, which is of this kind
+  whole_answered : (end : Stream) → requests_of end ≡ [] → ending_of end ≡ end
+      → Went (beginning seen.limits.wire (start seen.limits seen.readings)) last seen.had seen.has front [] → stream_of last.reader [] ≡ end → IsAtEnd left
+      → WholeAnswered seen bytes left end
+  whole_answered end none own went is at_end =
+      let all = whole at_end in
+      record {
+        answered = all_answered seen last readings front [] went bytes [] all.0 (ap requests_of is ∙ none);
+        goes_on = no_quit seen last readings front [] went bytes [] all.0 (ap requests_of is ∙ none);
+        ended = ends_as seen last readings front [] went bytes [] end all.0 is ∙ own;
+        left_is = all.1;
+      }
+
   fault_cut : CutFault (beginning seen.limits.wire (start seen.limits seen.readings)) last seen.had seen.has front → FaultCut seen bytes
   fault_cut cut = record {
     kind = cut.fault.kind;
     place = cut.fault.place;
     kept = cut.kept;
     broken = ends_as seen last readings front _ cut.went bytes split.0 (Broken cut.fault.kind cut.fault.place) split.1 (cut.broken split.0);
+    goes_on = no_quit seen last readings front _ cut.went bytes split.0 split.1 (ap requests_of (cut.broken split.0));
     answered = all_answered seen last readings front _ cut.went bytes split.0 split.1 (ap requests_of (cut.broken split.0));
   }
 
   -- what was done over the bytes taken is what the headline says of its end
   pub writes : (budget : ℕ) (e : End) → (e ≡ end.Budget → length front ≡ budget) → Ends e left (beginning seen.limits.wire (start seen.limits seen.readings)) last seen.had seen.has front
       → Writes seen budget bytes left e
-  writes budget end.Ended spent ends =
-      let all = whole ends.2 in (
-        all_answered seen last readings front [] ends.0 bytes [] all.0 (ap requests_of ends.1),
-        ends_as seen last readings front [] ends.0 bytes [] Ended all.0 ends.1,
-        all.1,
-      )
-  writes budget (end.Truncated place) spent ends =
-      let all = whole ends.2 in (
-        all_answered seen last readings front [] ends.0 bytes [] all.0 (ap requests_of ends.1),
-        ends_as seen last readings front [] ends.0 bytes [] (Inside place) all.0 ends.1,
-        all.1,
-      )
+  writes budget end.Ended spent (inl all) = inl (whole_answered Ended refl refl all.went all.ended all.at_end)
+  writes budget end.Ended spent (inr quitted) = inr (quitted_all quitted)
+  writes budget (end.Truncated place) spent ends = whole_answered (Inside place) refl refl ends.0 ends.1 ends.2
   writes budget (end.Protocol fault) spent ends = (
     all_answered seen last readings front _ ends.0 bytes split.0 split.1 (ap requests_of (ends.1 split.0)),
+    no_quit seen last readings front _ ends.0 bytes split.0 split.1 (ap requests_of (ends.1 split.0)),
     ends_as seen last readings front _ ends.0 bytes split.0 (Broken fault.kind fault.place) split.1 (ends.1 split.0),
   )
   writes budget end.ReadFault spent ends = front_answered ends.0 ends.1

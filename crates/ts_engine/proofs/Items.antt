@@ -63,7 +63,7 @@ so_far_more reading all rest triple old mid new item before after so_far told li
   limits = limits ∙ so_far.limits;
 }
 
-count-listed : (items : List Reply) → count_of (listed items) ≡ length items
+pub count-listed : (items : List Reply) → count_of (listed items) ≡ length items
 count-listed [] = refl
 count-listed (r ∷ items) = omega (arith, count-listed items)
 

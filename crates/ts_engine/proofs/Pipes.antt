@@ -1,19 +1,20 @@
 -- How what was read and answered adds up over a whole input.
 use Rattle.std.specs.Prelude.{Option, Some, None, IfSome}
-use Rattle.std.specs.Io.KnownBytes.{Consumes}
-use Rattle.std.proofs.Common.{◌≡◌, inl, inr, ◌<◌, ℕ, ◌+◌, ◌≤◌, List, [], ◌++◌, length, refl, sym, ◌∙◌, ap, subst, append_assoc, arith, length-append}
+use Rattle.std.specs.Io.KnownBytes.{Consumes, IsAtEnd}
+use Rattle.std.proofs.Common.{◌≡◌, ◌⊎◌, inl, inr, ◌<◌, ℕ, ◌+◌, ◌≤◌, List, [], ◌++◌, length, take, refl, sym, ◌∙◌, ap, subst, append_assoc, arith, length-append}
 use Rattle.ts_resp.specs.Reading.{stream_of, fed, ended_at, unfinished}
 use Rattle.ts_spec.specs.Wire.{stream_at, read_on}
 use Rattle.ts_spec.specs.declared.wire.WireLimits.{WireLimits}
 use Rattle.ts_engine.specs.declared.piped.End.{End}
 use Rattle.ts_engine.specs.declared.piped.End.TheVariants as end
 use Rattle.ts_engine.specs.declared.piped.Step.{Step}
-use Rattle.ts_engine.specs.declared.session.Go.TheVariants as go
+use Rattle.ts_engine.specs.declared.go.Go.TheVariants as go
 use Rattle.ts_engine.specs.Turn.{World}
-use Rattle.ts_engine.specs.Session.{Spot, Went, IsUpToDate}
-use Rattle.ts_engine.specs.Piping.{beginning, Ends, EndsOr, PIECE, shown_at, Pumped, Piped}
+use Rattle.ts_engine.specs.Ending.{end_at}
+use Rattle.ts_engine.specs.Session.{Spot, Went, Quitted, IsUpToDate}
+use Rattle.ts_engine.specs.Piping.{beginning, ReadAll, Ends, EndsOr, PIECE, shown_at, Pumped, Piped}
 use Rattle.ts_engine.proofs.Places.{reply_past, break_past}
-use Rattle.ts_engine.proofs.Sessions.{fed_only, not_fed, went_on, answers_on}
+use Rattle.ts_engine.proofs.Sessions.{fed_only, not_fed, went_on, quitted_on, answers_on}
 
 -- so many bytes were taken, and what they hold was answered
 pub record SoFar (limits : WireLimits) (taken : ℕ) (from : World) (now : Spot) (left rest : Option (List ℕ)) (had has : List ℕ → Type 0) : Type 0 where
@@ -42,10 +43,35 @@ so_far_none limits now left has stream executed = record {
   went = fed_only (beginning limits now.world) now has [] stream executed refl;
 }
 
+-- the end of the input, or QUIT, after some bytes is that over all of them
+abbrev ended_on : (first mid last : Spot) (had has' has : List ℕ → Type 0) (x y : List ℕ) (rest : Option (List ℕ))
+    → Went first mid had has' x [] → ReadAll rest mid last has' has y ⊎ Quitted mid last has' has y → ReadAll rest first last had has (x ++ y) ⊎ Quitted first last had has (x ++ y)
+ended_on first mid last had has' has x y rest went (inl all) =
+    inl (record { went = went_on first mid had has' x went last has y [] all.went; ended = all.ended; at_end = all.at_end })
+ended_on first mid last had has' has x y rest went (inr quitted) = inr (quitted_on first mid had has' x went last has y quitted)
+
+-- the end of the input, by where it stands
+ends_read : (place : Option ℕ) (left : Option (List ℕ)) (old new : Spot) (had has : List ℕ → Type 0) → Went old new had has [] [] → stream_of new.reader [] ≡ ended_at place → IsAtEnd left
+    → Ends (end_at place) left old new had has []
+ends_read None left old new had has went is at_end = inl (record { went = went; ended = is; at_end = at_end })
+ends_read (Some place) left old new had has went is at_end = (went, is, at_end)
+
+-- a read took nothing: that is the end of the input
+pub pumped_end : (now : Spot) (left rest : Option (List ℕ)) (has : List ℕ → Type 0) (e : End) → e ≡ end_at (unfinished now.reader) → IsUpToDate now
+    → (n : ℕ) (buffer : List ℕ) → n ≡ 0 → Consumes left rest (take n buffer) → IsAtEnd rest
+    → Pumped (record { taken = 0; end = Some e }) left rest now now has has
+pumped_end now left rest has e is current n buffer none took at_end = record {
+  bytes = [];
+  count = refl;
+  took = subst (λ (i : ℕ). Consumes left rest (take i buffer)) none took;
+  ends = subst (λ (x : End). Ends x rest now now has has []) (sym is)
+      (ends_read (unfinished now.reader) rest now now has has (fed_only now now has [] (λ more. refl) refl refl) current.rest at_end);
+}
+
 -- an end after some bytes is an end over all of them
 abbrev ends_on : (e : End) (first mid last : Spot) (had has' has : List ℕ → Type 0) (x y : List ℕ) (rest : Option (List ℕ))
     → Went first mid had has' x [] → Ends e rest mid last has' has y → Ends e rest first last had has (x ++ y)
-ends_on end.Ended first mid last had has' has x y rest went ends = (went_on first mid had has' x went last has y [] ends.0, ends.1, ends.2)
+ends_on end.Ended first mid last had has' has x y rest went ends = ended_on first mid last had has' has x y rest went ends
 ends_on (end.Truncated place) first mid last had has' has x y rest went ends = (went_on first mid had has' x went last has y [] ends.0, ends.1, ends.2)
 ends_on (end.Protocol fault) first mid last had has' has x y rest went ends = answers_on first mid had has' x went (go.Broken fault) last has y ends
 ends_on end.ReadFault first mid last had has' has x y rest went ends = answers_on first mid had has' x went go.More last has y ends
@@ -57,7 +83,10 @@ ends_on end.Budget first mid last had has' has x y rest went ends = answers_on f
 ends_past : (e : End) (first mid last : Spot) (had has' has : List ℕ → Type 0) (x y : List ℕ) (rest : Option (List ℕ))
     → (went : Went first mid had has' x []) → IsUpToDate mid → (ends : Ends e rest mid last has' has y)
     → IfSome (shown_at e rest first last had has (x ++ y) (ends_on e first mid last had has' has x y rest went ends)) (λ place. fed mid.reader ≤ place)
-ends_past end.Ended first mid last had has' has x y rest went current ends = tt
+ends_past end.Ended first mid last had has' has x y rest went current (inl all) = tt
+ends_past end.Ended first mid last had has' has x y rest went current (inr quitted) =
+    let past : fed mid.reader < quitted.reply.last.after = reply_past mid last has' has y current quitted.reply in
+    omega (arith, past)
 ends_past (end.Truncated place) first mid last had has' has x y rest went current ends = tt
 ends_past (end.Protocol fault) first mid last had has' has x y rest went current ends = break_past mid last has' has y _ fault current ends.0 ends.1
 ends_past end.ReadFault first mid last had has' has x y rest went current ends = tt

@@ -6,7 +6,7 @@ use Rattle.ts_spec.specs.Wire.{Stream, Then, Ended, Inside, Broken, Mode, Start,
 use Rattle.ts_spec.specs.declared.wire.Kind.{Kind}
 use Rattle.ts_spec.specs.declared.wire.WireLimits.{WireLimits}
 use Rattle.ts_spec.proofs.Streams.{read_on-nil, read_on-byte}
-use Rattle.ts_engine.specs.Session.{Spot, Went, CutReply, IsBroken, IsUpToDate}
+use Rattle.ts_engine.specs.Session.{Spot, Went, LastReply, IsBroken, IsUpToDate}
 use Rattle.ts_resp.specs.declared.protocol.Protocol.{Protocol}
 
 -- each request ends past this place, and a fault is not before it
@@ -94,7 +94,7 @@ fault-past place [] kind at past = past
 fault-past place (first ∷ done) kind at past = fault-past place done kind at past.1
 
 -- a request that comes then ends past the bytes fed
-pub reply_past : (old new : Spot) (had has : List ℕ → Type 0) (bytes : List ℕ) → IsUpToDate old → (cut : CutReply old new had has bytes) → fed old.reader < cut.last.after
+pub reply_past : (old new : Spot) (had has : List ℕ → Type 0) (bytes : List ℕ) → IsUpToDate old → (cut : LastReply old new had has bytes) → fed old.reader < cut.last.after
 reply_past old new had has bytes current cut =
     last-past (fed old.reader) cut.done cut.last (stream_of new.reader [])
     (subst (λ (s : Stream). IsPast (fed old.reader) s) (cut.stream []) (comes_past old (bytes ++ []) current))

@@ -1,18 +1,20 @@
 -- How what a session did adds up, request by request and piece by piece.
 use Rattle.std.specs.Prelude.{Option, None, Some}
-use Rattle.std.proofs.Common.{◌≡◌, ◌<◌, inl, inr, ⊎_elim, ℕ, ◌+◌, List, [], ◌∷◌, ◌++◌, take, refl, sym, ◌∙◌, ap, subst, append_assoc, arith, length-append}
+use Rattle.std.proofs.Common.{◌≡◌, false, ◌<◌, inl, inr, ⊎_elim, ℕ, ◌+◌, List, [], ◌∷◌, ◌++◌, length, take, refl, sym, ◌∙◌, ap, subst, append_assoc, arith, length-append}
 use Rattle.std.proofs.lemmas.List.{append-nil}
+use Rattle.std.proofs.Math.Seq.{take-length}
 use Rattle.ts_io.specs.Sinks.{Grows}
 use Rattle.ts_io.proofs.Growth.{grows_none, grows_twice}
 use Rattle.ts_resp.specs.declared.protocol.Protocol.{Protocol}
 use Rattle.ts_resp.specs.Reading.{Reading, stream_of}
-use Rattle.ts_spec.specs.Run.{Placed, Runs, then_all, requests_in}
+use Rattle.ts_spec.specs.Run.{Placed, Runs, then_all, requests_in, is_quit}
 use Rattle.ts_spec.specs.Wire.{Request, Then}
 use Rattle.ts_spec.proofs.Runs.{Runs-append, Runs-one, then_all-append, requests_in-append}
 use Rattle.ts_engine.specs.Turn.{World, turn}
-use Rattle.ts_engine.specs.declared.session.Go.{Go}
-use Rattle.ts_engine.specs.declared.session.Go.TheVariants as go
-use Rattle.ts_engine.specs.Session.{Spot, Went, WentSome, CutReply, CutFault, IsBroken, Answers, GoesOn, Replied, Refused}
+use Rattle.ts_engine.specs.declared.go.Go.{Go}
+use Rattle.ts_engine.specs.declared.go.Go.TheVariants as go
+use Rattle.ts_engine.specs.Session.{Spot, Went, WentSome, LastReply, Quitted, CutFault, IsBroken, Answers, GoesOn, Replied, Refused}
+use Rattle.ts_engine.proofs.Quits.{goes_on-append, goes_on-one}
 
 -- a sink that grew by some bytes grew by these, which are the same
 pub grows_as : (had has : List ℕ → Type 0) (x y : List ℕ) → x ≡ y → Grows had has x → Grows had has y
@@ -26,6 +28,7 @@ fed_only old new has bytes stream executed world = record {
   text = [];
   stream = λ more. sym (stream more);
   run = (refl, world);
+  goes_on = refl;
   grown = grows_none has;
   executed = omega (arith, executed);
 }
@@ -33,12 +36,13 @@ fed_only old new has bytes stream executed world = record {
 -- a request had its turn, and its text was written
 pub went_one : (old new : Spot) (had has : List ℕ → Type 0) (request : Request) (place : ℕ) (text : List ℕ)
     → ((more : List ℕ) → stream_of old.reader more ≡ Then request place (stream_of new.reader more))
-    → turn old.world request text new.world → Grows had has text → new.executed ≡ old.executed + 1 → Went old new had has [] []
-went_one old new had has request place text stream turned grown executed = record {
+    → turn old.world request text new.world → is_quit request ≡ false → Grows had has text → new.executed ≡ old.executed + 1 → Went old new had has [] []
+went_one old new had has request place text stream turned on grown executed = record {
   done = record { request = request; after = place } ∷ [];
   text = text;
   stream = stream;
   run = Runs-one turn old.world new.world request text turned;
+  goes_on = goes_on-one request on;
   grown = grows_as had has text (text ++ []) (sym (append-nil text)) grown;
   executed = omega (arith, executed);
 }
@@ -71,12 +75,13 @@ module _ (first mid : Spot) (had has' : List ℕ → Type 0) (x : List ℕ) (bef
     text = before.text ++ after.text;
     stream = streams last y after.done after.stream;
     run = runs last.world after.done after.text after.run;
+    goes_on = goes_on-append before.done after.done before.goes_on after.goes_on;
     grown = grew has after.text tail after.grown;
     executed = omega (arith, before.executed, after.executed, length-append before.done after.done);
   }
 
-  abbrev pub cut_reply_on : (last : Spot) (has : List ℕ → Type 0) (y : List ℕ) → CutReply mid last has' has y → CutReply first last had has (x ++ y)
-  cut_reply_on last has y cut = record {
+  abbrev pub last_reply_on : (last : Spot) (has : List ℕ → Type 0) (y : List ℕ) → LastReply mid last has' has y → LastReply first last had has (x ++ y)
+  last_reply_on last has y cut = record {
     done = before.done ++ cut.done;
     text = before.text ++ cut.text;
     mid = cut.mid;
@@ -86,10 +91,14 @@ module _ (first mid : Spot) (had has' : List ℕ → Type 0) (x : List ℕ) (bef
     stream = λ more. streams last y (cut.done ++ cut.last ∷ []) cut.stream more
         ∙ ap (λ (l : List Placed). then_all l (stream_of last.reader more)) (sym (append_assoc before.done cut.done (cut.last ∷ [])));
     run = runs cut.mid cut.done cut.text cut.run;
+    goes_on = goes_on-append before.done cut.done before.goes_on cut.goes_on;
     turned = cut.turned;
     grown = grew has cut.text (take cut.kept cut.reply) cut.grown;
     executed = omega (arith, before.executed, cut.executed, length-append before.done cut.done);
   }
+
+  abbrev pub quitted_on : (last : Spot) (has : List ℕ → Type 0) (y : List ℕ) → Quitted mid last has' has y → Quitted first last had has (x ++ y)
+  quitted_on last has y quitted = record { reply = last_reply_on last has y quitted.reply; whole = quitted.whole; asked = quitted.asked }
 
   pub went_some_on : (last : Spot) (has : List ℕ → Type 0) (y : List ℕ) → WentSome mid last has' has y → WentSome first last had has (x ++ y)
   went_some_on last has y after = record {
@@ -102,6 +111,7 @@ module _ (first mid : Spot) (had has' : List ℕ → Type 0) (x : List ℕ) (bef
               ∙ sym (then_all-append before.done after.done rest.0),
         );
     run = runs last.world after.done after.text after.run;
+    goes_on = goes_on-append before.done after.done before.goes_on after.goes_on;
     grown = grows_twice had has' has before.text after.text had_text after.grown;
     executed = omega (arith, before.executed, after.executed, length-append before.done after.done);
   }
@@ -112,8 +122,9 @@ module _ (first mid : Spot) (had has' : List ℕ → Type 0) (x : List ℕ) (bef
   -- an answer after a stretch is an answer over both
   abbrev pub answers_on : (answer : Go) (last : Spot) (has : List ℕ → Type 0) (y : List ℕ) → Answers answer mid last has' has y → Answers answer first last had has (x ++ y)
   answers_on go.More last has y after = (went_on last has y [] after.0, after.1)
+  answers_on go.Quit last has y after = quitted_on last has y after
   answers_on (go.Broken fault) last has y after = (went_on last has y _ after.0, after.1)
-  answers_on go.WriteFault last has y after = ⊎_elim (λ cut. inl (cut_reply_on last has y cut)) (λ cut. inr (cut_fault_on last has y cut)) after
+  answers_on go.WriteFault last has y after = ⊎_elim (λ cut. inl (last_reply_on last has y cut)) (λ cut. inr (cut_fault_on last has y cut)) after
   answers_on go.Memory last has y after = went_some_on last has y after
 
   -- an answer after a stretch and no more bytes is an answer over the stretch
@@ -130,6 +141,7 @@ not_fed old new has bytes executed world = record {
   text = [];
   stream = λ more. (stream_of old.reader (bytes ++ more), refl);
   run = (refl, world);
+  goes_on = refl;
   grown = grows_none has;
   executed = omega (arith, executed);
 }
@@ -141,9 +153,24 @@ pub piece_answers : (answer : Go) (old fed new : Spot) (had has : List ℕ → T
 piece_answers answer old fed new had has bytes stream executed world after =
     answers_then old fed had had bytes (fed_only old fed had bytes stream executed world) answer new has after
 
--- the reader found no memory
-pub no_memory : (old new : Spot) (has : List ℕ → Type 0) → new.executed ≡ old.executed → new.world ≡ old.world → WentSome old new has has []
-no_memory old new has executed world = not_fed old new has [] executed world
+-- a request had its turn, and a front of its text was written
+abbrev last_reply : (request : Request) (old new : Spot) (reader : Reading) (had has : List ℕ → Type 0) (reply : List ℕ) (kept : ℕ)
+    → ((more : List ℕ) → stream_of old.reader more ≡ Then request reader.begin (stream_of reader more))
+    → turn old.world request reply new.world → Grows had has (take kept reply) → new.reader ≡ reader → new.executed ≡ old.executed + 1 → LastReply old new had has []
+last_reply request old new reader had has reply kept stream turned grown same executed = record {
+  done = [];
+  text = [];
+  mid = old.world;
+  last = record { request = request; after = reader.begin };
+  reply = reply;
+  kept = kept;
+  stream = λ more. stream more ∙ ap (λ (r : Reading). Then request reader.begin (stream_of r more)) (sym same);
+  run = (refl, refl);
+  goes_on = refl;
+  turned = turned;
+  grown = grown;
+  executed = omega (arith, executed);
+}
 
 -- a request was taken, and then answered
 pub answered_next : (answer : Option Go) (request : Request) (old new : Spot) (reader : Reading) (had has : List ℕ → Type 0)
@@ -152,30 +179,20 @@ pub answered_next : (answer : Option Go) (request : Request) (old new : Spot) (r
 answered_next None request old new reader had has stream onward replied = (
   went_one old new had has request reader.begin replied.reply
       (λ more. stream more ∙ ap (λ (r : Reading). Then request reader.begin (stream_of r more)) (sym replied.reader))
-      replied.turned replied.wrote replied.executed,
+      replied.turned replied.end replied.wrote replied.executed,
   subst (λ (r : Reading). old.reader.begin < r.begin) (sym replied.reader) onward,
 )
-answered_next (Some go.WriteFault) request old new reader had has stream onward replied = inl (record {
-  done = [];
-  text = [];
-  mid = old.world;
-  last = record { request = request; after = reader.begin };
-  reply = replied.reply;
-  kept = replied.wrote.len;
-  stream = λ more. stream more ∙ ap (λ (r : Reading). Then request reader.begin (stream_of r more)) (sym replied.reader);
-  run = (refl, refl);
-  turned = replied.turned;
-  grown = replied.wrote.grows;
-  executed = omega (arith, replied.executed);
-})
+answered_next (Some go.Quit) request old new reader had has stream onward replied = record {
+  reply = last_reply request old new reader had has replied.reply (length replied.reply) stream replied.turned
+      (grows_as had has replied.reply (take (length replied.reply) replied.reply) (sym (take-length replied.reply)) replied.wrote) replied.reader replied.executed;
+  whole = take-length replied.reply;
+  asked = replied.end;
+}
+answered_next (Some go.WriteFault) request old new reader had has stream onward replied =
+    inl (last_reply request old new reader had has replied.reply replied.wrote.len stream replied.turned replied.wrote.grows replied.reader replied.executed)
 answered_next (Some go.More) request old new reader had has stream onward replied = absurd replied.wrote
 answered_next (Some (go.Broken fault)) request old new reader had has stream onward replied = absurd replied.wrote
 answered_next (Some go.Memory) request old new reader had has stream onward replied = absurd replied.wrote
-
--- the reader is where it was or past requests without words, and nothing else happened
-pub same_spot : (old new : Spot) (has : List ℕ → Type 0) → ((more : List ℕ) → stream_of new.reader more ≡ stream_of old.reader more)
-    → new.executed ≡ old.executed → new.world ≡ old.world → Went old new has has [] []
-same_spot old new has stream executed world = fed_only old new has [] stream executed world
 
 -- a fault was found, and then answered
 pub refused_next : (answer : Go) (fault : Protocol) (old new : Spot) (had has : List ℕ → Type 0)
@@ -183,14 +200,15 @@ pub refused_next : (answer : Go) (fault : Protocol) (old new : Spot) (had has : 
     → new.executed ≡ old.executed → new.world ≡ old.world → Refused answer fault had has → GoesOn (Some answer) old new had has
 refused_next (go.Broken told) fault old new had has stream broken executed world wrote =
     subst (λ (f : Protocol). GoesOn (Some (go.Broken f)) old new had has) (sym wrote.0) (
-      record { done = []; text = []; stream = λ more. sym (stream more); run = (refl, world); grown = wrote.1; executed = omega (arith, executed) },
+      record { done = []; text = []; stream = λ more. sym (stream more); run = (refl, world); goes_on = refl; grown = wrote.1; executed = omega (arith, executed) },
       λ more. stream more ∙ broken more,
     )
 refused_next go.WriteFault fault old new had has stream broken executed world wrote = inr (record {
   fault = fault;
   kept = wrote.len;
-  went = record { done = []; text = []; stream = λ more. sym (stream more); run = (refl, world); grown = wrote.grows; executed = omega (arith, executed) };
+  went = record { done = []; text = []; stream = λ more. sym (stream more); run = (refl, world); goes_on = refl; grown = wrote.grows; executed = omega (arith, executed) };
   broken = λ more. stream more ∙ broken more;
 })
+refused_next go.Quit fault old new had has stream broken executed world wrote = absurd wrote
 refused_next go.More fault old new had has stream broken executed world wrote = absurd wrote
 refused_next go.Memory fault old new had has stream broken executed world wrote = absurd wrote

@@ -11,7 +11,7 @@ use Rattle.ts_spec.specs.Sample.{MAX_TIME}
 use Rattle.ts_spec.specs.Text.{CRLF, Error, line}
 use Rattle.ts_db.specs.Faults.{refusal_of}
 use Rattle.ts_db.specs.declared.fault.DbFault.{DbFault}
-use Rattle.ts_engine.specs.Answering.{message_of, done_reply, time_reply, IsShort}
+use Rattle.ts_engine.specs.Answering.{message_of, number_reply, IsShort}
 
 -- a number of 64 bits has at most 20 digits
 pub short_number : (n : ℕ) → n < 2 ^ 64 → IsShort (number n)
@@ -67,10 +67,6 @@ short_error : (o : Option Refusal) → IsShort (Error (message_of o))
 short_error None = short_memory
 short_error (Some r) = short_refusal r
 
-pub short_done : (outcome : Result (Unit {0}) DbFault) → IsShort (done_reply outcome)
-short_done (Ok x) = omega arith
-short_done (Err fault) = short_error (refusal_of fault)
-
-pub short_time : (outcome : Result ℕ DbFault) → IfOk outcome (λ t. t ≤ MAX_TIME) → IsShort (time_reply outcome)
-short_time (Ok time) bounded = short_number time (omega (arith, bounded))
-short_time (Err fault) bounded = short_error (refusal_of fault)
+pub short_outcome : (outcome : Result ℕ DbFault) → IfOk outcome (λ t. t ≤ MAX_TIME) → IsShort (number_reply outcome)
+short_outcome (Ok time) bounded = short_number time (omega (arith, bounded))
+short_outcome (Err fault) bounded = short_error (refusal_of fault)

@@ -1,28 +1,43 @@
 -- How an input that was read to its end ends.
 use Rattle.std.specs.Prelude.{Option}
-use Rattle.std.proofs.Common.{◌≡◌, ◌⊎◌, inl, inr, ⊎_elim, ℕ, ◌<◌, List, length, refl, sym, ◌∙◌, ap, arith, length-append}
+use Rattle.std.proofs.Common.{◌≡◌, ◌⊎◌, Bool, false, inl, inr, ⊎_elim, ℕ, ◌<◌, List, length, refl, sym, ◌∙◌, ap, arith, length-append}
 use Rattle.ts_io.specs.Causes.{Rose}
+use Rattle.ts_spec.specs.Wire.{Stream, Ended, Inside, Broken}
 use Rattle.ts_engine.specs.declared.piped.End.{End}
 use Rattle.ts_engine.specs.declared.piped.End.TheVariants as end
 use Rattle.ts_engine.specs.declared.status.Status.{Status}
 use Rattle.ts_engine.specs.declared.status.Status.TheVariants as status
 use Rattle.ts_engine.specs.Piping.{HasCauses}
 use Rattle.ts_engine.specs.Status.{status_of}
-use Rattle.ts_engine.specs.Top.{status_by}
-use Rattle.ts_engine.specs.Headline.{Seen, Writes, ending}
+use Rattle.ts_engine.specs.Top.{status_by, status_at}
+use Rattle.ts_engine.specs.Headline.{Seen, Writes, ending, asks_to_quit}
+
+-- without QUIT the status is that of the ending
+by_ending : (quits : Bool) (stream end : Stream) → quits ≡ false → stream ≡ end → status_at end ≡ status_by quits stream
+by_ending quits stream end none is = ap status_at (sym is) ∙ ap (λ (b : Bool). status_by b stream) (sym none)
 
 -- where no fault was counted and the budget is not reached, the status is the grammar's, or want of memory
 pub by_grammar : (seen : Seen) (budget : ℕ) (bytes : List ℕ) (left : Option (List ℕ)) (e : End) (reads reads' writes writes' : ℕ)
     → Writes seen budget bytes left e → HasCauses e reads reads' writes writes' → length bytes < budget → (Rose reads reads' → ⊥) → (Rose writes writes' → ⊥)
-    → (status_of e ≡ status.Memory) ⊎ (status_of e ≡ status_by (ending seen.limits.wire bytes))
-by_grammar seen budget bytes left end.Ended reads reads' writes writes' wrote causes below no_read no_write = inr (ap status_by (sym wrote.1))
-by_grammar seen budget bytes left (end.Truncated place) reads reads' writes writes' wrote causes below no_read no_write = inr (ap status_by (sym wrote.1))
-by_grammar seen budget bytes left (end.Protocol fault) reads reads' writes writes' wrote causes below no_read no_write = inr (ap status_by (sym wrote.1))
+    → (status_of e ≡ status.Memory) ⊎ (status_of e ≡ status_by (asks_to_quit seen.limits.wire bytes) (ending seen.limits.wire bytes))
+by_grammar seen budget bytes left end.Ended reads reads' writes writes' (inl all) causes below no_read no_write =
+    inr (by_ending (asks_to_quit seen.limits.wire bytes) (ending seen.limits.wire bytes) Ended all.goes_on all.ended)
+by_grammar seen budget bytes left end.Ended reads reads' writes writes' (inr quitted) causes below no_read no_write =
+    inr (ap (λ (b : Bool). status_by b (ending seen.limits.wire bytes)) (sym quitted.1))
+by_grammar seen budget bytes left (end.Truncated place) reads reads' writes writes' wrote causes below no_read no_write =
+    inr (by_ending (asks_to_quit seen.limits.wire bytes) (ending seen.limits.wire bytes) (Inside place) wrote.goes_on wrote.ended)
+by_grammar seen budget bytes left (end.Protocol fault) reads reads' writes writes' wrote causes below no_read no_write =
+    inr (by_ending (asks_to_quit seen.limits.wire bytes) (ending seen.limits.wire bytes) (Broken fault.kind fault.place) wrote.1 wrote.2)
 by_grammar seen budget bytes left end.ReadFault reads reads' writes writes' wrote causes below no_read no_write = absurd (no_read (causes.read refl))
 by_grammar seen budget bytes left end.WriteFault reads reads' writes writes' wrote causes below no_read no_write = absurd (no_write (causes.write refl))
 by_grammar seen budget bytes left end.Memory reads reads' writes writes' wrote causes below no_read no_write = inl refl
 by_grammar seen budget bytes left end.Budget reads reads' writes writes' wrote causes below no_read no_write =
     absurd (omega (arith, ap length wrote.0.split, length-append wrote.0.front wrote.0.rest, wrote.1))
+
+-- what holds of the status meant holds of the one given
+pub as_meant : (meant given wanted : Status) → given ≡ meant → (meant ≡ status.Memory) ⊎ (meant ≡ wanted) → (given ≡ status.Memory) ⊎ (given ≡ wanted)
+as_meant meant given wanted same (inl memory) = inl (same ∙ memory)
+as_meant meant given wanted same (inr is) = inr (same ∙ is)
 
 -- the status that was answered is the one meant, where no write of its line failed
 pub answered_as : (meant given : Status) (told told' : ℕ) → (given ≡ status.WriteFault → (meant ≡ status.WriteFault) ⊎ Rose told told') → (given ≡ status.WriteFault) ⊎ (given ≡ meant)

@@ -2,8 +2,8 @@
 use Rattle.std.specs.Prelude.{ℕ, Option, None, Some}
 use Rattle.ts_engine.specs.declared.piped.End.{End}
 use Rattle.ts_engine.specs.declared.piped.End.TheVariants as end
-use Rattle.ts_engine.specs.declared.session.Go.{Go}
-use Rattle.ts_engine.specs.declared.session.Go.TheVariants as go
+use Rattle.ts_engine.specs.declared.go.Go.{Go}
+use Rattle.ts_engine.specs.declared.go.Go.TheVariants as go
 
 -- at the end of the input, between requests or inside the one that begins at a place
 abbrev pub end_at : Option ℕ → End
@@ -13,6 +13,7 @@ end_at (Some place) = end.Truncated place
 -- with an answer of the session, if that is an end
 abbrev pub end_by : Go → Option End
 end_by go.More = None
+end_by go.Quit = Some end.Ended
 end_by (go.Broken fault) = Some (end.Protocol fault)
 end_by go.WriteFault = Some end.WriteFault
 end_by go.Memory = Some end.Memory

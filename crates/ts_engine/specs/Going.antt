@@ -1,11 +1,12 @@
 -- Which answers of a session are its end.
 use Rattle.std.specs.Prelude.{Option, None, Some}
-use Rattle.ts_engine.specs.declared.session.Go.{Go}
-use Rattle.ts_engine.specs.declared.session.Go.TheVariants as go
+use Rattle.ts_engine.specs.declared.go.Go.{Go}
+use Rattle.ts_engine.specs.declared.go.Go.TheVariants as go
 
 -- any answer but that more may come
 abbrev pub end_of : Go → Option Go
 end_of go.More = None
+end_of go.Quit = Some go.Quit
 end_of (go.Broken fault) = Some (go.Broken fault)
 end_of go.WriteFault = Some go.WriteFault
 end_of go.Memory = Some go.Memory

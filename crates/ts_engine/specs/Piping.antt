@@ -10,9 +10,9 @@ use Rattle.ts_engine.specs.declared.piped.End.{End}
 use Rattle.ts_engine.specs.declared.piped.End.TheVariants as end
 use Rattle.ts_engine.specs.declared.piped.Outcome.{Outcome}
 use Rattle.ts_engine.specs.declared.piped.Step.{Step}
-use Rattle.ts_engine.specs.declared.session.Go.TheVariants as go
+use Rattle.ts_engine.specs.declared.go.Go.TheVariants as go
 use Rattle.ts_engine.specs.Turn.{World}
-use Rattle.ts_engine.specs.Session.{Spot, Went, CutReply, CutFault, Answers}
+use Rattle.ts_engine.specs.Session.{Spot, Went, LastReply, Quitted, CutFault, Answers}
 
 -- where a session begins: nothing was read or executed
 abbrev pub beginning : WireLimits → World → Spot
@@ -22,9 +22,15 @@ beginning limits world = record {
   world = world;
 }
 
+-- the input was read to its end, which is between requests
+pub record ReadAll (left : Option (List ℕ)) (old new : Spot) (had has : List ℕ → Type 0) (bytes : List ℕ) : Type 0 where
+  pub went : Went old new had has bytes []
+  pub ended : stream_of new.reader [] ≡ Ended
+  pub at_end : IsAtEnd left
+
 -- how the requests in these bytes went, by the end; left is what the input still has
 abbrev pub Ends : End → Option (List ℕ) → Spot → Spot → (List ℕ → Type 0) → (List ℕ → Type 0) → List ℕ → Type 0
-Ends end.Ended left old new had has bytes = Went old new had has bytes [] × (stream_of new.reader [] ≡ Ended) × IsAtEnd left
+Ends end.Ended left old new had has bytes = ReadAll left old new had has bytes ⊎ Quitted old new had has bytes
 Ends (end.Truncated place) left old new had has bytes = Went old new had has bytes [] × (stream_of new.reader [] ≡ Inside place) × IsAtEnd left
 Ends (end.Protocol fault) left old new had has bytes = Answers (go.Broken fault) old new had has bytes
 Ends end.ReadFault left old new had has bytes = Answers go.More old new had has bytes
@@ -45,13 +51,18 @@ pub record Pumped (step : Step) (left rest : Option (List ℕ)) (old new : Spot)
   pub ends : EndsOr step.end rest old new had has bytes
 
 -- the place after the request whose reply failed, or of the fault whose text did
-abbrev pub cut_at : (old new : Spot) (had has : List ℕ → Type 0) (bytes : List ℕ) → CutReply old new had has bytes ⊎ CutFault old new had has bytes → ℕ
+abbrev pub cut_at : (old new : Spot) (had has : List ℕ → Type 0) (bytes : List ℕ) → LastReply old new had has bytes ⊎ CutFault old new had has bytes → ℕ
 cut_at old new had has bytes (inl cut) = cut.last.after
 cut_at old new had has bytes (inr cut) = cut.fault.place
 
+-- the place after QUIT, if there is one
+abbrev pub quit_at : (left : Option (List ℕ)) (old new : Spot) (had has : List ℕ → Type 0) (bytes : List ℕ) → ReadAll left old new had has bytes ⊎ Quitted old new had has bytes → Option ℕ
+quit_at left old new had has bytes (inl all) = None
+quit_at left old new had has bytes (inr quitted) = Some quitted.reply.last.after
+
 -- where an end shows itself in the input, if it does before the input ends
 abbrev pub shown_at : (e : End) (left : Option (List ℕ)) (old new : Spot) (had has : List ℕ → Type 0) (bytes : List ℕ) → Ends e left old new had has bytes → Option ℕ
-shown_at end.Ended left old new had has bytes ends = None
+shown_at end.Ended left old new had has bytes ends = quit_at left old new had has bytes ends
 shown_at (end.Truncated place) left old new had has bytes ends = None
 shown_at (end.Protocol fault) left old new had has bytes ends = Some fault.place
 shown_at end.ReadFault left old new had has bytes ends = None

@@ -1,15 +1,15 @@
 -- What a session does over a piece of its stream.
 use Rattle.ts_io.specs.Causes.{Rose}
-use Rattle.std.specs.Prelude.{◌≡◌, ◌⊎◌, ℕ, ◌+◌, ◌≤◌, ◌<◌, List, [], ◌∷◌, ◌++◌, length, take, Option, None, Some}
+use Rattle.std.specs.Prelude.{◌≡◌, ◌⊎◌, ⊤, true, false, ℕ, ◌+◌, ◌≤◌, ◌<◌, List, [], ◌∷◌, ◌++◌, length, take, Option, None, Some}
 use Rattle.ts_io.specs.Sinks.{Grows, GrowsByFront}
 use Rattle.ts_resp.specs.Reading.{Reading, stream_of, unfinished, ended_at}
 use Rattle.ts_resp.specs.declared.protocol.Protocol.{Protocol}
-use Rattle.ts_spec.specs.Run.{Placed, Runs, then_all, requests_in}
+use Rattle.ts_spec.specs.Run.{Placed, Runs, then_all, requests_in, is_quit, has_quit}
 use Rattle.ts_spec.specs.Text.{fault_text}
 use Rattle.ts_spec.specs.Wire.{Request, Stream, Broken}
 use Rattle.ts_engine.specs.Turn.{World, turn}
-use Rattle.ts_engine.specs.declared.session.Go.{Go}
-use Rattle.ts_engine.specs.declared.session.Go.TheVariants as go
+use Rattle.ts_engine.specs.declared.go.Go.{Go}
+use Rattle.ts_engine.specs.declared.go.Go.TheVariants as go
 
 -- where a session stands: what its reader holds, how many requests were executed, and the world
 pub record Spot : Type 0 where
@@ -17,17 +17,18 @@ pub record Spot : Type 0 where
   pub executed : ℕ
   pub world : World
 
--- Over these bytes these requests had their turns, and the sink grew by the text of the turns and then the tail.
+-- Over these bytes these requests had their turns, none of which is QUIT, and the sink grew by the text of the turns and then the tail.
 pub record Went (old new : Spot) (had has : List ℕ → Type 0) (bytes tail : List ℕ) : Type 0 where
   pub done : List Placed
   pub text : List ℕ
   pub stream : (more : List ℕ) → stream_of old.reader (bytes ++ more) ≡ then_all done (stream_of new.reader more)
   pub run : Runs turn old.world (requests_in done) text new.world
+  pub goes_on : has_quit (requests_in done) ≡ false
   pub grown : Grows had has (text ++ tail)
   pub executed : new.executed ≡ old.executed + length done
 
--- a request had its turn, and only a front of its text was written
-pub record CutReply (old new : Spot) (had has : List ℕ → Type 0) (bytes : List ℕ) : Type 0 where
+-- these requests and then a last one had their turns, and a front of the last one's text was written
+pub record LastReply (old new : Spot) (had has : List ℕ → Type 0) (bytes : List ℕ) : Type 0 where
   pub done : List Placed
   pub text : List ℕ
   pub mid : World
@@ -36,9 +37,16 @@ pub record CutReply (old new : Spot) (had has : List ℕ → Type 0) (bytes : Li
   pub kept : ℕ
   pub stream : (more : List ℕ) → stream_of old.reader (bytes ++ more) ≡ then_all (done ++ last ∷ []) (stream_of new.reader more)
   pub run : Runs turn old.world (requests_in done) text mid
+  pub goes_on : has_quit (requests_in done) ≡ false
   pub turned : turn mid last.request reply new.world
   pub grown : Grows had has (text ++ take kept reply)
   pub executed : new.executed ≡ old.executed + (length done + 1)
+
+-- the last request is QUIT, and its whole text was written
+pub record Quitted (old new : Spot) (had has : List ℕ → Type 0) (bytes : List ℕ) : Type 0 where
+  pub reply : LastReply old new had has bytes
+  pub whole : take reply.kept reply.reply ≡ reply.reply
+  pub asked : is_quit reply.last.request ≡ true
 
 -- these requests come first over the bytes, and had their turns; what else there is was left
 pub record WentSome (old new : Spot) (had has : List ℕ → Type 0) (bytes : List ℕ) : Type 0 where
@@ -46,6 +54,7 @@ pub record WentSome (old new : Spot) (had has : List ℕ → Type 0) (bytes : Li
   pub text : List ℕ
   pub stream : (more : List ℕ) → (rest : Stream) × (stream_of old.reader (bytes ++ more) ≡ then_all done rest)
   pub run : Runs turn old.world (requests_in done) text new.world
+  pub goes_on : has_quit (requests_in done) ≡ false
   pub grown : Grows had has text
   pub executed : new.executed ≡ old.executed + length done
 
@@ -67,8 +76,9 @@ pub record IsUpToDate (spot : Spot) : Type 0 where
 -- how a session went over a piece, by its answer
 abbrev pub Answers : Go → Spot → Spot → (List ℕ → Type 0) → (List ℕ → Type 0) → List ℕ → Type 0
 Answers go.More old new had has bytes = Went old new had has bytes [] × IsUpToDate new
+Answers go.Quit old new had has bytes = Quitted old new had has bytes
 Answers (go.Broken fault) old new had has bytes = Went old new had has bytes (fault_text fault.kind) × IsBroken fault new
-Answers go.WriteFault old new had has bytes = CutReply old new had has bytes ⊎ CutFault old new had has bytes
+Answers go.WriteFault old new had has bytes = LastReply old new had has bytes ⊎ CutFault old new had has bytes
 Answers go.Memory old new had has bytes = WentSome old new had has bytes
 
 -- one request had its turn and there may be more, or the session answered
@@ -79,14 +89,22 @@ GoesOn (Some answer) old new had has = Answers answer old new had has []
 -- the whole text was written, or a write failed after a front of it
 abbrev pub Wrote : Option Go → (List ℕ → Type 0) → (List ℕ → Type 0) → List ℕ → Type 0
 Wrote None had has text = Grows had has text
+Wrote (Some go.Quit) had has text = Grows had has text
 Wrote (Some go.WriteFault) had has text = GrowsByFront had has text
 Wrote (Some other) had has text = ⊥
+
+-- the session goes on where the request is not QUIT, and ends so where it is
+abbrev pub IsEndBy : Option Go → Request → Type 0
+IsEndBy None request = is_quit request ≡ false
+IsEndBy (Some go.Quit) request = is_quit request ≡ true
+IsEndBy (Some other) request = ⊤
 
 -- a request had its turn, and its reply was written unless a write failed
 pub record Replied (answer : Option Go) (request : Request) (old new : Spot) (had has : List ℕ → Type 0) : Type 0 where
   pub reply : List ℕ
   pub turned : turn old.world request reply new.world
   pub wrote : Wrote answer had has reply
+  pub end : IsEndBy answer request
   pub reader : new.reader ≡ old.reader
   pub executed : new.executed ≡ old.executed + 1
 
@@ -95,6 +113,7 @@ abbrev pub Refused : Go → Protocol → (List ℕ → Type 0) → (List ℕ →
 Refused (go.Broken told) fault had has = (told ≡ fault) × Grows had has (fault_text fault.kind)
 Refused go.WriteFault fault had has = GrowsByFront had has (fault_text fault.kind)
 Refused go.More fault had has = ⊥
+Refused go.Quit fault had has = ⊥
 Refused go.Memory fault had has = ⊥
 
 -- the count of faults did not fall, and a write fault comes only where it rose

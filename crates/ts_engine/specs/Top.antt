@@ -1,5 +1,5 @@
 -- What the top call does.
-use Rattle.std.specs.Prelude.{◌≡◌, ◌⊎◌, ℕ, ◌≤◌, List, [], ◌∷◌, map, codes, Option, String}
+use Rattle.std.specs.Prelude.{◌≡◌, ◌⊎◌, Bool, true, false, ℕ, ◌≤◌, List, [], ◌∷◌, map, codes, Option, String}
 use Rattle.std.specs.String.{string_bytes}
 use Rattle.ts_io.specs.Causes.{Rose}
 use Rattle.ts_io.specs.Sinks.{Grows, GrowsByFront}
@@ -44,12 +44,17 @@ pub record Headline (seen : Seen) (budget : ℕ) (bytes : List ℕ) (left : Opti
   pub written : Writes seen budget bytes left end
   pub reported : Reports (status_of end) (place_of end) given had has
 
--- the status that the grammar gives to an input that was read to its end
-abbrev pub status_by : Stream → Status
-status_by (Inside place) = status.Truncated
-status_by (Broken kind place) = status.Protocol
-status_by Ended = status.Ended
-status_by (Then request place rest) = status.Ended
+-- the status that the grammar gives to an ending
+abbrev pub status_at : Stream → Status
+status_at (Inside place) = status.Truncated
+status_at (Broken kind place) = status.Protocol
+status_at Ended = status.Ended
+status_at (Then request place rest) = status.Ended
+
+-- the status of an input that is answered whole: the good one where a QUIT ends it, and else that of its ending
+abbrev pub status_by : (has_quit : Bool) → Stream → Status
+status_by true end = status.Ended
+status_by false end = status_at end
 
 -- no count of faults rose
 abbrev pub NoneRose : (reads reads' writes writes' told told' : ℕ) → Type 0

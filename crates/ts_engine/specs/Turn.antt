@@ -1,8 +1,8 @@
 -- One turn: what a request is answered, and what it does to the database.
-use Rattle.std.specs.Prelude.{◌≡◌, ◌⊎◌, ◌<◌, ◌^◌, ℕ, Bool, true, false, ◌&&◌, List, [], ◌∷◌, map, Option, None, Some, option_map, Result, Ok, Err, IsTrue}
+use Rattle.std.specs.Prelude.{◌≡◌, ◌⊎◌, ◌<◌, ◌^◌, ℕ, Bool, true, false, ◌&&◌, List, [], ◌∷◌, map, Option, None, Some, is_some, option_map, Result, Ok, Err, IsTrue}
 use Rattle.std.specs.Result.{is_ok}
 use Rattle.ts_io.specs.Clocks.{reading_of, readings_after}
-use Rattle.ts_spec.specs.Command.{Triple, Command, Madd}
+use Rattle.ts_spec.specs.Command.{Triple, Command, Madd, DeleteRule, Ping, Quit, Drop, Exists}
 use Rattle.ts_spec.specs.Grammar.{command, needs_clock}
 use Rattle.ts_spec.specs.Refusal.{Fault, UnknownCommand, Arity}
 use Rattle.ts_spec.specs.Replies.{array, fault_reply, memory_reply, item_reply, reply_to}
@@ -92,11 +92,20 @@ abbrev pub IsAnswered : (reading : ℕ) → Command → Held → Reply → Held 
 IsAnswered reading (Madd triples) old reply new = AllTold reading triples old reply new
 IsAnswered reading other old reply new = IsStep (step old.limits old.state reading other) old reply new
 
+-- whether a command may find no memory: the reply of any other fits the room that there is
+abbrev pub takes_memory : Command → Bool
+takes_memory (DeleteRule source dest) = false
+takes_memory (Ping word) = is_some word
+takes_memory Quit = false
+takes_memory (Drop keys) = false
+takes_memory (Exists keys) = false
+takes_memory other = true
+
 -- what `execute` writes of a command: the text of its answer, or of want of memory
 pub record Executes (reading : ℕ) (command : Command) (old : Held) (written : List ℕ) (new : Held) : Type 0 where
   pub reply : Reply
   pub its_text : written ≡ text reply
-  pub done : IsAnswered reading command old reply new ⊎ IsOutOfMemory old reply new
+  pub done : IsAnswered reading command old reply new ⊎ (IsTrue (takes_memory command) × IsOutOfMemory old reply new)
 
 -- ---- the clock
 
@@ -125,8 +134,9 @@ pub record IsRefused (fault : Fault) (from : World) (written : List ℕ) (to : W
   pub says : written ≡ text (fault_reply fault)
   pub same : to ≡ from
 
--- want of memory may be said where the first word and the number of words are those of a command
+-- want of memory may be said where the first word and the number of words are those of a command, unless it is one that takes none
 abbrev pub may_want_memory : Result Command Fault → Bool
+may_want_memory (Ok command) = takes_memory command
 may_want_memory (Err UnknownCommand) = false
 may_want_memory (Err Arity) = false
 may_want_memory other = true

@@ -1,5 +1,5 @@
 // TS.MADD.
-ghost use Rattle.std.specs.Prelude.{◌≡◌, ◌+◌, ◌*◌, ◌≤◌, [], length, OnOk};
+ghost use Rattle.std.specs.Prelude.{◌≡◌, ◌+◌, ◌*◌, ◌≤◌, [], length};
 ghost use Rattle.ts_resp.specs.Replies.{reply_of};
 ghost use Rattle.ts_command.specs.Reading.{triple_of, triples_of};
 ghost use Rattle.ts_engine.specs.Answering.{IsShort};
@@ -7,15 +7,12 @@ ghost use Rattle.ts_engine.specs.Turn.{IsTold, Executes, WritesAll};
 ghost use Rattle.ts_spec.specs.Command.{Madd};
 
 use crate::answers::{at_time, time_at};
-use std::alloc::AllocError;
+use crate::room::{put_no_memory, reserve_items};
 use std::sync::ledger::Ledger;
 use ts_command::Triple;
 use ts_db::Db;
 use ts_resp::{Out, Reply, begin_array, put};
 use ts_sample::Steps;
-
-/// The most bytes of an item, and of what stands before all of them.
-const ITEM: usize = 64;
 
 /// Writes the reply to TS.MADD: takes the room for it, and then executes the triples one after another.
 pub(crate) fn put_items<L: Ledger>(
@@ -32,23 +29,8 @@ pub(crate) fn put_items<L: Ledger>(
 {
     match reserve_items(triples.len(), out) {
         Ok(()) => add_all(db, triples, reading, out, steps),
-        Err(_) => put(&Reply::Error("OOM out of memory"), out),
+        Err(_) => put_no_memory(out),
     }
-}
-
-// Makes room for an array of so many items.
-fn reserve_items(count: usize, out: &mut Out) -> Result<(), AllocError>
-    ensures room { OnOk result (64 * count + 64 ≤ out.new.spare) }
-    ensures bytes { out.new.bytes ≡ out.old.bytes }
-    ensures kept { out.old.spare ≤ out.new.spare }
-{
-    let Some(items) = count.checked_mul(ITEM) else {
-        return Err(AllocError);
-    };
-    let Some(room) = items.checked_add(ITEM) else {
-        return Err(AllocError);
-    };
-    out.reserve(room)
 }
 
 // Executes the triples, and writes their items as an array into room that was reserved.

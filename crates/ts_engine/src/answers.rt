@@ -3,11 +3,12 @@ ghost use Rattle.std.specs.Prelude.{◌≡◌, ◌≤◌, pos, IfOk};
 ghost use Rattle.ts_spec.specs.Keyed.{get};
 ghost use Rattle.ts_spec.specs.Sample.{MAX_TIME};
 ghost use Rattle.ts_spec.specs.Settings.{IsTime};
-ghost use Rattle.ts_spec.specs.Step.{time_of, create, alter_at, add_at, incr_at};
+ghost use Rattle.ts_spec.specs.Step.{time_of, create, alter_at, add_at, incr_at, delete_at};
 ghost use Rattle.ts_labels.specs.Spec.{spec_of, change_of};
+ghost use Rattle.ts_spec.specs.Replies.{number as shown};
 ghost use Rattle.ts_resp.specs.Replies.{reply_of};
 ghost use Rattle.ts_db.specs.Faults.{refusal_of};
-ghost use Rattle.ts_engine.specs.Answering.{message_of, done_reply, time_reply, IsShort};
+ghost use Rattle.ts_engine.specs.Answering.{message_of, done_reply, number_reply, IsShort};
 ghost use Rattle.ts_engine.specs.Turn.{StepOrMemory};
 
 use std::sync::ledger::Ledger;
@@ -73,6 +74,21 @@ pub(crate) fn incr<L: Ledger>(
     at_time(db.incr(key, change, time, spec, steps))
 }
 
+/// The reply to TS.DEL: how many samples were taken away.
+pub(crate) fn delete<L: Ledger>(
+    db: &mut Db,
+    key: &Word,
+    from: u64,
+    to: u64,
+    steps: &mut Steps<L>,
+) -> Reply
+    ensures answer { StepOrMemory (delete_at db.old.limits db.old.state key.now from to (get key.now db.old.state))
+        db.old (reply_of result) db.new }
+    ensures short { IsShort (reply_of result) }
+{
+    at_time(db.delete_range(key, from, to, steps))
+}
+
 // The reply to a command that only gets done.
 fn done(outcome: Result<(), DbFault>) -> Reply
     ensures { reply_of result ≡ done_reply outcome }
@@ -86,10 +102,10 @@ fn done(outcome: Result<(), DbFault>) -> Reply
 /// The reply to a command that answers a time.
 pub(crate) fn at_time(outcome: Result<u64, DbFault>) -> Reply
     requires { IfOk outcome (λ t. t ≤ MAX_TIME) }
-    ensures { reply_of result ≡ time_reply outcome }
+    ensures { reply_of result ≡ number_reply outcome }
 {
     match outcome {
-        Ok(time) => Reply::Int(signed(time)),
+        Ok(time) => number(time),
         Err(fault) => Reply::Error(message(fault)),
     }
 }
@@ -106,16 +122,24 @@ pub(crate) fn time_at(at: At, reading: u64) -> u64
     }
 }
 
-// A time as the integer that a reply shows.
-fn signed(time: u64) -> i64
-    requires { time ≤ MAX_TIME }
-    ensures { result ≡ pos time }
+/// The reply that is a time, or how many.
+pub(crate) fn number(number: u64) -> Reply
+    requires { number ≤ MAX_TIME }
+    ensures { reply_of result ≡ shown number }
 {
-    time as i64
+    Reply::Int(signed(number))
 }
 
-// The words of the error reply to a command that the database refuses.
-fn message(fault: DbFault) -> &'static str
+// A number as the integer that a reply shows.
+fn signed(number: u64) -> i64
+    requires { number ≤ MAX_TIME }
+    ensures { result ≡ pos number }
+{
+    number as i64
+}
+
+/// The words of the error reply to a command that the database refuses.
+pub(crate) fn message(fault: DbFault) -> &'static str
     ensures { result.now ≡ message_of (refusal_of fault) }
 {
     match fault {

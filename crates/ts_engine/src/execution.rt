@@ -4,11 +4,13 @@ ghost use Rattle.ts_command.specs.Reading.{reading as command_of};
 ghost use Rattle.ts_engine.specs.Turn.{Executes};
 
 use crate::additions::put_items;
-use crate::answers::{add, alter, create, incr, time_at};
+use crate::answers::{add, alter, create, delete, incr, time_at};
+use crate::keys::{count_keys, drop_keys};
+use crate::questions::{put_get, put_pong, put_range, put_word};
 use std::sync::ledger::Ledger;
 use ts_command::Command;
 use ts_db::Db;
-use ts_resp::{Out, put};
+use ts_resp::{Out, Reply, put};
 use ts_sample::Steps;
 
 /// Executes a command and leaves exactly the text of its reply in `out`. Want of memory is answered by its text,
@@ -51,5 +53,13 @@ pub fn execute<L: Ledger>(
             &incr(db, key, change, time_at(at, reading), spec, steps),
             out,
         ),
+        Command::DelRange { key, from, to } => put(&delete(db, &key, from, to, steps), out),
+        Command::Range { key, latest, query } => put_range(db, &key, latest, &query, out, steps),
+        Command::Get { key, latest } => put_get(db, &key, latest, out, steps),
+        Command::Ping { word } => put_pong(word, out),
+        Command::Echo { word } => put_word(word, out),
+        Command::Quit => put(&Reply::Simple("OK"), out),
+        Command::Drop { keys } => put(&drop_keys(db, &keys), out),
+        Command::Exists { keys } => put(&count_keys(db, &keys), out),
     }
 }

@@ -4,18 +4,24 @@
 mod additions;
 mod answers;
 mod execution;
+mod go;
+mod keys;
 mod laws;
 mod piped;
+mod questions;
+mod room;
+mod rows;
 mod running;
 mod session;
 mod status;
 mod turn;
 
 pub use execution::execute;
+pub use go::Go;
 pub use laws::triples_with_memory_are_one_step;
 pub use piped::{End, Outcome, pipe};
 pub use running::top;
-pub use session::{Go, Session};
+pub use session::Session;
 pub use status::Status;
 pub use ts_command::{Command, CommandFault, read};
 pub use ts_db::{Db, DbFault, Limits};

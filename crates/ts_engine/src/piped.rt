@@ -5,7 +5,8 @@ ghost use Rattle.ts_engine.specs.Session.{IsUpToDate};
 ghost use Rattle.ts_engine.specs.Piping.{Piped, Pumped, HasCauses, HasCausesOr};
 ghost use Rattle.ts_engine.specs.Ending.{end_at, end_by};
 
-use crate::session::{Go, Session};
+use crate::go::Go;
+use crate::session::Session;
 use std::alloc::Global;
 use ts_db::Db;
 use ts_io::{Clock, Sink, Source};
@@ -14,7 +15,7 @@ use ts_resp::{Protocol, WireLimits};
 /// How a stream ended.
 #[derive(Clone, Copy, Debug, PartialEq, Eq)]
 pub enum End {
-    /// The input ends between requests.
+    /// The input ends between requests, or QUIT was answered.
     Ended,
     /// The input ends inside the request that begins at this place.
     Truncated(u64),
@@ -156,6 +157,7 @@ fn end_of_piece(go: Go) -> Option<End>
 {
     match go {
         Go::More => None,
+        Go::Quit => Some(End::Ended),
         Go::Broken(fault) => Some(End::Protocol(fault)),
         Go::WriteFault => Some(End::WriteFault),
         Go::Memory => Some(End::Memory),

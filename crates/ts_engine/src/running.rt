@@ -1,7 +1,7 @@
 ghost use Rattle.std.specs.Prelude.{◌≡◌, ◌⊎◌, ◌≤◌, ◌<◌, ◌↔◌, ℕ, false, List, length, None, Some, IsTrue, codes};
 ghost use Rattle.std.specs.String.{string_bytes};
 ghost use Rattle.ts_io.specs.Causes.{Rose};
-ghost use Rattle.ts_engine.specs.Headline.{Seen, ending};
+ghost use Rattle.ts_engine.specs.Headline.{Seen, ending, asks_to_quit};
 ghost use Rattle.ts_engine.specs.Top.{AreUsable, IsPipe, Reports, Headline, status_by, NoneRose};
 
 use crate::piped::pipe;
@@ -36,7 +36,7 @@ pub fn top<S: Source, K: Sink, E: Sink, C: Clock, N: Listener>(
     // Where no device fails and the budget is above the input, the status is what the grammar says, or want of memory.
     ensures complete { IsPipe words.now → (bytes : List ℕ) → S.left input.old ≡ Some bytes → length bytes < budget
         → NoneRose (S.faults input.old) (S.faults input.new) (K.faults out.old) (K.faults out.new) (E.faults err.old) (E.faults err.new)
-        → (result ≡ Status.Memory) ⊎ (result ≡ status_by (ending limits.wire bytes)) }
+        → (result ≡ Status.Memory) ⊎ (result ≡ status_by (asks_to_quit limits.wire bytes) (ending limits.wire bytes)) }
 
     // Other words touch nothing but `err`.
     ensures usage { (IsPipe words.now → ⊥) → Reports Status.Usage None result (E.has err.old) (E.has err.new) }

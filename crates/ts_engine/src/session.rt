@@ -1,6 +1,7 @@
 ghost use Rattle.std.specs.Prelude.{◌≡◌, ◌+◌, ◌<◌, ◌≤◌, ◌^◌, [], length, IfOk, IfNone, IfSome};
 ghost use Rattle.ts_engine.specs.Going.{end_of};
 
+use crate::go::Go;
 use crate::turn::take_turn;
 use std::alloc::{AllocError, Global};
 use std::marker::Brand;
@@ -9,31 +10,6 @@ use ts_db::Db;
 use ts_io::{Clock, Sink, write_all_counted};
 use ts_resp::{Next, Out, Protocol, Reader, Reply, WireLimits, Word, put};
 use ts_sample::Steps;
-
-/// How a session goes on after a piece of its stream.
-#[derive(Clone, Copy, Debug, PartialEq, Eq)]
-pub enum Go {
-    /// Every whole request so far was answered: more bytes may come.
-    More,
-    /// The stream is broken, and the fault was answered.
-    Broken(Protocol),
-    /// A reply could not be written.
-    WriteFault,
-    /// There was no memory to read a request.
-    Memory,
-}
-
-impl Go {
-    // The end that the answer is, if it is one.
-    fn end(self) -> Option<Go>
-        ensures { result ≡ end_of self }
-    {
-        match self {
-            Go::More => None,
-            end => Some(end),
-        }
-    }
-}
 
 /// Answers the requests of one stream, which comes in pieces.
 #[derive(Drop)]
@@ -190,9 +166,10 @@ impl Session {
         ensures replied { Replied result words.items (spot self.old db.old (C.readings clock.old)) (spot self.new db.new (C.readings clock.new)) (K.has out.old) (K.has out.new) }
         ensures cause { WroteOrFault (K.faults out.old) (K.faults out.new) result }
     {
-        take_turn(db, words, clock, &mut self.room, steps);
+        let quits = take_turn(db, words, clock, &mut self.room, steps);
         self.executed += 1;
         match write_all_counted(out, self.room.bytes()) {
+            Ok(()) if quits => Some(Go::Quit),
             Ok(()) => None,
             Err(_) => Some(Go::WriteFault),
         }

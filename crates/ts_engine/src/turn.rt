@@ -1,4 +1,5 @@
-ghost use Rattle.std.specs.Prelude.{◌≡◌, ◌+◌, ◌≤◌, length};
+ghost use Rattle.std.specs.Prelude.{◌≡◌, ◌+◌, ◌≤◌, length, Ok};
+ghost use Rattle.ts_spec.specs.Run.{is_quit, says_quit};
 ghost use Rattle.ts_spec.specs.Grammar.{needs_clock};
 ghost use Rattle.ts_spec.specs.Text.{Error};
 ghost use Rattle.ts_resp.specs.Replies.{reply_of};
@@ -14,28 +15,42 @@ use ts_io::Clock;
 use ts_resp::{Out, Reply, Word, put};
 use ts_sample::Steps;
 
-/// Gives a request its turn, and leaves its reply in `room`.
+/// Gives a request its turn, and leaves its reply in `room`. Answers whether the request is QUIT.
 pub(crate) fn take_turn<C: Clock, L: Ledger>(
     db: &mut Db,
     words: Vec<Word>,
     clock: &mut C,
     room: &mut Out,
     steps: &mut Steps<L>,
-)
+) -> bool
     requires { 128 ≤ length room.old.bytes + room.old.spare }
     ensures turn { turn (record { held = db.old; readings = C.readings clock.old }) words.items room.new.bytes
         (record { held = db.new; readings = C.readings clock.new }) }
+    ensures quits { result ≡ is_quit words.items }
     ensures room { 128 ≤ length room.new.bytes + room.new.spare }
 {
     match read(words) {
         Ok(command) => {
             let reading = reading_for(&command, clock);
+            let quits = says_quit(&command);
             execute(db, command, reading, room, steps);
+            quits
         }
         Err(fault) => {
             room.clear();
             put(&refusal(fault), room);
+            false
         }
+    }
+}
+
+// Whether the command is QUIT.
+fn says_quit(command: &Command) -> bool
+    ensures { result ≡ says_quit (Ok (command_of command.now)) }
+{
+    match command {
+        Command::Quit => true,
+        _ => false,
     }
 }
 

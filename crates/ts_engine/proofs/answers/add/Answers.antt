@@ -1,28 +1,7 @@
 use Rattle.std.proofs.Common.{sym, subst}
-use Rattle.ts_spec.specs.Keyed.{get}
-use Rattle.ts_spec.specs.Sample.{MAX_TIME}
-use Rattle.ts_spec.specs.Step.{add_at}
-use Rattle.ts_labels.specs.Spec.{spec_of}
 use Rattle.ts_engine.specs.Answering.{IsShort}
-use Rattle.ts_engine.proofs.Short.{short_time}
-use Rattle.ts_engine.proofs.Times.{tells_add, bounded}
+use Rattle.ts_engine.proofs.Short.{short_outcome}
 use Rattle.ts_engine.proofs.answers.add.Goals as goal
 
-pub at_time-requires : goal.at_time-requires
-at_time-requires g c =
-    let there = get c.args.key c.args.db.now.state in
-    bounded c.args.time MAX_TIME c.args.db.now
-    (add_at c.args.db.now.limits c.args.db.now.state c.args.key c.args.time c.args.value c.args.on (spec_of c.args.spec) there)
-    c.add.result c.add.new.self c.requires
-    (tells_add c.args.time c.args.db.now.limits c.args.db.now.state c.args.key c.args.value c.args.on (spec_of c.args.spec) there)
-    c.add.ensures.added
-
 pub returns-clause-short : goal.returns-clause-short
-returns-clause-short g c =
-    let there = get c.args.key c.args.db.now.state in
-    subst IsShort (sym c.at_time.ensures) (short_time c.add.result (
-    bounded c.args.time MAX_TIME c.args.db.now
-    (add_at c.args.db.now.limits c.args.db.now.state c.args.key c.args.time c.args.value c.args.on (spec_of c.args.spec) there)
-    c.add.result c.add.new.self c.requires
-    (tells_add c.args.time c.args.db.now.limits c.args.db.now.state c.args.key c.args.value c.args.on (spec_of c.args.spec) there)
-    c.add.ensures.added))
+returns-clause-short g c = subst IsShort (sym c.at_time.ensures) (short_outcome c.add.result c.add.ensures.bounded)
