@@ -7,8 +7,9 @@ use ts_engine::{Limits, top};
 use ts_io::{MemClock, MemListener, MemSink, MemSource};
 
 mod devices;
-mod requests;
+mod questions;
 mod series;
+mod sessions;
 mod talk;
 mod wire;
 

@@ -1,9 +1,11 @@
 use super::{PLAIN, Row, run, run_all};
 use std::test::Fail;
 
-/// Two samples.
-const TWO: &[u8] = b"*4\r\n$6\r\nTS.ADD\r\n$1\r\na\r\n$1\r\n1\r\n$1\r\n1\r\n\
-    *4\r\n$6\r\nTS.ADD\r\n$1\r\na\r\n$1\r\n2\r\n$1\r\n1\r\n";
+/// Two requests of 14 bytes each.
+const TWO: &[u8] = b"*1\r\n$4\r\nPING\r\n*1\r\n$4\r\nPING\r\n";
+
+/// Three of them.
+const THREE: &[u8] = b"*1\r\n$4\r\nPING\r\n*1\r\n$4\r\nPING\r\n*1\r\n$4\r\nPING\r\n";
 
 #[test]
 fn devices_that_fail_and_budgets(rt: HostRuntime) -> Result<(), Fail> {
@@ -11,7 +13,7 @@ fn devices_that_fail_and_budgets(rt: HostRuntime) -> Result<(), Fail> {
     let second_write = Row {
         input: TWO,
         failing_write: 2,
-        out: b":1\r\n",
+        out: b"+PONG\r\n",
         err: b"tsd: write fault\n",
         status: 5,
         ..PLAIN
@@ -21,7 +23,7 @@ fn devices_that_fail_and_budgets(rt: HostRuntime) -> Result<(), Fail> {
     let second_read = Row {
         input: TWO,
         failing_read: 2,
-        out: b":1\r\n:2\r\n",
+        out: b"+PONG\r\n+PONG\r\n",
         err: b"tsd: read fault\n",
         status: 4,
         ..PLAIN
@@ -42,27 +44,27 @@ fn devices_that_fail_and_budgets(rt: HostRuntime) -> Result<(), Fail> {
             status: 5,
             ..PLAIN
         },
-        // the first request has 37 bytes
+        // the budget ends inside the second request, with the last one, and a byte past it
         Row {
-            input: TWO,
-            budget: 37,
-            out: b":1\r\n",
+            input: THREE,
+            budget: 20,
+            out: b"+PONG\r\n",
             err: b"tsd: budget of bytes used up\n",
             status: 8,
             ..PLAIN
         },
         Row {
             input: TWO,
-            budget: 74,
-            out: b":1\r\n:2\r\n",
+            budget: 28,
+            out: b"+PONG\r\n+PONG\r\n",
             err: b"tsd: budget of bytes used up\n",
             status: 8,
             ..PLAIN
         },
         Row {
             input: TWO,
-            budget: 75,
-            out: b":1\r\n:2\r\n",
+            budget: 29,
+            out: b"+PONG\r\n+PONG\r\n",
             ..PLAIN
         },
     ];

@@ -53,9 +53,11 @@ fn retention_and_limits(rt: HostRuntime) -> Result<(), Fail> {
 fn words_that_are_no_command(rt: HostRuntime) -> Result<(), Fail> {
     let lines = [
         ("TS.ADD a", "-ERR wrong number of arguments"),
+        ("TS.ADD a x 1", "-ERR TSDB: invalid timestamp"),
+        ("TS.ADD a 1 y", "-ERR TSDB: invalid value"),
         ("TS.ADD a 1 1 x", "-ERR TSDB: invalid option"),
         ("TS.CREATE z CHUNK_SIZE 50", "-ERR TSDB: invalid chunk size"),
-        ("TS.NONE a", "-ERR unknown command"),
+        ("GET a", "-ERR unknown command"),
     ];
     run_talk(&rt, rt.alloc(), PLAIN, &lines)
 }
@@ -63,6 +65,13 @@ fn words_that_are_no_command(rt: HostRuntime) -> Result<(), Fail> {
 #[test]
 fn writes_of_several_kinds(rt: HostRuntime) -> Result<(), Fail> {
     let alloc = rt.alloc();
+    let late = [
+        ("TS.ADD a 9 1", ":9"),
+        ("ts.add a 5 -3", ":5"),
+        ("TS.ADD b 9 2", ":9"),
+        ("TS.RANGE a - +", "[5:-3, 9:1]"),
+    ];
+    run_talk(&rt, alloc, PLAIN, &late)?;
     let triples = [
         ("TS.ADD a 1 1", ":1"),
         (
@@ -70,6 +79,7 @@ fn writes_of_several_kinds(rt: HostRuntime) -> Result<(), Fail> {
             "*4\r\n:2\r\n-ERR TSDB: the key does not exist\r\n\
                 -ERR TSDB: duplicate sample\r\n-ERR TSDB: invalid timestamp",
         ),
+        ("TS.RANGE a - +", "[1:1, 2:5]"),
     ];
     run_talk(&rt, alloc, PLAIN, &triples)?;
     let counter = [
@@ -79,7 +89,9 @@ fn writes_of_several_kinds(rt: HostRuntime) -> Result<(), Fail> {
             "-ERR TSDB: timestamp is before the last sample",
         ),
         ("TS.INCRBY c 2 TIMESTAMP 1000", ":1000"),
+        ("TS.GET c", "*2\r\n:1000\r\n+7"),
         ("TS.DECRBY c 3 TIMESTAMP 1001", ":1001"),
+        ("TS.GET c", "*2\r\n:1001\r\n+4"),
     ];
     let clock = Row {
         readings: &[1000, 900],
@@ -89,10 +101,15 @@ fn writes_of_several_kinds(rt: HostRuntime) -> Result<(), Fail> {
     let policies = [
         ("TS.ADD p 1 5", ":1"),
         ("TS.ADD p 1 9 ON_DUPLICATE FIRST", ":1"),
+        ("TS.GET p", "*2\r\n:1\r\n+5"),
         ("TS.ADD p 1 7 ON_DUPLICATE MIN", ":1"),
+        ("TS.GET p", "*2\r\n:1\r\n+5"),
         ("TS.ADD p 1 7 ON_DUPLICATE MAX", ":1"),
+        ("TS.GET p", "*2\r\n:1\r\n+7"),
         ("TS.ADD p 1 -2 ON_DUPLICATE SUM", ":1"),
+        ("TS.GET p", "*2\r\n:1\r\n+5"),
         ("TS.ADD p 1 1 ON_DUPLICATE LAST", ":1"),
+        ("TS.GET p", "*2\r\n:1\r\n+1"),
     ];
     run_talk(&rt, alloc, PLAIN, &policies)
 }

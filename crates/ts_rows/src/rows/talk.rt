@@ -4,7 +4,8 @@ use std::alloc::{AllocError, Global};
 use std::process::Abort;
 use std::test::Fail;
 
-/// A command with its words apart by spaces, and the reply to it.
+/// A command with its words apart by spaces, and the reply to it: its lines, without the end of the last one, or
+/// `[1:2, 3:4]` for rows, each with a time and a value.
 type Line<'a> = (&'a str, &'a str);
 
 /// Appends a mark, a number and the end of the line.
@@ -26,6 +27,30 @@ fn push_request(command: &str, bytes: &mut Vec<u8>) -> Result<(), AllocError> {
     Ok(())
 }
 
+/// Appends rows that are written `1:2, 3:4`, or none where nothing is written.
+fn push_rows(rows: &str, bytes: &mut Vec<u8>) -> Result<(), AllocError> {
+    push_header(b'*', rows.matches(':').count(), bytes)?;
+    for row in rows.split(", ") {
+        if let Some((time, value)) = row.split_once(':') {
+            bytes.extend_from_slice(b"*2\r\n:")?;
+            bytes.extend_from_slice(time.as_bytes())?;
+            bytes.extend_from_slice(b"\r\n+")?;
+            bytes.extend_from_slice(value.as_bytes())?;
+            bytes.extend_from_slice(b"\r\n")?;
+        }
+    }
+    Ok(())
+}
+
+/// Appends a reply, which a line gives in either form.
+fn push_reply(reply: &str, bytes: &mut Vec<u8>) -> Result<(), AllocError> {
+    if let Some(rest) = reply.strip_prefix('[') {
+        return push_rows(rest.trim_end_matches(']'), bytes);
+    }
+    bytes.extend_from_slice(reply.as_bytes())?;
+    bytes.extend_from_slice(b"\r\n")
+}
+
 /// Runs a row with these commands for its input, which must have these replies and end well.
 pub(super) fn run_talk(
     rt: &impl Abort,
@@ -37,8 +62,7 @@ pub(super) fn run_talk(
     let mut out = Vec::new(alloc);
     for (command, reply) in lines {
         push_request(command, &mut input)?;
-        out.extend_from_slice(reply.as_bytes())?;
-        out.extend_from_slice(b"\r\n")?;
+        push_reply(reply, &mut out)?;
     }
     let row = Row {
         input: &input,

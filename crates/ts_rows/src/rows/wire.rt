@@ -67,6 +67,13 @@ fn streams_that_break_or_end_early(rt: HostRuntime) -> Result<(), Fail> {
         },
         // the reply that was due before the fault comes first
         Row {
+            input: b"*1\r\n$4\r\nPING\r\n*1\r\n:5\r\n",
+            out: b"+PONG\r\n-ERR Protocol error: expected '$'\r\n",
+            err: b"tsd: protocol fault at byte 18\n",
+            status: 3,
+            ..PLAIN
+        },
+        Row {
             input: b"*4\r\n$6\r\nTS.ADD\r\n$1\r\na\r\n$4\r\n1000\r\n$1\r\n1\r\n*1\r\n:",
             out: b":1000\r\n-ERR Protocol error: expected '$'\r\n",
             err: b"tsd: protocol fault at byte 44\n",
