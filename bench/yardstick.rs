@@ -1,7 +1,10 @@
 // A yardstick for `tsd pipe`: the same work in plain Rust, without crates and without proofs.
 //
-// It reads requests from standard input, at most 4096 bytes a read, checks them as the server does, keeps
-// `TS.ADD key time value` in a BTreeMap from keys to ascending vectors, and makes one write for each reply.
+// It reads requests from standard input, at most 4096 bytes a read, checks them as the server does, and makes one write
+// for each reply. Samples stand in a BTreeMap from keys to ascending vectors, their values in millionths. It knows
+//   TS.ADD key time value
+//   TS.RANGE key from to
+//   TS.RANGE key from to FILTER_BY_VALUE least greatest
 //   yardstick          copies each word of a request, as the server does
 //   yardstick slices   takes the words as slices of the buffer, and copies a key only where it is new
 use std::collections::BTreeMap;
@@ -264,7 +267,6 @@ fn value(text: &[u8]) -> Result<i128, &'static [u8]> {
 #[derive(Clone, Copy)]
 struct Sample {
     time: u64,
-    #[allow(dead_code)]
     value: i128,
     #[allow(dead_code)]
     made: u32,
@@ -285,17 +287,94 @@ fn insert(list: &mut Vec<Sample>, sample: Sample) -> bool {
     true
 }
 
-/// The reply to a request, in the room.
-fn answer<W: AsRef<[u8]>>(words: &[W], series: &mut Series, room: &mut Vec<u8>) -> Result<(), &'static [u8]> {
-    let [name, key, time, amount] = words else {
-        return Err(b"-ERR unknown command\r\n");
-    };
-    if !name.as_ref().eq_ignore_ascii_case(b"TS.ADD") {
-        return Err(b"-ERR unknown command\r\n");
+/// Puts the digits of a number in the room, found two at a time from its end.
+fn put_digits(mut number: u64, room: &mut Vec<u8>) {
+    let mut digits = [0; 20];
+    let mut at = 20;
+    while number >= 10 {
+        let pair = (number % 100) as u8;
+        number /= 100;
+        at -= 2;
+        digits[at] = b'0' + pair / 10;
+        digits[at + 1] = b'0' + pair % 10;
     }
-    let time = number(time.as_ref()).ok_or(&b"-ERR TSDB: invalid timestamp\r\n"[..])?;
-    let value = value(amount.as_ref())?;
-    let sample = Sample { time, value, made: 0 };
+    if number > 0 || at == 20 {
+        at -= 1;
+        digits[at] = b'0' + number as u8;
+    }
+    room.extend_from_slice(&digits[at..]);
+}
+
+/// Puts a line of this kind with a number in the room.
+fn put_line(kind: u8, number: u64, room: &mut Vec<u8>) {
+    room.push(kind);
+    put_digits(number, room);
+    room.extend_from_slice(b"\r\n");
+}
+
+/// Puts millionths in the room as a decimal, without zeros at its end.
+fn put_value(value: i128, room: &mut Vec<u8>) {
+    let magnitude = value.unsigned_abs();
+    if value < 0 {
+        room.push(b'-');
+    }
+    // Most values fit 64 bits, which are divided at a fraction of the cost of 128.
+    let (whole, mut rest) = match u64::try_from(magnitude) {
+        Ok(small) => (small / 1_000_000, (small % 1_000_000) as u32),
+        Err(_) => ((magnitude / 1_000_000) as u64, (magnitude % 1_000_000) as u32),
+    };
+    put_digits(whole, room);
+    if rest == 0 {
+        return;
+    }
+    room.push(b'.');
+    let mut unit = 100_000;
+    while rest > 0 {
+        room.push(b'0' + (rest / unit) as u8);
+        rest %= unit;
+        unit /= 10;
+    }
+}
+
+/// Puts an array of the samples in the room, each as its time and its value.
+fn put_rows<'a>(samples: impl Iterator<Item = &'a Sample> + Clone, room: &mut Vec<u8>) {
+    put_line(b'*', samples.clone().count() as u64, room);
+    for sample in samples {
+        room.extend_from_slice(b"*2\r\n");
+        put_line(b':', sample.time, room);
+        room.push(b'+');
+        put_value(sample.value, room);
+        room.extend_from_slice(b"\r\n");
+    }
+}
+
+/// The samples of a list between two times, both included.
+fn between(list: &[Sample], from: u64, to: u64) -> &[Sample] {
+    let start = list.partition_point(|s| s.time < from);
+    let end = list.partition_point(|s| s.time <= to);
+    &list[start..end.max(start)]
+}
+
+fn time(text: &[u8]) -> Result<u64, &'static [u8]> {
+    number(text).ok_or(b"-ERR TSDB: invalid timestamp\r\n")
+}
+
+/// A time that ends an interval.
+fn bound(text: &[u8]) -> Result<u64, &'static [u8]> {
+    match text {
+        b"-" => Ok(0),
+        b"+" => Ok(MAX_TIME),
+        _ => time(text),
+    }
+}
+
+/// TS.ADD, after its name.
+fn add<W: AsRef<[u8]>>(words: &[W], series: &mut Series, room: &mut Vec<u8>) -> Result<(), &'static [u8]> {
+    let [key, at, amount] = words else {
+        return Err(b"-ERR wrong number of arguments\r\n");
+    };
+    let time = time(at.as_ref())?;
+    let sample = Sample { time, value: value(amount.as_ref())?, made: 0 };
     match series.get_mut(key.as_ref()) {
         Some(list) => {
             if !insert(list, sample) {
@@ -306,20 +385,39 @@ fn answer<W: AsRef<[u8]>>(words: &[W], series: &mut Series, room: &mut Vec<u8>) 
             series.insert(key.as_ref().to_vec(), vec![sample]);
         }
     }
-    let mut digits = [0; 20];
-    let (mut at, mut rest) = (20, time);
-    loop {
-        at -= 1;
-        digits[at] = b'0' + (rest % 10) as u8;
-        rest /= 10;
-        if rest == 0 {
-            break;
-        }
-    }
-    room.push(b':');
-    room.extend_from_slice(&digits[at..]);
-    room.extend_from_slice(b"\r\n");
+    put_line(b':', time, room);
     Ok(())
+}
+
+/// TS.RANGE, after its name.
+fn range<W: AsRef<[u8]>>(words: &[W], series: &Series, room: &mut Vec<u8>) -> Result<(), &'static [u8]> {
+    let [key, from, to, options @ ..] = words else {
+        return Err(b"-ERR wrong number of arguments\r\n");
+    };
+    let (from, to) = (bound(from.as_ref())?, bound(to.as_ref())?);
+    let values = match options {
+        [] => None,
+        [name, least, greatest] if name.as_ref().eq_ignore_ascii_case(b"FILTER_BY_VALUE") => {
+            Some(value(least.as_ref())?..=value(greatest.as_ref())?)
+        }
+        _ => return Err(b"-ERR TSDB: invalid option\r\n"),
+    };
+    let list = series.get(key.as_ref()).ok_or(&b"-ERR TSDB: the key does not exist\r\n"[..])?;
+    let samples = between(list, from, to).iter();
+    match values {
+        None => put_rows(samples, room),
+        Some(values) => put_rows(samples.filter(|s| values.contains(&s.value)), room),
+    }
+    Ok(())
+}
+
+/// The reply to a request, in the room.
+fn answer<W: AsRef<[u8]>>(words: &[W], series: &mut Series, room: &mut Vec<u8>) -> Result<(), &'static [u8]> {
+    match words {
+        [name, rest @ ..] if name.as_ref().eq_ignore_ascii_case(b"TS.ADD") => add(rest, series, room),
+        [name, rest @ ..] if name.as_ref().eq_ignore_ascii_case(b"TS.RANGE") => range(rest, series, room),
+        _ => Err(b"-ERR unknown command\r\n"),
+    }
 }
 
 fn end(line: &str, status: i32) -> ! {
