@@ -1,2 +1,16 @@
+pub mod Aggregates
+pub mod Around
+pub mod Counted
+pub mod Filtered
+pub mod First
+pub mod Groups
+pub mod Later
+pub mod Line
+pub mod Lines
 pub mod Listed
+pub mod Order
+pub mod Spans
+pub mod Steps
+pub mod Turns
 pub mod Walks
+pub mod Whole

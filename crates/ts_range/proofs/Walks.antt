@@ -1,5 +1,5 @@
 -- The walk over samples that makes their rows.
-use Rattle.std.proofs.Common.{◌≡◌, ℕ, suc, ◌+◌, ◌<◌, ◌≤◌, min, Bool, true, false, cond, List, [], ◌∷◌, ◌++◌, map, length, get_or, take, drop, refl, sym, ◌∙◌, ap, ◌⊎◌, inl, inr, arith}
+use Rattle.std.proofs.Common.{◌≡◌, ℕ, ◌+◌, ◌<◌, ◌≤◌, min, Bool, true, false, cond, List, [], ◌∷◌, ◌++◌, map, length, get_or, take, drop, refl, sym, ◌∙◌, ap, ◌⊎◌, inl, inr, arith}
 use Rattle.std.specs.Prelude.{filter, reverse, Option, None, Some, slice_get}
 use Rattle.std.proofs.lemmas.List.{map-append, append-nil, length-map, take_all, take-append-drop, take-append-le, reverse-append, length-reverse}
 use Rattle.std.proofs.lemmas.List.Elements.{filter-append, filter_more, filter_agree}
@@ -7,7 +7,9 @@ use Rattle.std.proofs.lemmas.Bool.{cases_lt}
 use Rattle.std.proofs.lemmas.Option.{slice_get_within, slice_get-get_or}
 use Rattle.ts_spec.specs.Sample.{Point}
 use Rattle.ts_spec.specs.Answer.{Row, row_of, turned, first_ones}
-use Rattle.ts_range.specs.Walk.{in_order, most_of}
+use Rattle.ts_range.proofs.Filtered.{length-filter}
+use Rattle.ts_range.specs.Order.{in_order}
+use Rattle.ts_range.specs.Walk.{most_of}
 
 -- ---- one sample after another
 
@@ -62,7 +64,7 @@ ends_late passes ps i most rows so_far past few =
 
 -- ---- the order, and how many
 
-map-reverse : {X Y : Type 0} (f : X → Y) (xs : List X) → map f (reverse xs) ≡ reverse (map f xs)
+pub map-reverse : {X Y : Type 0} (f : X → Y) (xs : List X) → map f (reverse xs) ≡ reverse (map f xs)
 map-reverse f [] = refl
 map-reverse f (x ∷ xs) =
     ap (map f) (reverse-append (x ∷ []) xs) ∙ map-append f (reverse xs) (x ∷ []) ∙ ap (λ ys. ys ++ f x ∷ []) (map-reverse f xs) ∙ sym (reverse-append (f x ∷ []) (map f xs))
@@ -83,14 +85,6 @@ turned_rows : (r : Bool) (passes : Point → Bool) (ps : List Point) → map row
 turned_rows true passes ps = ap (map row_of) (filter-reverse passes ps) ∙ map-reverse row_of (filter passes ps)
 turned_rows false passes ps = refl
 
-length-part : (passes : Point → Bool) (ps : List Point) → length (filter passes ps) ≤ length ps
-length-part passes [] = omega arith
-length-part passes (p ∷ ps) = go (passes p) (length-part passes ps)
-  where
-    go : (b : Bool) → length (filter passes ps) ≤ length ps → length (cond b (p ∷ filter passes ps) (filter passes ps)) ≤ suc (length ps)
-    go true ih = omega arith
-    go false ih = omega arith
-
 length-in_order : (r : Bool) (ps : List Point) → length (in_order r ps) ≡ length ps
 length-in_order true ps = length-reverse ps
 length-in_order false ps = refl
@@ -102,7 +96,7 @@ take_least n m xs short = go (cases_lt m n)
     go (inl less) = ap (λ k. take k xs) (omega arith)
     go (inr more) = take_all (min n m) xs (omega arith) ∙ sym (take_all m xs (omega arith))
 
-first_rows : (count : Option ℕ) (n : ℕ) (rows : List Row) → length rows ≤ n → take (most_of count n) rows ≡ first_ones count rows
+pub first_rows : (count : Option ℕ) (n : ℕ) (rows : List Row) → length rows ≤ n → take (most_of count n) rows ≡ first_ones count rows
 first_rows None n rows short = take_all n rows short
 first_rows (Some m) n rows short = take_least n m rows short
 
@@ -112,6 +106,6 @@ pub walked : (count : Option ℕ) (r : Bool) (passes test : Point → Bool) (ps 
 walked count r passes test ps same =
     let rows = map row_of (filter passes (in_order r ps)) in
     let short : length rows ≤ length ps =
-    omega (arith, length-map (filter passes (in_order r ps)) row_of, length-part passes (in_order r ps), length-in_order r ps) in
+    omega (arith, length-map (filter passes (in_order r ps)) row_of, length-filter passes (in_order r ps), length-in_order r ps) in
     first_rows count (length ps) rows short
     ∙ ap (first_ones count) (turned_rows r passes ps ∙ ap (λ (qs : List Point). turned r (map row_of qs)) (filter_agree passes test same ps))

@@ -1,15 +1,19 @@
 -- A question over one series and its rows, as the definitions have them.
-use Rattle.std.specs.Prelude.{ℤ, None, option_map}
+use Rattle.std.specs.Prelude.{ℤ, option_map}
 use Rattle.ts_spec.specs.Command as spec
 use Rattle.ts_spec.specs.Answer as answer
 use Rattle.ts_sample.specs.declared.cell.Cell.{Cell}
 use Rattle.ts_sample.specs.declared.cell.Cell.TheVariants as cell
+use Rattle.ts_range.specs.declared.query.Buckets.{Buckets}
 use Rattle.ts_range.specs.declared.query.Query.{Query}
 use Rattle.ts_range.specs.declared.row.Row.{Row}
 
 -- values from the first to the second
 abbrev pub span_of : ℤ × ℤ → spec.Span
 span_of values = record { least = values.0; greatest = values.1 }
+
+abbrev pub buckets_of : Buckets → spec.Buckets
+buckets_of bs = record { grid = bs.grid; agg = bs.agg; stamp = bs.stamp; empty = bs.empty }
 
 abbrev pub query_of : Query → spec.Query
 query_of q = record {
@@ -18,7 +22,7 @@ query_of q = record {
   times = option_map (λ times. times.items) q.times;
   values = option_map span_of q.values;
   count = q.count;
-  buckets = None;
+  buckets = option_map buckets_of q.buckets;
   reverse = q.reverse;
 }
 

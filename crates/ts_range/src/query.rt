@@ -2,7 +2,21 @@ ghost use Rattle.std.specs.Prelude.{◌≤◌, All};
 ghost use Rattle.std.specs.Option.{ForSome};
 ghost use Rattle.ts_spec.specs.Sample.{MAX_TIME};
 
+use ts_agg::Aggregator;
+use ts_bucket::{Grid, Stamp};
 use ts_sample::Units;
+
+/// The buckets that a question wants told, in place of single samples.
+#[derive(Clone, Copy, Debug, PartialEq, Eq)]
+pub struct Buckets {
+    pub grid: Grid,
+    /// What is told of the samples of a bucket.
+    pub agg: Aggregator,
+    /// Which time stands for a bucket.
+    pub stamp: Stamp,
+    /// Whether buckets without samples are told too.
+    pub empty: bool,
+}
 
 /// What is asked of a series. Times are in milliseconds, at most `MAX_TIME`.
 #[derive(Debug, Drop)]
@@ -17,6 +31,8 @@ pub struct Query {
     pub values: Option<(Units, Units)>,
     /// How many rows are wanted.
     pub count: Option<u64>,
+    /// The buckets that are told, if not the samples.
+    pub buckets: Option<Buckets>,
     /// Whether the last row comes first.
     pub reverse: bool,
     ghost from_fits: { from ≤ MAX_TIME },

@@ -1,66 +1,207 @@
 // Answers to questions, with ample memory.
 ghost use Rattle.std.specs.Prelude.{◌≡◌, ◌≤◌, All};
 ghost use Rattle.std.specs.Option.{ForSome};
-ghost use Rattle.ts_spec.specs.Sample.{MAX_TIME};
+ghost use Rattle.ts_spec.specs.Sample.{MAX_TIME, IsAscending, between};
 
 use super::*;
 use std::alloc::Global;
 use std::test::*;
+use ts_agg::Aggregator;
+use ts_bucket::{Grid, Stamp};
 use ts_sample::{Cell, MAX_TIME, Sample, Units};
 
 fn units(millionths: i128) -> Units {
     Units::new(millionths).unwrap_or(Units::ZERO)
 }
 
-fn sample(time: u32, millionths: i128) -> Sample
+fn sample(time: u64, millionths: i128) -> Sample
+    requires { time ≤ MAX_TIME }
     ensures { result.time ≡ time }
 {
     Sample {
-        time: u64::from(time),
+        time,
         value: units(millionths),
         made: 0,
     }
 }
 
-fn row(time: u32, millionths: i128) -> Row {
-    Row {
-        time: u64::from(time),
-        value: Cell::Number(units(millionths)),
+fn row(time: u64, millionths: i128) -> Row
+    requires { time ≤ MAX_TIME }
+{
+    told(time, Some(millionths))
+}
+
+// A row with a value, or without one.
+fn told(time: u64, millionths: Option<i128>) -> Row
+    requires { time ≤ MAX_TIME }
+{
+    let value = match millionths {
+        Some(millionths) => Cell::Number(units(millionths)),
+        None => Cell::Nan,
+    };
+    Row { time, value }
+}
+
+// A question over all times.
+fn query(count: Option<u64>, buckets: Option<Buckets>, reverse: bool) -> Query
+    ensures from { result.from ≡ 0 }
+    ensures to { result.to ≡ MAX_TIME }
+{
+    Query {
+        from: 0,
+        to: MAX_TIME,
+        times: None,
+        values: None,
+        count,
+        buckets,
+        reverse,
     }
 }
 
-// The rows of a question over 1:1, 2:5, 3:9 in millionths.
-fn rows(
-    alloc: Global,
-    times: Option<Vec<u64>>,
-    values: Option<(Units, Units)>,
-    count: Option<u64>,
-    reverse: bool,
-) -> Result<Vec<Row>, Fail>
-    requires { ForSome times (λ times. All (λ t. t ≤ MAX_TIME) times.items) }
+fn buckets(agg: Aggregator, align: u64, stamp: Stamp, empty: bool) -> Option<Buckets> {
+    let grid = Grid::new(align, 10)?;
+    Some(Buckets {
+        grid,
+        agg,
+        stamp,
+        empty,
+    })
+}
+
+// The rows of a question over these samples, which are all that a series has.
+fn ask(query: &Query, rows: Vec<Sample>, limit: u32) -> Result<Vec<Row>, RangeFault>
+    requires ascending { IsAscending rows.items }
+    requires within { between query.now.from query.now.to rows.items ≡ rows.items }
 {
-    let query = Query {
-        from: 0,
-        to: MAX_TIME,
-        times,
-        values,
-        count,
-        reverse,
+    let alloc = *rows.allocator();
+    let ends = match (rows.first(), rows.last()) {
+        (Some(first), Some(last)) => Some((first.time, last.time)),
+        _ => None,
     };
-    let rows = vec![in alloc; sample(1, 1), sample(2, 5), sample(3, 9)]?;
-    Ok(answer(alloc, &query, &Asked { rows }, 1)?)
+    let asked = Asked {
+        rows,
+        prior: None,
+        ahead: None,
+        ends,
+    };
+    answer(alloc, query, &asked, limit)
 }
 
 #[test]
-fn questions(rt: HostRuntime) -> Result<(), Fail> {
+fn samples(rt: HostRuntime) -> Result<(), Fail> {
     let alloc = rt.alloc();
-    let times = vec![in alloc; 3, 1]?;
-    let values = (units(2), units(9));
-    let filtered = rows(alloc, Some(times), Some(values), None, false)?;
-    assert_eq!(rt; filtered.as_slice(), [row(3, 9)].as_slice());
-    let last = rows(alloc, None, None, Some(2), true)?;
-    assert_eq!(rt; last.as_slice(), [row(3, 9), row(2, 5)].as_slice());
-    let none = rows(alloc, None, None, Some(0), false)?;
-    assert!(rt; none.is_empty());
+    let mut asked = query(None, None, false);
+    asked.times = Some(vec![in alloc; 3, 1]?);
+    asked.values = Some((units(2), units(9)));
+    let three = vec![in alloc; sample(1, 1), sample(2, 5), sample(3, 9)]?;
+    assert_eq!(rt; ask(&asked, three, 1)?.as_slice(), [row(3, 9)].as_slice());
+    let three = vec![in alloc; sample(1, 1), sample(2, 5), sample(3, 9)]?;
+    let asked = query(Some(2), None, true);
+    assert_eq!(rt;
+        ask(&asked, three, 1)?.as_slice(),
+        [row(3, 9), row(2, 5)].as_slice()
+    );
+    Ok(())
+}
+
+#[test]
+fn stamps(rt: HostRuntime) -> Result<(), Fail> {
+    let alloc = rt.alloc();
+    for (stamp, first, second) in [
+        (Stamp::Low, 0u32, 5u32),
+        (Stamp::Mid, 0, 10),
+        (Stamp::High, 5, 15),
+    ] {
+        let asked = query(None, buckets(Aggregator::Sum, 5, stamp, false), false);
+        let two = vec![in alloc; sample(3, 1), sample(5, 2)]?;
+        let want = [row(u64::from(first), 1), row(u64::from(second), 2)];
+        assert_eq!(rt; ask(&asked, two, 0)?.as_slice(), want.as_slice());
+    }
+    for (stamp, first, second) in [
+        (Stamp::Low, 3u32, 13u32),
+        (Stamp::Mid, 8, 18),
+        (Stamp::High, 13, 23),
+    ] {
+        let asked = query(None, buckets(Aggregator::Count, 3, stamp, false), false);
+        let three = vec![in alloc; sample(3, 1), sample(12, 1), sample(14, 1)]?;
+        let want = [
+            row(u64::from(first), 2_000_000),
+            row(u64::from(second), 1_000_000),
+        ];
+        assert_eq!(rt; ask(&asked, three, 0)?.as_slice(), want.as_slice());
+    }
+    let asked = query(
+        Some(1),
+        buckets(Aggregator::Sum, 0, Stamp::High, false),
+        true,
+    );
+    let far = vec![in alloc; sample(1, 2), sample(MAX_TIME, 4)]?;
+    assert_eq!(rt;
+        ask(&asked, far, 0)?.as_slice(),
+        [row(MAX_TIME, 4)].as_slice()
+    );
+    Ok(())
+}
+
+#[test]
+fn empty_buckets(rt: HostRuntime) -> Result<(), Fail> {
+    let alloc = rt.alloc();
+    for (agg, empty) in [
+        (Aggregator::Sum, Some(0)),
+        (Aggregator::Last, Some(2)),
+        (Aggregator::Min, None),
+    ] {
+        let asked = query(None, buckets(agg, 0, Stamp::Low, true), false);
+        let two = vec![in alloc; sample(1, 2), sample(35, 4)]?;
+        let want = [row(0, 2), told(10, empty), told(20, empty), row(30, 4)];
+        assert_eq!(rt; ask(&asked, two, 4)?.as_slice(), want.as_slice());
+    }
+    let two = vec![in alloc; sample(1, 2), sample(35, 4)]?;
+    let asked = query(None, buckets(Aggregator::Sum, 0, Stamp::Low, true), false);
+    assert!(rt; matches!(ask(&asked, two, 3), Err(RangeFault::EmptyRows)));
+    let two = vec![in alloc; sample(1, 2), sample(35, 4)]?;
+    let asked = query(
+        Some(3),
+        buckets(Aggregator::Sum, 0, Stamp::Low, true),
+        false,
+    );
+    let want = [row(0, 2), row(10, 0), row(20, 0)];
+    assert_eq!(rt; ask(&asked, two, 3)?.as_slice(), want.as_slice());
+    Ok(())
+}
+
+#[test]
+fn samples_before_empty_buckets(rt: HostRuntime) -> Result<(), Fail> {
+    let alloc = rt.alloc();
+    let mut asked = query(None, buckets(Aggregator::Last, 0, Stamp::Low, true), true);
+    asked.values = Some((units(3), units(9)));
+    let two = vec![in alloc; sample(1, 2), sample(35, 4)]?;
+    let want = [row(30, 4), row(20, 2), row(10, 2), told(0, None)];
+    assert_eq!(rt; ask(&asked, two, 4)?.as_slice(), want.as_slice());
+    let asked = query(
+        Some(2),
+        buckets(Aggregator::Last, 0, Stamp::Low, true),
+        true,
+    );
+    let far = vec![in alloc; sample(1, 2), sample(MAX_TIME, 4)]?;
+    let want = [
+        row(9_223_372_036_854_775_800, 4),
+        row(9_223_372_036_854_775_790, 2),
+    ];
+    assert_eq!(rt; ask(&asked, far, 2)?.as_slice(), want.as_slice());
+    let around = Asked {
+        rows: Vec::new(alloc),
+        prior: Some(sample(11, 3)),
+        ahead: Some(sample(1, 2)),
+        ends: Some((1, 35)),
+    };
+    let mut asked = query(None, buckets(Aggregator::Last, 0, Stamp::Low, true), false);
+    asked.from = 12;
+    asked.to = 34;
+    let rows = answer(alloc, &asked, &around, 3)?;
+    assert_eq!(rt;
+        rows.as_slice(),
+        [row(10, 2), row(20, 3), row(30, 3)].as_slice()
+    );
     Ok(())
 }

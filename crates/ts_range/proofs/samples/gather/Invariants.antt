@@ -3,8 +3,8 @@ use Rattle.std.specs.Prelude.{filter}
 use Rattle.ts_spec.specs.Answer as spec
 use Rattle.ts_range.specs.Query.{row_of}
 use Rattle.ts_range.specs.Filters.{passes}
-use Rattle.ts_range.specs.Walk.{in_order}
-use Rattle.ts_range.proofs.answers.gather.Given as goal
+use Rattle.ts_range.specs.Order.{in_order}
+use Rattle.ts_range.proofs.samples.gather.Given as goal
 
 abbrev pub invariant-loop-i : goal.invariant-loop-i
 invariant-loop-i l = record {

@@ -3,10 +3,10 @@ use Rattle.std.proofs.lemmas.List.{length-map, map-append}
 use Rattle.ts_spec.specs.Answer as spec
 use Rattle.ts_range.specs.Query.{row_of}
 use Rattle.ts_range.specs.Filters.{passes}
-use Rattle.ts_range.specs.Walk.{in_order}
+use Rattle.ts_range.specs.Order.{in_order}
 use Rattle.ts_range.proofs.Walks.{one_more, no_more, ends_early}
-use Rattle.ts_range.proofs.answers.gather.Goals as goal
-use Rattle.ts_range.proofs.answers.gather.Goals.{then-let_through, else-let_through}
+use Rattle.ts_range.proofs.samples.gather.Goals as goal
+use Rattle.ts_range.proofs.samples.gather.Goals.{then-let_through, else-let_through}
 
 pub returns-then-len-most : goal.returns-then-len-most
 returns-then-len-most c =
