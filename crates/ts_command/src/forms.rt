@@ -33,8 +33,8 @@ impl Sign {
     }
 }
 
-pub(crate) fn read_create(words: &mut Vec<Word>) -> Result<Command, CommandFault>
-    ensures command { Says reading result (create (drop 1 words.old.items)) }
+pub(crate) fn read_create(mut words: Vec<Word>) -> Result<Command, CommandFault>
+    ensures command { Says reading result (create (drop 1 words.items)) }
     ensures time { IfOk result HasTime }
 {
     let [_, _, options @ ..] = words.as_slice() else {
@@ -47,8 +47,8 @@ pub(crate) fn read_create(words: &mut Vec<Word>) -> Result<Command, CommandFault
     })
 }
 
-pub(crate) fn read_alter(words: &mut Vec<Word>) -> Result<Command, CommandFault>
-    ensures command { Says reading result (alter (drop 1 words.old.items)) }
+pub(crate) fn read_alter(mut words: Vec<Word>) -> Result<Command, CommandFault>
+    ensures command { Says reading result (alter (drop 1 words.items)) }
     ensures time { IfOk result HasTime }
 {
     let [_, _, options @ ..] = words.as_slice() else {
@@ -61,8 +61,8 @@ pub(crate) fn read_alter(words: &mut Vec<Word>) -> Result<Command, CommandFault>
     })
 }
 
-pub(crate) fn read_add(words: &mut Vec<Word>) -> Result<Command, CommandFault>
-    ensures command { Says reading result (add (drop 1 words.old.items)) }
+pub(crate) fn read_add(mut words: Vec<Word>) -> Result<Command, CommandFault>
+    ensures command { Says reading result (add (drop 1 words.items)) }
     ensures time { IfOk result HasTime }
 {
     let [_, _, time, value, options @ ..] = words.as_slice() else {
@@ -80,8 +80,8 @@ pub(crate) fn read_add(words: &mut Vec<Word>) -> Result<Command, CommandFault>
     })
 }
 
-pub(crate) fn read_incr(sign: Sign, words: &mut Vec<Word>) -> Result<Command, CommandFault>
-    ensures command { Says reading result (incr (signed_by sign) (drop 1 words.old.items)) }
+pub(crate) fn read_incr(sign: Sign, mut words: Vec<Word>) -> Result<Command, CommandFault>
+    ensures command { Says reading result (incr (signed_by sign) (drop 1 words.items)) }
     ensures time { IfOk result HasTime }
 {
     let [_, _, value, options @ ..] = words.as_slice() else {
@@ -97,8 +97,8 @@ pub(crate) fn read_incr(sign: Sign, words: &mut Vec<Word>) -> Result<Command, Co
     })
 }
 
-pub(crate) fn read_del_range(words: &mut Vec<Word>) -> Result<Command, CommandFault>
-    ensures command { Says reading result (del_range (drop 1 words.old.items)) }
+pub(crate) fn read_del_range(mut words: Vec<Word>) -> Result<Command, CommandFault>
+    ensures command { Says reading result (del_range (drop 1 words.items)) }
     ensures time { IfOk result HasTime }
 {
     let [_, _, from, to, ..] = words.as_slice() else {

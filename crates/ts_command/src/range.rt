@@ -35,13 +35,14 @@ fn read_query(
         times: given.times,
         values: given.values,
         count: given.count,
+        buckets: None,
         reverse,
     })
 }
 
 // The words are the whole request, with its name; the key is taken out of them at the end.
-pub(crate) fn read_range(reverse: bool, words: &mut Vec<Word>) -> Result<Command, CommandFault>
-    ensures command { SaysOr (IsTrue (has_list (drop 1 words.old.items))) reading result (range reverse (drop 1 words.old.items)) }
+pub(crate) fn read_range(reverse: bool, mut words: Vec<Word>) -> Result<Command, CommandFault>
+    ensures command { SaysOr (IsTrue (has_list (drop 1 words.items))) reading result (range reverse (drop 1 words.items)) }
     ensures time { IfOk result HasTime }
 {
     let alloc = *words.allocator();

@@ -15,7 +15,7 @@ use ts_resp::Word;
 /// The command that the words of a request say, with the words moved into it, or the first fault in them: the
 /// name, then the number of words, then the words from left to right. Only TS.MADD and the times of FILTER_BY_TS
 /// take memory, and not before the name and the number of words were found right; want of it is told as `Memory`.
-pub fn read(mut words: Vec<Word>) -> Result<Command, CommandFault>
+pub fn read(words: Vec<Word>) -> Result<Command, CommandFault>
     ensures ok { IfOk result (λ c. command words.items ≡ Ok (reading c)) }
     ensures time { IfOk result HasTime }
     ensures fault { IfErr result (IsFaultIn words.items) }
@@ -30,18 +30,18 @@ pub fn read(mut words: Vec<Word>) -> Result<Command, CommandFault>
         return Err(CommandFault::Arity);
     }
     match verb {
-        Verb::Create => read_create(&mut words),
-        Verb::Alter => read_alter(&mut words),
-        Verb::Add => read_add(&mut words),
+        Verb::Create => read_create(words),
+        Verb::Alter => read_alter(words),
+        Verb::Add => read_add(words),
         Verb::Madd => read_madd(words),
-        Verb::IncrBy => read_incr(Sign::Plus, &mut words),
-        Verb::DecrBy => read_incr(Sign::Minus, &mut words),
-        Verb::DelRange => read_del_range(&mut words),
-        Verb::Range => read_range(false, &mut words),
-        Verb::RevRange => read_range(true, &mut words),
-        Verb::Get => read_get(&mut words),
-        Verb::Ping => read_ping(&mut words),
-        Verb::Echo => read_echo(&mut words),
+        Verb::IncrBy => read_incr(Sign::Plus, words),
+        Verb::DecrBy => read_incr(Sign::Minus, words),
+        Verb::DelRange => read_del_range(words),
+        Verb::Range => read_range(false, words),
+        Verb::RevRange => read_range(true, words),
+        Verb::Get => read_get(words),
+        Verb::Ping => read_ping(words),
+        Verb::Echo => read_echo(words),
         Verb::Quit => Ok(Command::Quit),
         Verb::Drop => read_drop(words),
         Verb::Exists => read_exists(words),

@@ -10,8 +10,8 @@ use crate::command::Command;
 use crate::fault::CommandFault;
 use ts_resp::Word;
 
-pub(crate) fn read_get(words: &mut Vec<Word>) -> Result<Command, CommandFault>
-    ensures command { Says reading result (get_last (drop 1 words.old.items)) }
+pub(crate) fn read_get(mut words: Vec<Word>) -> Result<Command, CommandFault>
+    ensures command { Says reading result (get_last (drop 1 words.items)) }
     ensures time { IfOk result HasTime }
 {
     if words.len() < 2 {
@@ -26,8 +26,8 @@ pub(crate) fn read_get(words: &mut Vec<Word>) -> Result<Command, CommandFault>
     })
 }
 
-pub(crate) fn read_ping(words: &mut Vec<Word>) -> Result<Command, CommandFault>
-    ensures command { Says reading result (ping (drop 1 words.old.items)) }
+pub(crate) fn read_ping(mut words: Vec<Word>) -> Result<Command, CommandFault>
+    ensures command { Says reading result (ping (drop 1 words.items)) }
     ensures time { IfOk result HasTime }
 {
     if words.len() < 2 {
@@ -38,8 +38,8 @@ pub(crate) fn read_ping(words: &mut Vec<Word>) -> Result<Command, CommandFault>
     })
 }
 
-pub(crate) fn read_echo(words: &mut Vec<Word>) -> Result<Command, CommandFault>
-    ensures command { Says reading result (echo (drop 1 words.old.items)) }
+pub(crate) fn read_echo(mut words: Vec<Word>) -> Result<Command, CommandFault>
+    ensures command { Says reading result (echo (drop 1 words.items)) }
     ensures time { IfOk result HasTime }
 {
     if words.len() < 2 {

@@ -25,7 +25,7 @@ pub(crate) enum Verb {
     Exists,
 }
 
-// The commands that come most often: their table is short enough that the look-up needs no loop.
+// The commands that come most often have a table of their own: it is short enough that a look-up needs no loop.
 const WRITES: [(&[u8], Verb); 6] = [
     (b"TS.CREATE", Verb::Create),
     (b"TS.ALTER", Verb::Alter),
