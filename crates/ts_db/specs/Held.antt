@@ -1,5 +1,6 @@
 -- What a database holds, and how its answers follow from those of the definitions.
-use Rattle.std.specs.Prelude.{◌≡◌, ℕ, ⊤, Option, None, Some, Result, Ok, Err}
+use Rattle.std.specs.Prelude.{◌≡◌, ◌≤◌, ℕ, ⊤, List, [], ◌∷◌, Option, None, Some, Result, Ok, Err}
+use Rattle.ts_spec.specs.Sample.{Point, MAX_TIME, last_of, later_or}
 use Rattle.ts_spec.specs.declared.limits.Limits.{Limits}
 use Rattle.ts_spec.specs.Refusal.{Refusal, NoKey}
 use Rattle.ts_spec.specs.State.{Record, State}
@@ -40,3 +41,12 @@ Finds None what (Ok x) = ⊥
 Finds None what (Err fault) = refusal_of fault ≡ Some NoKey
 Finds (Some d) what (Ok x) = what x
 Finds (Some d) what (Err fault) = refusal_of fault ≡ None
+
+-- the times of the first and of the last sample, if there are any
+abbrev pub ends_of : List Point → Option (ℕ × ℕ)
+ends_of [] = None
+ends_of (p ∷ ps) = Some (p.time, (later_or p (last_of ps)).time)
+
+-- both are times
+abbrev pub AreTimes : ℕ × ℕ → Type 0
+AreTimes ends = (ends.0 ≤ MAX_TIME) × (ends.1 ≤ MAX_TIME)

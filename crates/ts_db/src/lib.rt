@@ -2,6 +2,7 @@
 #![tactic(auto)]
 
 mod alter;
+mod around;
 mod db;
 mod deletion;
 mod dropping;
