@@ -1,6 +1,6 @@
-pub mod Asked
 pub mod Executed
 pub mod Faulted
+pub mod Finding
 pub mod Fronts
 pub mod Headlines
 pub mod Items

@@ -1,4 +1,5 @@
 pub mod Answering
+pub mod Around
 pub mod Ending
 pub mod Going
 pub mod Headline

@@ -4,6 +4,7 @@
 mod additions;
 mod answers;
 mod execution;
+mod found;
 mod go;
 mod keys;
 mod laws;

@@ -1,21 +1,23 @@
 // Questions about one series, and words that are sent back.
-ghost use Rattle.std.specs.Prelude.{◌≡◌, ◌+◌, ◌≤◌, [], length, map, None, IfNone};
+ghost use Rattle.std.specs.Prelude.{◌≡◌, ◌+◌, ◌≤◌, List, [], length, None, IfNone};
 ghost use Rattle.ts_spec.specs.Answer as spec;
 ghost use Rattle.ts_spec.specs.Keyed.{get};
-ghost use Rattle.ts_spec.specs.Questions.{asked, range_response, last_response, ping_response};
+ghost use Rattle.ts_spec.specs.Questions.{range_response, rows_response, last_response, ping_response};
+ghost use Rattle.ts_spec.specs.Sample.{Point, IsAscending, between};
 ghost use Rattle.ts_spec.specs.Response.{Word as WordBack};
 ghost use Rattle.ts_spec.specs.Replies.{reply_to};
 ghost use Rattle.ts_spec.specs.Text.{text};
-ghost use Rattle.ts_range.specs.Query.{query_of, row_of};
-ghost use Rattle.ts_db.specs.Held.{Finds};
+ghost use Rattle.ts_range.specs.Query.{query_of};
+ghost use Rattle.ts_range.specs.Walk.{IsAskedOf};
 ghost use Rattle.ts_engine.specs.Answering.{IsTold};
 
 use crate::answers::message;
+use crate::found::find_asked;
 use crate::room::put_no_memory;
 use crate::rows::{put_last, put_rows};
 use std::sync::ledger::Ledger;
-use ts_db::{Db, DbFault};
-use ts_range::{Asked, Query, RangeFault, Row, answer};
+use ts_db::Db;
+use ts_range::{Asked, Query, RangeFault, answer};
 use ts_resp::{Out, Reply, Word, encode, put};
 use ts_sample::Steps;
 
@@ -33,27 +35,28 @@ pub(crate) fn put_range<L: Ledger>(
     ensures told { IsTold (range_response db.now.limits db.now.state key.now latest (query_of query.now) (get key.now db.now.state)) out.new.bytes }
     ensures room { 128 ≤ length out.new.bytes + out.new.spare }
 {
-    match rows_of(db, key, latest, query, steps) {
-        Ok(rows) => put_rows(&rows, out),
+    db.known();
+    match find_asked(db, key, latest, query, steps) {
+        Ok(asked) => put_answer(query, &asked, db.limits().empty_rows, out),
         Err(fault) => put(&Reply::Error(message(fault)), out),
     }
 }
 
-// The rows of a question over the series of a key.
-fn rows_of<L: Ledger>(
-    db: &Db,
-    key: &Word,
-    latest: bool,
-    query: &Query,
-    steps: &mut Steps<L>,
-) -> Result<Vec<Row>, DbFault>
-    ensures { Finds (get key.now db.now.state) (λ rows. map row_of rows.items ≡ spec.rows (query_of query.now) (asked db.now.state latest key.now)) result }
+// Writes the rows of a question, or why there are none.
+fn put_answer(query: &Query, asked: &Asked, empty_rows: u32, out: &mut Out)
+    requires empty { out.old.bytes ≡ [] }
+    requires room { 128 ≤ out.old.spare }
+    requires ascending { IsAscending asked.now.rows.items }
+    requires within { between query.now.from query.now.to asked.now.rows.items ≡ asked.now.rows.items }
+    ensures told { (l : List Point) → IsAscending l → IsAskedOf query.now asked.now l
+        → IsTold (rows_response (spec.answer empty_rows (query_of query.now) l)) out.new.bytes }
+    ensures room { 128 ≤ length out.new.bytes + out.new.spare }
 {
-    let rows = db.samples(key, query.from, query.to, latest, steps)?;
-    let alloc = *rows.allocator();
-    match answer(alloc, query, &Asked { rows }, db.limits().empty_rows) {
-        Ok(rows) => Ok(rows),
-        Err(RangeFault::Memory(error)) => Err(DbFault::Memory(error)),
+    let alloc = *asked.rows.allocator();
+    match answer(alloc, query, asked, empty_rows) {
+        Ok(rows) => put_rows(&rows, out),
+        Err(RangeFault::EmptyRows) => put(&Reply::Error("ERR TSDB: too many empty buckets"), out),
+        Err(RangeFault::Memory(_)) => put_no_memory(out),
     }
 }
 

@@ -1,0 +1,97 @@
+-- What the database finds of a question.
+use Rattle.std.proofs.Common.{◌≡◌, ℕ, Bool, true, false, cond, List, [], ◌∷◌, filter, refl, sym, ◌∙◌, ap, subst}
+use Rattle.std.specs.Prelude.{Option, None, Some, Ok, Err}
+use Rattle.std.specs.Option.{ForSome}
+use Rattle.std.proofs.lemmas.Bool.{false≢true}
+use Rattle.ts_spec.specs.declared.limits.Limits.{Limits}
+use Rattle.ts_spec.specs.Bucket.{Grid}
+use Rattle.ts_spec.specs.Key.{Key}
+use Rattle.ts_spec.specs.Keyed.{get}
+use Rattle.ts_spec.specs.Answer.{answer}
+use Rattle.ts_spec.specs.Command as query
+use Rattle.ts_spec.specs.Questions.{asked, rows_response, range_response}
+use Rattle.ts_engine.specs.Answering.{IsTold}
+use Rattle.ts_spec.specs.Rules.{open_of, opened, shown_by, shown_at, latest_at, told}
+use Rattle.ts_spec.specs.Sample.{Point, IsAscending, is_within, between, first_of, last_of, later_or}
+use Rattle.ts_spec.specs.State.{Rule, Record, State, rule_into, edge}
+use Rattle.ts_spec.specs.Valid.{IsValid}
+use Rattle.ts_spec.proofs.Samples.{ascending-times, ascending-put_all}
+use Rattle.ts_range.specs.declared.query.Query.{Query}
+use Rattle.ts_range.specs.declared.row.Asked.{Asked}
+use Rattle.ts_range.specs.Walk.{times_of, IsAroundOf, IsAskedOf}
+use Rattle.ts_db.specs.declared.fault.DbFault.{DbFault}
+use Rattle.ts_db.specs.Held.{Finds, ends_of}
+
+-- an answer that was found
+pub found : {T : Type 0} (o : Option Record) (what : T → Type 0) (x : T) → Finds o what (Ok x) → what x
+found None what x finds = absurd finds
+found (Some d) what x finds = finds
+
+-- what follows from an answer that was found is found
+pub found_more : {T U : Type 0} (o : Option Record) (what : T → Type 0) (x : T) (other : U → Type 0) (y : U) → Finds o what (Ok x) → other y → Finds o other (Ok y)
+found_more None what x other y finds is = finds
+found_more (Some d) what x other y finds is = is
+
+-- a refusal refuses each question of the key
+pub lost_too : {T U : Type 0} (o : Option Record) (what : T → Type 0) (other : U → Type 0) (fault : DbFault) → Finds o what (Err fault) → Finds o other (Err fault)
+lost_too None what other fault finds = finds
+lost_too (Some d) what other fault finds = finds
+
+-- what passes a test passes it again
+filter-twice : (test : Point → Bool) (ps : List Point) → filter test (filter test ps) ≡ filter test ps
+filter-twice test [] = refl
+filter-twice test (p ∷ ps) = go (test p) refl (filter-twice test ps)
+  where
+    go : (b : Bool) → test p ≡ b → filter test (filter test ps) ≡ filter test ps → filter test (cond b (p ∷ filter test ps) (filter test ps)) ≡ cond b (p ∷ filter test ps) (filter test ps)
+    go true is ih = ap (λ (x : Bool). cond x (p ∷ filter test (filter test ps)) (filter test (filter test ps))) is ∙ ap (λ (l : List Point). p ∷ l) ih
+    go false is ih = ih
+
+-- the samples of an interval lie in it
+pub between_within : (from to : ℕ) (all ps : List Point) → ps ≡ between from to all → between from to ps ≡ ps
+between_within from to all ps is = ap (between from to) is ∙ filter-twice (λ p. is_within from to p.time) all ∙ sym is
+
+-- the times of the ends, said in two ways
+pub ends_are : (ps : List Point) → ends_of ps ≡ times_of (first_of ps) (last_of ps)
+ends_are [] = refl
+ends_are (p ∷ ps) = refl
+
+-- without empty buckets the interval alone is asked
+pub asked_within : (q : Query) (asked : Asked) (ps : List Point) → asked.rows.items ≡ between q.from q.to ps → ForSome q.buckets (λ bs. bs.empty ≡ false) → IsAskedOf q asked ps
+asked_within q asked ps rows full = record { rows = sym rows; around = λ bs is empty. absurd (false≢true (sym (full bs is) ∙ empty)) }
+
+-- with them, on this grid, what lies around it too
+pub asked_around : (q : Query) (asked : Asked) (ps : List Point) (g : Grid) → asked.rows.items ≡ between q.from q.to ps → ForSome q.buckets (λ bs. bs.grid ≡ g)
+    → IsAroundOf q g asked ps → IsAskedOf q asked ps
+asked_around q asked ps g rows grid around = record { rows = sym rows; around = λ bs is empty. subst (λ (x : Grid). IsAroundOf q x asked ps) (sym (grid bs is)) around }
+
+-- what a key shows is ascending
+shows_ascending : (d : Record) → IsAscending d.plain → (r : Option Rule) → IsAscending (shown_by r d)
+shows_ascending d rises None = rises
+shows_ascending d rises (Some r) = ascending-times _ _ (ascending-put_all (told r d.born) d.plain rises)
+
+pub asked_ascending : (limits : Limits) (m : State) (with_open : Bool) (k : Key) → IsValid limits m → IsAscending (asked m with_open k)
+asked_ascending limits m true k valid = go (get k m) refl (rule_into m k)
+  where
+    go : (o : Option Record) → get k m ≡ o → (r : Option Rule) → IsAscending (latest_at o r)
+    go None is r = tt
+    go (Some d) is None = (valid.sound k d is).ascending
+    go (Some d) is (Some r) = ascending-put_all (opened r (edge d) d.born (open_of r)) (shown_by (Some r) d) (shows_ascending d (valid.sound k d is).ascending (Some r))
+asked_ascending limits m false k valid = go (get k m) refl (rule_into m k)
+  where
+    go : (o : Option Record) → get k m ≡ o → (r : Option Rule) → IsAscending (shown_at o r)
+    go None is r = tt
+    go (Some d) is r = shows_ascending d (valid.sound k d is).ascending r
+
+-- the first of the two ends is the time of the first sample
+pub first_end : (ps : List Point) (p : Point) (first last : ℕ) → Some (first, last) ≡ ends_of ps → first_of ps ≡ Some p → first ≡ p.time
+first_end [] p first last ends is = absurd (cc ends)
+first_end (q ∷ qs) p first last ends is =
+    let both : (first, last) ≡ (q.time, (later_or q (last_of qs)).time) = cc ends in
+    let same : q ≡ p = cc is in
+    ap (λ (e : ℕ × ℕ). e.0) both ∙ ap (λ (x : Point). x.time) same
+
+-- the rows of a key that is there
+pub range_told : (limits : Limits) (m : State) (key : Key) (with_open : Bool) (q : query.Query) (o : Option Record) (what : Asked → Type 0) (a : Asked) (written : List ℕ)
+    → Finds o what (Ok a) → IsTold (rows_response (answer limits.empty_rows q (asked m with_open key))) written → IsTold (range_response limits m key with_open q o) written
+range_told limits m key with_open q None what a written finds is = absurd finds
+range_told limits m key with_open q (Some d) what a written finds is = is

@@ -1,0 +1,92 @@
+// What the database holds of a question.
+ghost use Rattle.std.specs.Prelude.{◌≡◌, ◌≤◌, false, IfOk, IfNone, IfSome};
+ghost use Rattle.std.specs.Option.{ForSome};
+ghost use Rattle.ts_spec.specs.Keyed.{get};
+ghost use Rattle.ts_spec.specs.Questions.{asked as shown};
+ghost use Rattle.ts_spec.specs.Sample.{MAX_TIME, IsAscending, between};
+ghost use Rattle.ts_range.specs.Walk.{IsAskedOf};
+ghost use Rattle.ts_db.specs.Held.{Finds};
+ghost use Rattle.ts_engine.specs.Around.{IsAroundOf};
+
+use std::sync::ledger::Ledger;
+use ts_bucket::Grid;
+use ts_db::{Db, DbFault};
+use ts_range::{Asked, Query};
+use ts_resp::Word;
+use ts_sample::{Sample, Steps};
+
+// What lies around an interval: the last sample before it, the last one before the first bucket that is told, and the
+// times of the first sample and of the last.
+#[derive(Clone, Copy)]
+struct Around {
+    prior: Option<Sample>,
+    ahead: Option<Sample>,
+    ends: Option<(u64, u64)>,
+}
+
+/// What a key shows of what is asked: in the interval, and around it where empty buckets are told.
+pub(crate) fn find_asked<L: Ledger>(
+    db: &Db,
+    key: &Word,
+    latest: bool,
+    query: &Query,
+    steps: &mut Steps<L>,
+) -> Result<Asked, DbFault>
+    ensures asked { Finds (get key.now db.now.state) (λ a. IsAskedOf query.now a (shown db.now.state latest key.now)) result }
+    ensures ascending { IfOk result (λ a. IsAscending a.rows.items) }
+    ensures within { IfOk result (λ a. between query.now.from query.now.to a.rows.items ≡ a.rows.items) }
+{
+    let rows = db.samples(key, query.from, query.to, latest, steps)?;
+    let Some(grid) = grid_of_empty(query) else {
+        return Ok(Asked {
+            rows,
+            prior: None,
+            ahead: None,
+            ends: None,
+        });
+    };
+    let around = look_around(db, key, latest, query.from, grid, steps)?;
+    Ok(Asked {
+        rows,
+        prior: around.prior,
+        ahead: around.ahead,
+        ends: around.ends,
+    })
+}
+
+// The grid of a question that tells of empty buckets.
+fn grid_of_empty(query: &Query) -> Option<Grid>
+    ensures none { IfNone result (ForSome query.now.buckets (λ bs. bs.empty ≡ false)) }
+    ensures some { IfSome result (λ grid. ForSome query.now.buckets (λ bs. bs.grid ≡ grid)) }
+{
+    match query.buckets {
+        Some(buckets) if buckets.empty => Some(buckets.grid),
+        _ => None,
+    }
+}
+
+// What lies around the interval from this time on.
+fn look_around<L: Ledger>(
+    db: &Db,
+    key: &Word,
+    latest: bool,
+    from: u64,
+    grid: Grid,
+    steps: &mut Steps<L>,
+) -> Result<Around, DbFault>
+    requires { from ≤ MAX_TIME }
+    ensures { Finds (get key.now db.now.state) (λ a. IsAroundOf from grid a (shown db.now.state latest key.now)) result }
+{
+    let ends = db.ends(key, latest, steps)?;
+    let prior = db.before(key, from, latest, steps)?;
+    let Some((first, _)) = ends else {
+        return Ok(Around {
+            prior,
+            ahead: None,
+            ends,
+        });
+    };
+    let start = grid.start_of(from.max(first));
+    let ahead = db.before(key, start, latest, steps)?;
+    Ok(Around { prior, ahead, ends })
+}
