@@ -8,6 +8,7 @@ pub mod Later
 pub mod Line
 pub mod Lines
 pub mod Listed
+pub mod Near
 pub mod Order
 pub mod Spans
 pub mod Steps

@@ -12,7 +12,7 @@ use Rattle.ts_sample.proofs.Between.{filter-filter}
 use Rattle.ts_bucket.specs.Grid.{IsGrid, IsLastOf}
 use Rattle.ts_bucket.proofs.Numbers.{grows, start_number, passed}
 use Rattle.ts_range.specs.Order.{beyond}
-use Rattle.ts_range.proofs.Filtered.{filter-same, after-all}
+use Rattle.ts_range.proofs.Filtered.{filter-same, filter-swap, after-all}
 
 -- ---- by the first and the last time of a bucket
 
@@ -60,12 +60,28 @@ module _ (g : Grid) (some : 0 < g.duration) (b last : ℕ) (begins : start g b �
   pub before-is : (ps : List Point) → at_times (λ t. nat_lt t b) ps ≡ beyond true g b ps
   before-is ps = filter_agree (λ (p : Point). nat_lt p.time b) (λ (p : Point). nat_lt (start g p.time) b) (λ p. early p.time) ps
 
+  -- up to the end of the bucket they are the same samples
+  early_only : (u : ℕ) → (nat_lt u (last + 1) && nat_lt u b) ≡ nat_lt u b
+  early_only u =
+      let le = start-le g last some in
+      let same = ends.same in
+      grind (arith, nat_tests)
+
+  pub upto-before-is : (ps : List Point) → at_times (λ t. nat_lt t b) (at_times (λ t. nat_lt t (last + 1)) ps) ≡ beyond true g b ps
+  upto-before-is ps =
+      filter-filter (λ (p : Point). nat_lt p.time b) (λ (p : Point). nat_lt p.time (last + 1)) ps
+      ∙ filter_agree (λ (p : Point). nat_lt p.time (last + 1) && nat_lt p.time b) (λ (p : Point). nat_lt p.time b) (λ p. early_only p.time) ps
+      ∙ before-is ps
+
   module _ (ps : List Point) (times : All (λ p. p.time ≤ MAX_TIME) ps) where
     pub bucket-is : at_times (λ t. nat_lt t (last + 1)) (at_times (nat_le b) ps) ≡ members g b ps
     bucket-is =
         filter-filter (λ (p : Point). nat_lt p.time (last + 1)) (λ (p : Point). nat_le b p.time) ps
         ∙ filter-same (λ (p : Point). nat_le b p.time && nat_lt p.time (last + 1)) (λ (p : Point). start g p.time == b) ps
         (All-weaker (λ p. p.time ≤ MAX_TIME) (λ p. (nat_le b p.time && nat_lt p.time (last + 1)) ≡ (start g p.time == b)) (λ p time. here p.time time) ps times)
+
+    pub upto-bucket-is : at_times (nat_le b) (at_times (λ t. nat_lt t (last + 1)) ps) ≡ members g b ps
+    upto-bucket-is = filter-swap (λ (p : Point). nat_le b p.time) (λ (p : Point). nat_lt p.time (last + 1)) ps ∙ bucket-is
 
     pub past-is : at_times (nat_le (last + 1)) (at_times (nat_le b) ps) ≡ beyond false g b ps
     past-is =

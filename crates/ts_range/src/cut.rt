@@ -5,8 +5,9 @@ ghost use Rattle.ts_spec.specs.Sample.{MAX_TIME, IsAscending};
 ghost use Rattle.ts_spec.specs.Bucket.{start as start_of, members};
 ghost use Rattle.ts_range.specs.Order.{beyond};
 
+use crate::place::{place_near_back, place_near_front};
 use ts_bucket::Grid;
-use ts_sample::{Sample, place_of};
+use ts_sample::Sample;
 
 // The samples of the bucket that begins there, and those in the buckets after it, in the order asked.
 pub(crate) fn cut<'a>(
@@ -24,11 +25,12 @@ pub(crate) fn cut<'a>(
     ensures others { result.1.now ≡ beyond reverse grid.now start samples.now }
 {
     grid.known();
-    let (before, rest) = samples.split_at(place_of(samples, start));
-    let (bucket, past) = rest.split_at(place_of(rest, grid.last_of(start) + 1));
+    let end = grid.last_of(start) + 1;
     if reverse {
-        (bucket, before)
-    } else {
-        (bucket, past)
+        let (upto, _) = samples.split_at(place_near_back(samples, end));
+        let (rest, bucket) = upto.split_at(place_near_back(upto, start));
+        return (bucket, rest);
     }
+    let (_, from) = samples.split_at(place_near_front(samples, start));
+    from.split_at(place_near_front(from, end))
 }

@@ -8,6 +8,7 @@ mod cut;
 mod empty;
 mod fault;
 mod filters;
+mod place;
 mod query;
 mod row;
 mod samples;
