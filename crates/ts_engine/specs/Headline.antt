@@ -23,7 +23,6 @@ abbrev pub asks_to_quit : WireLimits → List ℕ → Bool
 asks_to_quit limits bytes = has_quit (requests_of (stream_at limits 0 bytes))
 
 -- how the bytes end
-
 abbrev pub ending : WireLimits → List ℕ → Stream
 ending limits bytes = ending_of (stream_at limits 0 bytes)
 

@@ -1,5 +1,4 @@
 pub mod Answering
-pub mod Around
 pub mod Ending
 pub mod Going
 pub mod Headline

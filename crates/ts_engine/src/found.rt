@@ -1,12 +1,11 @@
 // What the database holds of a question.
-ghost use Rattle.std.specs.Prelude.{◌≡◌, ◌≤◌, false, IfOk, IfNone, IfSome};
+ghost use Rattle.std.specs.Prelude.{◌≡◌, false, IfOk, IfNone, IfSome};
 ghost use Rattle.std.specs.Option.{ForSome};
 ghost use Rattle.ts_spec.specs.Keyed.{get};
 ghost use Rattle.ts_spec.specs.Questions.{asked as shown};
-ghost use Rattle.ts_spec.specs.Sample.{MAX_TIME, IsAscending, between};
-ghost use Rattle.ts_range.specs.Walk.{IsAskedOf};
+ghost use Rattle.ts_spec.specs.Sample.{IsAscending, between};
+ghost use Rattle.ts_range.specs.Walk.{IsAroundOf, IsAskedOf};
 ghost use Rattle.ts_db.specs.Held.{Finds};
-ghost use Rattle.ts_engine.specs.Around.{IsAroundOf};
 
 use std::sync::ledger::Ledger;
 use ts_bucket::Grid;
@@ -14,15 +13,6 @@ use ts_db::{Db, DbFault};
 use ts_range::{Asked, Query};
 use ts_resp::Word;
 use ts_sample::{Sample, Steps};
-
-// What lies around an interval: the last sample before it, the last one before the first bucket that is told, and the
-// times of the first sample and of the last.
-#[derive(Clone, Copy)]
-struct Around {
-    prior: Option<Sample>,
-    ahead: Option<Sample>,
-    ends: Option<(u64, u64)>,
-}
 
 /// What a key shows of what is asked: in the interval, and around it where empty buckets are told.
 pub(crate) fn find_asked<L: Ledger>(
@@ -45,13 +35,8 @@ pub(crate) fn find_asked<L: Ledger>(
             ends: None,
         });
     };
-    let around = look_around(db, key, latest, query.from, grid, steps)?;
-    Ok(Asked {
-        rows,
-        prior: around.prior,
-        ahead: around.ahead,
-        ends: around.ends,
-    })
+    let asked = look_around(db, key, latest, query, grid, rows, steps)?;
+    Ok(asked)
 }
 
 // The grid of a question that tells of empty buckets.
@@ -65,28 +50,36 @@ fn grid_of_empty(query: &Query) -> Option<Grid>
     }
 }
 
-// What lies around the interval from this time on.
+// The rows with what lies around the interval: the last sample before it, the last one before the first bucket
+// that is told, and the times of the first sample and of the last.
 fn look_around<L: Ledger>(
     db: &Db,
     key: &Word,
     latest: bool,
-    from: u64,
+    query: &Query,
     grid: Grid,
+    rows: Vec<Sample>,
     steps: &mut Steps<L>,
-) -> Result<Around, DbFault>
-    requires { from ≤ MAX_TIME }
-    ensures { Finds (get key.now db.now.state) (λ a. IsAroundOf from grid a (shown db.now.state latest key.now)) result }
+) -> Result<Asked, DbFault>
+    ensures around { Finds (get key.now db.now.state) (λ a. IsAroundOf query.now grid a (shown db.now.state latest key.now)) result }
+    ensures rows { IfOk result (λ a. a.rows ≡ rows) }
 {
     let ends = db.ends(key, latest, steps)?;
-    let prior = db.before(key, from, latest, steps)?;
+    let prior = db.before(key, query.from, latest, steps)?;
     let Some((first, _)) = ends else {
-        return Ok(Around {
+        return Ok(Asked {
+            rows,
             prior,
             ahead: None,
             ends,
         });
     };
-    let start = grid.start_of(from.max(first));
+    let start = grid.start_of(query.from.max(first));
     let ahead = db.before(key, start, latest, steps)?;
-    Ok(Around { prior, ahead, ends })
+    Ok(Asked {
+        rows,
+        prior,
+        ahead,
+        ends,
+    })
 }
