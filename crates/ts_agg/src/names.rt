@@ -7,20 +7,21 @@ ghost use Rattle.ts_agg.specs.Names.{aggregator_read};
 use crate::fault::AggFault;
 use ts_spec::Aggregator;
 
-const NAMES: [(&[u8], Result<Aggregator, AggFault>); 13] = [
-    (b"avg", Ok(Aggregator::Avg)),
-    (b"sum", Ok(Aggregator::Sum)),
-    (b"min", Ok(Aggregator::Min)),
-    (b"max", Ok(Aggregator::Max)),
-    (b"range", Ok(Aggregator::Range)),
-    (b"count", Ok(Aggregator::Count)),
-    (b"first", Ok(Aggregator::First)),
-    (b"last", Ok(Aggregator::Last)),
-    (b"twa", Err(AggFault::NotInProfile)),
-    (b"std.p", Err(AggFault::NotInProfile)),
-    (b"std.s", Err(AggFault::NotInProfile)),
-    (b"var.p", Err(AggFault::NotInProfile)),
-    (b"var.s", Err(AggFault::NotInProfile)),
+// The names of those that are left out stand for none.
+const NAMES: [(&[u8], Option<Aggregator>); 13] = [
+    (b"avg", Some(Aggregator::Avg)),
+    (b"sum", Some(Aggregator::Sum)),
+    (b"min", Some(Aggregator::Min)),
+    (b"max", Some(Aggregator::Max)),
+    (b"range", Some(Aggregator::Range)),
+    (b"count", Some(Aggregator::Count)),
+    (b"first", Some(Aggregator::First)),
+    (b"last", Some(Aggregator::Last)),
+    (b"twa", None),
+    (b"std.p", None),
+    (b"std.s", None),
+    (b"var.p", None),
+    (b"var.s", None),
 ];
 
 fn is_name(name: &[u8], word: &[u8]) -> bool
@@ -30,10 +31,7 @@ fn is_name(name: &[u8], word: &[u8]) -> bool
 }
 
 // What a word stands for in a table of names.
-fn named(
-    mut table: &[(&[u8], Result<Aggregator, AggFault>)],
-    word: &[u8],
-) -> Option<Result<Aggregator, AggFault>>
+fn named(mut table: &[(&[u8], Option<Aggregator>)], word: &[u8]) -> Option<Option<Aggregator>>
     ensures { result ≡ named (map (λ row. (row.0.now, row.1)) table.entry.now) word.now }
 {
     while let [row, rest @ ..] = table {
@@ -46,15 +44,19 @@ fn named(
 }
 
 /// The aggregator of a name, with letters in either case.
-#[tactic(auto, unfolding(crate::specs::Names::aggregators))]
+#[tactic(auto, unfolding(ts_spec::specs::Names::aggregators))]
 pub fn read_aggregator(name: &[u8]) -> Result<Aggregator, AggFault>
     ensures { result ≡ aggregator_read name.now }
 {
-    named(&NAMES, name).unwrap_or(Err(AggFault::Unknown))
+    match named(&NAMES, name) {
+        None => Err(AggFault::Unknown),
+        Some(None) => Err(AggFault::NotInProfile),
+        Some(Some(agg)) => Ok(agg),
+    }
 }
 
 /// The name of an aggregator, in lower case.
-#[tactic(auto, unfolding(crate::specs::Names::aggregators))]
+#[tactic(auto, unfolding(ts_spec::specs::Names::aggregators))]
 pub fn name(agg: Aggregator) -> &'static str
     ensures value { result.now ≡ aggregator_name agg }
     ensures reads_back { aggregator_read (aggregator_name agg) ≡ Ok agg }

@@ -4,7 +4,8 @@ use Rattle.std.specs.Prelude.{Result, Ok, codes}
 use Rattle.std.specs.Str.{str_eq_ignore_ascii_case}
 use Rattle.ts_spec.specs.Names.{Table, named}
 use Rattle.ts_spec.specs.Refusal.{Fault}
-use Rattle.ts_spec.specs.Settings.{Word, Given, Setting, and_then, new_setting, is_known, options, times_of, has_list}
+use Rattle.ts_spec.specs.Settings.{Word, Given, Setting, and_then, new_setting, is_known, options}
+use Rattle.ts_spec.specs.Ranges.{times_of, has_list}
 
 -- times that are read already, and those of the words from here on
 abbrev pub times_after : List ℕ → List Word → Result (List ℕ) Fault

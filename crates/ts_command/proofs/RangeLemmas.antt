@@ -2,9 +2,10 @@
 use Rattle.std.proofs.Common.{◌≡◌, ◌≤◌, ◌-◌, ℕ, Bool, List, [], ◌∷◌, length, take, drop, get_or, IsTrue, refl, arith}
 use Rattle.std.proofs.Math.Seq.{take-length}
 use Rattle.std.specs.Prelude.{Result, Ok, Err, false}
-use Rattle.ts_spec.specs.Command.{Range}
+use Rattle.ts_spec.specs.Command.{Query, Range}
 use Rattle.ts_spec.specs.Refusal.{Fault}
-use Rattle.ts_spec.specs.Settings.{Word, Given, and_then, end_word, nothing, options, range_options, has_list, query}
+use Rattle.ts_spec.specs.Settings.{Word, Given, and_then, end_word, nothing, options}
+use Rattle.ts_spec.specs.Ranges.{range_options, has_list, query}
 use Rattle.ts_spec.specs.Grammar.{range}
 use Rattle.ts_command.specs.declared.fault.CommandFault.{CommandFault}
 use Rattle.ts_command.specs.Asked.{asked}
@@ -13,20 +14,20 @@ use Rattle.ts_command.proofs.FaultLemmas.{IsFaultOr-then}
 use Rattle.ts_command.proofs.OptionLemmas.{has_list-drop}
 
 -- the command is its key and its question
-keyed : (reverse : Bool) (key : Word) (from to : Result ℕ Fault) (given : Result Given Fault)
-    → and_then from (λ first. and_then to (λ last. and_then given (λ g. Ok (Range key false (query reverse first last g)))))
-    ≡ and_then (and_then from (λ first. and_then to (λ last. and_then given (λ g. Ok (query reverse first last g))))) (λ q. Ok (Range key false q))
-keyed reverse key (Err fault) to given = refl
-keyed reverse key (Ok first) (Err fault) given = refl
-keyed reverse key (Ok first) (Ok last) (Err fault) = refl
-keyed reverse key (Ok first) (Ok last) (Ok g) = refl
+keyed : (key : Word) (from to : Result ℕ Fault) (given : Result Given Fault) (ask : ℕ → ℕ → Given → Result Query Fault)
+    → and_then from (λ first. and_then to (λ last. and_then given (λ g. and_then (ask first last g) (λ q. Ok (Range key false q)))))
+    ≡ and_then (and_then from (λ first. and_then to (λ last. and_then given (λ g. ask first last g)))) (λ q. Ok (Range key false q))
+keyed key (Err fault) to given ask = refl
+keyed key (Ok first) (Err fault) given ask = refl
+keyed key (Ok first) (Ok last) (Err fault) ask = refl
+keyed key (Ok first) (Ok last) (Ok g) ask = refl
 
 -- a fault in the question is one of the command
 told : (reverse : Bool) (key from to : Word) (words : List Word) (fault : CommandFault)
     → IsFaultOr (IsTrue (has_list words)) fault (asked reverse from to words)
     → IsFaultOr (IsTrue (has_list (key ∷ from ∷ to ∷ words))) fault (range reverse (key ∷ from ∷ to ∷ words))
 told reverse key from to words fault h =
-    rw (keyed reverse key (end_word from) (end_word to) (options range_options nothing 0 words))
+    rw (keyed key (end_word from) (end_word to) (options range_options nothing 0 words) (query reverse from to))
     (IsFaultOr-then (IsTrue (has_list words)) (IsTrue (has_list (key ∷ from ∷ to ∷ words))) fault (asked reverse from to words) (λ q. Ok (Range key false q))
     (has_list-drop 3 (key ∷ from ∷ to ∷ words)) h)
 

@@ -1,6 +1,6 @@
 -- Tables whose rows are seen in another way.
 use Rattle.std.proofs.Common.{◌≡◌, ℕ, Bool, true, false, if◌then◌else◌, List, [], ◌∷◌, ◌++◌, map, refl, ap, ◌∙◌}
-use Rattle.std.specs.Prelude.{Option, None, Some, option_map}
+use Rattle.std.specs.Prelude.{Option, None, Some, option_map, IfSome, IsTrue}
 use Rattle.std.specs.Str.{str_eq_ignore_ascii_case}
 use Rattle.ts_spec.specs.Names.{Table, named}
 
@@ -34,3 +34,17 @@ named-append (row ∷ rows) back word = chosen-else row.1 (str_eq_ignore_ascii_c
 pub named-append-map : {X Y : Type 0} (f : X → Y) (front back : Table X) (word : List ℕ)
     → option_map f (found_else (named front word) (named back word)) ≡ named (map (λ row. (row.0, f row.1)) (front ++ back)) word
 named-append-map f front back word = ap (option_map f) (named-append front back word) ∙ named-map f (front ++ back) word
+
+-- this holds of each row whose name the word is
+abbrev pub EachRow : {X : Type 0} → (holds : X → Type 0) → (word : List ℕ) → Table X → Type 0
+EachRow holds word [] = Unit {0}
+EachRow holds word (row ∷ rows) = (IsTrue (str_eq_ignore_ascii_case row.0 word) → holds row.1) × EachRow holds word rows
+
+-- then it holds of what the word names
+pub named-holds : {X : Type 0} (holds : X → Type 0) (word : List ℕ) (rows : Table X) → EachRow holds word rows → IfSome (named rows word) holds
+named-holds holds word [] each = tt
+named-holds holds word (row ∷ rows) each = go (str_eq_ignore_ascii_case row.0 word) each.0 (named-holds holds word rows each.1)
+  where
+    go : (b : Bool) → (IsTrue b → holds row.1) → IfSome (named rows word) holds → IfSome (if b then Some row.1 else named rows word) holds
+    go true this rest = this refl
+    go false this rest = rest

@@ -3,6 +3,7 @@ use Rattle.std.specs.Prelude.{ℤ, neg_ℤ, Bool, true, false, ◌&&◌, ◌==�
 use Rattle.ts_spec.specs.Names.{Table}
 use Rattle.ts_spec.specs.Command.{Quit, Drop, Exists}
 use Rattle.ts_spec.specs.Settings as spec
+use Rattle.ts_spec.specs.Ranges as ranges
 use Rattle.ts_spec.specs.Settings.{Setting, series_options, alter_options, add_options, incr_options}
 use Rattle.ts_spec.specs.Grammar.{Form, form, list_form, option_form, create, alter, add, madd, incr, by_threes, del_range, range, get_last, ping, echo}
 use Rattle.ts_command.specs.declared.series_options.SeriesOption.{SeriesOption}
@@ -34,9 +35,13 @@ table_of set.Incr = incr_options
 
 -- the option of an option word of a question
 abbrev pub range_setting_of : RangeOption → Setting
-range_setting_of range_option.FilterByTs = spec.filter_by_ts
-range_setting_of range_option.FilterByValue = spec.filter_by_value
-range_setting_of range_option.Count = spec.count
+range_setting_of range_option.FilterByTs = ranges.filter_by_ts
+range_setting_of range_option.FilterByValue = ranges.filter_by_value
+range_setting_of range_option.Count = ranges.count
+range_setting_of range_option.Aggregation = ranges.aggregation
+range_setting_of range_option.Align = ranges.align
+range_setting_of range_option.BucketTimestamp = ranges.bucket_timestamp
+range_setting_of range_option.Empty = ranges.empty
 
 -- whether an option of a question has a list
 abbrev pub is_list : RangeOption → Bool

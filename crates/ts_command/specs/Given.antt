@@ -1,5 +1,5 @@
 -- What options say, as the definitions have it.
-use Rattle.std.specs.Prelude.{None, option_map}
+use Rattle.std.specs.Prelude.{false, None, option_map}
 use Rattle.ts_spec.specs.Settings as spec
 use Rattle.ts_range.specs.Query.{span_of}
 use Rattle.ts_command.specs.declared.given.Given.{Given}
@@ -16,6 +16,10 @@ given_of g = record {
   times = None;
   values = None;
   count = None;
+  aggregation = None;
+  align = None;
+  stamp = None;
+  empty = false;
 }
 
 abbrev pub range_given_of : RangeGiven → spec.Given
@@ -29,4 +33,8 @@ range_given_of g = record {
   times = option_map (λ times. times.items) g.times;
   values = option_map span_of g.values;
   count = g.count;
+  aggregation = g.aggregation;
+  align = g.align;
+  stamp = g.stamp;
+  empty = g.empty;
 }

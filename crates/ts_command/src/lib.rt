@@ -2,6 +2,8 @@
 //! encodings are those of RedisTimeSeries' command reference, with letters in either case.
 #![tactic(auto)]
 
+mod bucket_options;
+mod bucket_words;
 mod clock;
 mod command;
 mod fault;

@@ -1,9 +1,11 @@
 // Words that are names, with letters in either case.
-ghost use Rattle.std.specs.Prelude.{◌≡◌, map};
+ghost use Rattle.std.specs.Prelude.{◌≡◌, map, IfSome};
 ghost use Rattle.std.specs.Str.{str_eq_ignore_ascii_case};
-ghost use Rattle.ts_spec.specs.Names.{named, policies, encodings};
+ghost use Rattle.ts_spec.specs.Names.{named, policies, encodings, aligns, stamps};
+ghost use Rattle.ts_spec.specs.Ranges.{IsAlign};
 
-use ts_spec::{Encoding, Policy};
+use ts_bucket::Stamp;
+use ts_spec::{Align, Encoding, Policy};
 
 const POLICIES: [(&[u8], Policy); 6] = [
     (b"BLOCK", Policy::Block),
@@ -17,6 +19,24 @@ const POLICIES: [(&[u8], Policy); 6] = [
 const ENCODINGS: [(&[u8], Encoding); 2] = [
     (b"COMPRESSED", Encoding::Compressed),
     (b"UNCOMPRESSED", Encoding::Uncompressed),
+];
+
+const ALIGNS: [(&[u8], Align); 4] = [
+    (b"start", Align::From),
+    (b"-", Align::From),
+    (b"end", Align::To),
+    (b"+", Align::To),
+];
+
+const STAMPS: [(&[u8], Stamp); 8] = [
+    (b"-", Stamp::Low),
+    (b"start", Stamp::Low),
+    (b"low", Stamp::Low),
+    (b"+", Stamp::High),
+    (b"end", Stamp::High),
+    (b"high", Stamp::High),
+    (b"~", Stamp::Mid),
+    (b"mid", Stamp::Mid),
 ];
 
 fn is_name(name: &[u8], word: &[u8]) -> bool
@@ -50,4 +70,20 @@ pub(crate) fn encoding_named(word: &[u8]) -> Option<Encoding>
     ensures { result ≡ named encodings word.now }
 {
     named(&ENCODINGS, word)
+}
+
+// The end of an interval that a word names, for buckets to begin at.
+#[tactic(auto, unfolding(ts_spec::specs::Names::aligns))]
+pub(crate) fn align_named(word: &[u8]) -> Option<Align>
+    ensures value { result ≡ named aligns word.now }
+    ensures bound { IfSome result IsAlign }
+{
+    named(&ALIGNS, word)
+}
+
+#[tactic(auto, unfolding(ts_spec::specs::Names::stamps))]
+pub(crate) fn stamp_named(word: &[u8]) -> Option<Stamp>
+    ensures { result ≡ named stamps word.now }
+{
+    named(&STAMPS, word)
 }

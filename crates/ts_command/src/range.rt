@@ -1,7 +1,7 @@
 // TS.RANGE and TS.REVRANGE.
 ghost use Rattle.std.specs.Prelude.{drop, IfOk, IsTrue};
 ghost use Rattle.ts_spec.specs.Grammar.{range};
-ghost use Rattle.ts_spec.specs.Settings.{has_list};
+ghost use Rattle.ts_spec.specs.Ranges.{has_list};
 ghost use Rattle.ts_range.specs.Query.{query_of};
 ghost use Rattle.ts_command.specs.Answers.{HasTime};
 ghost use Rattle.ts_command.specs.Asked.{asked};
@@ -26,16 +26,20 @@ fn read_query(
 ) -> Result<Query, CommandFault>
     ensures { SaysOr (IsTrue (has_list options.now)) query_of result (asked reverse from.now to.now options.now) }
 {
-    let from = end_word(from)?;
-    let to = end_word(to)?;
+    let first = end_word(from)?;
+    let last = end_word(to)?;
     let given = read_range_options(alloc, options)?;
+    if given.lacks_aggregation() || given.lacks_end(from, to) {
+        return Err(CommandFault::BadOption);
+    }
+    let buckets = given.buckets(first, last);
     Ok(Query {
-        from,
-        to,
+        from: first,
+        to: last,
         times: given.times,
         values: given.values,
         count: given.count,
-        buckets: None,
+        buckets,
         reverse,
     })
 }

@@ -3,11 +3,13 @@ ghost use Rattle.std.specs.Prelude.{◌≡◌, ◌≤◌, ⊤, [], ◌∷◌, Al
 ghost use Rattle.std.specs.Str.{str_eq_ignore_ascii_case};
 ghost use Rattle.ts_spec.specs.Names.{named};
 ghost use Rattle.ts_spec.specs.Sample.{MAX_TIME};
-ghost use Rattle.ts_spec.specs.Settings.{nothing, new_setting, options, range_options, count_own, is_known, times_of, has_list};
+ghost use Rattle.ts_spec.specs.Settings.{nothing, new_setting, options, count_own, is_known};
+ghost use Rattle.ts_spec.specs.Ranges.{range_options, times_of, has_list};
 ghost use Rattle.ts_command.specs.Faults.{Says, SaysOr};
 ghost use Rattle.ts_command.specs.Given.{range_given_of};
 ghost use Rattle.ts_command.specs.Forms.{range_setting_of, is_list};
 
+use crate::bucket_options::{add_aggregation, add_align, add_stamp};
 use crate::fault::CommandFault;
 use crate::names::named;
 use crate::range_given::RangeGiven;
@@ -21,12 +23,20 @@ pub(crate) enum RangeOption {
     FilterByTs,
     FilterByValue,
     Count,
+    Aggregation,
+    Align,
+    BucketTimestamp,
+    Empty,
 }
 
-const RANGE: [(&[u8], RangeOption); 3] = [
+const RANGE: [(&[u8], RangeOption); 7] = [
     (b"FILTER_BY_TS", RangeOption::FilterByTs),
     (b"FILTER_BY_VALUE", RangeOption::FilterByValue),
     (b"COUNT", RangeOption::Count),
+    (b"AGGREGATION", RangeOption::Aggregation),
+    (b"ALIGN", RangeOption::Align),
+    (b"BUCKETTIMESTAMP", RangeOption::BucketTimestamp),
+    (b"EMPTY", RangeOption::Empty),
 ];
 
 impl RangeOption {
@@ -46,6 +56,10 @@ impl RangeOption {
             RangeOption::FilterByTs => given.times.is_some(),
             RangeOption::FilterByValue => given.values.is_some(),
             RangeOption::Count => given.count.is_some(),
+            RangeOption::Aggregation => given.aggregation.is_some(),
+            RangeOption::Align => given.align.is_some(),
+            RangeOption::BucketTimestamp => given.stamp.is_some(),
+            RangeOption::Empty => given.empty,
         }
     }
 
@@ -55,8 +69,9 @@ impl RangeOption {
     {
         match self {
             RangeOption::FilterByTs => count_own(words),
-            RangeOption::FilterByValue => 2,
-            RangeOption::Count => 1,
+            RangeOption::FilterByValue | RangeOption::Aggregation => 2,
+            RangeOption::Count | RangeOption::Align | RangeOption::BucketTimestamp => 1,
+            RangeOption::Empty => 0,
         }
     }
 }
@@ -142,6 +157,10 @@ fn add_own(
             };
             given.count = Some(count_word(count.bytes())?);
         }
+        RangeOption::Aggregation => add_aggregation(own, given)?,
+        RangeOption::Align => add_align(own, given)?,
+        RangeOption::BucketTimestamp => add_stamp(own, given)?,
+        RangeOption::Empty => given.empty = true,
     }
     Ok(())
 }

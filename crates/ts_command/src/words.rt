@@ -1,6 +1,7 @@
 // Single words of a command.
 ghost use Rattle.std.specs.Prelude.{◌≤◌, IfOk};
-ghost use Rattle.ts_spec.specs.Settings.{IsTime, IsChunkSize, time_word, end_word, at_word, value_word, retention_word, chunk_size_word, count_word, policy_word, encoding_word};
+ghost use Rattle.ts_spec.specs.Settings.{IsTime, IsChunkSize, time_word, end_word, at_word, value_word, retention_word, chunk_size_word, policy_word, encoding_word};
+ghost use Rattle.ts_spec.specs.Ranges.{count_word};
 ghost use Rattle.ts_spec.specs.Sample.{MAX_TIME};
 ghost use Rattle.std.specs.Result.{ForErr};
 ghost use Rattle.ts_command.specs.Faults.{IsNoMemory, SaysSame};
@@ -84,7 +85,7 @@ pub(crate) fn chunk_size_word(word: &[u8]) -> Result<u32, CommandFault>
     }
 }
 
-#[tactic(auto, unfolding(ts_spec::specs::Settings::count_word))]
+#[tactic(auto, unfolding(ts_spec::specs::Ranges::count_word))]
 pub(crate) fn count_word(word: &[u8]) -> Result<u64, CommandFault>
     ensures { SaysSame result (count_word word.now) }
 {

@@ -3,12 +3,14 @@ use Rattle.std.proofs.Common.{◌≡◌, refl, subst, ℕ, ℤ, zero, suc, Bool,
 use Rattle.std.specs.Prelude.{Option, None, Some, ok_or, Result, Ok, Err}
 use Rattle.std.specs.Str.{bytes_eq, str_eq_ignore_ascii_case}
 use Rattle.ts_spec.specs.declared.value.ValueFault.{ValueFault}
-use Rattle.ts_spec.specs.Names.{Table, named}
+use Rattle.ts_spec.specs.declared.bucket.Aggregator.{Aggregator}
+use Rattle.ts_spec.specs.Names.{Table, named, aggregators, aggregator_or, aligns, stamps}
 use Rattle.ts_spec.specs.Number.{number}
 use Rattle.ts_spec.specs.Sample.{MAX_TIME}
 use Rattle.ts_spec.specs.Value.{value}
-use Rattle.ts_spec.specs.Settings.{Word, and_then, time_word, end_word, value_of, value_word, count_word, Given, Setting, is_known, new_setting, times_of, filter_by_ts, filter_by_value, count, options, range_options, nothing}
-use Rattle.ts_spec.specs.Refusal.{Fault, UnknownCommand, Arity, BadTimestamp, BadOption, RepeatedOption}
+use Rattle.ts_spec.specs.Settings.{Word, and_then, time_word, end_word, value_of, value_word, Given, Setting, is_known, new_setting, options, nothing}
+use Rattle.ts_spec.specs.Ranges.{count_word, aggregator_word, is_duration, duration_word, align_or, align_word, stamp_word, times_of, filter_by_ts, filter_by_value, count, aggregation, align, bucket_timestamp, range_options, lacks_aggregation, lacks_end, interval, query}
+use Rattle.ts_spec.specs.Refusal.{Fault, UnknownCommand, Arity, BadTimestamp, BadOption, RepeatedOption, UnknownAggregator, AggregatorNotInProfile, BadDuration}
 
 abbrev pub IsLateFault : Fault → Type 0
 IsLateFault UnknownCommand = ⊥
@@ -53,6 +55,29 @@ late_value word = late_value_of (value word)
 late_count : (word : Word) → IsLate (count_word word)
 unfolding count_word
 late_count word = late_or (number word) BadOption tt
+
+-- the words of buckets
+
+late_aggregator_or : (found : Option (Option Aggregator)) → IsLate (aggregator_or UnknownAggregator AggregatorNotInProfile found)
+late_aggregator_or None = tt
+late_aggregator_or (Some None) = tt
+late_aggregator_or (Some (Some agg)) = tt
+
+late_aggregator : (word : Word) → IsLate (aggregator_word word)
+unfolding aggregator_word
+late_aggregator word = late_aggregator_or (named aggregators word)
+
+late_duration : (word : Word) → IsLate (duration_word word)
+unfolding duration_word
+late_duration word = late_then (ok_or (number word) BadDuration) _ (late_or (number word) BadDuration tt) (λ n. either (is_duration n) (Ok n) (Err BadDuration) tt tt)
+
+late_align : (word : Word) → IsLate (align_word word)
+unfolding align_word
+late_align word = late_or (align_or (named aligns word) (number word)) BadOption tt
+
+late_stamp : (word : Word) → IsLate (stamp_word word)
+unfolding stamp_word
+late_stamp word = late_or (named stamps word) BadOption tt
 
 late_times : (words : List Word) → IsLate (times_of words)
 late_times [] = tt
@@ -102,9 +127,28 @@ late_counted : (words : List Word) (given : Given) → IsLate (count.says words 
 late_counted [] given = tt
 late_counted (word ∷ words) given = late_then (count_word word) _ (late_count word) (λ n. tt)
 
+late_aggregation : (words : List Word) (given : Given) → IsLate (aggregation.says words given)
+late_aggregation [] given = tt
+late_aggregation (one ∷ []) given = tt
+late_aggregation (one ∷ two ∷ words) given = late_then (aggregator_word one) _ (late_aggregator one) (λ agg. late_then (duration_word two) _ (late_duration two) (λ n. tt))
+
+late_aligned : (words : List Word) (given : Given) → IsLate (align.says words given)
+late_aligned [] given = tt
+late_aligned (word ∷ words) given = late_then (align_word word) _ (late_align word) (λ end. tt)
+
+late_stamped : (words : List Word) (given : Given) → IsLate (bucket_timestamp.says words given)
+late_stamped [] given = tt
+late_stamped (word ∷ words) given = late_then (stamp_word word) _ (late_stamp word) (λ mode. tt)
+
 all_late : AllLate range_options
 unfolding range_options
-all_late = (late_filter_by_ts, (late_filter_by_value, (late_counted, tt)))
+all_late = (late_filter_by_ts, (late_filter_by_value, (late_counted, (late_aggregation, (late_aligned, (late_stamped, ((λ words given. tt), tt)))))))
 
 pub late_range : (words : List Word) → IsLate (options range_options nothing 0 words)
 late_range words = late_options range_options all_late nothing 0 words
+
+-- what is said of buckets and can't be met is told after the options
+pub late_query : (reverse : Bool) (from to : Word) (first last : ℕ) (given : Given) → IsLate (query reverse from to first last given)
+late_query reverse from to first last given =
+    either (lacks_aggregation given) (Err BadOption) (if lacks_end given.align from to then Err BadOption else Ok (interval reverse first last given)) tt
+    (either (lacks_end given.align from to) (Err BadOption) (Ok (interval reverse first last given)) tt tt)

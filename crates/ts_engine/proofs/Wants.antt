@@ -5,12 +5,13 @@ use Rattle.std.specs.Prelude.{◌&&◌, nat_le, if◌then◌else◌, Option, Som
 use Rattle.std.specs.Str.{str_eq_ignore_ascii_case}
 use Rattle.ts_spec.specs.Wire.{Request}
 use Rattle.ts_spec.specs.Names.{Table, named}
-use Rattle.ts_spec.specs.Settings.{Word, and_then, end_word, options, range_options, nothing, has_list}
+use Rattle.ts_spec.specs.Settings.{Word, and_then, end_word, options, nothing}
+use Rattle.ts_spec.specs.Ranges.{range_options, has_list, query}
 use Rattle.ts_spec.specs.Command.{Command}
 use Rattle.ts_spec.specs.Refusal.{Fault, UnknownCommand, Arity, BadTimestamp, BadValue, BadOption, RepeatedOption, BadLabels, BadChunkSize, BadPolicy, BadEncoding, UnknownAggregator, AggregatorNotInProfile, BadDuration, BadFilter, NoPositiveFilter}
 use Rattle.ts_spec.specs.Grammar.{Form, form, list_form, option_form, commands, command, by_form, lists_by_form, makes_list, by_threes, madd, range}
 use Rattle.ts_engine.specs.Turn.{may_want_memory}
-use Rattle.ts_engine.proofs.Late.{IsLate, IsLateFault, late_end, late_range}
+use Rattle.ts_engine.proofs.Late.{IsLate, IsLateFault, late_end, late_range, late_query}
 
 -- a form that makes a list says a command of its words that may find no memory, or a fault in them
 record Wants (form : Option Form) : Type 0 where
@@ -70,7 +71,7 @@ ranged reverse true [] h long = absurd (omega (arith, long refl))
 ranged reverse true (a ∷ []) h long = absurd (omega (arith, long refl))
 ranged reverse true (a ∷ b ∷ []) h long = absurd (omega (arith, long refl))
 ranged reverse true (key ∷ from ∷ to ∷ words) h long =
-    then_wanted (end_word from) _ (λ first. then_wanted (end_word to) _ (λ last. then_wanted (options range_options nothing 0 words) _ (λ given. refl) (late_range words)) (late_end to)) (late_end from)
+    then_wanted (end_word from) _ (λ first. then_wanted (end_word to) _ (λ last. then_wanted (options range_options nothing 0 words) _ (λ given. then_wanted (query reverse from to first last given) _ (λ q. refl) (late_query reverse from to first last given)) (late_range words)) (late_end to)) (late_end from)
 
 long_enough : (n : ℕ) → IsTrue (nat_le 4 (suc n)) → 3 ≤ n
 long_enough n h = grind (arith, nat_tests)

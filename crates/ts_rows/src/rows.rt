@@ -6,6 +6,7 @@ use std::test::Fail;
 use ts_engine::{Limits, top};
 use ts_io::{MemClock, MemListener, MemSink, MemSource};
 
+mod buckets;
 mod devices;
 mod questions;
 mod series;
@@ -21,6 +22,8 @@ struct Row<'a> {
     /// How many keys and samples per series there may be.
     keys: u32,
     samples: u32,
+    /// How many rows an answer with empty buckets may have.
+    empty_rows: u32,
     /// What the clock shows, reading by reading, in milliseconds.
     readings: &'a [u64],
     /// The number of the read that fails, and of the write, or 0.
@@ -37,6 +40,7 @@ const PLAIN: Row<'static> = Row {
     budget: 1 << 60,
     keys: 65_536,
     samples: 16_777_216,
+    empty_rows: 1_000_000,
     readings: &[],
     failing_read: 0,
     failing_write: 0,
@@ -69,6 +73,7 @@ fn run(rt: &impl Abort, alloc: Global, row: &Row, piece: usize) -> Result<(), Fa
     let limits = Limits {
         keys: row.keys.max(1),
         samples: row.samples.max(1),
+        empty_rows: row.empty_rows.max(1),
         ..Limits::usual()
     };
     let budget = row.budget.max(1);

@@ -35,5 +35,6 @@ pub mod SoundWrites
 pub mod Sound
 pub mod StepKeeps
 pub mod Tidy
+pub mod WordsOfQuestions
 pub mod Writes
 pub mod Texts

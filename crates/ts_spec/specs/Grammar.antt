@@ -4,7 +4,8 @@ use Rattle.ts_spec.specs.declared.command.At.{At}
 use Rattle.ts_spec.specs.declared.command.At.TheVariants.{Clock, Time}
 use Rattle.ts_spec.specs.Wire.{Request}
 use Rattle.ts_spec.specs.Names.{Table, named}
-use Rattle.ts_spec.specs.Settings.{Word, and_then, at_word, end_word, value_word, nothing, options, series_options, alter_options, add_options, incr_options, range_options, has_list, spec, change, query}
+use Rattle.ts_spec.specs.Settings.{Word, and_then, at_word, end_word, value_word, nothing, options, series_options, alter_options, add_options, incr_options, spec, change}
+use Rattle.ts_spec.specs.Ranges.{range_options, has_list, query}
 use Rattle.ts_spec.specs.Command.{Triple, Command, Create, Alter, Add, Madd, Incr, DelRange, Range, Get, Ping, Echo, Quit, Drop, Exists}
 use Rattle.ts_spec.specs.Refusal.{Fault, UnknownCommand, Arity, BadOption}
 
@@ -51,7 +52,8 @@ del_range _ = Err Arity
 abbrev pub range : (reverse : Bool) → List Word → Result Command Fault
 range reverse (key ∷ from ∷ to ∷ words) =
     and_then (end_word from) (λ first. and_then (end_word to) (λ last.
-    and_then (options range_options nothing 0 words) (λ given. Ok (Range key false (query reverse first last given)))))
+    and_then (options range_options nothing 0 words) (λ given.
+    and_then (query reverse from to first last given) (λ q. Ok (Range key false q)))))
 range reverse _ = Err Arity
 
 -- `key`; no option is known

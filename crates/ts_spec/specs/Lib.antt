@@ -17,6 +17,7 @@ pub mod Number
 pub mod OneBucket
 pub mod Outcome
 pub mod Questions
+pub mod Ranges
 pub mod Refusal
 pub mod Replies
 pub mod Response

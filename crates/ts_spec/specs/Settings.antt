@@ -1,18 +1,21 @@
--- The options of commands: their words, and what they say of a series and of a sample.
-use Rattle.std.specs.Prelude.{◌≡◌, ◌≤◌, ℕ, zero, suc, ◌%◌, Bool, false, ◌&&◌, ◌||◌, ◌==◌, nat_le, if◌then◌else◌, ℤ, List, [], ◌∷◌, take, codes, Option, None, Some, is_some, ok_or, unwrap_or, Result, Ok, Err}
+-- The options of commands: their words, what they say of a series and of a sample, and how options are read one after another.
+use Rattle.std.specs.Prelude.{◌≡◌, ◌≤◌, ℕ, zero, suc, ◌%◌, Bool, false, ◌&&◌, ◌==◌, nat_le, if◌then◌else◌, ℤ, List, [], ◌∷◌, take, codes, Option, None, Some, is_some, ok_or, unwrap_or, Result, Ok, Err}
 use Rattle.ts_spec.specs.declared.series.Policy.{Policy}
 use Rattle.ts_spec.specs.declared.series.Policy.TheVariants.{Block}
 use Rattle.ts_spec.specs.declared.series.Encoding.{Encoding}
 use Rattle.ts_spec.specs.declared.series.Encoding.TheVariants.{Compressed}
 use Rattle.ts_spec.specs.declared.command.At.{At}
 use Rattle.ts_spec.specs.declared.command.At.TheVariants.{Clock, Time}
+use Rattle.ts_spec.specs.declared.bucket.Aggregation.{Aggregation}
+use Rattle.ts_spec.specs.declared.bucket.Align.{Align}
+use Rattle.ts_spec.specs.declared.bucket.Stamp.{Stamp}
 use Rattle.ts_spec.specs.declared.value.ValueFault.{ValueFault}
 use Rattle.ts_spec.specs.Sample.{MAX_TIME}
 use Rattle.ts_spec.specs.Names.{Table, named, policies, encodings}
 use Rattle.ts_spec.specs.Number.{number}
 use Rattle.ts_spec.specs.Value.{value}
-use Rattle.std.specs.Str.{bytes_eq, str_eq_ignore_ascii_case}
-use Rattle.ts_spec.specs.Command.{Spec, Change, Span, Query}
+use Rattle.std.specs.Str.{bytes_eq}
+use Rattle.ts_spec.specs.Command.{Spec, Change, Span}
 use Rattle.ts_spec.specs.Refusal.{Fault, BadTimestamp, BadValue, BadOption, RepeatedOption, BadChunkSize, BadPolicy, BadEncoding}
 
 -- a word is a list of bytes
@@ -68,10 +71,6 @@ is_chunk_size n = nat_le 48 n && nat_le n 1048576 && (n % 8 == 0)
 unfoldable pub chunk_size_word : Word → Result ℕ Fault
 chunk_size_word word = and_then (ok_or (number word) BadChunkSize) (λ n. if is_chunk_size n then Ok n else Err BadChunkSize)
 
--- how many rows
-unfoldable pub count_word : Word → Result ℕ Fault
-count_word word = ok_or (number word) BadOption
-
 unfoldable pub policy_word : Word → Result Policy Fault
 policy_word word = ok_or (named policies word) BadPolicy
 
@@ -93,6 +92,11 @@ pub record Given : Type 0 where
   pub times : Option (List ℕ)
   pub values : Option Span
   pub count : Option ℕ
+  -- its buckets: what is told of them, where one begins, which time stands for one, and whether empty ones are told
+  pub aggregation : Option Aggregation
+  pub align : Option Align
+  pub stamp : Option Stamp
+  pub empty : Bool
 
 abbrev pub nothing : Given
 nothing = record {
@@ -105,6 +109,10 @@ nothing = record {
   times = None;
   values = None;
   count = None;
+  aggregation = None;
+  align = None;
+  stamp = None;
+  empty = false;
 }
 
 -- An option: whether it stood before, how many of the words after it are its own, by which words are options themselves, and what
@@ -113,6 +121,10 @@ pub record Setting : Type 0 where
   pub stood : Given → Bool
   pub size : (is_option : Word → Bool) → List Word → ℕ
   pub says : List Word → Given → Result Given Fault
+
+-- an option without words of its own
+abbrev pub no_words : (Given → Bool) → (Given → Given) → Setting
+no_words stood tells = record { stood = stood; size = λ is_option words. 0; says = λ words given. Ok (tells given) }
 
 -- an option with one word of its own
 abbrev pub says_one : (Word → Given → Result Given Fault) → List Word → Given → Result Given Fault
@@ -161,22 +173,6 @@ on_duplicate = one_word (λ given. is_some given.on) (λ word given. and_then (p
 abbrev pub timestamp : Setting
 timestamp = one_word (λ given. is_some given.at) (λ word given. and_then (at_word word) (λ at. Ok (record given { at = Some at })))
 
--- times, one after another
-abbrev pub times_of : List Word → Result (List ℕ) Fault
-times_of [] = Ok []
-times_of (word ∷ words) = and_then (time_word word) (λ t. and_then (times_of words) (λ ts. Ok (t ∷ ts)))
-
-abbrev pub filter_by_ts : Setting
-filter_by_ts = some_words (λ given. is_some given.times) (λ words given. and_then (times_of words) (λ ts. Ok (record given { times = Some ts })))
-
--- the least value and the greatest one
-abbrev pub filter_by_value : Setting
-filter_by_value = two_words (λ given. is_some given.values) (λ least greatest given.
-    and_then (value_word least) (λ low. and_then (value_word greatest) (λ high. Ok (record given { values = Some (record { least = low; greatest = high }) }))))
-
-abbrev pub count : Setting
-count = one_word (λ given. is_some given.count) (λ word given. and_then (count_word word) (λ n. Ok (record given { count = Some n })))
-
 -- the option that a word names among those that are known, unless it stood before
 abbrev pub new_setting : Given → Option Setting → Result Setting Fault
 new_setting given None = Err BadOption
@@ -218,19 +214,6 @@ add_options = (codes "ON_DUPLICATE", on_duplicate) ∷ series_options
 unfoldable pub incr_options : Table Setting
 incr_options = (codes "TIMESTAMP", timestamp) ∷ series_options
 
--- the options of a question over an interval
-unfoldable pub range_options : Table Setting
-range_options =
-    (codes "FILTER_BY_TS", filter_by_ts)
-    ∷ (codes "FILTER_BY_VALUE", filter_by_value)
-    ∷ (codes "COUNT", count)
-    ∷ []
-
--- whether one of the words is the name of the option with a list
-abbrev pub has_list : List Word → Bool
-has_list [] = false
-has_list (word ∷ words) = str_eq_ignore_ascii_case (codes "FILTER_BY_TS") word || has_list words
-
 -- what a new series is made with: where nothing is said, it keeps samples for ever, in packed chunks of 4096 bytes, and refuses a repeated time
 abbrev pub spec : Given → Spec
 spec given =
@@ -247,15 +230,3 @@ spec given =
 -- what a series gets anew
 abbrev pub change : Given → Change
 change given = record { retention = given.retention; chunk_size = given.chunk_size; policy = given.policy; labels = None }
-
--- what is asked of an interval
-abbrev pub query : (reverse : Bool) → (from to : ℕ) → Given → Query
-query reverse from to given = record {
-  from = from;
-  to = to;
-  times = given.times;
-  values = given.values;
-  count = given.count;
-  buckets = None;
-  reverse = reverse;
-}

@@ -29,3 +29,22 @@ pub enum Aggregator {
     /// The value of the last.
     Last,
 }
+
+/// What is told of the samples of each bucket, and how long each one is.
+#[derive(Clone, Copy, Debug, PartialEq, Eq)]
+pub struct Aggregation {
+    pub agg: Aggregator,
+    /// In milliseconds, from 1 to 10^14.
+    pub duration: u64,
+}
+
+/// Where one of the buckets of an answer begins.
+#[derive(Clone, Copy, Debug, PartialEq, Eq)]
+pub enum Align {
+    /// At the first time of the interval.
+    From,
+    /// At its last time.
+    To,
+    /// At this time, in milliseconds.
+    Time(u64),
+}

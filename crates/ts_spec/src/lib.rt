@@ -11,7 +11,7 @@ mod text;
 mod value;
 mod wire;
 
-pub use bucket::{Aggregator, Stamp};
+pub use bucket::{Aggregation, Aggregator, Align, Stamp};
 pub use command::At;
 pub use laws::{one_bucket_shows_at_its_start, settling_twice_is_settling_once};
 pub use limits::Limits;

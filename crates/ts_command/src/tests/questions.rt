@@ -1,5 +1,7 @@
 // Questions, deletion and small commands.
 use super::*;
+use ts_agg::Aggregator;
+use ts_bucket::Stamp;
 
 fn is_text(word: &Word, text: &str) -> bool {
     word.bytes() == text.as_bytes()
@@ -37,6 +39,74 @@ fn questions_are_refused(rt: HostRuntime) {
             ("EXISTS", arity),
         ],
     );
+}
+
+#[test]
+fn buckets_are_refused(rt: HostRuntime) {
+    let bad = Some(CommandFault::BadOption);
+    let repeated = Some(CommandFault::RepeatedOption);
+    let unknown = Some(CommandFault::UnknownAggregator);
+    let left_out = Some(CommandFault::AggregatorNotInProfile);
+    let duration = Some(CommandFault::BadDuration);
+    expect_faults(
+        &rt,
+        rt.alloc(),
+        &[
+            ("TS.RANGE a - + AGGREGATION avg 1", None),
+            ("TS.RANGE a - + aggregation STD.S 0", left_out),
+            ("TS.RANGE a - + AGGREGATION avgs 0", unknown),
+            ("TS.RANGE a - + AGGREGATION median", bad),
+            ("TS.RANGE a - + AGGREGATION avg 0", duration),
+            ("TS.RANGE a - + AGGREGATION avg 100000000000000", None),
+            ("TS.RANGE a - + AGGREGATION avg 100000000000001", duration),
+            ("TS.RANGE a - + AGGREGATION avg 1 Aggregation", repeated),
+            ("TS.RANGE a - + ALIGN x AGGREGATION avg 0", bad),
+            ("TS.RANGE a - + ALIGN 1 AGGREGATION avg 0", duration),
+            ("TS.RANGE a - + ALIGN 1 ALIGN 1", repeated),
+            ("TS.RANGE a - + ALIGN 1", bad),
+            ("TS.RANGE a - + ALIGN", bad),
+            ("TS.RANGE a - + BUCKETTIMESTAMP middle", bad),
+            ("TS.RANGE a - + BUCKETTIMESTAMP MID", bad),
+            ("TS.RANGE a - + EMPTY", bad),
+            ("TS.RANGE a - + EMPTY EMPTY", repeated),
+            ("TS.RANGE a - 9 ALIGN - AGGREGATION sum 2", bad),
+            ("TS.RANGE a 0 9 ALIGN - AGGREGATION sum 2", None),
+            ("TS.RANGE a 0 + ALIGN End AGGREGATION sum 2", bad),
+            ("TS.RANGE a - 9 ALIGN End AGGREGATION sum 2", None),
+            (
+                "TS.RANGE a - 9 FILTER_BY_TS 1 EMPTY AGGREGATION sum 2",
+                None,
+            ),
+        ],
+    );
+}
+
+#[test]
+fn buckets_are_read(rt: HostRuntime) -> Result<(), Fail> {
+    let line = "TS.RANGE a 3 9 EMPTY BUCKETTIMESTAMP ~ AGGREGATION Range 60000 ALIGN start";
+    match &command(rt.alloc(), line)? {
+        Command::Range { query, .. } => {
+            let buckets = query.buckets.ok_or("no buckets")?;
+            assert_eq!(rt; buckets.grid.align(), 3);
+            assert_eq!(rt; buckets.grid.duration(), 60_000);
+            assert_eq!(rt; buckets.agg, Aggregator::Range);
+            assert_eq!(rt; buckets.stamp, Stamp::Mid);
+            assert!(rt; buckets.empty);
+        }
+        _ => assert!(rt; false, "not TS.RANGE"),
+    }
+    match &command(rt.alloc(), "TS.RANGE a 3 9 AGGREGATION avg 7")? {
+        Command::Range { query, .. } => {
+            let buckets = query.buckets.ok_or("no buckets")?;
+            assert_eq!(rt; buckets.grid.align(), 0);
+            assert_eq!(rt; buckets.grid.duration(), 7);
+            assert_eq!(rt; buckets.agg, Aggregator::Avg);
+            assert_eq!(rt; buckets.stamp, Stamp::Low);
+            assert!(rt; !buckets.empty);
+        }
+        _ => assert!(rt; false, "not TS.RANGE"),
+    }
+    Ok(())
 }
 
 #[test]

@@ -1,5 +1,6 @@
 use Rattle.std.proofs.Common.{◌≡◌, ◌+◌, drop}
-use Rattle.ts_spec.specs.Settings.{range_options, count_own, is_known}
+use Rattle.ts_spec.specs.Settings.{count_own, is_known}
+use Rattle.ts_spec.specs.Ranges.{range_options}
 use Rattle.ts_command.proofs.range_options.count_own.Given as goal
 
 -- the words so far are no options

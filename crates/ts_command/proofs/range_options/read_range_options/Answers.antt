@@ -1,5 +1,6 @@
 use Rattle.std.proofs.Common.{◌∷◌, ◌∙◌, sym}
-use Rattle.ts_spec.specs.Settings.{range_options, is_known}
+use Rattle.ts_spec.specs.Settings.{is_known}
+use Rattle.ts_spec.specs.Ranges.{range_options}
 use Rattle.ts_command.specs.Given.{range_given_of}
 use Rattle.ts_command.specs.Forms.{range_setting_of}
 use Rattle.ts_command.proofs.OptionLemmas.{options-next, has_list-drop}

@@ -1,5 +1,6 @@
 use Rattle.std.proofs.Common.{◌≡◌, length, IsTrue}
-use Rattle.ts_spec.specs.Settings.{nothing, options, range_options, has_list}
+use Rattle.ts_spec.specs.Settings.{nothing, options}
+use Rattle.ts_spec.specs.Ranges.{range_options, has_list}
 use Rattle.ts_command.specs.Given.{range_given_of}
 use Rattle.ts_command.proofs.range_options.read_range_options.Given as goal
 

@@ -1,6 +1,6 @@
 use Rattle.std.proofs.Common.{◌≡◌, ◌≤◌, All, drop, length, vec_len, vec_capacity}
 use Rattle.ts_spec.specs.Sample.{MAX_TIME}
-use Rattle.ts_spec.specs.Settings.{times_of}
+use Rattle.ts_spec.specs.Ranges.{times_of}
 use Rattle.ts_command.proofs.OptionLemmas.{times_after}
 use Rattle.ts_command.proofs.range_options.read_times.Given as goal
 
