@@ -5,12 +5,13 @@
 //   TS.ADD key time value
 //   TS.RANGE key from to
 //   TS.RANGE key from to FILTER_BY_VALUE least greatest
+//   TS.RANGE key from to AGGREGATION avg duration
 //   yardstick          copies each word of a request, as the server does
 //   yardstick slices   takes the words as slices of the buffer, and copies a key only where it is new
 use std::collections::BTreeMap;
 use std::fs::File;
 use std::io::{Read, Write};
-use std::ops::Range;
+use std::ops::{Range, RangeInclusive};
 use std::os::fd::FromRawFd;
 use std::process::exit;
 
@@ -19,6 +20,7 @@ const WORDS: u64 = 1_048_576;
 const WORD_BYTES: u64 = 1_048_576;
 const REQUEST_BYTES: u64 = 16_777_216;
 const MAX_TIME: u64 = i64::MAX as u64;
+const DURATION: u64 = 100_000_000_000_000;
 const BOUND: i128 = 1_000_000_000_000_000_000_000_000;
 
 const MULTIBULK: &[u8] = b"-ERR Protocol error: invalid multibulk length\r\n";
@@ -355,6 +357,28 @@ fn between(list: &[Sample], from: u64, to: u64) -> &[Sample] {
     &list[start..end.max(start)]
 }
 
+/// A quotient, rounded half away from zero.
+fn rounded(sum: i128, count: u64) -> i128 {
+    let half = i128::from(count / 2);
+    (if sum < 0 { sum - half } else { sum + half }) / i128::from(count)
+}
+
+/// The mean of each bucket of this duration that has samples, at the bucket's start.
+fn means(samples: &[Sample], duration: u64) -> Vec<Sample> {
+    let mut rows = Vec::new();
+    let mut rest = samples.iter().peekable();
+    while let Some(first) = rest.peek() {
+        let start = first.time - first.time % duration;
+        let (mut sum, mut count) = (0, 0);
+        while let Some(sample) = rest.next_if(|s| s.time - start < duration) {
+            sum += sample.value;
+            count += 1;
+        }
+        rows.push(Sample { time: start, value: rounded(sum, count), made: 0 });
+    }
+    rows
+}
+
 fn time(text: &[u8]) -> Result<u64, &'static [u8]> {
     number(text).ok_or(b"-ERR TSDB: invalid timestamp\r\n")
 }
@@ -366,6 +390,24 @@ fn bound(text: &[u8]) -> Result<u64, &'static [u8]> {
         b"+" => Ok(MAX_TIME),
         _ => time(text),
     }
+}
+
+/// How long a bucket is, after the word that tells what is asked of it.
+fn duration(told: &[u8], length: &[u8]) -> Result<u64, &'static [u8]> {
+    if !told.eq_ignore_ascii_case(b"avg") {
+        return Err(b"-ERR TSDB: unknown aggregator\r\n");
+    }
+    match number(length) {
+        Some(length @ 1..=DURATION) => Ok(length),
+        _ => Err(b"-ERR TSDB: invalid bucket duration\r\n"),
+    }
+}
+
+/// What TS.RANGE tells of an interval: its samples, those with some values, or the means of buckets.
+enum Asked {
+    Samples,
+    Values(RangeInclusive<i128>),
+    Means(u64),
 }
 
 /// TS.ADD, after its name.
@@ -395,18 +437,22 @@ fn range<W: AsRef<[u8]>>(words: &[W], series: &Series, room: &mut Vec<u8>) -> Re
         return Err(b"-ERR wrong number of arguments\r\n");
     };
     let (from, to) = (bound(from.as_ref())?, bound(to.as_ref())?);
-    let values = match options {
-        [] => None,
+    let asked = match options {
+        [] => Asked::Samples,
         [name, least, greatest] if name.as_ref().eq_ignore_ascii_case(b"FILTER_BY_VALUE") => {
-            Some(value(least.as_ref())?..=value(greatest.as_ref())?)
+            Asked::Values(value(least.as_ref())?..=value(greatest.as_ref())?)
+        }
+        [name, told, length] if name.as_ref().eq_ignore_ascii_case(b"AGGREGATION") => {
+            Asked::Means(duration(told.as_ref(), length.as_ref())?)
         }
         _ => return Err(b"-ERR TSDB: invalid option\r\n"),
     };
     let list = series.get(key.as_ref()).ok_or(&b"-ERR TSDB: the key does not exist\r\n"[..])?;
-    let samples = between(list, from, to).iter();
-    match values {
-        None => put_rows(samples, room),
-        Some(values) => put_rows(samples.filter(|s| values.contains(&s.value)), room),
+    let samples = between(list, from, to);
+    match asked {
+        Asked::Samples => put_rows(samples.iter(), room),
+        Asked::Values(values) => put_rows(samples.iter().filter(|s| values.contains(&s.value)), room),
+        Asked::Means(duration) => put_rows(means(samples, duration).iter(), room),
     }
     Ok(())
 }
