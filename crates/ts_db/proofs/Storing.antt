@@ -1,6 +1,6 @@
 -- That a database stays in order.
 use Rattle.std.proofs.Common.{◌≡◌, ◌≢◌, ◌≤◌, ◌<◌, ◌+◌, ℕ, suc, Bool, true, false, cond, List, [], length, refl, sym, ◌∙◌, ap, subst, ◌⊎◌, inl, inr, arith}
-use Rattle.std.specs.Prelude.{slice_index_or, nat_le, Option, None, Some, is_some, option_map}
+use Rattle.std.specs.Prelude.{slice_index_or, nat_le, Option, None, Some, is_some, option_map, count_by}
 use Rattle.std.proofs.lemmas.Bool.{cases_eq}
 use Rattle.slab.specs.Slab as slab
 use Rattle.ts_spec.specs.declared.limits.Limits.{Limits}
@@ -61,8 +61,8 @@ module _ (limits : Limits) (nodes : Series) (es : Numbers) (store : IsStore limi
 
   -- after a series changed
   pub store-written : (new : Series) (key : Key) (id : Id) (old h : History) → number_of key es ≡ Some id → slab.get nodes id.0 ≡ Some old → slab.Updates nodes new id.0 (Some h)
-      → IsKept h → length (list_of h) ≤ limits.samples → h.born ≤ limits.born → IsStore limits new es
-  store-written new key id old h is at change kept within born = record {
+      → slab.slab_len new ≡ slab.slab_len nodes → IsKept h → length (list_of h) ≤ limits.samples → h.born ≤ limits.born → IsStore limits new es
+  store-written new key id old h is at change as_many kept within born = record {
     stored = λ k i e. (let g = store.stored k i e in still-there nodes new id.0 h change i.0 g.0 g.1);
     apart = store.apart;
     kept = after-update nodes new id.0 h change IsKept kept store.kept;
@@ -70,15 +70,16 @@ module _ (limits : Limits) (nodes : Series) (es : Numbers) (store : IsStore limi
     born = after-update nodes new id.0 h change (λ g. g.born ≤ limits.born) born store.born;
     counted = ap count_keys (collected-written nodes new es key id h store.apart is change)
         ∙ count-same key (record_of [] h) (record_of [] old) (collected nodes es) (there key id old is at) ∙ store.counted;
+    no_other = as_many ∙ store.no_other;
     few = store.few;
     some_samples = store.some_samples;
   }
 
   -- after a series was added
   pub store-added : (new : Series) (fs : Numbers) (key : Key) (id : Id) (h : History) → number_of key es ≡ None → slab.get nodes id.0 ≡ None → slab.Updates nodes new id.0 (Some h)
-      → ((q : Key) → number_of q fs ≡ cond (has_key key q) (Some id) (number_of q es)) → length fs ≡ length es + 1 → length es < limits.keys
+      → ((q : Key) → number_of q fs ≡ cond (has_key key q) (Some id) (number_of q es)) → slab.slab_len new ≡ slab.slab_len nodes + 1 → length fs ≡ length es + 1 → length es < limits.keys
       → IsKept h → length (list_of h) ≤ limits.samples → h.born ≤ limits.born → IsStore limits new fs
-  store-added new fs key id h none vacant change differs more room kept within born = record {
+  store-added new fs key id h none vacant change differs one_more more room kept within born = record {
     stored = λ k i e. pick k i (has_key key k) refl e;
     apart = λ j k i e f. both j k i (same key j) (same key k) refl refl (sym (known j) ∙ e) (sym (known k) ∙ f);
     kept = after-update nodes new id.0 h change IsKept kept store.kept;
@@ -88,6 +89,7 @@ module _ (limits : Limits) (nodes : Series) (es : Numbers) (store : IsStore limi
         (let size : count_keys (collected new fs) ≡ suc (count_keys (collected nodes es)) =
         ap count_keys (collected-added nodes new es fs key id h store.stored vacant change differs) ∙ count-more key (record_of [] h) (collected nodes es) (missing key none) in
         omega (arith, size, store.counted, more));
+    no_other = omega (arith, one_more, store.no_other, more);
     few = omega (arith, more, room);
     some_samples = store.some_samples;
   }
@@ -114,8 +116,8 @@ module _ (limits : Limits) (nodes : Series) (es : Numbers) (store : IsStore limi
 
   -- after a series was taken away
   pub store-removed : (new : Series) (fs : Numbers) (key : Key) (id : Id) → number_of key es ≡ Some id → slab.Updates nodes new id.0 None
-      → ((q : Key) → number_of q fs ≡ cond (has_key key q) None (number_of q es)) → length fs + 1 ≡ length es → IsStore limits new fs
-  store-removed new fs key id is change differs fewer = record {
+      → ((q : Key) → number_of q fs ≡ cond (has_key key q) None (number_of q es)) → slab.slab_len new + 1 ≡ slab.slab_len nodes → length fs + 1 ≡ length es → IsStore limits new fs
+  store-removed new fs key id is change differs one_less fewer = record {
     stored = λ k i e. (let before = was k i (has_key key k) refl (sym (differs k) ∙ e) in let g = store.stored k i before.1 in (g.0, change.others i.0 (apart_from k i before.0 before.1) ∙ g.1));
     apart = λ j k i e f. store.apart j k i (was j i (has_key key j) refl (sym (differs j) ∙ e)).1 (was k i (has_key key k) refl (sym (differs k) ∙ f)).1;
     kept = λ i h e. store.kept i h (left i h e);
@@ -126,6 +128,7 @@ module _ (limits : Limits) (nodes : Series) (es : Numbers) (store : IsStore limi
         let one : count_keys (collected new fs) ≡ count_keys (without_key key (collected nodes es)) = ap count_keys (collected-removed nodes new es fs key id store.apart is change differs) in
         let two : suc (count_keys (without_key key (collected nodes es))) ≡ count_keys (collected nodes es) = count-less key (record_of [] h.0) (collected nodes es) (there key id h.0 is h.1) in
         omega (arith, one, two, store.counted, fewer));
+    no_other = omega (arith, one_less, store.no_other, fewer);
     few = omega (arith, store.few, fewer);
     some_samples = store.some_samples;
   }
@@ -161,6 +164,7 @@ module _ (limits : Limits) (nodes : Series) (es : Numbers) (store : IsStore limi
     within = λ i h e. store.within i h (ap (λ (s : List (Option History)). slice_index_or s i None) (sym same) ∙ e);
     born = λ i h e. store.born i h (ap (λ (s : List (Option History)). slice_index_or s i None) (sym same) ∙ e);
     counted = ap count_keys (collected-slots nodes new es same) ∙ store.counted;
+    no_other = ap (λ (s : List (Option History)). count_by is_some s) same ∙ store.no_other;
     few = store.few;
     some_samples = store.some_samples;
   }

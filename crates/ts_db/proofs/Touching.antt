@@ -1,8 +1,9 @@
 -- What a change of one series is to the database.
-use Rattle.std.proofs.Common.{◌≡◌, ◌≤◌, ℕ, ℤ, true, false, [], length, refl, sym, ◌∙◌, ap, subst}
-use Rattle.std.specs.Prelude.{nat_lt, Option, None, Some, Result, Ok, Err, IfOk, IsSome}
+use Rattle.std.proofs.Common.{◌≡◌, ◌≤◌, ℕ, ℤ, true, false, cond, [], length, refl, sym, ◌∙◌, ap, subst, arith}
+use Rattle.std.specs.Prelude.{nat_lt, Option, None, Some, is_some, Result, Ok, Err, IfOk, IsSome}
+use Rattle.std.proofs.lemmas.List.Sums.{sum_by-set}
 use Rattle.slab.specs.Slab as slab
-use Rattle.slab.proofs.SlabLemmas.{Updates-with_value}
+use Rattle.slab.proofs.SlabLemmas.{ContainsKey-within, Updates-with_value}
 use Rattle.ts_spec.specs.declared.limits.Limits.{Limits}
 use Rattle.ts_spec.specs.declared.series.Merge.{Merge}
 use Rattle.ts_spec.specs.Sample.{between}
@@ -33,13 +34,23 @@ pub record Holds (limits : Limits) (nodes : Series) (es : Numbers) (key : Key) (
   pub series : slab.get nodes id.0 ≡ Some h
 
 module _ (limits : Limits) (nodes : Series) (es : Numbers) (key : Key) (id : Id) (h : History) (holds : Holds limits nodes es key id h) (new : History) where
+  held : slab.ContainsKey nodes id.0
+  held = subst (λ (o : Option History). IsSome o) (sym holds.series) refl
+
   change : slab.Updates nodes (slab.with_value nodes id.0 new) id.0 (Some new)
-  change = Updates-with_value nodes id.0 new (subst (λ (o : Option History). IsSome o) (sym holds.series) refl)
+  change = Updates-with_value nodes id.0 new held
+
+  as_many : slab.slab_len (slab.with_value nodes id.0 new) ≡ slab.slab_len nodes
+  as_many =
+      let one = λ (o : Option History). cond (is_some o) 1 0 in
+      let counts = sum_by-set one nodes.slots id.0 (Some new) None (ContainsKey-within nodes id.0 held) in
+      let was : one (slab.get nodes id.0) ≡ 1 = ap one holds.series in
+      omega (arith, counts, was)
 
   -- with the series changed the database is in order
   pub touched-store : IsKept new → (length (list_of h) ≤ limits.samples → length (list_of new) ≤ limits.samples) → new.born ≡ h.born → IsStore limits (slab.with_value nodes id.0 new) es
   touched-store kept within born =
-      store-written limits nodes es holds.store (slab.with_value nodes id.0 new) key id h new holds.number holds.series change kept (within (holds.store.within id.0 h holds.series))
+      store-written limits nodes es holds.store (slab.with_value nodes id.0 new) key id h new holds.number holds.series change as_many kept (within (holds.store.within id.0 h holds.series))
       (subst (λ n. n ≤ limits.born) (sym born) (holds.store.born id.0 h holds.series))
 
   -- and it stands for the state with that record

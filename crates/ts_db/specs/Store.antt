@@ -40,7 +40,7 @@ has_key k = is_at (slice_cmp nat_cmp k)
 abbrev pub number_of : Key → Numbers → Option Id
 number_of k es = lookup (has_key k) es
 
--- Each key has a series of its own. Each series is in order and within the limit, as the keys are.
+-- Each key has a series of its own, and no other series is kept. Each is in order and within the limit, as the keys are.
 pub record IsStore (limits : Limits) (nodes : Series) (es : Numbers) : Type 0 where
   pub stored : (k : Key) (id : Id) → number_of k es ≡ Some id → (h : History) × (slab.get nodes id.0 ≡ Some h)
   pub apart : (j k : Key) (id : Id) → number_of j es ≡ Some id → number_of k es ≡ Some id → same j k ≡ true
@@ -48,5 +48,7 @@ pub record IsStore (limits : Limits) (nodes : Series) (es : Numbers) : Type 0 wh
   pub within : (i : ℕ) (h : History) → slab.get nodes i ≡ Some h → length (list_of h) ≤ limits.samples
   pub born : (i : ℕ) (h : History) → slab.get nodes i ≡ Some h → h.born ≤ limits.born
   pub counted : count_keys (collected nodes es) ≡ length es
+  -- the slab holds as many series as there are keys, so none that has no key
+  pub no_other : slab.slab_len nodes ≡ length es
   pub few : length es ≤ limits.keys
   pub some_samples : 1 ≤ limits.samples

@@ -22,7 +22,7 @@ returns-in_default-clause-state c =
 pub invariant_of-self-2 : goal.invariant_of-self-2
 invariant_of-self-2 c =
     store-removed c.self.inside.limits c.self.inside.nodes c.self.inside.keys.entries c.self.invariant c.remove-2.new.self c.remove.new.self.entries c.args.key.now c.in-Some.id
-    (sym c.in-Some.ensures.value) c.remove-2.ensures.updates c.remove.ensures.updates.0 c.in-Some.ensures.len
+    (sym c.in-Some.ensures.value) c.remove-2.ensures.updates c.remove.ensures.updates.0 c.remove-2.ensures.len c.in-Some.ensures.len
 
 pub returns-clause-there : goal.returns-clause-there
 returns-clause-there c =

@@ -39,7 +39,7 @@ invariant_of-self-2 c =
     subst (λ n. n < c.self.inside.limits.keys) c.self.invariant.counted
     (subst (λ (h : Held). count_keys h.state < h.limits.keys) (sym c.self.view_is) c.requires.room) in
     store-added c.self.inside.limits c.reserve.new.self c.self.inside.keys.entries mid c.insert_reserved.new.self c.insert.new.self.entries c.args.key (record { 0 = c.vacant_key.result }) c.args.series
-    none c.vacant_key.ensures.vacant change c.in-Ok-insert.ensures.updates.0 more room c.requires.kept
+    none c.vacant_key.ensures.vacant change c.in-Ok-insert.ensures.updates.0 c.insert_reserved.ensures.len more room c.requires.kept
     (subst (λ (h : Held). length (list_of c.args.series) ≤ h.limits.samples) (sym c.self.view_is) c.requires.within)
     (subst (λ (h : Held). c.args.series.born ≤ h.limits.born) (sym c.self.view_is) c.requires.born)
 
