@@ -2,3 +2,5 @@ pub mod LineLemmas
 pub mod HeaderLemmas
 pub mod WordLemmas
 pub mod ReplyLemmas
+mod OrderLemmas
+mod PartLemmas

@@ -1,8 +1,8 @@
 -- A line with a number, one byte at a time.
-use Rattle.std.proofs.Common.{◌≡◌, ℕ, suc, ◌+◌, ◌<◌, ◌≤◌, Bool, List, length, drop, get_or, refl, sym, ap, ◌∙◌, subst, add_assoc, add-one, add-zero, zero-add}
+use Rattle.std.proofs.Common.{◌≡◌, ℕ, suc, ◌+◌, ◌<◌, ◌≤◌, Bool, List, length, drop, get_or, refl, sym, ap, ◌∙◌, subst, add_assoc, add-one, add-zero, zero-add, arith}
 use Rattle.std.proofs.Math.Seq.{drop-cons}
 use Rattle.std.proofs.Math.ListN.{drop_of_length-le}
-use Rattle.ts_spec.specs.Wire.{Line, Goes, Returns, Wrong, line_step}
+use Rattle.ts_spec.specs.Wire.{Line, Goes, Returns, Wrong, Blank, Number, RETURN, line_step}
 use Rattle.ts_resp.specs.declared.line.NumberLine.{NumberLine}
 use Rattle.ts_resp.specs.declared.line.NumberLine.TheVariants as found
 use Rattle.ts_resp.specs.Lines.{after, on_move, number_line}
@@ -62,3 +62,13 @@ pub after-zero : (r : NumberLine) → after 0 r ≡ r
 after-zero found.Open = refl
 after-zero (found.Whole number len) = ap (λ n. found.Whole number n) (zero-add len)
 after-zero (found.Wrong at) = ap (λ n. found.Wrong n) (zero-add at)
+
+-- one digit, and the CR that ends it
+pub one_digit_line : (limit : ℕ) (negative : Bool) (bytes : List ℕ) (number : ℕ) → 2 ≤ length bytes
+    → Goes (Number number) ≡ line_step limit negative Blank (get_or bytes 0 0) → get_or bytes 1 0 ≡ RETURN
+    → found.Whole number 1 ≡ number_line limit negative Blank bytes
+one_digit_line limit negative bytes number two first second =
+    let none : 0 < length bytes = omega arith in
+    let one : 1 < length bytes = omega arith in
+    number_line-returns limit negative (Number number) number bytes 1 (number_line limit negative Blank bytes) one (ap (line_step limit negative (Number number)) (sym second))
+    (number_line-goes limit negative Blank (Number number) bytes 0 (number_line limit negative Blank bytes) none first (after-zero (number_line limit negative Blank bytes)))

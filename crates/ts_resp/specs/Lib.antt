@@ -5,3 +5,4 @@ pub mod Reading
 pub mod Replies
 pub mod Room
 pub mod Steps
+pub mod Words

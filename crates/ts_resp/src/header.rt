@@ -131,8 +131,8 @@ fn word_end(bytes: &[u8], start: usize, end: usize) -> FoundWord
     ensures within { IsWordWithin (length bytes.now) (end - start) result }
 {
     match &bytes[end..] {
-        [] | [b'\r'] => FoundWord::Open,
         [b'\r', b'\n', ..] => FoundWord::Whole { start, end },
+        [] | [b'\r'] => FoundWord::Open,
         [b'\r', ..] => FoundWord::Broken {
             kind: Kind::Crlf,
             at: end + 1,

@@ -3,6 +3,7 @@
 
 mod header;
 mod line;
+mod order;
 mod out;
 mod pair;
 mod protocol;

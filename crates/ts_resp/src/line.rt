@@ -1,7 +1,8 @@
 // The line that says how many words a request has, or how many bytes a word has.
-ghost use Rattle.std.specs.Prelude.{◌≡◌, ◌<◌, length};
+ghost use Rattle.std.specs.Prelude.{◌≡◌, ◌<◌, length, IfSome};
 ghost use Rattle.ts_spec.specs.Wire.{line_step, with_digit};
 ghost use Rattle.ts_spec.specs.Wire.Line.{Blank};
+ghost use Rattle.ts_resp.specs.declared.line.NumberLine.TheVariants.{Whole};
 ghost use Rattle.ts_resp.specs.Lines.{line_of, move_of, number_line as line_at, IsWithin};
 
 // How far such a line has come.
@@ -75,6 +76,34 @@ fn one_more_digit(limit: u32, number: u32, byte: u8) -> LineMove
 
 // The number at the beginning of the bytes. Where `negative` is set, -1 stands for 0 too.
 pub(crate) fn number_line(bytes: &[u8], limit: u32, negative: bool) -> NumberLine
+    ensures line { result ≡ line_at limit negative Blank bytes.now }
+    ensures within { IsWithin (length bytes.now) result }
+{
+    match one_digit(bytes, limit, negative) {
+        Some(number) => NumberLine::Whole { number, len: 1 },
+        None => any_line(bytes, limit, negative),
+    }
+}
+
+// The number of a line that is one digit and CR, as most are. None: see each byte.
+fn one_digit(bytes: &[u8], limit: u32, negative: bool) -> Option<u32>
+    ensures line { IfSome result (λ number. Whole number 1 ≡ line_at limit negative Blank bytes.now) }
+    ensures within { IfSome result (λ _. 1 < length bytes.now) }
+{
+    let [first, second, ..] = bytes else {
+        return None;
+    };
+    if *second != b'\r' {
+        return None;
+    }
+    match first_step(limit, negative, *first) {
+        LineMove::Goes(Line::Number(number)) => Some(number),
+        LineMove::Goes(_) | LineMove::Returns(_) | LineMove::Wrong => None,
+    }
+}
+
+// The same as `number_line`, one byte at a time.
+fn any_line(bytes: &[u8], limit: u32, negative: bool) -> NumberLine
     ensures line { result ≡ line_at limit negative Blank bytes.now }
     ensures within { IsWithin (length bytes.now) result }
 {

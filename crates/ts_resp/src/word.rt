@@ -1,5 +1,5 @@
 // A word of a request: bytes of any kind, which it owns.
-ghost use Rattle.std.specs.Prelude.{◌≡◌, nat_eq, refl, Some, IfOk};
+ghost use Rattle.std.specs.Prelude.{◌≡◌, ◌≤◌, length, take, slice_range, nat_eq, refl, Some, IfOk};
 ghost use Rattle.std.specs.Ordering.{nat_cmp};
 ghost use Rattle.std.specs.Hash as fed;
 ghost use Rattle.std.specs.Cmp.Lexicographic.{pointwise, slice_cmp, nat_list_eq_equiv, nat_list_cmp_total, texts_ties, texts_po};
@@ -7,40 +7,115 @@ ghost use Rattle.std.specs.Cmp.{partial_equiv_from_equiv};
 ghost use Rattle.std.specs.Cmp.Rules.{hashing};
 ghost use Rattle.std.proofs.Common.{rules};
 
+use crate::order::order;
 use std::alloc::{AllocError, Global};
 use std::cmp::Ordering;
 use std::fmt;
 use std::hash::{Hash, Hasher};
 use std::marker::Model;
 
+// How many bytes fit into a word itself.
+const SHORT: usize = 30;
+
+// Few bytes lie in the word itself, more in an allocation.
+#[derive(Drop)]
+enum Held {
+    // The first `len` bytes of the array.
+    Short {
+        alloc: Global,
+        len: u8,
+        bytes: [u8; SHORT],
+    },
+    Long(Vec<u8>),
+}
+
 /// A word of a request: bytes of any kind. Words are compared, ordered and hashed by their bytes.
 #[derive(Drop)]
 pub struct Word {
-    bytes: Vec<u8>,
+    held: Held,
 }
 
 impl Model for Word {
     ghost use Rattle.std.specs.Prelude.{List, ℕ};
+    ghost use Rattle.ts_resp.specs.Words.{held_bytes, IsHeld};
 
     ghost Value = { List ℕ };
 
-    ghost view = { λ w. w.bytes.items };
+    ghost view = { λ w. held_bytes w.held };
+
+    ghost invariant = { λ w. IsHeld w.held };
 }
 
 impl Word {
     /// A word of these bytes.
+    #[inline]
     pub fn from_slice(alloc: Global, bytes: &[u8]) -> Result<Word, AllocError>
         ensures { IfOk result (λ w. w ≡ bytes.now) }
     {
+        if bytes.len() <= SHORT {
+            return Ok(Word::short(alloc, bytes));
+        }
         let bytes = Vec::from_slice(alloc, bytes)?;
-        Ok(Word { bytes })
+        Ok(Word {
+            held: Held::Long(bytes),
+        })
+    }
+
+    // A word of the bytes from `start` to `end`. A short one takes all bytes that fit into it, and
+    // tells only its own: to move so many at once is quicker than to count them.
+    #[inline]
+    pub(crate) fn part(
+        alloc: Global,
+        bytes: &[u8],
+        start: usize,
+        end: usize,
+    ) -> Result<Word, AllocError>
+        requires { (start ≤ end) × (end ≤ length bytes.now) }
+        ensures { IfOk result (λ w. w ≡ slice_range bytes.now start end) }
+    {
+        if end - start <= SHORT
+            && let Some(room) = bytes[start..].first_chunk::<SHORT>()
+        {
+            return Ok(Word::filled(alloc, (end - start) as u8, *room));
+        }
+        Word::from_slice(alloc, &bytes[start..end])
+    }
+
+    // A word of the first bytes of some.
+    #[inline]
+    fn filled(alloc: Global, len: u8, bytes: [u8; SHORT]) -> Word
+        requires { len ≤ 30 }
+        ensures { result ≡ take len bytes }
+    {
+        Word {
+            held: Held::Short { alloc, len, bytes },
+        }
+    }
+
+    // A word of few bytes.
+    #[inline]
+    fn short(alloc: Global, bytes: &[u8]) -> Word
+        requires { length bytes.now ≤ 30 }
+        ensures { result ≡ bytes.now }
+    {
+        let mut room = [0; SHORT];
+        room[..bytes.len()].copy_from_slice(bytes);
+        Word::filled(alloc, bytes.len() as u8, room)
     }
 
     /// A word of the same bytes.
     pub fn copy(&self) -> Result<Word, AllocError>
         ensures { IfOk result (λ w. w ≡ self.now) }
     {
-        Word::from_slice(*self.bytes.allocator(), self.bytes())
+        Word::from_slice(self.allocator(), self.bytes())
+    }
+
+    // Where it takes its memory.
+    fn allocator(&self) -> Global {
+        match &self.held {
+            Held::Short { alloc, .. } => *alloc,
+            Held::Long(bytes) => *bytes.allocator(),
+        }
     }
 
     /// Its bytes.
@@ -48,7 +123,10 @@ impl Word {
     pub fn bytes(&self) -> &[u8]
         ensures { result.now ≡ self.now }
     {
-        self.bytes.as_slice()
+        match &self.held {
+            Held::Short { len, bytes, .. } => &bytes[..*len as usize],
+            Held::Long(bytes) => bytes.as_slice(),
+        }
     }
 }
 
@@ -86,7 +164,7 @@ impl Ord for Word {
     ghost matches_eq = { texts_ties };
 
     fn cmp(&self, other: &Self) -> Ordering {
-        self.bytes().cmp(other.bytes())
+        order(self.bytes(), other.bytes())
     }
 }
 

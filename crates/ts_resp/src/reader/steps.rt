@@ -1,5 +1,5 @@
 // One header or one word at a time.
-ghost use Rattle.std.specs.Prelude.{◌≡◌, ◌+◌, ◌-◌, ◌<◌, ◌≤◌, [], ◌∷◌, ◌++◌, length, drop, Some, None, OnOk, OnErr, MatchOption};
+ghost use Rattle.std.specs.Prelude.{◌≡◌, ◌+◌, ◌-◌, ◌<◌, ◌≤◌, [], ◌∷◌, ◌++◌, length, drop, slice_range, Some, None, OnOk, OnErr, IfOk, IfErr, MatchOption};
 ghost use Rattle.ts_resp.specs.Headers.{IsCount, IsWord, IsWordWithin};
 ghost use Rattle.ts_resp.specs.Steps.{GoesOn, Answers};
 
@@ -13,13 +13,13 @@ use ts_spec::Kind;
 const FIRST_WORDS: u32 = 16;
 
 impl Reader {
-    // Takes the header of a request or one word, or answers what `next` answers.
+    // Takes the header of a request or its words, or answers what `next` answers.
     pub(super) fn step(&mut self) -> Option<Next>
         ensures { MatchOption result (GoesOn self.old self.new) (Answers self.old self.new) }
     {
         match self.so_far.take() {
             None => self.read_count(),
-            Some(so_far) => self.read_word(so_far),
+            Some(so_far) => Some(self.read_words(so_far)),
         }
     }
 
@@ -51,58 +51,45 @@ impl Reader {
             return Some(Next::Memory);
         };
         self.pass(len);
-        self.so_far = Some(Unfinished {
+        Some(self.read_words(Unfinished {
             words,
             later: number - 1,
             room: self.limits.request_bytes,
-        });
-        None
+        }))
     }
 
-    // Reads one more word of a request.
-    fn read_word(&mut self, so_far: Unfinished) -> Option<Next>
+    // Reads the words that are still to come, as far as they have come.
+    fn read_words(&mut self, so_far: Unfinished) -> Next
         requires { self.old.so_far ≡ None }
-        ensures { MatchOption result
-            (GoesOn (record self.old { so_far = Some so_far }) self.new)
-            (Answers (record self.old { so_far = Some so_far }) self.new) }
+        ensures { Answers (record self.old { so_far = Some so_far }) self.new result }
     {
-        match found_word(self.unread.as_slice(), &self.limits, so_far.room) {
-            FoundWord::Open => {
-                self.so_far = Some(so_far);
-                Some(Next::NotYet)
+        let mut so_far = so_far;
+        loop {
+            match found_word(self.unread.as_slice(), &self.limits, so_far.room) {
+                FoundWord::Open => {
+                    self.so_far = Some(so_far);
+                    return Next::NotYet;
+                }
+                FoundWord::Broken { kind, at } => {
+                    self.so_far = Some(so_far);
+                    return Next::Broken(self.fault(kind, at));
+                }
+                FoundWord::Whole { start, end } => {
+                    let bytes = self.unread.as_slice();
+                    if push_word(self.alloc, &mut so_far.words, bytes, start, end).is_err() {
+                        self.so_far = Some(so_far);
+                        return Next::Memory;
+                    }
+                    self.pass(end + 2);
+                    if so_far.later == 0 {
+                        self.begin = self.place;
+                        return Next::Request(so_far.words);
+                    }
+                    so_far.later -= 1;
+                    so_far.room = room_after(so_far.room, end - start);
+                }
             }
-            FoundWord::Whole { start, end } => self.take_word(so_far, start, end),
-            FoundWord::Broken { kind, at } => {
-                self.so_far = Some(so_far);
-                Some(Next::Broken(self.fault(kind, at)))
-            }
         }
-    }
-
-    // After a whole word, which takes `end + 2` bytes with its header and CRLF.
-    fn take_word(&mut self, mut so_far: Unfinished, start: usize, end: usize) -> Option<Next>
-        requires between { self.old.so_far ≡ None }
-        requires word { IsWord self.old.limits so_far self.old.unread (FoundWord.Whole start end) }
-        requires within { IsWordWithin (length self.old.unread) so_far.room
-            (FoundWord.Whole start end) }
-        ensures { MatchOption result
-            (GoesOn (record self.old { so_far = Some so_far }) self.new)
-            (Answers (record self.old { so_far = Some so_far }) self.new) }
-    {
-        let word = &self.unread.as_slice()[start..end];
-        if push_word(self.alloc, &mut so_far.words, word).is_err() {
-            self.so_far = Some(so_far);
-            return Some(Next::Memory);
-        }
-        self.pass(end + 2);
-        if so_far.later == 0 {
-            self.begin = self.place;
-            return Some(Next::Request(so_far.words));
-        }
-        so_far.later -= 1;
-        so_far.room -= (end - start) as u32;
-        self.so_far = Some(so_far);
-        None
     }
 
     // Passes over unread bytes.
@@ -127,12 +114,28 @@ impl Reader {
     }
 }
 
-// Adds a word of these bytes. After an Err the words are as before.
-fn push_word(alloc: Global, words: &mut Vec<Word>, bytes: &[u8]) -> Result<(), AllocError>
-    ensures ok { OnOk result (words.new.items ≡ words.old.items ++ bytes.now ∷ []) }
+// Adds a word of the bytes from `start` to `end`. After an Err the words are as before.
+fn push_word(
+    alloc: Global,
+    words: &mut Vec<Word>,
+    bytes: &[u8],
+    start: usize,
+    end: usize,
+) -> Result<(), AllocError>
+    requires { (start ≤ end) × (end ≤ length bytes.now) }
+    ensures ok { OnOk result (words.new.items
+        ≡ words.old.items ++ slice_range bytes.now start end ∷ []) }
     ensures err { OnErr result (words.new.items ≡ words.old.items) }
 {
-    let word = Word::from_slice(alloc, bytes)?;
+    let word = Word::part(alloc, bytes, start, end)?;
     words.push(word)?;
     Ok(())
+}
+
+// The room that is left after a word of `len` bytes.
+fn room_after(room: u32, len: usize) -> u32
+    requires { len ≤ room }
+    ensures { result ≡ room - len }
+{
+    room - len as u32
 }
