@@ -7,8 +7,8 @@ use std::marker::Model;
 use ts_sample::MAX_TIME;
 use ts_spec::Stamp;
 
-// The longest bucket, in milliseconds.
-const LONGEST: u64 = 100_000_000_000_000;
+/// The longest bucket, in milliseconds.
+pub const LONGEST: u64 = 100_000_000_000_000;
 
 /// Buckets over time, each as long as the others, of which one begins at the alignment.
 #[derive(Clone, Copy, Debug, PartialEq, Eq)]

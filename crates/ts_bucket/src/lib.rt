@@ -3,7 +3,7 @@
 
 mod grid;
 
-pub use grid::Grid;
+pub use grid::{Grid, LONGEST};
 pub use ts_spec::Stamp;
 
 #[cfg(test)]

@@ -11,7 +11,6 @@ use Rattle.ts_command.specs.declared.fault.CommandFault.{CommandFault}
 use Rattle.ts_command.specs.Asked.{asked}
 use Rattle.ts_command.specs.Faults.{IsFaultOr}
 use Rattle.ts_command.proofs.FaultLemmas.{IsFaultOr-then}
-use Rattle.ts_command.proofs.OptionLemmas.{has_list-drop}
 
 -- the command is its key and its question
 keyed : (key : Word) (from to : Result ℕ Fault) (given : Result Given Fault) (ask : ℕ → ℕ → Given → Result Query Fault)
@@ -25,17 +24,16 @@ keyed key (Ok first) (Ok last) (Ok g) ask = refl
 -- a fault in the question is one of the command
 told : (reverse : Bool) (key from to : Word) (words : List Word) (fault : CommandFault)
     → IsFaultOr (IsTrue (has_list words)) fault (asked reverse from to words)
-    → IsFaultOr (IsTrue (has_list (key ∷ from ∷ to ∷ words))) fault (range reverse (key ∷ from ∷ to ∷ words))
+    → IsFaultOr (IsTrue (has_list words)) fault (range reverse (key ∷ from ∷ to ∷ words))
 told reverse key from to words fault h =
     rw (keyed key (end_word from) (end_word to) (options range_options nothing 0 words) (query reverse from to))
-    (IsFaultOr-then (IsTrue (has_list words)) (IsTrue (has_list (key ∷ from ∷ to ∷ words))) fault (asked reverse from to words) (λ q. Ok (Range key false q))
-    (has_list-drop 3 (key ∷ from ∷ to ∷ words)) h)
+    (IsFaultOr-then (IsTrue (has_list words)) (IsTrue (has_list words)) fault (asked reverse from to words) (λ q. Ok (Range key false q)) (λ h. h) h)
 
 -- the same, where the words have the name before them and are taken apart by their places
 pub range-fault : (reverse : Bool) (words : List Word) (from to : Word) (fault : CommandFault)
     → 4 ≤ length words → from ≡ get_or words 2 from → to ≡ get_or words 3 to
     → IsFaultOr (IsTrue (has_list (take (length words - 4) (drop 4 words)))) fault (asked reverse from to (take (length words - 4) (drop 4 words)))
-    → IsFaultOr (IsTrue (has_list (drop 1 words))) fault (range reverse (drop 1 words))
+    → IsFaultOr (IsTrue (has_list (drop 3 (drop 1 words)))) fault (range reverse (drop 1 words))
 range-fault reverse [] from to fault some first last h = absurd (omega arith)
 range-fault reverse (name ∷ []) from to fault some first last h = absurd (omega arith)
 range-fault reverse (name ∷ key ∷ []) from to fault some first last h = absurd (omega arith)

@@ -57,8 +57,8 @@ form_of verb.Madd = list_form by_threes madd
 form_of verb.IncrBy = form (nat_le 3) (incr (λ v. v))
 form_of verb.DecrBy = form (nat_le 3) (incr neg_ℤ)
 form_of verb.DelRange = form (λ n. n == 4) del_range
-form_of verb.Range = option_form (nat_le 4) (range false)
-form_of verb.RevRange = option_form (nat_le 4) (range true)
+form_of verb.Range = option_form 3 (nat_le 4) (range false)
+form_of verb.RevRange = option_form 3 (nat_le 4) (range true)
 form_of verb.Get = form (λ n. nat_le 2 n && nat_le n 3) get_last
 form_of verb.Ping = form (λ n. nat_le 1 n && nat_le n 2) ping
 form_of verb.Echo = form (λ n. n == 2) echo

@@ -7,11 +7,8 @@ use crate::fault::CommandFault;
 use crate::names::{align_named, stamp_named};
 use crate::number::number_of;
 use ts_agg::{AggFault, Aggregator, read_aggregator};
-use ts_bucket::Stamp;
+use ts_bucket::{LONGEST, Stamp};
 use ts_spec::Align;
-
-// The longest bucket, in milliseconds.
-const LONGEST: u64 = 100_000_000_000_000;
 
 #[tactic(auto, unfolding(ts_spec::specs::Ranges::aggregator_word))]
 pub(crate) fn aggregator_word(word: &[u8]) -> Result<Aggregator, CommandFault>

@@ -46,7 +46,7 @@ fn read_query(
 
 // The words are the whole request, with its name; the key is taken out of them at the end.
 pub(crate) fn read_range(reverse: bool, mut words: Vec<Word>) -> Result<Command, CommandFault>
-    ensures command { SaysOr (IsTrue (has_list (drop 1 words.items))) reading result (range reverse (drop 1 words.items)) }
+    ensures command { SaysOr (IsTrue (has_list (drop 3 (drop 1 words.items)))) reading result (range reverse (drop 1 words.items)) }
     ensures time { IfOk result HasTime }
 {
     let alloc = *words.allocator();

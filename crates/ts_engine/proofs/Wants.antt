@@ -1,5 +1,5 @@
 -- Words that may make a list may want memory.
-use Rattle.std.proofs.Common.{◌≤◌, refl, ℕ, suc, Bool, true, false, List, [], ◌∷◌, length, arith}
+use Rattle.std.proofs.Common.{◌≤◌, refl, ℕ, suc, Bool, true, false, List, [], ◌∷◌, length, drop, arith}
 use Rattle.std.proofs.lemmas.Bool.Decides.{nat_tests}
 use Rattle.std.specs.Prelude.{◌&&◌, nat_le, if◌then◌else◌, Option, Some, Result, Ok, Err, IsTrue, ⊤}
 use Rattle.std.specs.Str.{str_eq_ignore_ascii_case}
@@ -65,7 +65,7 @@ then_wanted : {X : Type 0} (r : Result X Fault) (next : X → Result Command Fau
 then_wanted (Ok x) next takes late = takes x
 then_wanted (Err fault) next takes late = fault_wanted fault late
 
-ranged : (reverse b : Bool) (ws : List Word) → IsTrue (b && has_list ws) → (IsTrue b → 3 ≤ length ws) → IsTrue (may_want_memory (if b then range reverse ws else Err Arity))
+ranged : (reverse b : Bool) (ws : List Word) → IsTrue (b && has_list (drop 3 ws)) → (IsTrue b → 3 ≤ length ws) → IsTrue (may_want_memory (if b then range reverse ws else Err Arity))
 ranged reverse false ws h long = (cc)
 ranged reverse true [] h long = absurd (omega (arith, long refl))
 ranged reverse true (a ∷ []) h long = absurd (omega (arith, long refl))
@@ -76,7 +76,7 @@ ranged reverse true (key ∷ from ∷ to ∷ words) h long =
 long_enough : (n : ℕ) → IsTrue (nat_le 4 (suc n)) → 3 ≤ n
 long_enough n h = grind (arith, nat_tests)
 
-a_range : (reverse : Bool) → Wants (Some (option_form (nat_le 4) (range reverse)))
+a_range : (reverse : Bool) → Wants (Some (option_form 3 (nat_le 4) (range reverse)))
 a_range reverse = record { each = λ ws lists. ranged reverse (nat_le 4 (suc (length ws))) ws lists (long_enough (length ws)) }
 
 all_want : AllWant commands

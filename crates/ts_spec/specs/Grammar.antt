@@ -1,5 +1,5 @@
 -- The commands: which words they have, and what the words say.
-use Rattle.std.specs.Prelude.{ℕ, suc, ◌%◌, ℤ, neg_ℤ, Bool, true, false, ◌&&◌, ◌==◌, nat_le, if◌then◌else◌, List, [], ◌∷◌, length, codes, Option, None, Some, unwrap_or, Result, Ok, Err}
+use Rattle.std.specs.Prelude.{ℕ, suc, ◌%◌, ℤ, neg_ℤ, Bool, true, false, ◌&&◌, ◌==◌, nat_le, if◌then◌else◌, List, [], ◌∷◌, length, drop, codes, Option, None, Some, unwrap_or, Result, Ok, Err}
 use Rattle.ts_spec.specs.declared.command.At.{At}
 use Rattle.ts_spec.specs.declared.command.At.TheVariants.{Clock, Time}
 use Rattle.ts_spec.specs.Wire.{Request}
@@ -87,9 +87,9 @@ form words says = record { words = words; says = says; lists = λ own. false }
 abbrev pub list_form : (ℕ → Bool) → (List Word → Result Command Fault) → Form
 list_form words says = record { words = words; says = says; lists = λ own. true }
 
--- a command that makes a list where an option with one is named
-abbrev pub option_form : (ℕ → Bool) → (List Word → Result Command Fault) → Form
-option_form words says = record { words = words; says = says; lists = has_list }
+-- a command that makes a list where an option with one is named, after so many words that are none
+abbrev pub option_form : (others : ℕ) → (ℕ → Bool) → (List Word → Result Command Fault) → Form
+option_form others words says = record { words = words; says = says; lists = λ own. has_list (drop others own) }
 
 -- the name, and three words each
 abbrev pub by_threes : ℕ → Bool
@@ -104,8 +104,8 @@ commands =
     ∷ (codes "TS.INCRBY", form (nat_le 3) (incr (λ v. v)))
     ∷ (codes "TS.DECRBY", form (nat_le 3) (incr neg_ℤ))
     ∷ (codes "TS.DEL", form (λ n. n == 4) del_range)
-    ∷ (codes "TS.RANGE", option_form (nat_le 4) (range false))
-    ∷ (codes "TS.REVRANGE", option_form (nat_le 4) (range true))
+    ∷ (codes "TS.RANGE", option_form 3 (nat_le 4) (range false))
+    ∷ (codes "TS.REVRANGE", option_form 3 (nat_le 4) (range true))
     ∷ (codes "TS.GET", form (λ n. nat_le 2 n && nat_le n 3) get_last)
     ∷ (codes "PING", form (λ n. nat_le 1 n && nat_le n 2) ping)
     ∷ (codes "ECHO", form (λ n. n == 2) echo)
