@@ -1,1 +1,6 @@
 pub mod Spec
+pub mod Labels
+pub mod Asks
+pub mod Filter
+pub mod Faults
+pub mod Show

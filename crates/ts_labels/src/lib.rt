@@ -1,6 +1,17 @@
-//! What a new series is made with, and what a series gets anew.
+//! Labels of series and filters by them, and what a new series is made with and a series gets anew.
 #![tactic(auto)]
 
+mod filter;
+mod filter_text;
+mod labels;
+mod show;
 mod spec;
 
+pub use filter::{Filter, has_positive};
+pub use filter_text::FilterFault;
+pub use labels::Labels;
+pub use show::Show;
 pub use spec::{Change, Spec};
+
+#[cfg(test)]
+mod tests;

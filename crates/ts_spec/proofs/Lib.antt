@@ -13,6 +13,7 @@ pub mod CountsAll
 pub mod EndingRules
 pub mod Exact
 pub mod Examples
+pub mod FiltersAtWork
 pub mod Keeps
 pub mod Keys
 pub mod KeysGo

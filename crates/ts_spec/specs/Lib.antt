@@ -5,9 +5,11 @@ pub mod Command
 pub mod Counting
 pub mod Encoded
 pub mod Filter
+pub mod FilterText
 pub mod Grammar
 pub mod Key
 pub mod Keyed
+pub mod Labels
 pub mod Limits
 pub mod Making
 pub mod Merging

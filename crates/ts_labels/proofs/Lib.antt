@@ -1,0 +1,3 @@
+pub mod LabelLemmas
+pub mod TextLemmas
+pub mod FaultLemmas

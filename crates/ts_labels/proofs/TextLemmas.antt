@@ -1,0 +1,107 @@
+-- Texts that are cut.
+use Rattle.std.proofs.Common.{◌≡◌, ◌≢◌, ℕ, zero, suc, ◌==◌, ◌<◌, Bool, true, false, List, [], ◌∷◌, ◌++◌, length, take, drop, slice_get, option_map, Option, Some, None, refl, sym, ap, ◌∙◌, if◌then◌else◌, arith}
+use Rattle.ts_spec.specs.FilterText.{before_cut, cut_at, before_last, onto_first, pieces, has_empty}
+
+-- what stands before this byte at the end
+pub before_last-end : (byte : ℕ) (front : List ℕ) (last : ℕ) → before_last byte (front ++ last ∷ []) ≡ (if last == byte then Some front else None)
+before_last-end byte [] last = refl
+before_last-end byte (c ∷ []) last = by (last == byte)
+  where
+    by : (b : Bool) → option_map (λ front. c ∷ front) (if b then Some [] else None) ≡ (if b then Some (c ∷ []) else None)
+    by true = refl
+    by false = refl
+before_last-end byte (c ∷ d ∷ front) last = ap (option_map (λ front. c ∷ front)) (before_last-end byte (d ∷ front) last) ∙ by (last == byte)
+  where
+    by : (b : Bool) → option_map (λ front. c ∷ front) (if b then Some (d ∷ front) else None) ≡ (if b then Some (c ∷ d ∷ front) else None)
+    by true = refl
+    by false = refl
+
+-- more bytes in front of what stands before a cut
+abbrev pub onto_cut : List ℕ → Option (List ℕ × List ℕ) → Option (List ℕ × List ℕ)
+onto_cut front None = None
+onto_cut front (Some parts) = Some (front ++ parts.0, parts.1)
+
+onto_cut-one : (c : ℕ) (cut : Option (List ℕ × List ℕ)) → onto_cut [] (before_cut c cut) ≡ onto_cut (c ∷ []) cut
+onto_cut-one c None = refl
+onto_cut-one c (Some parts) = refl
+
+onto_cut-more : (c : ℕ) (front : List ℕ) (cut : Option (List ℕ × List ℕ)) → onto_cut (c ∷ front) cut ≡ before_cut c (onto_cut front cut)
+onto_cut-more c front None = refl
+onto_cut-more c front (Some parts) = refl
+
+pub onto_cut-none : (cut : Option (List ℕ × List ℕ)) → onto_cut [] cut ≡ cut
+onto_cut-none None = refl
+onto_cut-none (Some parts) = refl
+
+-- a text is not cut at another byte
+pub cut_at-passed : (byte b : ℕ) (bytes : List ℕ) (i : ℕ) → slice_get bytes i ≡ Some b → (b == byte) ≡ false
+    → onto_cut (take (suc i) bytes) (cut_at byte (drop (suc i) bytes)) ≡ onto_cut (take i bytes) (cut_at byte (drop i bytes))
+cut_at-passed byte b [] i e h = cc
+cut_at-passed byte b (c ∷ bytes) zero e h =
+    let here : c ≡ b = cc in
+    let other : (c == byte) ≡ false = ap (λ n. n == byte) here ∙ h in
+    rw other (sym (onto_cut-one c (cut_at byte bytes)))
+cut_at-passed byte b (c ∷ bytes) (suc i) e h =
+    onto_cut-more c (take (suc i) bytes) (cut_at byte (drop (suc i) bytes))
+    ∙ ap (before_cut c) (cut_at-passed byte b bytes i e h)
+    ∙ sym (onto_cut-more c (take i bytes) (cut_at byte (drop i bytes)))
+
+-- it is cut at the byte
+pub cut_at-here : (byte b : ℕ) (bytes : List ℕ) (i : ℕ) → slice_get bytes i ≡ Some b → (b == byte) ≡ true
+    → onto_cut (take i bytes) (cut_at byte (drop i bytes)) ≡ Some (take i bytes, drop (suc i) bytes)
+cut_at-here byte b [] i e h = cc
+cut_at-here byte b (c ∷ bytes) zero e h =
+    let here : c ≡ b = cc in
+    let same : (c == byte) ≡ true = ap (λ n. n == byte) here ∙ h in
+    rw same refl
+cut_at-here byte b (c ∷ bytes) (suc i) e h =
+    onto_cut-more c (take i bytes) (cut_at byte (drop i bytes)) ∙ ap (before_cut c) (cut_at-here byte b bytes i e h)
+
+-- the pieces of a text that is cut so
+abbrev pub cut_pieces : (byte : ℕ) (text : List ℕ) → Option (List ℕ × List ℕ) → List (List ℕ)
+cut_pieces byte text None = text ∷ []
+cut_pieces byte text (Some parts) = parts.0 ∷ pieces byte parts.1
+
+pub pieces-cut : (byte : ℕ) (text : List ℕ) → pieces byte text ≡ cut_pieces byte text (cut_at byte text)
+pieces-cut byte [] = refl
+pieces-cut byte (c ∷ text) = by (c == byte) (cut_at byte text) (pieces-cut byte text)
+  where
+    by : (b : Bool) (cut : Option (List ℕ × List ℕ)) → pieces byte text ≡ cut_pieces byte text cut
+        → (if b then [] ∷ pieces byte text else onto_first c (pieces byte text)) ≡ cut_pieces byte (c ∷ text) (if b then Some ([], text) else before_cut c cut)
+    by true cut h = refl
+    by false None h = ap (onto_first c) h
+    by false (Some parts) h = ap (onto_first c) h
+
+-- what stands after a cut
+abbrev after_cut : Option (List ℕ × List ℕ) → List ℕ
+after_cut None = []
+after_cut (Some parts) = parts.1
+
+-- is shorter
+pub cut_at-shorter : (byte : ℕ) (text front rest : List ℕ) → cut_at byte text ≡ Some (front, rest) → length rest < length text
+cut_at-shorter byte [] front rest h = cc
+cut_at-shorter byte (c ∷ text) front rest h = by (c == byte) (cut_at byte text) (λ f e. cut_at-shorter byte text f rest e) h
+  where
+    by : (b : Bool) (cut : Option (List ℕ × List ℕ)) → ((f : List ℕ) → cut ≡ Some (f, rest) → length rest < length text)
+        → (if b then Some ([], text) else before_cut c cut) ≡ Some (front, rest) → length rest < length (c ∷ text)
+    by true cut ih h =
+        let e : text ≡ rest = ap after_cut h in
+        omega (arith, ap length e)
+    by false None ih h = cc
+    by false (Some parts) ih h =
+        let e : parts.1 ≡ rest = ap after_cut h in
+        let less : length rest < length text = ih parts.0 (ap (λ r. Some (parts.0, r)) e) in
+        omega (arith, less)
+
+-- a value with bytes is not empty
+pub has_empty-more : (values : List (List ℕ)) (value : List ℕ) → has_empty values ≡ false → value ≢ [] → has_empty (values ++ value ∷ []) ≡ false
+has_empty-more [] [] h some = absurd (some refl)
+has_empty-more [] (c ∷ value) h some = refl
+has_empty-more ([] ∷ values) value h some = cc
+has_empty-more ((c ∷ cs) ∷ values) value h some = has_empty-more values value h some
+
+-- one without is
+pub has_empty-found : (values more : List (List ℕ)) → has_empty (values ++ [] ∷ more) ≡ true
+has_empty-found [] more = refl
+has_empty-found ([] ∷ values) more = refl
+has_empty-found ((c ∷ cs) ∷ values) more = has_empty-found values more

@@ -1,0 +1,27 @@
+-- Faults of texts that are no filters.
+use Rattle.std.specs.Prelude.{◌≡◌, ⊤, ℕ, List, [], Result, Ok, Err, if◌then◌else◌}
+use Rattle.ts_spec.specs.FilterText as spec
+use Rattle.ts_spec.specs.FilterText.{comma, pieces, has_empty}
+use Rattle.ts_labels.specs.declared.filter_text.FilterFault.{FilterFault}
+use Rattle.ts_labels.specs.declared.filter_text.FilterFault.TheVariants.{NoOperator, EmptyLabel, EmptyList, Memory}
+
+-- a fault is the one that is wanted, or want of memory, which is free
+abbrev pub IsFaultOf : {Y : Type 0} → FilterFault → Result Y spec.FilterFault → Type 0
+IsFaultOf NoOperator wanted = wanted ≡ Err spec.NoOperator
+IsFaultOf EmptyLabel wanted = wanted ≡ Err spec.EmptyLabel
+IsFaultOf EmptyList wanted = wanted ≡ Err spec.EmptyList
+IsFaultOf (Memory error) wanted = ⊤
+
+-- want of memory
+abbrev pub IsMemory : FilterFault → Type 0
+IsMemory (Memory error) = ⊤
+IsMemory fault = ⊥
+
+-- a value of a list is empty, or there was no memory
+abbrev pub IsEmptyValue : FilterFault → (value : List ℕ) → Type 0
+IsEmptyValue EmptyList value = value ≡ []
+IsEmptyValue fault value = IsMemory fault
+
+-- the values of a list that is cut at each comma, unless one has no bytes
+abbrev pub listed : List ℕ → Result (List (List ℕ)) spec.FilterFault
+listed text = if has_empty (pieces comma text) then Err spec.EmptyList else Ok (pieces comma text)

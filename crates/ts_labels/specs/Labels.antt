@@ -1,0 +1,17 @@
+-- The labels of a series as the definitions have them.
+use Rattle.std.specs.Prelude.{◌≡◌, ⊤, ℕ, List, [], ◌∷◌, None, map}
+use Rattle.ts_spec.specs.State.{Label}
+use Rattle.ts_spec.specs.Filter.{value_of}
+
+-- a label with its value
+abbrev pub labelled : (name value : List ℕ) → Label
+labelled name value = record { name = name; value = value }
+
+-- the labels that a map's entries are
+abbrev pub labels_in : List (List ℕ × List ℕ) → List Label
+labels_in entries = map (λ e. labelled e.0 e.1) entries
+
+-- no label has the name of one after it
+abbrev pub AreDistinct : List Label → Type 0
+AreDistinct [] = ⊤
+AreDistinct (l ∷ ls) = (value_of l.name ls ≡ None) × AreDistinct ls

@@ -1,0 +1,146 @@
+// Filters as texts: `label=value`, `label!=value`, and lists of values.
+ghost use Rattle.std.specs.Prelude.{◌≡◌, ◌≢◌, ⊤, [], ◌∷◌, ◌++◌, Ok, option_map, IfOk, IfErr, OnOk};
+ghost use Rattle.std.specs.Option.{option_copied};
+ghost use Rattle.ts_spec.specs.FilterText.{filter_of, of_label, values_of, cut_at, before_last};
+ghost use Rattle.ts_labels.specs.Faults.{IsFaultOf, IsMemory, IsEmptyValue, listed};
+
+use crate::filter::Filter;
+use std::alloc::{AllocError, Global};
+use thiserror::Error;
+use ts_resp::Word;
+
+/// Why a text is no filter.
+#[derive(Clone, Copy, Debug, PartialEq, Eq, Error)]
+pub enum FilterFault {
+    /// There is no `=` in it.
+    #[error("a filter without `=`")]
+    NoOperator,
+    /// There is no label before the `=` or `!=`.
+    #[error("a filter without a label")]
+    EmptyLabel,
+    /// A value of its list is empty.
+    #[error("an empty value in the list of a filter")]
+    EmptyList,
+    /// There was no memory.
+    #[error(transparent)]
+    Memory(AllocError),
+}
+
+impl Filter {
+    /// The filter that a text says.
+    #[tactic(auto, unfolding(ts_spec::specs::FilterText::filter_of))]
+    pub fn read(alloc: Global, text: &Word) -> Result<Filter, FilterFault>
+        ensures ok { IfOk result (λ filter. filter_of text.now ≡ Ok filter) }
+        ensures fault { IfErr result (λ fault. IsFaultOf fault (filter_of text.now)) }
+    {
+        let Some((front, value)) = cut_at(b'=', text.bytes()) else {
+            return Err(FilterFault::NoOperator);
+        };
+        match before_last(b'!', front) {
+            None => of_label(alloc, true, front, value),
+            Some(label) => of_label(alloc, false, label, value),
+        }
+    }
+}
+
+// The filter by a label, unless that has no bytes.
+fn of_label(
+    alloc: Global,
+    positive: bool,
+    label: &[u8],
+    value: &[u8],
+) -> Result<Filter, FilterFault>
+    ensures ok { IfOk result (λ filter. of_label positive label.now value.now ≡ Ok filter) }
+    ensures fault { IfErr result (λ fault. IsFaultOf fault (of_label positive label.now value.now)) }
+{
+    if label.is_empty() {
+        return Err(FilterFault::EmptyLabel);
+    }
+    let values = values_of(alloc, value)?;
+    Ok(Filter::by(positive, word(alloc, label)?, values))
+}
+
+// The values that a filter names: none, one, or a list in brackets.
+fn values_of(alloc: Global, text: &[u8]) -> Result<Vec<Word>, FilterFault>
+    ensures ok { IfOk result (λ values. values_of text.now ≡ Ok values.items) }
+    ensures fault { IfErr result (λ fault. IsFaultOf fault (values_of text.now)) }
+{
+    let mut values = Vec::new(alloc);
+    let Some((first, rest)) = text.split_first() else {
+        return Ok(values);
+    };
+    if *first == b'(' {
+        if let Some(inner) = before_last(b')', rest) {
+            return listed(alloc, inner);
+        }
+    }
+    add(&mut values, word(alloc, text)?)?;
+    Ok(values)
+}
+
+// The values of a list, cut at each comma, unless one of them is empty.
+fn listed(alloc: Global, list: &[u8]) -> Result<Vec<Word>, FilterFault>
+    ensures ok { IfOk result (λ values. listed list.now ≡ Ok values.items) }
+    ensures fault { IfErr result (λ fault. IsFaultOf fault (listed list.now)) }
+{
+    let mut values = Vec::new(alloc);
+    let mut rest = list;
+    while let Some((value, after)) = cut_at(b',', rest) {
+        add_value(alloc, &mut values, value)?;
+        rest = after;
+    }
+    add_value(alloc, &mut values, rest)?;
+    Ok(values)
+}
+
+// Adds a value of a list, unless it is empty.
+fn add_value(alloc: Global, values: &mut Vec<Word>, value: &[u8]) -> Result<(), FilterFault>
+    ensures ok { OnOk result (values.new.items ≡ values.old.items ++ value.now ∷ []) }
+    ensures some { OnOk result (value.now ≢ []) }
+    ensures fault { IfErr result (λ fault. IsEmptyValue fault value.now) }
+{
+    if value.is_empty() {
+        return Err(FilterFault::EmptyList);
+    }
+    add(values, word(alloc, value)?)
+}
+
+fn add(values: &mut Vec<Word>, value: Word) -> Result<(), FilterFault>
+    ensures ok { OnOk result (values.new.items ≡ values.old.items ++ value ∷ []) }
+    ensures fault { IfErr result IsMemory }
+{
+    match values.push(value) {
+        Ok(()) => Ok(()),
+        Err(_) => Err(FilterFault::Memory(AllocError)),
+    }
+}
+
+fn word(alloc: Global, bytes: &[u8]) -> Result<Word, FilterFault>
+    ensures ok { IfOk result (λ word. word ≡ bytes.now) }
+    ensures fault { IfErr result IsMemory }
+{
+    match Word::from_slice(alloc, bytes) {
+        Ok(word) => Ok(word),
+        Err(error) => Err(FilterFault::Memory(error)),
+    }
+}
+
+// What stands before the first of these bytes, and after it.
+fn cut_at(byte: u8, bytes: &[u8]) -> Option<(&[u8], &[u8])>
+    ensures { option_map (λ parts. (parts.0.now, parts.1.now)) result ≡ cut_at byte bytes.now }
+{
+    for (index, b) in bytes.iter().enumerate() {
+        if *b == byte {
+            return Some((&bytes[..index], &bytes[index + 1..]));
+        }
+    }
+    None
+}
+
+// What stands before this byte at the end, if that is the last one.
+fn before_last(byte: u8, bytes: &[u8]) -> Option<&[u8]>
+    ensures { option_copied result ≡ before_last byte bytes.now }
+{
+    let (last, front) = bytes.split_last()?;
+    if *last == byte { Some(front) } else { None }
+}

@@ -1,0 +1,39 @@
+// The replies to questions over many series.
+ghost use Rattle.std.specs.Prelude.{◌≡◌, All, map, IfOk};
+ghost use Rattle.ts_spec.specs.Replies.{array as array_of, member_reply as told, last_member_reply as last_told};
+ghost use Rattle.ts_resp.specs.Replies.{reply_of};
+ghost use Rattle.ts_multi.specs.Members.{members_of, HasAtMostOneRow};
+
+use crate::arrays::array;
+use crate::member::{Member, last_member_reply, member_reply};
+use std::alloc::{AllocError, Global};
+use ts_labels::Show;
+use ts_resp::Reply;
+
+/// The reply to TS.MRANGE and TS.MREVRANGE: for each member, in their order, an array of its key, an array of the
+/// labels that are asked for, and an array of its rows. A label is an array of its name and its value, or nil where
+/// it was asked for and the series lacks it; a row is an array of its time and its value.
+pub fn multi(alloc: Global, members: &[Member], show: &Show) -> Result<Reply, AllocError>
+    ensures { IfOk result (λ reply. reply_of reply
+        ≡ array_of (map told (members_of show.now members.now))) }
+{
+    let mut replies = Vec::with_capacity(alloc, members.len())?;
+    for member in members {
+        replies.push_reserved(member_reply(alloc, member, show)?);
+    }
+    Ok(array(replies))
+}
+
+/// The reply to TS.MGET: for each member, in their order, an array of its key, an array of the labels that are asked
+/// for, as that of `multi`, and its only row, or an empty array where it has none.
+pub fn multi_last(alloc: Global, members: &[Member], show: &Show) -> Result<Reply, AllocError>
+    requires { All HasAtMostOneRow members.now }
+    ensures { IfOk result (λ reply. reply_of reply
+        ≡ array_of (map last_told (members_of show.now members.now))) }
+{
+    let mut replies = Vec::with_capacity(alloc, members.len())?;
+    for member in members {
+        replies.push_reserved(last_member_reply(alloc, member, show)?);
+    }
+    Ok(array(replies))
+}
