@@ -2,7 +2,7 @@
 use Rattle.std.proofs.Common.{◌≡◌, ℕ, zero, suc, ◌+◌, ◌-◌, ◌*◌, ◌/◌, ◌<◌, ◌≤◌, Bool, cond, pos, negsuc, neg_ℤ, ◌+ℤ◌, ◌*ℤ◌, refl, sym, ap, ◌∙◌, subst, arith, inl, inr, ◌⊎◌, lt-ltb, le-ltb, mul_comm, mul-le-mul_left, div-lt_iff_lt-mul, mul-suc, add-one}
 use Rattle.std.proofs.lemmas.Bool.{cases_lt}
 use Rattle.std.proofs.lemmas.Nat.{le-div}
-use Rattle.std.proofs.Math.Nat.{div-mul-le_self, mul-div-le, div-eq_of_lt-le, mul-div_cancel_left}
+use Rattle.std.proofs.Math.Nat.{eq-zero-or-pos, div-mul-le_self, mul-div-le, div-eq_of_lt-le, mul-div_cancel_left}
 use Rattle.std.specs.Int.{int_div_euclid}
 use Rattle.ts_spec.specs.Bucket.{Grid, from_zero, start}
 
@@ -58,8 +58,27 @@ start-mono g t u h l = go (cases_lt t g.align) (cases_lt u g.align)
         let r : start g u ≡ g.align + g.duration * ((u - g.align) / g.duration) = start-late g u y in
         omega arith
 
+-- where buckets have no length they all start at the alignment
+start-still : (g : Grid) (t : ℕ) → g.duration ≡ 0 → start g t ≡ g.align
+start-still g t h = go (cases_lt t g.align)
+  where
+    go : (t < g.align) ⊎ (g.align ≤ t) → start g t ≡ g.align
+    go (inl x) =
+        let k : g.duration * suc ((g.align - suc t) / g.duration) ≡ 0 = ap (λ (d : ℕ). d * suc ((g.align - suc t) / g.duration)) h ∙ omega arith in
+        start-early g t x ∙ omega arith
+    go (inr x) =
+        let k : g.duration * ((t - g.align) / g.duration) ≡ 0 = ap (λ (d : ℕ). d * ((t - g.align) / g.duration)) h ∙ omega arith in
+        start-late g t x ∙ omega arith
+
+-- A later time has no earlier start, whatever the grid.
+pub start-order : (g : Grid) (t u : ℕ) → t ≤ u → start g t ≤ start g u
+start-order g t u l = elim (eq-zero-or-pos g.duration) [
+  | inl e ↦ (let s : start g t ≡ g.align = start-still g t e in let r : start g u ≡ g.align = start-still g u e in omega arith)
+  | inr h ↦ start-mono g t u h l
+]
+
 -- the next multiple is past a number
-past-div : (x d : ℕ) → 0 < d → x < d * suc (x / d)
+pub past-div : (x d : ℕ) → 0 < d → x < d * suc (x / d)
 past-div x d h =
     let k : x < suc (x / d) * d = (div-lt_iff_lt-mul {x = x} {y = suc (x / d)} h).0 (omega arith) in
     subst (λ (y : ℕ). x < y) (mul_comm (suc (x / d)) d) k

@@ -43,14 +43,14 @@ module _ (limits : Limits) (m : State) (ends : Key → Key → Bool) (v : IsVali
       go c y false e z = (rule-link m l.source k c l.rule v.linked y z, e)
 
   -- a rule that does not end is left
-  link-left : (k : Key) (l : Link) → link_to m k ≡ Some l → ends l.source k ≡ false → link_to (ended ends m) k ≡ Some l
+  pub link-left : (k : Key) (l : Link) → link_to m k ≡ Some l → ends l.source k ≡ false → link_to (ended ends m) k ≡ Some l
   link-left k l x e =
       let f : Found m.entries k l = link-found m k l x in
       link-by-rule (ended ends m) l.source k (ended_in ends m l.source f.record_of) l.rule (get-ended l.source f.record_of f.there)
       (rule_to-filter (λ j. not (ends l.source j)) k f.record_of.rules ∙ ap (λ (b : Bool). if not b then rule_to k f.record_of.rules else None) e ∙ f.rule)
       (λ q y. some-same q l (sym (link-before k q y).0 ∙ x))
 
-  link-gone : (k : Key) (l : Link) → link_to m k ≡ Some l → ends l.source k ≡ true → link_to (ended ends m) k ≡ None
+  pub link-gone : (k : Key) (l : Link) → link_to m k ≡ Some l → ends l.source k ≡ true → link_to (ended ends m) k ≡ None
   link-gone k l x e = go (link_to (ended ends m) k) refl
     where
       go : (o : Option Link) → link_to (ended ends m) k ≡ o → o ≡ None
@@ -59,7 +59,7 @@ module _ (limits : Limits) (m : State) (ends : Key → Key → Bool) (v : IsVali
           let eq : q ≡ l = some-same q l (sym (link-before k q y).0 ∙ x) in
           absurd (false≢true (sym (link-before k q y).1 ∙ ap (λ (z : Link). ends z.source k) eq ∙ e))
 
-  link-none-left : (k : Key) → link_to m k ≡ None → link_to (ended ends m) k ≡ None
+  pub link-none-left : (k : Key) → link_to m k ≡ None → link_to (ended ends m) k ≡ None
   link-none-left k x = go (link_to (ended ends m) k) refl
     where
       go : (o : Option Link) → link_to (ended ends m) k ≡ o → o ≡ None

@@ -94,7 +94,7 @@ module _ (m : State) (key : Key) (d : Record) (f : Record → Record) (g : Recor
       ∙ no-rules-cleared key test (lost_from key touches (Some (record { source = key; rule = g d r })) e) none
 
   -- the key itself is no destination of its own
-  dest-other : (k : Key) (r : Rule) → link_to m k ≡ Some (record { source = key; rule = r }) → same k key ≡ false
+  pub dest-other : (k : Key) (r : Rule) → link_to m k ≡ Some (record { source = key; rule = r }) → same k key ≡ false
   dest-other k r x = go (same k key) refl
     where
       go : (b : Bool) → same k key ≡ b → b ≡ false

@@ -66,30 +66,31 @@ length-put k c (e ∷ es) = go (is_before e.key k) (is_before k e.key) (length-p
     go false true ih = omega arith
     go false false ih = omega arith
 
-module _ (limits : Limits) (m : State) (key : Key) (c : Record) (v : IsValid limits m) (h : IsNew limits m key c) where
-  unlinked-new : link_to m key ≡ None
+-- a record without rules put in at a key that is not there changes no link
+module _ (m : State) (key : Key) (c : Record) (linked : IsLinked m) (missing : get key m ≡ None) (no_rules : c.rules ≡ []) where
+  pub unlinked-new : link_to m key ≡ None
   unlinked-new = go (link_to m key) refl
     where
       go : (o : Option Link) → link_to m key ≡ o → o ≡ None
       go None x = refl
-      go (Some l) x = let t : IsTarget m key = link-target m key l v.linked x in let one : None ≡ Some t.record_of = sym h.missing ∙ t.there in absurd (cc one)
+      go (Some l) x = let t : IsTarget m key = link-target m key l linked x in let one : None ≡ Some t.record_of = sym missing ∙ t.there in absurd (cc one)
 
-  here-new : get key (with_key key c m) ≡ Some c
+  pub here-new : get key (with_key key c m) ≡ Some c
   here-new = get-with key key c m ∙ ap (λ (b : Bool). if b then Some c else get key m) (same-refl key)
 
-  other-new : (k : Key) → same key k ≡ false → get k (with_key key c m) ≡ get k m
+  pub other-new : (k : Key) → same key k ≡ false → get k (with_key key c m) ≡ get k m
   other-new k x = get-with k key c m ∙ ap (λ (b : Bool). if b then Some c else get k m) x
 
   -- a key that is there is another one
-  there-other : (k : Key) (d : Record) → get k m ≡ Some d → same key k ≡ false
+  pub there-other : (k : Key) (d : Record) → get k m ≡ Some d → same key k ≡ false
   there-other k d x = go (same key k) refl
     where
       go : (b : Bool) → same key k ≡ b → b ≡ false
       go false y = refl
-      go true y = let one : None ≡ Some d = sym h.missing ∙ ap (λ (j : Key). get j m) (same-true key k y) ∙ x in absurd (cc one)
+      go true y = let one : None ≡ Some d = sym missing ∙ ap (λ (j : Key). get j m) (same-true key k y) ∙ x in absurd (cc one)
 
-  links-new : (k : Key) → link_to (with_key key c m) k ≡ link_to m k
-  links-new k = link-agrees m (with_key key c m) k v.linked down up
+  pub links-new : (k : Key) → link_to (with_key key c m) k ≡ link_to m k
+  links-new k = link-agrees m (with_key key c m) k linked down up
     where
       down : (s : Key) (r : Rule) → HasRule (with_key key c m) s k r → HasRule m s k r
       down s r w = go (same key s) refl
@@ -98,13 +99,23 @@ module _ (limits : Limits) (m : State) (key : Key) (c : Record) (v : IsValid lim
           go false y = record { record_of = w.record_of; there = sym (other-new s y) ∙ w.there; rule = w.rule }
           go true y =
               let eq : c ≡ w.record_of = some-same c w.record_of (sym here-new ∙ ap (λ (j : Key). get j (with_key key c m)) (same-true key s y) ∙ w.there) in
-              let one : None ≡ Some r = ap (rule_to k) (sym h.no_rules ∙ ap (λ (q : Record). q.rules) eq) ∙ w.rule in absurd (cc one)
+              let one : None ≡ Some r = ap (rule_to k) (sym no_rules ∙ ap (λ (q : Record). q.rules) eq) ∙ w.rule in absurd (cc one)
 
       up : (s : Key) (r : Rule) → HasRule m s k r → HasRule (with_key key c m) s k r
       up s r w = record { record_of = w.record_of; there = other-new s (there-other s w.record_of w.there) ∙ w.there; rule = w.rule }
 
+module _ (limits : Limits) (m : State) (key : Key) (c : Record) (v : IsValid limits m) (h : IsNew limits m key c) where
+  other : (k : Key) → same key k ≡ false → get k (with_key key c m) ≡ get k m
+  other k x = other-new m key c v.linked h.missing h.no_rules k x
+
+  elsewhere : (k : Key) (d : Record) → get k m ≡ Some d → same key k ≡ false
+  elsewhere k d x = there-other m key c v.linked h.missing h.no_rules k d x
+
+  links : (k : Key) → link_to (with_key key c m) k ≡ link_to m k
+  links k = links-new m key c v.linked h.missing h.no_rules k
+
   rule-new-key : (k : Key) → rule_into (with_key key c m) k ≡ rule_into m k
-  rule-new-key k = ap (option_map (λ (l : Link). l.rule)) (links-new k)
+  rule-new-key k = ap (option_map (λ (l : Link). l.rule)) (links k)
 
   data WhichKey (k : Key) (e : Record) : Type 0 where
     IsNewOne : k ≡ key → e ≡ c → WhichKey k e
@@ -114,11 +125,11 @@ module _ (limits : Limits) (m : State) (key : Key) (c : Record) (v : IsValid lim
   which-key k e x = go (same key k) refl
     where
       go : (b : Bool) → same key k ≡ b → WhichKey k e
-      go true y = IsNewOne (sym (same-true key k y)) (some-same e c (sym x ∙ ap (λ (j : Key). get j (with_key key c m)) (sym (same-true key k y)) ∙ here-new))
-      go false y = IsOldOne (sym (other-new k y) ∙ x)
+      go true y = IsNewOne (sym (same-true key k y)) (some-same e c (sym x ∙ ap (λ (j : Key). get j (with_key key c m)) (sym (same-true key k y)) ∙ here-new m key c v.linked h.missing h.no_rules))
+      go false y = IsOldOne (sym (other k y) ∙ x)
 
   none-new : rule_into (with_key key c m) key ≡ None
-  none-new = rule-new-key key ∙ ap (option_map (λ (l : Link). l.rule)) unlinked-new
+  none-new = rule-new-key key ∙ ap (option_map (λ (l : Link). l.rule)) (unlinked-new m key c v.linked h.missing h.no_rules)
 
   tidy-new : (k : Key) (e : Record) → WhichKey k e → tidied_by (rule_into (with_key key c m) k) e ≡ e
   tidy-new k e (IsOldOne x) = ap (λ (o : Option Rule). tidied_by o e) (rule-new-key k) ∙ record-tidy m k e v.settled x
@@ -130,7 +141,7 @@ module _ (limits : Limits) (m : State) (key : Key) (c : Record) (v : IsValid lim
   expired-new : (k : Key) (e : Record) → get k m ≡ Some e → EachRule (λ r. expired_in (with_key key c m) r ≡ r) e.rules
   expired-new k e x =
       each-rule-to (λ r. IsSoleLink m k r × (expired_in m r ≡ r)) (λ r. expired_in (with_key key c m) r ≡ r) e.rules
-      (λ r y. ap (λ (o : Option Record). expired (edge_at o) r) (other-new r.dest (there-other r.dest y.0.dest y.0.there)) ∙ y.1)
+      (λ r y. ap (λ (o : Option Record). expired (edge_at o) r) (other r.dest (elsewhere r.dest y.0.dest y.0.there)) ∙ y.1)
       (each-rule-both (IsSoleLink m k) (λ r. expired_in m r ≡ r) e.rules (v.linked k e x) (rules-expired m k e v.settled x))
 
   expire-new : (k : Key) (e : Record) → WhichKey k e → expire_record (with_key key c m) e ≡ e
@@ -146,7 +157,7 @@ module _ (limits : Limits) (m : State) (key : Key) (c : Record) (v : IsValid lim
   linked-new k e (IsNewOne x y) = subst (EachRule (IsSoleLink (with_key key c m) k)) (sym (ap (λ (q : Record). q.rules) y ∙ h.no_rules)) tt
   linked-new k e (IsOldOne x) =
       each-rule-to (IsSoleLink m k) (IsSoleLink (with_key key c m) k) e.rules
-      (λ r s. record { link = links-new r.dest ∙ s.link; dest = s.dest; there = other-new r.dest (there-other r.dest s.dest s.there) ∙ s.there; no_rules = s.no_rules }) (v.linked k e x)
+      (λ r s. record { link = links r.dest ∙ s.link; dest = s.dest; there = other r.dest (elsewhere r.dest s.dest s.there) ∙ s.there; no_rules = s.no_rules }) (v.linked k e x)
 
   within-new : (k : Key) (e : Record) → get k (with_key key c m) ≡ Some e → WhichKey k e → IsWithin limits (with_key key c m) k e
   within-new k e z (IsOldOne x) =

@@ -53,7 +53,7 @@ module _ (limits : Limits) (m : State) (key : Key) (v : IsValid limits m) (h : I
       go false y = refl
       go true y = let one : None ≡ Some (record { source = k; rule = r }) = sym h.no_source ∙ ap (link_to m) (same-true key r.dest y) ∙ s.link in absurd (cc one)
 
-  links-left : (k : Key) → link_to (without_key key m) k ≡ link_to m k
+  pub links-left : (k : Key) → link_to (without_key key m) k ≡ link_to m k
   links-left k = link-agrees m (without_key key m) k v.linked down up
     where
       down : (s : Key) (r : Rule) → HasRule (without_key key m) s k r → HasRule m s k r
@@ -102,10 +102,9 @@ filter-none : (rs : List Rule) → filter (λ r. false) rs ≡ []
 filter-none [] = refl
 filter-none (r ∷ rs) = filter-none rs
 
--- The end of a key keeps the state valid.
-pub valid-dropped : (limits : Limits) (m : State) (key : Key) → IsValid limits m → IsValid limits (dropped key m)
-valid-dropped limits m key v =
-    valid-without limits (ended (λ s d. same s key || same d key) m) key (ending.valid-ended limits m (λ s d. same s key || same d key) v) (record { no_source = no_source; no_rules = no_rules })
+-- after the end of each rule from a key or to it, the key is loose
+pub loose-ended : (limits : Limits) (m : State) (key : Key) → IsValid limits m → IsLoose (ended (λ s d. same s key || same d key) m) key
+loose-ended limits m key v = record { no_source = no_source; no_rules = no_rules }
   where
     no_source : link_to (ended (λ s d. same s key || same d key) m) key ≡ None
     no_source = go (link_to (ended (λ s d. same s key || same d key) m) key) refl
@@ -124,3 +123,8 @@ valid-dropped limits m key v =
         ap (λ (q : Record). q.rules) (sym f.gives)
         ∙ ap (λ (b : Bool). filter (λ (r : Rule). not (b || same r.dest key)) f.value.rules) (same-refl key)
         ∙ filter-none f.value.rules
+
+-- The end of a key keeps the state valid.
+pub valid-dropped : (limits : Limits) (m : State) (key : Key) → IsValid limits m → IsValid limits (dropped key m)
+valid-dropped limits m key v =
+    valid-without limits (ended (λ s d. same s key || same d key) m) key (ending.valid-ended limits m (λ s d. same s key || same d key) v) (loose-ended limits m key v)

@@ -117,7 +117,7 @@ module _ (limits : Limits) (m : State) (source dest : Key) (agg : Aggregator) (g
             rule_to-append j s.rules (new_rule dest agg grid s ∷ []) ∙ ap (λ (o : Option Rule). option_or o (rule_to j (new_rule dest agg grid s ∷ []))) (ap (λ (q : Record). rule_to j q.rules) eq ∙ z),
           )
 
-  link-stays : (j : Key) → same dest j ≡ false → link_to (ruled source dest agg grid m) j ≡ link_to m j
+  pub link-stays : (j : Key) → same dest j ≡ false → link_to (ruled source dest agg grid m) j ≡ link_to m j
   link-stays j x = go (link_to m j) (link_to (ruled source dest agg grid m) j) refl refl
     where
       before : (l : Link) → link_to (ruled source dest agg grid m) j ≡ Some l → link_to m j ≡ Some l
@@ -134,7 +134,7 @@ module _ (limits : Limits) (m : State) (source dest : Key) (agg : Aggregator) (g
           let w : (e : Record) × (get l.source (ruled source dest agg grid m) ≡ Some e) × (rule_to j e.rules ≡ Some l.rule) = still-there l.source j f.record_of l.rule f.there f.rule in
           let one : None ≡ Some l.rule = sym (no-link-no-rule (ruled source dest agg grid m) l.source j w.0 z w.1) ∙ w.2 in absurd (cc one)
 
-  link-made : link_to (ruled source dest agg grid m) dest ≡ Some (record { source = source; rule = new_rule dest agg grid s })
+  pub link-made : link_to (ruled source dest agg grid m) dest ≡ Some (record { source = source; rule = new_rule dest agg grid s })
   link-made =
       link-by-rule (ruled source dest agg grid m) source dest (with_rule dest agg grid s) (new_rule dest agg grid s) source-after
       (rule_to-append dest s.rules (new_rule dest agg grid s ∷ [])
@@ -163,7 +163,7 @@ module _ (limits : Limits) (m : State) (source dest : Key) (agg : Aggregator) (g
               link-same l source (new_rule dest agg grid s) (same-true l.source source e) (sym (some-same (new_rule dest agg grid s) l.rule rule))
 
   -- which key it is
-  dest-not-source : same dest source ≡ false
+  pub dest-not-source : same dest source ≡ false
   dest-not-source = same-sym dest source ∙ h.other
 
   dest-after : get dest (ruled source dest agg grid m) ≡ Some d

@@ -1,10 +1,8 @@
 -- Texts without a CR.
-use Rattle.std.proofs.Common.{ℕ, zero, suc, ◌+◌, ◌/◌, ◌%◌, ◌^◌, ◌<◌, ◌≤◌, ℤ, pos, negsuc, List, [], ◌∷◌, ◌++◌, map, Option, Some, None, refl, arith}
-use Rattle.std.specs.Prelude.{unsigned_abs}
-use Rattle.std.specs.Fmt.{decimal, signed_decimal}
+use Rattle.std.proofs.Common.{ℕ, zero, suc, ◌+◌, ◌/◌, ◌%◌, ◌^◌, ◌≤◌, ◌==◌, nat_lt, Bool, true, false, if◌then◌else◌, ℤ, pos, negsuc, List, [], ◌∷◌, ◌++◌, map, Option, Some, None, refl, arith}
+use Rattle.std.specs.Fmt.{decimal, signed_decimal, digits, digits_onto, digit_glyph}
 use Rattle.std.specs.Int.Digits.{digits_with_fuel}
 use Rattle.std.proofs.lemmas.Bool.{eqb-false}
-use Rattle.std.proofs.lemmas.Fmt.{decimal_by_steps}
 use Rattle.ts_spec.specs.Value.{PLACES, places, shown_value, shown_whole, shown_fraction, shown_magnitude}
 use Rattle.ts_spec.specs.Text.{shown_cell, IsOneLine}
 
@@ -13,20 +11,33 @@ abbrev pub AreDigits : List ℕ → Type 0
 AreDigits [] = Unit {0}
 AreDigits (byte ∷ bytes) = (48 ≤ byte) × AreDigits bytes
 
-AreDigits-append : (digits : List ℕ) (digit : ℕ) → AreDigits digits → 48 ≤ digit → AreDigits (digits ++ digit ∷ [])
-AreDigits-append [] digit h d = (d, tt)
-AreDigits-append (first ∷ digits) digit h d = (h.0, AreDigits-append digits digit h.1 d)
+glyph : (d : ℕ) → 48 ≤ digit_glyph false d
+glyph d = go (nat_lt d 10)
+  where
+    go : (b : Bool) → 48 ≤ (if b then 48 + d else 87 + d)
+    go true = omega arith
+    go false = omega arith
 
-pub AreDigits-decimal : (n : ℕ) → n < 2 ^ 64 → AreDigits (decimal n)
-AreDigits-decimal n h = decimal_by_steps (λ n digits. AreDigits digits) (λ n small. (omega arith, tt)) (λ n digits large before. AreDigits-append digits (48 + n % 10) before (omega arith)) n h
+AreDigits-onto : (k n : ℕ) (digits : List ℕ) → AreDigits digits → AreDigits (digits_onto k 10 false n digits)
+AreDigits-onto zero n digits h = h
+AreDigits-onto (suc k) n digits h = go (n / 10 == 0) (AreDigits-onto k (n / 10) (digit_glyph false (n % 10) ∷ digits) (glyph (n % 10), h))
+  where
+    go : (b : Bool) → AreDigits (digits_onto k 10 false (n / 10) (digit_glyph false (n % 10) ∷ digits)) →
+        AreDigits (if b then digit_glyph false (n % 10) ∷ digits else digits_onto k 10 false (n / 10) (digit_glyph false (n % 10) ∷ digits))
+    go true ih = (glyph (n % 10), h)
+    go false ih = ih
+
+pub AreDigits-decimal : (n : ℕ) → AreDigits (decimal n)
+unfolding digits
+AreDigits-decimal n = AreDigits-onto 64 n [] tt
 
 pub IsOneLine-digits : (digits : List ℕ) → AreDigits digits → IsOneLine digits
 IsOneLine-digits [] h = tt
 IsOneLine-digits (digit ∷ digits) h = (λ e. omega arith, IsOneLine-digits digits h.1)
 
-pub IsOneLine-signed : (z : ℤ) → unsigned_abs z < 2 ^ 64 → IsOneLine (signed_decimal z)
-IsOneLine-signed (pos n) h = IsOneLine-digits (decimal n) (AreDigits-decimal n h)
-IsOneLine-signed (negsuc n) h = (eqb-false 45 13 refl, IsOneLine-digits (decimal (suc n)) (AreDigits-decimal (suc n) h))
+pub IsOneLine-signed : (z : ℤ) → IsOneLine (signed_decimal z)
+IsOneLine-signed (pos n) = IsOneLine-digits (decimal n) (AreDigits-decimal n)
+IsOneLine-signed (negsuc n) = (eqb-false 45 13 refl, IsOneLine-digits (decimal (suc n)) (AreDigits-decimal (suc n)))
 
 AreDigits-glyphs : (digits : List ℕ) → AreDigits (map (λ d. 48 + d) digits)
 AreDigits-glyphs [] = tt

@@ -25,7 +25,7 @@ use Rattle.ts_spec.proofs.Keeps.{valid-written}
 use Rattle.ts_spec.proofs.ClientChanges.{deletion-valid}
 use Rattle.ts_spec.proofs.KeysComeAndGo.{valid-with}
 use Rattle.ts_spec.proofs.KeysGo.{valid-dropped}
-use Rattle.ts_spec.proofs.MakingRules.{valid-ruled}
+use Rattle.ts_spec.proofs.MakingRules.{IsRulable, valid-ruled}
 use Rattle.ts_spec.proofs.EndingRules.{valid-ended}
 use Rattle.ts_spec.proofs.Altering.{valid-altered}
 
@@ -122,16 +122,16 @@ create_with-good : (limits : Limits) (m : State) (key : Key) (spec : Spec) (t : 
 create_with-good limits m key spec t x room v missing =
     created-good limits m key (fresh spec (record { time = t; value = x; made = 0 } ∷ []) (Some t)) _ v missing (one-new limits spec t x room)
 
-add-good : (limits : Limits) (m : State) (key : Key) (t : ℕ) (x : ℤ) (on : Option Policy) (spec : Spec) (o : Option Record) → 1 ≤ limits.samples → IsValid limits m → get key m ≡ o →
+pub add-good : (limits : Limits) (m : State) (key : Key) (t : ℕ) (x : ℤ) (on : Option Policy) (spec : Spec) (o : Option Record) → 1 ≤ limits.samples → IsValid limits m → get key m ≡ o →
     IsGood limits (add_at limits m key t x on spec o)
 add-good limits m key t x on spec None room v e = create_with-good limits m key spec t x room v e
 add-good limits m key t x on spec (Some d) room v e = write-good limits m key d (By (unwrap_or on d.options.policy)) t x v e
 
-put-good : (limits : Limits) (m : State) (key : Key) (t : ℕ) (x : ℤ) (o : Option Record) → IsValid limits m → get key m ≡ o → IsGood limits (put_at limits m key t x o)
+pub put-good : (limits : Limits) (m : State) (key : Key) (t : ℕ) (x : ℤ) (o : Option Record) → IsValid limits m → get key m ≡ o → IsGood limits (put_at limits m key t x o)
 put-good limits m key t x None v e = v
 put-good limits m key t x (Some d) v e = write-good limits m key d (By d.options.policy) t x v e
 
-triple-good : (limits : Limits) (m : State) (reading : ℕ) (key : Key) (at : Result At Fault) (value : Result ℤ Fault) → IsValid limits m → IsGood limits (triple_step limits m reading key at value)
+pub triple-good : (limits : Limits) (m : State) (reading : ℕ) (key : Key) (at : Result At Fault) (value : Result ℤ Fault) → IsValid limits m → IsGood limits (triple_step limits m reading key at value)
 triple-good limits m reading key (Err fault) value v = v
 triple-good limits m reading key (Ok at) (Err fault) v = v
 triple-good limits m reading key (Ok at) (Ok x) v = put-good limits m key (time_of reading at) x (get key m) v refl
@@ -142,7 +142,7 @@ madd-good limits m reading items (x ∷ xs) v =
     madd-good limits (triple_step limits m reading x.key x.at x.value).state reading (items ++ item_of (triple_step limits m reading x.key x.at x.value).response) xs
     (triple-good limits m reading x.key x.at x.value v)
 
-incr-good : (limits : Limits) (m : State) (key : Key) (x : ℤ) (t : ℕ) (spec : Spec) (o : Option Record) → 1 ≤ limits.samples → IsValid limits m → get key m ≡ o → IsGood limits (incr_at limits m key x t spec o)
+pub incr-good : (limits : Limits) (m : State) (key : Key) (x : ℤ) (t : ℕ) (spec : Spec) (o : Option Record) → 1 ≤ limits.samples → IsValid limits m → get key m ≡ o → IsGood limits (incr_at limits m key x t spec o)
 incr-good limits m key x t spec None room v e = create_with-good limits m key spec t x room v e
 incr-good limits m key x t spec (Some d) room v e =
     pick limits (is_before_last t (last_of (shown m key))) _ _ (λ y. v)
@@ -150,7 +150,7 @@ incr-good limits m key x t spec (Some d) room v e =
 
 -- ---- deletions
 
-delete-good : (limits : Limits) (m : State) (key : Key) (from to : ℕ) (o : Option Record) → IsValid limits m → get key m ≡ o → IsGood limits (delete_at limits m key from to o)
+pub delete-good : (limits : Limits) (m : State) (key : Key) (from to : ℕ) (o : Option Record) → IsValid limits m → get key m ≡ o → IsGood limits (delete_at limits m key from to o)
 delete-good limits m key from to None v e = v
 delete-good limits m key from to (Some d) v e =
     pick limits (nat_lt to from) _ _ (λ x. v)
@@ -158,6 +158,28 @@ delete-good limits m key from to (Some d) v e =
     (λ y. destinations-good limits m key d _ v e (λ dests. deletion-valid limits m key d from to v e dests)))
 
 -- ---- rules
+
+-- a rule that is not refused may be made
+pub rulable : (limits : Limits) (m : State) (source dest : Key) (s d : Record) → get source m ≡ Some s → get dest m ≡ Some d → same source dest ≡ false → is_some (link_to m source) ≡ false →
+    has_rules d.rules ≡ false → is_some (link_to m dest) ≡ false → nat_le limits.born s.born ≡ false → nat_le limits.rules (length s.rules) ≡ false → IsRulable limits m source dest s d
+rulable limits m source dest s d e f other a b c g h = record {
+  other = other;
+  source_there = e;
+  dest_there = f;
+  source_free = free (link_to m source) a;
+  dest_free = free (link_to m dest) c;
+  dest_rules = empty d.rules b;
+  born = leb-false limits.born s.born g;
+  rules = leb-false limits.rules (length s.rules) h;
+}
+  where
+    free : (o : Option Link) → is_some o ≡ false → o ≡ None
+    free None x = refl
+    free (Some l) x = absurd (false≢true (sym x))
+
+    empty : (rs : List Rule) → has_rules rs ≡ false → rs ≡ []
+    empty [] x = refl
+    empty (r ∷ rs) x = absurd (false≢true (sym x))
 
 create_rule-good : (limits : Limits) (m : State) (source dest : Key) (agg : Aggregator) (grid : Grid) (p q : Option Record) → IsValid limits m → get source m ≡ p → get dest m ≡ q → same source dest ≡ false →
     IsGood limits (create_rule_at limits m source dest agg grid p q)
@@ -169,24 +191,7 @@ create_rule-good limits m source dest agg grid (Some s) (Some d) v e f other =
     (λ b. pick limits (is_some (link_to m dest)) _ _ (λ x. v)
     (λ c. pick limits (nat_le limits.born s.born) _ _ (λ x. v)
     (λ g. pick limits (nat_le limits.rules (length s.rules)) _ _ (λ x. v)
-    (λ h. valid-ruled limits m source dest agg grid s d v (record {
-      other = other;
-      source_there = e;
-      dest_there = f;
-      source_free = free (link_to m source) a;
-      dest_free = free (link_to m dest) c;
-      dest_rules = empty d.rules b;
-      born = leb-false limits.born s.born g;
-      rules = leb-false limits.rules (length s.rules) h;
-    }))))))
-  where
-    free : (o : Option Link) → is_some o ≡ false → o ≡ None
-    free None x = refl
-    free (Some l) x = absurd (false≢true (sym x))
-
-    empty : (rs : List Rule) → has_rules rs ≡ false → rs ≡ []
-    empty [] x = refl
-    empty (r ∷ rs) x = absurd (false≢true (sym x))
+    (λ h. valid-ruled limits m source dest agg grid s d v (rulable limits m source dest s d e f other a b c g h))))))
 
 delete_rule-good : (limits : Limits) (m : State) (source dest : Key) (o : Option Record) → IsValid limits m → IsGood limits (delete_rule_at m source dest o)
 delete_rule-good limits m source dest None v = v

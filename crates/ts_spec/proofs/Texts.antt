@@ -1,9 +1,10 @@
 -- Each reply's text shows its own end.
-use Rattle.std.proofs.Common.{◌≡◌, ◌≢◌, ℕ, ◌^◌, ◌<◌, List, [], ◌∷◌, ◌++◌, length, codes, refl, sym, ap, ◌∙◌, append_assoc, append-nil, arith}
+use Rattle.std.proofs.Common.{◌≡◌, ◌≢◌, ℕ, ◌^◌, ◌<◌, List, [], ◌∷◌, ◌++◌, map, length, codes, refl, sym, ap, ◌∙◌, append_assoc, append-nil, arith}
 use Rattle.std.specs.Fmt.{decimal, signed_decimal}
 use Rattle.std.proofs.lemmas.Bool.{eqb-false}
 use Rattle.std.proofs.lemmas.Fmt.{decimal_injective}
 use Rattle.ts_spec.specs.Text.{shown_cell, Reply, Simple, Error, Int, Value, Bulk, Nil, Array, Replies, Empty, Item, CRLF, IsOneLine, IsPlain, ArePlain, count_of, line, text, texts}
+use Rattle.ts_spec.specs.Replies.{listed, array}
 use Rattle.ts_spec.proofs.OneLine.{AreDigits, AreDigits-decimal, IsOneLine-digits, IsOneLine-signed, IsOneLine-shown_cell}
 
 -- no digits are -1
@@ -75,11 +76,11 @@ text-split (Array replies) more = split 42 (decimal (count_of replies)) (texts r
 IsOneLine-line_of : (reply : Reply) → IsPlain reply → IsOneLine (line_of reply)
 IsOneLine-line_of (Simple words) h = h
 IsOneLine-line_of (Error words) h = h
-IsOneLine-line_of (Int number) h = IsOneLine-signed number h
+IsOneLine-line_of (Int number) h = IsOneLine-signed number
 IsOneLine-line_of (Value cell) h = IsOneLine-shown_cell cell
-IsOneLine-line_of (Bulk bytes) h = IsOneLine-digits (decimal (length bytes)) (AreDigits-decimal (length bytes) h)
+IsOneLine-line_of (Bulk bytes) h = IsOneLine-digits (decimal (length bytes)) (AreDigits-decimal (length bytes))
 IsOneLine-line_of Nil h = (eqb-false 45 13 refl, (eqb-false 49 13 refl, tt))
-IsOneLine-line_of (Array replies) h = IsOneLine-digits (decimal (count_of replies)) (AreDigits-decimal (count_of replies) h.0)
+IsOneLine-line_of (Array replies) h = IsOneLine-digits (decimal (count_of replies)) (AreDigits-decimal (count_of replies))
 
 -- what stands behind a line of bytes
 bulk_ends : (bytes : List ℕ) (b : Reply) (x y : List ℕ) → length bytes < 2 ^ 64 → IsPlain b → 36 ≡ first_of b → decimal (length bytes) ≡ line_of b
@@ -92,7 +93,7 @@ bulk_ends bytes (Bulk others) x y small plain f l e =
     let same = decimal_injective (length bytes) (length others) small plain l in
     let ends = bytes_end bytes others (CRLF ++ x) (CRLF ++ y) same (sym (append_assoc bytes CRLF x) ∙ e ∙ append_assoc others CRLF y) in
     (ap (λ bytes. bytes ++ CRLF) ends.0, (bytes_end CRLF CRLF x y refl ends.1).1)
-bulk_ends bytes Nil x y small plain f l e = absurd (digits-minus (decimal (length bytes)) _ (AreDigits-decimal (length bytes) small) l)
+bulk_ends bytes Nil x y small plain f l e = absurd (digits-minus (decimal (length bytes)) _ (AreDigits-decimal (length bytes)) l)
 bulk_ends bytes (Array replies) x y small plain f l e = absurd (eqb-false 36 42 refl f)
 
 nil_ends : (b : Reply) (x y : List ℕ) → IsPlain b → 36 ≡ first_of b → codes "-1" ≡ line_of b → x ≡ body_of b ++ y → ([] ≡ body_of b) × (x ≡ y)
@@ -100,7 +101,7 @@ nil_ends (Simple words) x y plain f l e = absurd (eqb-false 36 43 refl f)
 nil_ends (Error words) x y plain f l e = absurd (eqb-false 36 45 refl f)
 nil_ends (Int number) x y plain f l e = absurd (eqb-false 36 58 refl f)
 nil_ends (Value cell) x y plain f l e = absurd (eqb-false 36 43 refl f)
-nil_ends (Bulk bytes) x y plain f l e = absurd (digits-minus (decimal (length bytes)) _ (AreDigits-decimal (length bytes) plain) (sym l))
+nil_ends (Bulk bytes) x y plain f l e = absurd (digits-minus (decimal (length bytes)) _ (AreDigits-decimal (length bytes)) (sym l))
 nil_ends Nil x y plain f l e = (refl, e)
 nil_ends (Array replies) x y plain f l e = absurd (eqb-false 36 42 refl f)
 
@@ -176,3 +177,26 @@ mutual
   all_end : (a : Replies) → AllEnd a
   all_end Empty = none_end
   all_end (Item reply replies) = item_ends reply replies (ends reply) (all_end replies)
+
+-- two arrays with the same text have as many replies, whose texts make the same
+arrays_alike : (rs qs : Replies) → IsPlain (Array rs) → IsPlain (Array qs) → text (Array rs) ≡ text (Array qs) → (count_of rs ≡ count_of qs) × (texts rs ≡ texts qs)
+arrays_alike rs qs hr hq e =
+    let both : 42 ∷ (decimal (count_of rs) ++ 13 ∷ 10 ∷ (texts rs ++ [])) ≡ 42 ∷ (decimal (count_of qs) ++ 13 ∷ 10 ∷ (texts qs ++ [])) =
+    sym (text-split (Array rs) []) ∙ append-nil (text (Array rs)) ∙ e ∙ sym (append-nil (text (Array qs))) ∙ text-split (Array qs) [] in
+    let rest : decimal (count_of rs) ++ 13 ∷ 10 ∷ (texts rs ++ []) ≡ decimal (count_of qs) ++ 13 ∷ 10 ∷ (texts qs ++ []) = cc in
+    let lines = line_ends (decimal (count_of rs)) (decimal (count_of qs)) (10 ∷ (texts rs ++ [])) (10 ∷ (texts qs ++ [])) (IsOneLine-line_of (Array rs) hr) (IsOneLine-line_of (Array qs) hq) rest in
+    let behind : texts rs ++ [] ≡ texts qs ++ [] = cc (lines.1) in
+    (decimal_injective (count_of rs) (count_of qs) hr.0 hq.0 lines.0, sym (append-nil (texts rs)) ∙ behind ∙ append-nil (texts qs))
+
+texts_alike : (xs ys : List Reply) → ArePlain (listed xs) → ArePlain (listed ys) → count_of (listed xs) ≡ count_of (listed ys) → texts (listed xs) ≡ texts (listed ys) → map text xs ≡ map text ys
+texts_alike [] [] hx hy n e = refl
+texts_alike [] (y ∷ ys) hx hy n e = absurd (omega arith)
+texts_alike (x ∷ xs) [] hx hy n e = absurd (omega arith)
+texts_alike (x ∷ xs) (y ∷ ys) hx hy n e =
+    let first = ends x y (texts (listed xs)) (texts (listed ys)) hx.0 hy.0 e in
+    let others : map text xs ≡ map text ys = texts_alike xs ys hx.1 hy.1 (omega arith) first.1 in
+    ap (λ (w : List ℕ). w ∷ map text xs) first.0 ∙ ap (λ (ws : List (List ℕ)). text y ∷ ws) others
+
+-- An array's text shows the text of each of its replies.
+pub array_shows : (xs ys : List Reply) → IsPlain (array xs) → IsPlain (array ys) → text (array xs) ≡ text (array ys) → map text xs ≡ map text ys
+array_shows xs ys hx hy e = let alike = arrays_alike (listed xs) (listed ys) hx hy e in texts_alike xs ys hx.1 hy.1 alike.0 alike.1

@@ -4,9 +4,11 @@ use Rattle.ts_spec.specs.declared.command.At.{At}
 use Rattle.ts_spec.specs.declared.command.At.TheVariants.{Clock, Time}
 use Rattle.ts_spec.specs.Wire.{Request}
 use Rattle.ts_spec.specs.Names.{Table, named}
-use Rattle.ts_spec.specs.Settings.{Word, and_then, at_word, end_word, value_word, nothing, options, series_options, alter_options, add_options, incr_options, spec, change}
+use Rattle.ts_spec.specs.Settings.{Word, and_then, at_word, end_word, value_word, nothing, options}
+use Rattle.ts_spec.specs.SeriesOptions.{series_options, alter_options, add_options, incr_options, has_labels, spec, change}
 use Rattle.ts_spec.specs.Ranges.{range_options, has_list, query}
-use Rattle.ts_spec.specs.Command.{Triple, Command, Create, Alter, Add, Madd, Incr, DelRange, Range, Get, Ping, Echo, Quit, Drop, Exists}
+use Rattle.ts_spec.specs.ManySeries.{filters_of, series_told, many_options, wanted, selecting, labels_asked}
+use Rattle.ts_spec.specs.Command.{Triple, Command, Create, Alter, Add, Madd, Incr, DelRange, Range, MRange, Get, MGet, QueryIndex, Ping, Echo, Quit, Drop, Exists}
 use Rattle.ts_spec.specs.Refusal.{Fault, UnknownCommand, Arity, BadOption}
 
 -- ---- the words after a command's name
@@ -56,6 +58,27 @@ range reverse (key ∷ from ∷ to ∷ words) =
     and_then (query reverse from to first last given) (λ q. Ok (Range key false q)))))
 range reverse _ = Err Arity
 
+-- `from to`, both ends included, and options, filters among them
+abbrev pub many_ranges : (reverse : Bool) → List Word → Result Command Fault
+many_ranges reverse (from ∷ to ∷ words) =
+    and_then (end_word from) (λ first. and_then (end_word to) (λ last.
+    and_then (options many_options nothing 0 words) (λ given.
+    and_then (wanted given) (λ filters.
+    and_then (query reverse from to first last given) (λ q.
+    and_then (selecting filters) (λ chosen. Ok (MRange false (labels_asked given) chosen q)))))))
+many_ranges reverse _ = Err Arity
+
+-- options, filters among them
+abbrev pub last_of_many : List Word → Result Command Fault
+last_of_many words =
+    and_then (options series_told nothing 0 words) (λ given.
+    and_then (wanted given) (λ filters.
+    and_then (selecting filters) (λ chosen. Ok (MGet false (labels_asked given) chosen))))
+
+-- filters
+abbrev pub query_index : List Word → Result Command Fault
+query_index words = and_then (filters_of words) (λ filters. and_then (selecting filters) (λ chosen. Ok (QueryIndex chosen)))
+
 -- `key`; no option is known
 abbrev pub get_last : List Word → Result Command Fault
 get_last [] = Err Arity
@@ -88,8 +111,8 @@ abbrev pub list_form : (ℕ → Bool) → (List Word → Result Command Fault) �
 list_form words says = record { words = words; says = says; lists = λ own. true }
 
 -- a command that makes a list where an option with one is named, after so many words that are none
-abbrev pub option_form : (others : ℕ) → (ℕ → Bool) → (List Word → Result Command Fault) → Form
-option_form others words says = record { words = words; says = says; lists = λ own. has_list (drop others own) }
+abbrev pub option_form : (names_one : List Word → Bool) → (others : ℕ) → (ℕ → Bool) → (List Word → Result Command Fault) → Form
+option_form names_one others words says = record { words = words; says = says; lists = λ own. names_one (drop others own) }
 
 -- the name, and three words each
 abbrev pub by_threes : ℕ → Bool
@@ -97,16 +120,20 @@ by_threes n = nat_le 4 n && (n % 3 == 1)
 
 unfoldable pub commands : Table Form
 commands =
-    (codes "TS.CREATE", form (nat_le 2) create)
-    ∷ (codes "TS.ALTER", form (nat_le 2) alter)
-    ∷ (codes "TS.ADD", form (nat_le 4) add)
+    (codes "TS.CREATE", option_form has_labels 1 (nat_le 2) create)
+    ∷ (codes "TS.ALTER", option_form has_labels 1 (nat_le 2) alter)
+    ∷ (codes "TS.ADD", option_form has_labels 3 (nat_le 4) add)
     ∷ (codes "TS.MADD", list_form by_threes madd)
-    ∷ (codes "TS.INCRBY", form (nat_le 3) (incr (λ v. v)))
-    ∷ (codes "TS.DECRBY", form (nat_le 3) (incr neg_ℤ))
+    ∷ (codes "TS.INCRBY", option_form has_labels 2 (nat_le 3) (incr (λ v. v)))
+    ∷ (codes "TS.DECRBY", option_form has_labels 2 (nat_le 3) (incr neg_ℤ))
     ∷ (codes "TS.DEL", form (λ n. n == 4) del_range)
-    ∷ (codes "TS.RANGE", option_form 3 (nat_le 4) (range false))
-    ∷ (codes "TS.REVRANGE", option_form 3 (nat_le 4) (range true))
+    ∷ (codes "TS.RANGE", option_form has_list 3 (nat_le 4) (range false))
+    ∷ (codes "TS.REVRANGE", option_form has_list 3 (nat_le 4) (range true))
+    ∷ (codes "TS.MRANGE", list_form (nat_le 5) (many_ranges false))
+    ∷ (codes "TS.MREVRANGE", list_form (nat_le 5) (many_ranges true))
     ∷ (codes "TS.GET", form (λ n. nat_le 2 n && nat_le n 3) get_last)
+    ∷ (codes "TS.MGET", list_form (nat_le 3) last_of_many)
+    ∷ (codes "TS.QUERYINDEX", list_form (nat_le 2) query_index)
     ∷ (codes "PING", form (λ n. nat_le 1 n && nat_le n 2) ping)
     ∷ (codes "ECHO", form (λ n. n == 2) echo)
     ∷ (codes "QUIT", form (nat_le 1) (λ words. Ok Quit))

@@ -1,6 +1,6 @@
 -- The options of a question over an interval, and what they ask.
 use Rattle.std.specs.Prelude.{◌≡◌, ℕ, ◌≤◌, ◌^◌, Bool, true, false, not, ◌&&◌, ◌||◌, nat_le, if◌then◌else◌, List, [], ◌∷◌, codes, Option, None, Some, is_some, ok_or, unwrap_or, option_map, Result, Ok, Err}
-use Rattle.std.specs.Str.{bytes_eq, str_eq_ignore_ascii_case}
+use Rattle.std.specs.Str.{bytes_eq}
 use Rattle.ts_spec.specs.declared.bucket.Aggregator.{Aggregator}
 use Rattle.ts_spec.specs.declared.bucket.Align.{Align}
 use Rattle.ts_spec.specs.declared.bucket.Align.TheVariants.{From, To, Time}
@@ -11,7 +11,7 @@ use Rattle.ts_spec.specs.Number.{number}
 use Rattle.ts_spec.specs.Sample.{MAX_TIME}
 use Rattle.ts_spec.specs.Command.{Buckets, Query}
 use Rattle.ts_spec.specs.Refusal.{Fault, BadOption, UnknownAggregator, AggregatorNotInProfile, BadDuration}
-use Rattle.ts_spec.specs.Settings.{Word, and_then, time_word, value_word, Given, Setting, no_words, one_word, two_words, some_words}
+use Rattle.ts_spec.specs.Settings.{Word, and_then, time_word, value_word, Given, Setting, no_words, one_word, two_words, some_words, has_name}
 
 -- ---- single words
 
@@ -98,8 +98,7 @@ range_options =
 
 -- whether one of the words is the name of the option with a list
 abbrev pub has_list : List Word → Bool
-has_list [] = false
-has_list (word ∷ words) = str_eq_ignore_ascii_case (codes "FILTER_BY_TS") word || has_list words
+has_list = has_name (codes "FILTER_BY_TS")
 
 -- ---- what is asked
 

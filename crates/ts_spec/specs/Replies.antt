@@ -1,5 +1,5 @@
 -- The reply that gives a response its form.
-use Rattle.std.specs.Prelude.{ℕ, ℤ, pos, List, [], ◌∷◌, map, codes, Option, None, Some}
+use Rattle.std.specs.Prelude.{◌≡◌, ◌⊎◌, ℕ, ℤ, pos, List, [], ◌∷◌, map, codes, Option, None, Some}
 use Rattle.ts_spec.specs.declared.bucket.Aggregator.{Aggregator}
 use Rattle.ts_spec.specs.declared.bucket.Aggregator.TheVariants.{Avg, Sum, Min, Max, Range, Count, First, Last}
 use Rattle.ts_spec.specs.declared.series.Encoding.{Encoding}
@@ -49,6 +49,10 @@ abbrev pub item_reply : Item → Reply
 item_reply (Wrote time) = number time
 item_reply (IsWrong fault) = fault_reply fault
 item_reply (IsRefused refusal) = refusal_reply refusal
+
+-- what stands in the reply to TS.MADD: what is told of a triple, or want of memory
+abbrev pub IsItemReply : Reply → Type 0
+IsItemReply reply = ((item : Item) × (reply ≡ item_reply item)) ⊎ (reply ≡ memory_reply)
 
 -- the millionths of a value, none of nan
 abbrev pub millionths : Cell → Option ℤ

@@ -1,9 +1,7 @@
--- The options of commands: their words, what they say of a series and of a sample, and how options are read one after another.
-use Rattle.std.specs.Prelude.{◌≡◌, ◌≤◌, ℕ, zero, suc, ◌%◌, Bool, false, ◌&&◌, ◌==◌, nat_le, if◌then◌else◌, ℤ, List, [], ◌∷◌, take, codes, Option, None, Some, is_some, ok_or, unwrap_or, Result, Ok, Err}
+-- The options of commands: the words that several take, and how options are read one after another.
+use Rattle.std.specs.Prelude.{◌≡◌, ◌≤◌, ℕ, zero, suc, Bool, false, ◌||◌, if◌then◌else◌, ℤ, List, [], ◌∷◌, take, codes, Option, None, Some, is_some, ok_or, Result, Ok, Err}
 use Rattle.ts_spec.specs.declared.series.Policy.{Policy}
-use Rattle.ts_spec.specs.declared.series.Policy.TheVariants.{Block}
 use Rattle.ts_spec.specs.declared.series.Encoding.{Encoding}
-use Rattle.ts_spec.specs.declared.series.Encoding.TheVariants.{Compressed}
 use Rattle.ts_spec.specs.declared.command.At.{At}
 use Rattle.ts_spec.specs.declared.command.At.TheVariants.{Clock, Time}
 use Rattle.ts_spec.specs.declared.bucket.Aggregation.{Aggregation}
@@ -11,12 +9,14 @@ use Rattle.ts_spec.specs.declared.bucket.Align.{Align}
 use Rattle.ts_spec.specs.declared.bucket.Stamp.{Stamp}
 use Rattle.ts_spec.specs.declared.value.ValueFault.{ValueFault}
 use Rattle.ts_spec.specs.Sample.{MAX_TIME}
-use Rattle.ts_spec.specs.Names.{Table, named, policies, encodings}
+use Rattle.ts_spec.specs.Names.{Table, named}
 use Rattle.ts_spec.specs.Number.{number}
 use Rattle.ts_spec.specs.Value.{value}
-use Rattle.std.specs.Str.{bytes_eq}
-use Rattle.ts_spec.specs.Command.{Spec, Change, Span}
-use Rattle.ts_spec.specs.Refusal.{Fault, BadTimestamp, BadValue, BadOption, RepeatedOption, BadChunkSize, BadPolicy, BadEncoding}
+use Rattle.std.specs.Str.{bytes_eq, str_eq_ignore_ascii_case}
+use Rattle.ts_spec.specs.State.{Label}
+use Rattle.ts_spec.specs.Filter.{Filter}
+use Rattle.ts_spec.specs.Command.{Span, Show}
+use Rattle.ts_spec.specs.Refusal.{Fault, BadTimestamp, BadValue, BadOption, RepeatedOption}
 
 -- a word is a list of bytes
 abbrev pub Word : Type 0
@@ -55,28 +55,6 @@ value_of (Err fault) = Err (BadValue fault)
 unfoldable pub value_word : Word → Result ℤ Fault
 value_word word = value_of (value word)
 
--- a retention in milliseconds
-unfoldable pub retention_word : Word → Result ℕ Fault
-retention_word word = ok_or (number word) BadOption
-
--- a chunk may have so many bytes
-abbrev pub IsChunkSize : ℕ → Type 0
-IsChunkSize n = (48 ≤ n) × (n ≤ 1048576) × (n % 8 ≡ 0)
-
--- whether it may
-abbrev pub is_chunk_size : ℕ → Bool
-is_chunk_size n = nat_le 48 n && nat_le n 1048576 && (n % 8 == 0)
-
--- the bytes of a chunk
-unfoldable pub chunk_size_word : Word → Result ℕ Fault
-chunk_size_word word = and_then (ok_or (number word) BadChunkSize) (λ n. if is_chunk_size n then Ok n else Err BadChunkSize)
-
-unfoldable pub policy_word : Word → Result Policy Fault
-policy_word word = ok_or (named policies word) BadPolicy
-
-unfoldable pub encoding_word : Word → Result Encoding Fault
-encoding_word word = ok_or (named encodings word) BadEncoding
-
 -- ---- options
 
 -- what the options of a command have said so far
@@ -88,6 +66,7 @@ pub record Given : Type 0 where
   -- the policy of this write alone
   pub on : Option Policy
   pub at : Option At
+  pub labels : Option (List Label)
   -- the times and the values that a question lets through, and how many rows it wants
   pub times : Option (List ℕ)
   pub values : Option Span
@@ -97,6 +76,9 @@ pub record Given : Type 0 where
   pub align : Option Align
   pub stamp : Option Stamp
   pub empty : Bool
+  -- of an answer over many series, the labels that it shows, and which series it tells
+  pub show : Option Show
+  pub filters : Option (List Filter)
 
 abbrev pub nothing : Given
 nothing = record {
@@ -106,6 +88,7 @@ nothing = record {
   policy = None;
   on = None;
   at = None;
+  labels = None;
   times = None;
   values = None;
   count = None;
@@ -113,6 +96,8 @@ nothing = record {
   align = None;
   stamp = None;
   empty = false;
+  show = None;
+  filters = None;
 }
 
 -- An option: whether it stood before, how many of the words after it are its own, by which words are options themselves, and what
@@ -155,28 +140,15 @@ says_some read (word ∷ words) given = read (word ∷ words) given
 abbrev pub some_words : (Given → Bool) → (List Word → Given → Result Given Fault) → Setting
 some_words stood read = record { stood = stood; size = count_own; says = says_some read }
 
-abbrev pub retention : Setting
-retention = one_word (λ given. is_some given.retention) (λ word given. and_then (retention_word word) (λ n. Ok (record given { retention = Some n })))
-
-abbrev pub encoding : Setting
-encoding = one_word (λ given. is_some given.encoding) (λ word given. and_then (encoding_word word) (λ e. Ok (record given { encoding = Some e })))
-
-abbrev pub chunk_size : Setting
-chunk_size = one_word (λ given. is_some given.chunk_size) (λ word given. and_then (chunk_size_word word) (λ n. Ok (record given { chunk_size = Some n })))
-
-abbrev pub duplicate_policy : Setting
-duplicate_policy = one_word (λ given. is_some given.policy) (λ word given. and_then (policy_word word) (λ p. Ok (record given { policy = Some p })))
-
-abbrev pub on_duplicate : Setting
-on_duplicate = one_word (λ given. is_some given.on) (λ word given. and_then (policy_word word) (λ p. Ok (record given { on = Some p })))
-
-abbrev pub timestamp : Setting
-timestamp = one_word (λ given. is_some given.at) (λ word given. and_then (at_word word) (λ at. Ok (record given { at = Some at })))
-
 -- the option that a word names among those that are known, unless it stood before
 abbrev pub new_setting : Given → Option Setting → Result Setting Fault
 new_setting given None = Err BadOption
 new_setting given (Some setting) = if setting.stood given then Err RepeatedOption else Ok setting
+
+-- whether one of the words is this name
+abbrev pub has_name : (name : List ℕ) → List Word → Bool
+has_name name [] = false
+has_name name (word ∷ words) = str_eq_ignore_ascii_case name word || has_name name words
 
 -- whether a word is one of the options that are known
 abbrev pub is_known : Table Setting → Word → Bool
@@ -190,43 +162,3 @@ options known given zero (word ∷ words) =
     and_then (new_setting given (named known word)) (λ setting.
     and_then (setting.says (take (setting.size (is_known known) words) words) given) (λ more.
     options known more (setting.size (is_known known) words) words))
-
--- the options of a new series
-unfoldable pub series_options : Table Setting
-series_options =
-    (codes "RETENTION", retention)
-    ∷ (codes "ENCODING", encoding)
-    ∷ (codes "CHUNK_SIZE", chunk_size)
-    ∷ (codes "DUPLICATE_POLICY", duplicate_policy)
-    ∷ []
-
--- the options of a series that is there: its encoding stays
-unfoldable pub alter_options : Table Setting
-alter_options =
-    (codes "RETENTION", retention)
-    ∷ (codes "CHUNK_SIZE", chunk_size)
-    ∷ (codes "DUPLICATE_POLICY", duplicate_policy)
-    ∷ []
-
-unfoldable pub add_options : Table Setting
-add_options = (codes "ON_DUPLICATE", on_duplicate) ∷ series_options
-
-unfoldable pub incr_options : Table Setting
-incr_options = (codes "TIMESTAMP", timestamp) ∷ series_options
-
--- what a new series is made with: where nothing is said, it keeps samples for ever, in packed chunks of 4096 bytes, and refuses a repeated time
-abbrev pub spec : Given → Spec
-spec given =
-    record {
-      options = record {
-        retention = unwrap_or given.retention 0;
-        encoding = unwrap_or given.encoding Compressed;
-        chunk_size = unwrap_or given.chunk_size 4096;
-        policy = unwrap_or given.policy Block;
-      };
-      labels = [];
-    }
-
--- what a series gets anew
-abbrev pub change : Given → Change
-change given = record { retention = given.retention; chunk_size = given.chunk_size; policy = given.policy; labels = None }

@@ -1,5 +1,5 @@
 -- The text of a reply in RESP2, and the text of a fault in a stream of requests.
-use Rattle.std.specs.Prelude.{◌≢◌, ℕ, suc, ◌^◌, ◌<◌, ℤ, unsigned_abs, List, [], ◌∷◌, ◌++◌, length, codes, Option, Some, None}
+use Rattle.std.specs.Prelude.{◌≢◌, ℕ, suc, ◌^◌, ◌<◌, ℤ, List, [], ◌∷◌, ◌++◌, length, codes, Option, Some, None}
 use Rattle.std.specs.Fmt.{decimal, signed_decimal}
 use Rattle.ts_spec.specs.Value.{shown_value}
 use Rattle.ts_spec.specs.declared.wire.Kind.{Kind}
@@ -59,12 +59,12 @@ abbrev pub IsOneLine : List ℕ → Type 0
 IsOneLine [] = Unit {0}
 IsOneLine (byte ∷ bytes) = (byte ≢ 13) × IsOneLine bytes
 
--- what every reply of the server keeps: lines have no CR, and lengths and numbers fit 64 bits
+-- what every reply of the server keeps: lines have no CR, and lengths fit 64 bits
 abbrev mutual
   pub IsPlain : Reply → Type 0
   IsPlain (Simple words) = IsOneLine words
   IsPlain (Error words) = IsOneLine words
-  IsPlain (Int number) = unsigned_abs number < 2 ^ 64
+  IsPlain (Int number) = Unit {0}
   IsPlain (Value cell) = Unit {0}
   IsPlain (Bulk bytes) = length bytes < 2 ^ 64
   IsPlain Nil = Unit {0}

@@ -4,8 +4,10 @@
 
 mod bucket;
 mod command;
+mod kept_laws;
 mod laws;
 mod limits;
+mod reply_laws;
 mod series;
 mod text;
 mod value;
@@ -13,8 +15,10 @@ mod wire;
 
 pub use bucket::{Aggregation, Aggregator, Align, Stamp};
 pub use command::At;
+pub use kept_laws::{each_step_keeps_a_state_valid, what_is_kept_is_enough};
 pub use laws::{one_bucket_shows_at_its_start, settling_twice_is_settling_once};
 pub use limits::Limits;
+pub use reply_laws::{replies_are_plain, want_of_memory_shows_as_such};
 pub use series::{Encoding, Merge, Options, Policy};
 pub use text::reply_texts_show_their_ends;
 pub use value::ValueFault;

@@ -1,0 +1,97 @@
+-- The open bucket of a rule has room for one more sample: with an appended one it still has at most as many as it has milliseconds.
+use Rattle.std.proofs.Common.{◌≡◌, ℕ, suc, ◌+◌, ◌-◌, ◌<◌, ◌≤◌, Bool, true, false, ◌==◌, nat_le, if◌then◌else◌, List, [], ◌∷◌, map, filter, length, Option, Some, None, refl, sym, ap, ◌∙◌, subst, arith, ltb-true}
+use Rattle.std.specs.Bool.{⊤}
+use Rattle.ts_spec.specs.declared.limits.Limits.{Limits}
+use Rattle.ts_spec.specs.Sample.{Point, IsAscending, at}
+use Rattle.ts_spec.specs.Bucket.{Grid, start, members}
+use Rattle.ts_spec.specs.Key.{Key}
+use Rattle.ts_spec.specs.Keyed.{get}
+use Rattle.ts_spec.specs.State.{Rule, Record, State, link_to}
+use Rattle.ts_spec.specs.Rules.{open_of, is_append}
+use Rattle.ts_spec.specs.Valid.{EachRule, IsUpTo, IsSoundRule}
+use Rattle.ts_spec.specs.Kept.{KeptRule, Kept, Keeping, summary_at, kept_rule, kept_record}
+use Rattle.ts_spec.specs.Mending.{counted_anew}
+use Rattle.ts_spec.specs.Stands.{StandsFor, HaveDurations, AllHaveDurations}
+use Rattle.ts_spec.proofs.Samples.{IsBefore, each_before, at-times, ascending-times}
+use Rattle.ts_spec.proofs.Linked.{From, mapped-from}
+use Rattle.ts_spec.proofs.KeptMaps.{get-kept}
+use Rattle.ts_spec.proofs.DeletedRules.{count-summary}
+use Rattle.ts_spec.proofs.BucketSize.{IsIn, members-in, same-bucket, few-between, members-few}
+
+-- The members of a bucket before one of its times are fewer than it has milliseconds.
+pub members-room : (g : Grid) (t : ℕ) (ps : List Point) → 1 ≤ g.duration → IsAscending ps → IsBefore t (members g (start g t) ps) → length (members g (start g t) ps) < g.duration
+members-room g t ps h a before = go (members g (start g t) ps) (ascending-times (λ u. start g u == start g t) ps a) (members-in g (start g t) ps) before
+  where
+    go : (qs : List Point) → IsAscending qs → IsIn g (start g t) qs → IsBefore t qs → length qs < g.duration
+    go [] k x b = omega arith
+    go (q ∷ qs) k x b =
+        let rest : length qs ≤ t - suc q.time = few-between q.time t qs k.1 k.0 b.1 in
+        let first : q.time < t = b.0 in
+        let near : t < q.time + g.duration = same-bucket g q.time t h x.0 in
+        omega arith
+
+-- no sample that a rule counts is at an appended time or past it
+counted-before : (d : Record) (r : Rule) (t u : ℕ) (p : Point) → IsSoundRule d r → is_append t d.high ≡ true → at u r.seen ≡ Some p → p.time < t
+counted-before d r t u p s h x = go r.top refl d.high refl
+  where
+    go : (top : Option ℕ) → r.top ≡ top → (high : Option ℕ) → d.high ≡ high → p.time < t
+    go None e high f = absurd (subst (λ (o : Option ℕ). IsUpTo o p.time) e (s.seen u p x).time)
+    go (Some top) e None f = absurd (subst (λ (o : Option ℕ). IsUpTo o top) f (s.top top e))
+    go (Some top) e (Some high) f =
+        let one : p.time ≤ top = subst (λ (o : Option ℕ). IsUpTo o p.time) e (s.seen u p x).time in
+        let two : top ≤ high = subst (λ (o : Option ℕ). IsUpTo o top) f (s.top top e) in
+        let three : high < t = ltb-true high t (ap (is_append t) (sym f) ∙ h) in
+        omega arith
+
+-- The running summary of a rule counts fewer samples than its open bucket has milliseconds, where one is appended to that.
+pub running-room : (d : Record) (r : Rule) (t : ℕ) → IsSoundRule d r → 1 ≤ r.grid.duration → is_append t d.high ≡ true → open_of r ≡ Some (start r.grid t) →
+    (kept_rule r).running.count < r.grid.duration
+running-room d r t s h fresh here =
+    let count : (kept_rule r).running.count ≡ length (members r.grid (start r.grid t) r.seen) =
+    ap (λ (o : Option ℕ). (summary_at r o).count) here ∙ count-summary (members r.grid (start r.grid t) r.seen) in
+    let room : length (members r.grid (start r.grid t) r.seen) < r.grid.duration =
+    members-room r.grid t r.seen h s.ascending
+    (each_before t (members r.grid (start r.grid t) r.seen) (ascending-times (λ u. start r.grid u == start r.grid t) r.seen s.ascending)
+    (λ u p x. counted-before d r t u p s fresh (passed u p (start r.grid u == start r.grid t) (sym (at-times u (λ w. start r.grid w == start r.grid t) r.seen) ∙ x)))) in
+    omega arith
+  where
+    passed : (u : ℕ) (p : Point) (b : Bool) → (if b then at u r.seen else None) ≡ Some p → at u r.seen ≡ Some p
+    passed u p true e = e
+    passed u p false e = absurd (cc e)
+
+-- each of these rules has room for a sample at this time, if that is in its open bucket
+abbrev pub HaveRoom : ℕ → List KeptRule → Type 0
+HaveRoom t [] = ⊤
+HaveRoom t (q ∷ qs) = (q.current ≡ Some (start q.grid t) → q.running.count < q.grid.duration) × HaveRoom t qs
+
+rules-room : (d : Record) (t : ℕ) (rs : List Rule) → is_append t d.high ≡ true → HaveDurations (map kept_rule rs) → EachRule (IsSoundRule d) rs → HaveRoom t (map kept_rule rs)
+rules-room d t [] fresh h x = tt
+rules-room d t (r ∷ rs) fresh h x = (λ here. running-room d r t x.0 h.0 fresh here, rules-room d t rs fresh h.1 x.1)
+
+-- So has each rule of what stands for a state, for a sample that is appended.
+pub stands-room : (limits : Limits) (keys : Keeping) (m : State) (k : Key) (c : Kept) (t : ℕ) → StandsFor limits keys m → AllHaveDurations keys → get k keys ≡ Some c → is_append t c.high ≡ true →
+    HaveRoom t c.rules
+stands-room limits keys m k c t s h x fresh =
+    let from : From (kept_record (link_to m k)) (get k m) c = mapped-from (kept_record (link_to m k)) (get k m) c (sym (get-kept m k) ∙ ap (get k) (sym s.kept) ∙ x) in
+    let same_rules : map kept_rule from.value.rules ≡ c.rules = ap (λ (q : Kept). q.rules) from.gives in
+    let same_high : from.value.high ≡ c.high = ap (λ (q : Kept). q.high) from.gives in
+    subst (HaveRoom t) same_rules
+    (rules-room from.value t from.value.rules (ap (is_append t) same_high ∙ fresh) (subst HaveDurations (sym same_rules) (h k c x)) (s.valid.sound k from.value from.is).rules)
+
+-- ---- a bucket told anew
+
+length-passing : (test : Point → Bool) (ps : List Point) → length (filter test ps) ≤ length ps
+length-passing test [] = omega arith
+length-passing test (p ∷ ps) = go (test p) (length-passing test ps)
+  where
+    go : (b : Bool) → length (filter test ps) ≤ length ps → length (if b then p ∷ filter test ps else filter test ps) ≤ suc (length ps)
+    go true ih = omega arith
+    go false ih = omega arith
+
+-- A bucket that is told anew counts no more samples than it has milliseconds.
+pub anew-few : (q : KeptRule) (b : ℕ) (ps : List Point) → 1 ≤ q.grid.duration → IsAscending ps → (counted_anew q b ps).count ≤ q.grid.duration
+anew-few q b ps h a =
+    let count : (counted_anew q b ps).count ≡ length (filter (λ p. nat_le q.made p.made) (members q.grid b ps)) = count-summary (filter (λ p. nat_le q.made p.made) (members q.grid b ps)) in
+    let fewer : length (filter (λ p. nat_le q.made p.made) (members q.grid b ps)) ≤ length (members q.grid b ps) = length-passing (λ p. nat_le q.made p.made) (members q.grid b ps) in
+    let few : length (members q.grid b ps) ≤ q.grid.duration = members-few q.grid b ps h a in
+    omega arith

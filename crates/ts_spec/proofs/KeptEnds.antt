@@ -1,0 +1,113 @@
+-- What is kept after the end of rules and of keys.
+use Rattle.std.proofs.Common.{◌≡◌, ℕ, suc, ◌+◌, Bool, true, false, not, ◌&&◌, ◌||◌, if◌then◌else◌, cond, List, [], ◌∷◌, map, filter, Option, Some, None, is_some, option_map, refl, sym, ap, ◌∙◌, subst}
+use Rattle.ts_spec.specs.declared.limits.Limits.{Limits}
+use Rattle.ts_spec.specs.Key.{Key, same}
+use Rattle.ts_spec.specs.Keyed.{get, without_key}
+use Rattle.ts_spec.specs.State.{Rule, Record, State, Link, rule_to, link_to, rule_into}
+use Rattle.ts_spec.specs.Rules.{shown_by, ended_in, ended, dropped}
+use Rattle.ts_spec.specs.Refusal.{NoKey, NoRule}
+use Rattle.ts_spec.specs.Response.{Count}
+use Rattle.ts_spec.specs.Step.{delete_rule_at, drop_keys, count_there}
+use Rattle.ts_spec.specs.Valid.{IsValid}
+use Rattle.ts_spec.specs.Kept.{Kept, KeptRule, Keeping, kept_rule, kept_record, kept}
+use Rattle.ts_spec.specs.Mending.{kept_rule_to}
+use Rattle.ts_spec.specs.Keeping.{source_left, kept_ended, keep_ended, keep_dropped}
+use Rattle.ts_spec.specs.KeptStep.{kept_delete_rule_at, kept_drop_keys, kept_count_there}
+use Rattle.ts_spec.proofs.Maps.{get-each, get-without}
+use Rattle.ts_spec.proofs.Keeps.{shown-there}
+use Rattle.ts_spec.proofs.EndingRules as ending
+use Rattle.ts_spec.proofs.KeysGo.{valid-dropped, loose-ended, links-left}
+use Rattle.ts_spec.proofs.KeptMaps.{get-kept, some-kept, kept-same, rule_to-kept, Agrees, agrees-told, agrees-refused, agrees-if}
+
+filter-kept : (test : Key → Bool) (rs : List Rule) → filter (λ q. test q.dest) (map kept_rule rs) ≡ map kept_rule (filter (λ r. test r.dest) rs)
+filter-kept test [] = refl
+filter-kept test (r ∷ rs) = go (test r.dest) (filter-kept test rs)
+  where
+    go : (b : Bool) → filter (λ q. test q.dest) (map kept_rule rs) ≡ map kept_rule (filter (λ r. test r.dest) rs) →
+        cond b (kept_rule r ∷ filter (λ q. test q.dest) (map kept_rule rs)) (filter (λ q. test q.dest) (map kept_rule rs)) ≡ map kept_rule (cond b (r ∷ filter (λ r. test r.dest) rs) (filter (λ r. test r.dest) rs))
+    go true ih = ap (λ (qs : List KeptRule). kept_rule r ∷ qs) ih
+    go false ih = ih
+
+-- ---- the end of rules
+
+module _ (limits : Limits) (m : State) (ends : Key → Key → Bool) (v : IsValid limits m) where
+  source-ended : (k : Key) → source_left ends k (option_map (λ l. l.source) (link_to m k)) ≡ option_map (λ l. l.source) (link_to (ended ends m) k)
+  source-ended k = go (link_to m k) refl
+    where
+      go : (o : Option Link) → link_to m k ≡ o → source_left ends k (option_map (λ l. l.source) o) ≡ option_map (λ l. l.source) (link_to (ended ends m) k)
+      go None x = ap (option_map (λ (l : Link). l.source)) (sym (ending.link-none-left limits m ends v k x))
+      go (Some l) x = again (ends l.source k) refl
+        where
+          again : (b : Bool) → ends l.source k ≡ b → (if b then None else Some l.source) ≡ option_map (λ l. l.source) (link_to (ended ends m) k)
+          again true e = ap (option_map (λ (l : Link). l.source)) (sym (ending.link-gone limits m ends v k l x e))
+          again false e = ap (option_map (λ (l : Link). l.source)) (sym (ending.link-left limits m ends v k l x e))
+
+  record-ended : (k : Key) (d : Record) → get k m ≡ Some d → kept_ended ends k (kept_record (link_to m k) d) ≡ kept_record (link_to (ended ends m) k) (ended_in ends m k d)
+  record-ended k d x =
+      let list : shown_by (rule_into m k) d ≡ shown_by (rule_into (ended ends m) k) (ended_in ends m k d) =
+      sym (shown-there m k d x) ∙ sym (ending.shown-ended limits m ends v k d x)
+      ∙ shown-there (ended ends m) k (ended_in ends m k d) (get-each (λ j c. ended_in ends m j c) k m ∙ ap (option_map (ended_in ends m k)) x) in
+      let rules : filter (λ q. not (ends k q.dest)) (map kept_rule d.rules) ≡ map kept_rule (filter (λ r. not (ends k r.dest)) d.rules) = filter-kept (λ j. not (ends k j)) d.rules in
+      let source : source_left ends k (option_map (λ (l : Link). l.source) (link_to m k)) ≡ option_map (λ (l : Link). l.source) (link_to (ended ends m) k) = source-ended k in
+      λ i. record (kept_ended ends k (kept_record (link_to m k) d)) { list = list i; rules = rules i; source = source i }
+
+  pub kept-ended : keep_ended ends (kept m) ≡ kept (ended ends m)
+  kept-ended =
+      kept-same (keep_ended ends (kept m)) (ended ends m)
+      (λ k. get-each (kept_ended ends) k (kept m) ∙ ap (option_map (kept_ended ends k)) (get-kept m k)
+      ∙ go k (get k m) refl
+      ∙ ap (option_map (kept_record (link_to (ended ends m) k))) (sym (get-each (λ j c. ended_in ends m j c) k m)))
+    where
+      go : (k : Key) (o : Option Record) → get k m ≡ o → option_map (kept_ended ends k) (option_map (kept_record (link_to m k)) o) ≡ option_map (kept_record (link_to (ended ends m) k)) (option_map (ended_in ends m k) o)
+      go k None x = refl
+      go k (Some d) x = ap (λ (q : Kept). Some q) (record-ended k d x)
+
+some-rule : (o : Option Rule) → is_some (option_map kept_rule o) ≡ is_some o
+some-rule None = refl
+some-rule (Some r) = refl
+
+pub delete_rule-agrees : (limits : Limits) (m : State) (source dest : Key) → IsValid limits m → Agrees (delete_rule_at m source dest (get source m)) (kept_delete_rule_at (kept m) source dest (get source (kept m)))
+delete_rule-agrees limits m source dest v =
+    subst (λ (o : Option Kept). Agrees (delete_rule_at m source dest (get source m)) (kept_delete_rule_at (kept m) source dest o)) (sym (get-kept m source)) (go (get source m))
+  where
+    go : (o : Option Record) → Agrees (delete_rule_at m source dest o) (kept_delete_rule_at (kept m) source dest (option_map (kept_record (link_to m source)) o))
+    go None = agrees-refused m (kept m) NoKey refl
+    go (Some d) =
+        agrees-if (is_some (rule_to dest d.rules)) (is_some (kept_rule_to dest (map kept_rule d.rules))) _ _ _ _ (sym (ap is_some (rule_to-kept dest d.rules) ∙ some-rule (rule_to dest d.rules)))
+        (λ x. record { response = refl; keys = kept-ended limits m (λ s d. same s source && same d dest) v })
+        (λ x. agrees-refused m (kept m) NoRule refl)
+
+-- ---- the end of keys
+
+pub kept-dropped : (limits : Limits) (m : State) (key : Key) → IsValid limits m → keep_dropped key (kept m) ≡ kept (dropped key m)
+kept-dropped limits m key v =
+    ap (without_key key) (kept-ended limits m (λ s d. same s key || same d key) v)
+    ∙ kept-same (without_key key (kept n)) (without_key key n)
+    (λ k. get-without k key (kept n) ∙ go k (same key k)
+    ∙ ap (λ (l : Option Link). option_map (kept_record l) (if same key k then None else get k n)) (sym (links-left limits n key (ending.valid-ended limits m (λ s d. same s key || same d key) v) (loose-ended limits m key v) k))
+    ∙ ap (option_map (kept_record (link_to (without_key key n) k))) (sym (get-without k key n)))
+  where
+    n : State
+    n = ended (λ s d. same s key || same d key) m
+
+    go : (k : Key) (b : Bool) → (if b then None else get k (kept n)) ≡ option_map (kept_record (link_to n k)) (if b then None else get k n)
+    go k true = refl
+    go k false = get-kept n k
+
+pub drop-agrees : (limits : Limits) (m : State) (so_far : ℕ) (ks : List Key) → IsValid limits m → Agrees (drop_keys m so_far ks) (kept_drop_keys (kept m) so_far ks)
+drop-agrees limits m so_far [] v = agrees-told m (kept m) (Count so_far) (Count so_far) refl refl
+drop-agrees limits m so_far (k ∷ ks) v =
+    go (is_some (get k m)) (is_some (get k (kept m))) (sym (some-kept m k)) (drop-agrees limits (dropped k m) (so_far + 1) ks (valid-dropped limits m k v)) (drop-agrees limits m so_far ks v)
+  where
+    go : (a b : Bool) → a ≡ b → Agrees (drop_keys (dropped k m) (so_far + 1) ks) (kept_drop_keys (kept (dropped k m)) (so_far + 1) ks) → Agrees (drop_keys m so_far ks) (kept_drop_keys (kept m) so_far ks) →
+        Agrees (drop_keys (if a then dropped k m else m) (if a then so_far + 1 else so_far) ks) (kept_drop_keys (if b then keep_dropped k (kept m) else kept m) (if b then so_far + 1 else so_far) ks)
+    go true true e there gone = subst (λ (keys : Keeping). Agrees (drop_keys (dropped k m) (so_far + 1) ks) (kept_drop_keys keys (so_far + 1) ks)) (sym (kept-dropped limits m k v)) there
+    go true false e there gone = absurd (cc e)
+    go false true e there gone = absurd (cc e)
+    go false false e there gone = gone
+
+pub there-kept : (m : State) (ks : List Key) → kept_count_there (kept m) ks ≡ count_there m ks
+there-kept m [] = refl
+there-kept m (k ∷ ks) =
+    ap (λ (b : Bool). if b then suc (kept_count_there (kept m) ks) else kept_count_there (kept m) ks) (some-kept m k)
+    ∙ ap (λ (n : ℕ). if is_some (get k m) then suc n else n) (there-kept m ks)

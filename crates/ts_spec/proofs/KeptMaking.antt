@@ -1,0 +1,132 @@
+-- What is kept after a new series and after a new rule.
+use Rattle.std.proofs.Common.{◌≡◌, ℕ, ℤ, Bool, true, false, nat_lt, nat_le, if◌then◌else◌, [], ◌∷◌, ◌++◌, map, length, Option, Some, None, is_some, option_map, refl, sym, ap, ◌∙◌, subst}
+use Rattle.std.proofs.lemmas.Bool.{false≢true}
+use Rattle.std.proofs.lemmas.List.{map-append}
+use Rattle.ts_spec.specs.declared.limits.Limits.{Limits}
+use Rattle.ts_spec.specs.declared.bucket.Aggregator.{Aggregator}
+use Rattle.ts_spec.specs.Sample.{at_times}
+use Rattle.ts_spec.specs.Bucket.{Grid}
+use Rattle.ts_spec.specs.Key.{Key, same}
+use Rattle.ts_spec.specs.Keyed.{get, with_key, count_keys}
+use Rattle.ts_spec.specs.State.{Record, State, Link, link_to, edge}
+use Rattle.ts_spec.specs.Command.{Spec}
+use Rattle.ts_spec.specs.Response.{Response, Done, Count}
+use Rattle.ts_spec.specs.Refusal.{KeyExists, LabelsFull, KeysFull, NoKey, SameKey, SourceIsDest, DestIsSource, DestHasSource, RulesSpent, RulesFull}
+use Rattle.ts_spec.specs.Step.{fresh, created, create, create_with, has_rules, with_rule, ruled, create_rule_at, create_rule}
+use Rattle.ts_spec.specs.Valid.{IsLinked, IsValid}
+use Rattle.ts_spec.specs.Kept.{Kept, kept_rule, kept_record, kept}
+use Rattle.ts_spec.specs.Keeping.{kept_with_rule, keep_ruled, keep_changed}
+use Rattle.ts_spec.specs.KeptStep.{kept_created, kept_create, kept_create_with, any_rules, kept_create_rule_at, kept_create_rule}
+use Rattle.ts_spec.proofs.Keys.{same-true, same-sym}
+use Rattle.ts_spec.proofs.Maps.{get-with, get-each}
+use Rattle.ts_spec.proofs.PlainWrite.{get-change, own-kept}
+use Rattle.ts_spec.proofs.KeysComeAndGo.{unlinked-new, links-new}
+use Rattle.ts_spec.proofs.MakingRules.{new_rule, IsRulable, link-made, link-stays, dest-not-source}
+use Rattle.ts_spec.proofs.StepKeeps.{rulable}
+use Rattle.ts_spec.proofs.KeptMaps.{get-kept, count-kept, some-kept, kept-same, any-rules, count-rules, Agrees, agrees-refused, agrees-if}
+
+-- ---- a new series
+
+pub kept-with : (m : State) (key : Key) (c : Record) → IsLinked m → get key m ≡ None → c.rules ≡ [] → with_key key (kept_record None c) (kept m) ≡ kept (with_key key c m)
+kept-with m key c linked missing none =
+    kept-same (with_key key (kept_record None c) (kept m)) (with_key key c m)
+    (λ k. get-with k key (kept_record None c) (kept m)
+    ∙ go k (same key k) refl
+    ∙ ap (λ (l : Option Link). option_map (kept_record l) (if same key k then Some c else get k m)) (sym (links-new m key c linked missing none k))
+    ∙ ap (option_map (kept_record (link_to (with_key key c m) k))) (sym (get-with k key c m)))
+  where
+    go : (k : Key) (b : Bool) → same key k ≡ b → (if b then Some (kept_record None c) else get k (kept m)) ≡ option_map (kept_record (link_to m k)) (if b then Some c else get k m)
+    go k true x = ap (λ (l : Option Link). Some (kept_record l c)) (sym (ap (link_to m) (sym (same-true key k x)) ∙ unlinked-new m key c linked missing none))
+    go k false x = get-kept m k
+
+pub created-agrees : (limits : Limits) (m : State) (key : Key) (c : Record) (r : Response) → IsLinked m → get key m ≡ None → c.rules ≡ [] →
+    Agrees (created limits m key c r) (kept_created limits (kept m) key (kept_record None c) r)
+created-agrees limits m key c r linked missing none =
+    agrees-if (nat_lt limits.labels (length c.labels)) (nat_lt limits.labels (length c.labels)) _ _ _ _ refl (λ x. agrees-refused m (kept m) LabelsFull refl)
+    (λ x. agrees-if (nat_le limits.keys (count_keys m)) (nat_le limits.keys (count_keys (kept m))) _ _ _ _ (ap (nat_le limits.keys) (sym (count-kept m))) (λ y. agrees-refused m (kept m) KeysFull refl)
+    (λ y. record { response = refl; keys = kept-with m key c linked missing none }))
+
+pub create-agrees : (limits : Limits) (m : State) (key : Key) (spec : Spec) → IsLinked m → Agrees (create limits m key spec) (kept_create limits (kept m) key spec)
+create-agrees limits m key spec linked =
+    agrees-if (is_some (get key m)) (is_some (get key (kept m))) _ _ _ _ (sym (some-kept m key)) (λ x. agrees-refused m (kept m) KeyExists refl)
+    (λ x. created-agrees limits m key (fresh spec [] None) Done linked (missing (get key m) x) refl)
+  where
+    missing : (o : Option Record) → is_some o ≡ false → o ≡ None
+    missing None e = refl
+    missing (Some d) e = absurd (false≢true (sym e))
+
+-- a new series with one sample
+pub create_with-agrees : (limits : Limits) (m : State) (key : Key) (spec : Spec) (t : ℕ) (v : ℤ) → IsLinked m → get key m ≡ None → Agrees (create_with limits m key spec t v) (kept_create_with limits (kept m) key spec t v)
+create_with-agrees limits m key spec t v linked missing = created-agrees limits m key (fresh spec (record { time = t; value = v; made = 0 } ∷ []) (Some t)) (Count t) linked missing refl
+
+-- ---- a new rule
+
+abbrev sourced : Key → Kept → Kept
+sourced source c = record c { source = Some source }
+
+module _ (limits : Limits) (m : State) (source dest : Key) (agg : Aggregator) (grid : Grid) (s d : Record) (v : IsValid limits m) (h : IsRulable limits m source dest s d) where
+  source-kept : (c : Record) → kept_record None (with_rule dest agg grid c) ≡ kept_with_rule dest agg grid (kept_record None c)
+  source-kept c =
+      let rules : map kept_rule (c.rules ++ new_rule dest agg grid c ∷ []) ≡ map kept_rule c.rules ++ kept_rule (new_rule dest agg grid c) ∷ [] = map-append kept_rule c.rules (new_rule dest agg grid c ∷ []) in
+      λ i. record (kept_with_rule dest agg grid (kept_record None c)) { rules = rules i }
+
+  dest-kept : (c : Record) → get dest m ≡ Some c → kept_record (Some (record { source = source; rule = new_rule dest agg grid s })) c ≡ sourced source (kept_record None c)
+  dest-kept c x =
+      let list : at_times (nat_le (edge c)) c.plain ≡ c.plain = own-kept m dest c v.settled x in
+      λ i. record (sourced source (kept_record None c)) { list = list i }
+
+  stays : (k : Key) → same k dest ≡ false → link_to (ruled source dest agg grid m) k ≡ link_to m k
+  stays k x = link-stays limits m source dest agg grid s d v h k (same-sym dest k ∙ x)
+
+  made : (k : Key) → same k dest ≡ true → link_to (ruled source dest agg grid m) k ≡ Some (record { source = source; rule = new_rule dest agg grid s })
+  made k x = ap (link_to (ruled source dest agg grid m)) (same-true k dest x) ∙ link-made limits m source dest agg grid s d v h
+
+  each-key : (k : Key) (a b : Bool) → same k source ≡ a → same k dest ≡ b → (o : Option Record) → get k m ≡ o →
+      option_map (λ c. if b then sourced source c else c) (option_map (λ c. if a then kept_with_rule dest agg grid c else c) (option_map (kept_record (link_to m k)) o))
+      ≡ option_map (kept_record (link_to (ruled source dest agg grid m) k)) (option_map (λ c. if a then with_rule dest agg grid c else c) o)
+  each-key k a b x y None z = refl
+  each-key k true true x y (Some c) z = absurd (false≢true (sym (dest-not-source limits m source dest agg grid s d v h) ∙ ap (λ (j : Key). same j source) (sym (same-true k dest y)) ∙ x))
+  each-key k true false x y (Some c) z =
+      let free : link_to m k ≡ None = ap (link_to m) (same-true k source x) ∙ h.source_free in
+      ap (λ (l : Option Link). Some (kept_with_rule dest agg grid (kept_record l c))) free
+      ∙ ap (λ (q : Kept). Some q) (sym (source-kept c))
+      ∙ ap (λ (l : Option Link). Some (kept_record l (with_rule dest agg grid c))) (sym (stays k y ∙ free))
+  each-key k false true x y (Some c) z =
+      let free : link_to m k ≡ None = ap (link_to m) (same-true k dest y) ∙ h.dest_free in
+      ap (λ (l : Option Link). Some (sourced source (kept_record l c))) free
+      ∙ ap (λ (q : Kept). Some q) (sym (dest-kept c (ap (λ (j : Key). get j m) (sym (same-true k dest y)) ∙ z)))
+      ∙ ap (λ (l : Option Link). Some (kept_record l c)) (sym (made k y))
+  each-key k false false x y (Some c) z = ap (λ (l : Option Link). Some (kept_record l c)) (sym (stays k y))
+
+  pub kept-ruled : keep_ruled source dest agg grid (kept m) ≡ kept (ruled source dest agg grid m)
+  kept-ruled =
+      kept-same (keep_ruled source dest agg grid (kept m)) (ruled source dest agg grid m)
+      (λ k. get-each (λ j c. if same j dest then sourced source c else c) k (keep_changed source (kept_with_rule dest agg grid) (kept m))
+      ∙ ap (option_map (λ c. if same k dest then sourced source c else c)) (get-each (λ j c. if same j source then kept_with_rule dest agg grid c else c) k (kept m) ∙ ap (option_map (λ c. if same k source then kept_with_rule dest agg grid c else c)) (get-kept m k))
+      ∙ each-key k (same k source) (same k dest) refl refl (get k m) refl
+      ∙ ap (option_map (kept_record (link_to (ruled source dest agg grid m) k))) (sym (get-change m source k (with_rule dest agg grid))))
+
+some-source : (l : Option Link) → is_some (option_map (λ q. q.source) l) ≡ is_some l
+some-source None = refl
+some-source (Some q) = refl
+
+create_rule_at-agrees : (limits : Limits) (m : State) (source dest : Key) (agg : Aggregator) (grid : Grid) (o p : Option Record) → IsValid limits m → get source m ≡ o → get dest m ≡ p → same source dest ≡ false →
+    Agrees (create_rule_at limits m source dest agg grid o p)
+    (kept_create_rule_at limits (kept m) source dest agg grid (option_map (kept_record (link_to m source)) o) (option_map (kept_record (link_to m dest)) p))
+create_rule_at-agrees limits m source dest agg grid None p v x y other = agrees-refused m (kept m) NoKey refl
+create_rule_at-agrees limits m source dest agg grid (Some s) None v x y other = agrees-refused m (kept m) NoKey refl
+create_rule_at-agrees limits m source dest agg grid (Some s) (Some d) v x y other =
+    agrees-if (is_some (link_to m source)) _ _ _ _ _ (sym (some-source (link_to m source))) (λ e. agrees-refused m (kept m) SourceIsDest refl)
+    (λ a. agrees-if (has_rules d.rules) (any_rules (map kept_rule d.rules)) _ _ _ _ (sym (any-rules d.rules)) (λ e. agrees-refused m (kept m) DestIsSource refl)
+    (λ b. agrees-if (is_some (link_to m dest)) _ _ _ _ _ (sym (some-source (link_to m dest))) (λ e. agrees-refused m (kept m) DestHasSource refl)
+    (λ c. agrees-if (nat_le limits.born s.born) (nat_le limits.born s.born) _ _ _ _ refl (λ e. agrees-refused m (kept m) RulesSpent refl)
+    (λ g. agrees-if (nat_le limits.rules (length s.rules)) (nat_le limits.rules (length (map kept_rule s.rules))) _ _ _ _ (ap (nat_le limits.rules) (sym (count-rules s.rules))) (λ e. agrees-refused m (kept m) RulesFull refl)
+    (λ h. record { response = refl; keys = kept-ruled limits m source dest agg grid s d v (rulable limits m source dest s d x y other a b c g h) })))))
+
+pub create_rule-agrees : (limits : Limits) (m : State) (source dest : Key) (agg : Aggregator) (grid : Grid) → IsValid limits m →
+    Agrees (create_rule limits m source dest agg grid) (kept_create_rule limits (kept m) source dest agg grid)
+create_rule-agrees limits m source dest agg grid v =
+    agrees-if (same source dest) (same source dest) _ _ _ _ refl (λ x. agrees-refused m (kept m) SameKey refl)
+    (λ x. subst (λ (o : Option Kept). Agrees (create_rule_at limits m source dest agg grid (get source m) (get dest m)) (kept_create_rule_at limits (kept m) source dest agg grid o (get dest (kept m)))) (sym (get-kept m source))
+    (subst (λ (o : Option Kept). Agrees (create_rule_at limits m source dest agg grid (get source m) (get dest m)) (kept_create_rule_at limits (kept m) source dest agg grid (option_map (kept_record (link_to m source)) (get source m)) o)) (sym (get-kept m dest))
+    (create_rule_at-agrees limits m source dest agg grid (get source m) (get dest m) v refl refl x)))

@@ -1,0 +1,118 @@
+-- What is answered of what is kept.
+use Rattle.std.specs.Prelude.{ℕ, Bool, true, false, nat_le, if◌then◌else◌, List, [], ◌∷◌, map, length, Option, Some, None}
+use Rattle.ts_spec.specs.declared.limits.Limits.{Limits}
+use Rattle.ts_spec.specs.Sample.{Point, first_of, last_of, put_all}
+use Rattle.ts_spec.specs.Key.{Key}
+use Rattle.ts_spec.specs.Keyed.{Entry, get}
+use Rattle.ts_spec.specs.State.{Label}
+use Rattle.ts_spec.specs.Filter.{Filter, all_hold}
+use Rattle.ts_spec.specs.Refusal.{NoKey}
+use Rattle.ts_spec.specs.Command.{Query, Show, Command, Create, Alter, Add, Madd, Incr, DelRange, CreateRule, DeleteRule, Range, MRange, Get, MGet, QueryIndex, InfoOf, Ping, Echo, Quit, Drop, Exists}
+use Rattle.ts_spec.specs.Answer.{Row, answer}
+use Rattle.ts_spec.specs.Response.{Member, RuleInfo, Info, Response, Done, Count, Refused, LastRow, LastRows, Keys, Told, Word}
+use Rattle.ts_spec.specs.Outcome.{time_of}
+use Rattle.ts_spec.specs.Questions.{rows_response, labels_shown, members_response, last_row, row_list, time_or_0, ping_response}
+use Rattle.ts_spec.specs.Kept.{KeptRule, Kept, Keeping}
+use Rattle.ts_spec.specs.Mending.{bucket_row, kept_rule_to}
+use Rattle.ts_spec.specs.KeptStep.{KeptOutcome, kept_told, kept_edge, list_at, kept_rules_at, kept_create, kept_alter_at, kept_add_at, kept_madd, kept_incr_at, kept_delete_at, kept_create_rule, kept_delete_rule_at, kept_drop_keys, kept_count_there}
+
+-- the rule that leads to a key, by the key of its source
+abbrev pub rule_from : Keeping → Key → Option Key → Option KeptRule
+rule_from m k None = None
+rule_from m k (Some source) = kept_rule_to k (kept_rules_at (get source m))
+
+-- the row of an open bucket that starts at or past the edge
+abbrev pub open_row : (edge born : ℕ) → KeptRule → Option ℕ → List Point
+open_row low born q None = []
+open_row low born q (Some o) = if nat_le low o then bucket_row q.agg born o q.running else []
+
+-- what a key shows with the open bucket of the rule that leads to it
+abbrev pub with_open : Option KeptRule → Kept → List Point
+with_open None d = d.list
+with_open (Some q) d = put_all (open_row (kept_edge d) d.born q q.current) d.list
+
+abbrev pub latest_list_at : Keeping → Key → Option Kept → List Point
+latest_list_at m k None = []
+latest_list_at m k (Some d) = with_open (rule_from m k d.source) d
+
+-- the samples asked
+abbrev pub kept_asked : Keeping → (latest : Bool) → Key → List Point
+kept_asked m true k = latest_list_at m k (get k m)
+kept_asked m false k = list_at (get k m)
+
+abbrev pub kept_range_response : Limits → Keeping → Key → Bool → Query → Option Kept → Response
+kept_range_response limits m key latest q None = Refused NoKey
+kept_range_response limits m key latest q (Some d) = rows_response (answer limits.empty_rows q (kept_asked m latest key))
+
+abbrev pub kept_labels_at : Option Kept → List Label
+kept_labels_at None = []
+kept_labels_at (Some d) = d.labels
+
+-- a series in an answer over many
+abbrev pub kept_member : Keeping → Show → Key → List Row → Member
+kept_member m show key rows = record { key = key; labels = labels_shown show (kept_labels_at (get key m)); rows = rows }
+
+abbrev pub kept_member_then : Keeping → Show → Key → Option (List Row) → Option (List Member) → Option (List Member)
+kept_member_then m show key None others = None
+kept_member_then m show key (Some rows) None = None
+kept_member_then m show key (Some rows) (Some others) = Some (kept_member m show key rows ∷ others)
+
+abbrev pub kept_members_of : Limits → Keeping → Bool → Show → Query → List Key → Option (List Member)
+kept_members_of limits m latest show q [] = Some []
+kept_members_of limits m latest show q (k ∷ ks) =
+    kept_member_then m show k (answer limits.empty_rows q (kept_asked m latest k)) (kept_members_of limits m latest show q ks)
+
+abbrev pub kept_last_response : Keeping → Key → Bool → Option Kept → Response
+kept_last_response m key latest None = Refused NoKey
+kept_last_response m key latest (Some d) = LastRow (last_row (kept_asked m latest key))
+
+abbrev pub kept_last_member : Keeping → Bool → Show → Key → Member
+kept_last_member m latest show k = kept_member m show k (row_list (last_row (kept_asked m latest k)))
+
+-- the keys whose labels pass all filters, in ascending order
+abbrev pub kept_selected_in : List Filter → List (Entry Kept) → List Key
+kept_selected_in filters [] = []
+kept_selected_in filters (e ∷ es) = if all_hold filters e.value.labels then e.key ∷ kept_selected_in filters es else kept_selected_in filters es
+
+abbrev pub kept_selection : Keeping → List Filter → List Key
+kept_selection m filters = kept_selected_in filters m.entries
+
+abbrev pub kept_rule_info : KeptRule → RuleInfo
+kept_rule_info q = record { dest = q.dest; grid = q.grid; agg = q.agg }
+
+abbrev pub kept_info_of : Kept → Info
+kept_info_of d = record {
+  total = length d.list;
+  first = time_or_0 (first_of d.list);
+  last = time_or_0 (last_of d.list);
+  options = d.options;
+  labels = d.labels;
+  source = d.source;
+  rules = map kept_rule_info d.rules;
+}
+
+abbrev pub kept_info_response : Option Kept → Response
+kept_info_response None = Refused NoKey
+kept_info_response (Some d) = Told (kept_info_of d)
+
+-- the step of a command over what is kept, with a reading of the clock
+abbrev pub kept_step : Limits → Keeping → (reading : ℕ) → Command → KeptOutcome
+kept_step limits m reading (Create key spec) = kept_create limits m key spec
+kept_step limits m reading (Alter key change) = kept_alter_at limits m key change (get key m)
+kept_step limits m reading (Add key at v on spec) = kept_add_at limits m key (time_of reading at) v on spec (get key m)
+kept_step limits m reading (Madd triples) = kept_madd limits m reading [] triples
+kept_step limits m reading (Incr key change at spec) = kept_incr_at limits m key change (time_of reading at) spec (get key m)
+kept_step limits m reading (DelRange key from to) = kept_delete_at limits m key from to (get key m)
+kept_step limits m reading (CreateRule source dest agg grid) = kept_create_rule limits m source dest agg grid
+kept_step limits m reading (DeleteRule source dest) = kept_delete_rule_at m source dest (get source m)
+kept_step limits m reading (Range key latest q) = kept_told m (kept_range_response limits m key latest q (get key m))
+kept_step limits m reading (MRange latest show filters q) = kept_told m (members_response (kept_members_of limits m latest show q (kept_selection m filters)))
+kept_step limits m reading (Get key latest) = kept_told m (kept_last_response m key latest (get key m))
+kept_step limits m reading (MGet latest show filters) = kept_told m (LastRows (map (kept_last_member m latest show) (kept_selection m filters)))
+kept_step limits m reading (QueryIndex filters) = kept_told m (Keys (kept_selection m filters))
+kept_step limits m reading (InfoOf key) = kept_told m (kept_info_response (get key m))
+kept_step limits m reading (Ping word) = kept_told m (ping_response word)
+kept_step limits m reading (Echo word) = kept_told m (Word word)
+kept_step limits m reading Quit = kept_told m Done
+kept_step limits m reading (Drop keys) = kept_drop_keys m 0 keys
+kept_step limits m reading (Exists keys) = kept_told m (Count (kept_count_there m keys))

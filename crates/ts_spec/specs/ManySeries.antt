@@ -1,0 +1,68 @@
+-- The options of questions over many series: which series, and which of their labels are shown.
+use Rattle.std.specs.Prelude.{if◌then◌else◌, List, [], ◌∷◌, ◌++◌, codes, Some, is_some, ok_or, unwrap_or, Result, Ok, Err}
+use Rattle.ts_spec.specs.Names.{Table}
+use Rattle.ts_spec.specs.Filter.{Filter, has_positive}
+use Rattle.ts_spec.specs.FilterText.{FilterFault, filter_of}
+use Rattle.ts_spec.specs.Command.{Show, Nothing, All, Selected}
+use Rattle.ts_spec.specs.Refusal.{Fault, BadOption, BadLabels, BadFilter, NoPositiveFilter}
+use Rattle.ts_spec.specs.Settings.{Word, and_then, Given, Setting, no_words, some_words}
+use Rattle.ts_spec.specs.SeriesOptions.{is_empty}
+use Rattle.ts_spec.specs.Ranges.{range_options}
+
+-- ---- words
+
+abbrev pub or_bad_filter : Result Filter FilterFault → Result Filter Fault
+or_bad_filter (Ok filter) = Ok filter
+or_bad_filter (Err fault) = Err BadFilter
+
+-- a filter by a label
+unfoldable pub filter_word : Word → Result Filter Fault
+filter_word word = or_bad_filter (filter_of word)
+
+-- filters, one after another
+abbrev pub filters_of : List Word → Result (List Filter) Fault
+filters_of [] = Ok []
+filters_of (word ∷ words) = and_then (filter_word word) (λ f. and_then (filters_of words) (λ fs. Ok (f ∷ fs)))
+
+-- labels, one after another
+abbrev pub names_of : List Word → Result (List Word) Fault
+names_of [] = Ok []
+names_of (word ∷ words) = if is_empty word then Err BadLabels else and_then (names_of words) (λ names. Ok (word ∷ names))
+
+-- ---- options
+
+-- all labels are shown, or those of a list; only one of the two is said, once
+abbrev pub with_labels : Setting
+with_labels = no_words (λ given. is_some given.show) (λ given. record given { show = Some All })
+
+abbrev pub selected_labels : Setting
+selected_labels = some_words (λ given. is_some given.show) (λ words given. and_then (names_of words) (λ names. Ok (record given { show = Some (Selected names) })))
+
+abbrev pub filter : Setting
+filter = some_words (λ given. is_some given.filters) (λ words given. and_then (filters_of words) (λ fs. Ok (record given { filters = Some fs })))
+
+-- the options that say which series, and which labels
+unfoldable pub series_told : Table Setting
+series_told =
+    (codes "WITHLABELS", with_labels)
+    ∷ (codes "SELECTED_LABELS", selected_labels)
+    ∷ (codes "FILTER", filter)
+    ∷ []
+
+-- those of a question over the intervals of many series
+unfoldable pub many_options : Table Setting
+many_options = series_told ++ range_options
+
+-- ---- what is asked
+
+-- the filters, of which there have to be some
+abbrev pub wanted : Given → Result (List Filter) Fault
+wanted given = ok_or given.filters BadOption
+
+-- filters, of which one asks for a value
+abbrev pub selecting : List Filter → Result (List Filter) Fault
+selecting filters = if has_positive filters then Ok filters else Err NoPositiveFilter
+
+-- the labels that are shown: none where nothing is said
+abbrev pub labels_asked : Given → Show
+labels_asked given = unwrap_or given.show Nothing

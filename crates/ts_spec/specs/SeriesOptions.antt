@@ -1,0 +1,128 @@
+-- The options of series and of samples, and what a series is made with.
+use Rattle.std.specs.Prelude.{◌≡◌, ℕ, suc, ◌≤◌, ◌%◌, Bool, ◌&&◌, ◌||◌, ◌==◌, nat_le, if◌then◌else◌, List, [], ◌∷◌, length, codes, Some, is_some, ok_or, unwrap_or, Result, Ok, Err}
+use Rattle.ts_spec.specs.declared.series.Policy.{Policy}
+use Rattle.ts_spec.specs.declared.series.Policy.TheVariants.{Block}
+use Rattle.ts_spec.specs.declared.series.Encoding.{Encoding}
+use Rattle.ts_spec.specs.declared.series.Encoding.TheVariants.{Compressed}
+use Rattle.ts_spec.specs.Names.{Table, named, policies, encodings}
+use Rattle.ts_spec.specs.Number.{number}
+use Rattle.ts_spec.specs.State.{Label}
+use Rattle.ts_spec.specs.Labels.{with_label}
+use Rattle.ts_spec.specs.Command.{Spec, Change}
+use Rattle.ts_spec.specs.Refusal.{Fault, BadOption, BadLabels, BadChunkSize, BadPolicy, BadEncoding}
+use Rattle.ts_spec.specs.Settings.{Word, and_then, at_word, Given, Setting, one_word, has_name}
+
+-- ---- single words
+
+-- a retention in milliseconds
+unfoldable pub retention_word : Word → Result ℕ Fault
+retention_word word = ok_or (number word) BadOption
+
+-- a chunk may have so many bytes
+abbrev pub IsChunkSize : ℕ → Type 0
+IsChunkSize n = (48 ≤ n) × (n ≤ 1048576) × (n % 8 ≡ 0)
+
+-- whether it may
+abbrev pub is_chunk_size : ℕ → Bool
+is_chunk_size n = nat_le 48 n && nat_le n 1048576 && (n % 8 == 0)
+
+-- the bytes of a chunk
+unfoldable pub chunk_size_word : Word → Result ℕ Fault
+chunk_size_word word = and_then (ok_or (number word) BadChunkSize) (λ n. if is_chunk_size n then Ok n else Err BadChunkSize)
+
+unfoldable pub policy_word : Word → Result Policy Fault
+policy_word word = ok_or (named policies word) BadPolicy
+
+unfoldable pub encoding_word : Word → Result Encoding Fault
+encoding_word word = ok_or (named encodings word) BadEncoding
+
+-- ---- options
+
+abbrev pub retention : Setting
+retention = one_word (λ given. is_some given.retention) (λ word given. and_then (retention_word word) (λ n. Ok (record given { retention = Some n })))
+
+abbrev pub encoding : Setting
+encoding = one_word (λ given. is_some given.encoding) (λ word given. and_then (encoding_word word) (λ e. Ok (record given { encoding = Some e })))
+
+abbrev pub chunk_size : Setting
+chunk_size = one_word (λ given. is_some given.chunk_size) (λ word given. and_then (chunk_size_word word) (λ n. Ok (record given { chunk_size = Some n })))
+
+abbrev pub duplicate_policy : Setting
+duplicate_policy = one_word (λ given. is_some given.policy) (λ word given. and_then (policy_word word) (λ p. Ok (record given { policy = Some p })))
+
+abbrev pub on_duplicate : Setting
+on_duplicate = one_word (λ given. is_some given.on) (λ word given. and_then (policy_word word) (λ p. Ok (record given { on = Some p })))
+
+abbrev pub timestamp : Setting
+timestamp = one_word (λ given. is_some given.at) (λ word given. and_then (at_word word) (λ at. Ok (record given { at = Some at })))
+
+-- whether a word has no bytes
+abbrev pub is_empty : Word → Bool
+is_empty word = length word == 0
+
+-- the labels so far with those of the words, each a label and its value
+abbrev pub labels_after : List Label → List Word → Result (List Label) Fault
+labels_after labels [] = Ok labels
+labels_after labels (name ∷ []) = Err BadLabels
+labels_after labels (name ∷ value ∷ words) =
+    if is_empty name || is_empty value then Err BadLabels else labels_after (with_label (record { name = name; value = value }) labels) words
+
+-- how many words come before an option that stands where a label would
+abbrev pub count_pairs : (is_option : Word → Bool) → List Word → ℕ
+count_pairs is_option [] = 0
+count_pairs is_option (name ∷ []) = if is_option name then 0 else 1
+count_pairs is_option (name ∷ value ∷ words) = if is_option name then 0 else suc (suc (count_pairs is_option words))
+
+-- labels with their values, or none
+abbrev pub labels : Setting
+labels = record {
+  stood = λ given. is_some given.labels;
+  size = count_pairs;
+  says = λ words given. and_then (labels_after [] words) (λ ls. Ok (record given { labels = Some ls }));
+}
+
+-- the options of a new series
+unfoldable pub series_options : Table Setting
+series_options =
+    (codes "RETENTION", retention)
+    ∷ (codes "ENCODING", encoding)
+    ∷ (codes "CHUNK_SIZE", chunk_size)
+    ∷ (codes "DUPLICATE_POLICY", duplicate_policy)
+    ∷ (codes "LABELS", labels)
+    ∷ []
+
+-- the options of a series that is there: its encoding stays
+unfoldable pub alter_options : Table Setting
+alter_options =
+    (codes "RETENTION", retention)
+    ∷ (codes "CHUNK_SIZE", chunk_size)
+    ∷ (codes "DUPLICATE_POLICY", duplicate_policy)
+    ∷ (codes "LABELS", labels)
+    ∷ []
+
+unfoldable pub add_options : Table Setting
+add_options = (codes "ON_DUPLICATE", on_duplicate) ∷ series_options
+
+unfoldable pub incr_options : Table Setting
+incr_options = (codes "TIMESTAMP", timestamp) ∷ series_options
+
+-- whether one of the words is the name of the option with labels
+abbrev pub has_labels : List Word → Bool
+has_labels = has_name (codes "LABELS")
+
+-- what a new series is made with: where nothing is said, it keeps samples for ever, in packed chunks of 4096 bytes, and refuses a repeated time
+abbrev pub spec : Given → Spec
+spec given =
+    record {
+      options = record {
+        retention = unwrap_or given.retention 0;
+        encoding = unwrap_or given.encoding Compressed;
+        chunk_size = unwrap_or given.chunk_size 4096;
+        policy = unwrap_or given.policy Block;
+      };
+      labels = unwrap_or given.labels [];
+    }
+
+-- what a series gets anew
+abbrev pub change : Given → Change
+change given = record { retention = given.retention; chunk_size = given.chunk_size; policy = given.policy; labels = given.labels }
