@@ -32,22 +32,21 @@ kept_later : (n : ℕ) (old new : ℤ) → n ≢ 0 → kept_unless_first n old n
 kept_later zero old new some = absurd (some refl)
 kept_later (suc n) old new some = refl
 
-module _ (s : Summary) (p : Point) (ps : List Point) (sum : ℤ) (stands : StandsFor s ps) (total : sum ≡ s.sum +ℤ p.value) where
-  grown : (t : Summary) → t ≡ push s p → StandsFor t (ps ++ p ∷ [])
-  grown t is = is ∙ ap (λ (r : Summary). push r p) stands ∙ sym (summary-push ps p)
-
+module _ (s : Summary) (p : Point) (sum : ℤ) (total : sum ≡ s.sum +ℤ p.value) where
   -- the first sample
-  pub first_pushed : s.count ≡ 0 → StandsFor (summary_of (s.count + 1) sum p.value p.value p.value p.value) (ps ++ p ∷ [])
+  pub first_pushed : s.count ≡ 0 → summary_of (s.count + 1) sum p.value p.value p.value p.value ≡ push s p
   first_pushed none =
-      grown (summary_of (s.count + 1) sum p.value p.value p.value p.value)
-      (same_summary (summary_of (s.count + 1) sum p.value p.value p.value p.value) (push s p) refl total (sym (kept_first s.count _ p.value none)) (sym (kept_first s.count _ p.value none)) (sym (kept_first s.count _ p.value none)) refl)
+      same_summary (summary_of (s.count + 1) sum p.value p.value p.value p.value) (push s p) refl total (sym (kept_first s.count _ p.value none)) (sym (kept_first s.count _ p.value none)) (sym (kept_first s.count _ p.value none)) refl
 
   -- a later one
   pub later_pushed : (least greatest : ℤ) → s.count ≢ 0 → least ≡ (if int_lt p.value s.least then p.value else s.least) → greatest ≡ (if int_lt s.greatest p.value then p.value else s.greatest)
-      → StandsFor (summary_of (s.count + 1) sum least greatest s.first p.value) (ps ++ p ∷ [])
+      → summary_of (s.count + 1) sum least greatest s.first p.value ≡ push s p
   later_pushed least greatest some lower higher =
-      grown (summary_of (s.count + 1) sum least greatest s.first p.value)
-      (same_summary (summary_of (s.count + 1) sum least greatest s.first p.value) (push s p) refl total (lower ∙ sym (kept_later s.count _ p.value some)) (higher ∙ sym (kept_later s.count _ p.value some)) (sym (kept_later s.count _ p.value some)) refl)
+      same_summary (summary_of (s.count + 1) sum least greatest s.first p.value) (push s p) refl total (lower ∙ sym (kept_later s.count _ p.value some)) (higher ∙ sym (kept_later s.count _ p.value some)) (sym (kept_later s.count _ p.value some)) refl
+
+-- what stood for a list stands for it with the sample
+pub stands_pushed : (s t : Summary) (p : Point) → t ≡ push s p → (ps : List Point) → StandsFor s ps → StandsFor t (ps ++ p ∷ [])
+stands_pushed s t p is ps stands = is ∙ ap (λ (r : Summary). push r p) stands ∙ sym (summary-push ps p)
 
 -- the sum that the code computes
 pub added : (count : ℕ) (sum v : ℤ) → IsSmall count sum → unsigned_abs v ≤ bound → to_z w128 (of_z w128 (to_z w128 (of_z w128 sum) +ℤ to_z w128 (of_z w128 v))) ≡ sum +ℤ v

@@ -1,10 +1,12 @@
 //! What is told of the samples of a bucket, over a list that grows at its end. Nothing here takes memory.
 #![tactic(auto)]
 
+mod counted;
 mod fault;
 mod names;
 mod running;
 
+pub use counted::Counted;
 pub use fault::AggFault;
 pub use names::{name, read_aggregator};
 pub use running::Running;

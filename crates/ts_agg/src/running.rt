@@ -1,6 +1,6 @@
 ghost use Rattle.std.specs.Prelude.{◌≡◌, ◌<◌, ◌^◌, ◌↔◌, List, [], ◌∷◌, ◌++◌, length, int_lt, if◌then◌else◌, Some, IsNone};
 ghost use Rattle.ts_spec.specs.Sample.{Point};
-ghost use Rattle.ts_spec.specs.Aggregate.{aggregate, result_of};
+ghost use Rattle.ts_spec.specs.Aggregate.{aggregate, push, result_of};
 ghost use Rattle.ts_agg.specs.Running.{StandsFor};
 
 use std::marker::Model;
@@ -65,7 +65,8 @@ impl Running {
     /// Adds a sample at the end. It takes 10^14 samples at most.
     pub fn push(&mut self, s: &Sample)
         requires { self.old.count < 10 ^ 14 }
-        ensures { (ps : List Point) → StandsFor self.old ps
+        ensures pushed { self.new ≡ push self.old s.now }
+        ensures stands { (ps : List Point) → StandsFor self.old ps
             → StandsFor self.new (ps ++ s.now ∷ []) }
     {
         let value = s.value;
@@ -86,6 +87,7 @@ impl Running {
     pub fn result(&self, agg: Aggregator) -> Option<Units>
         ensures value { (ps : List Point) → StandsFor self.now ps → 0 < length ps
             → result ≡ Some (aggregate agg ps) }
+        ensures told { 0 < self.now.count → result ≡ Some (result_of agg self.now) }
         ensures none { IsNone result ↔ (self.now.count ≡ 0) }
     {
         if self.count == 0 {

@@ -3,7 +3,7 @@ ghost use Rattle.std.specs.Prelude.{◌≤◌, length};
 
 use super::*;
 use std::test::*;
-use ts_sample::{Sample, Units};
+use ts_sample::{Sample, Units, Visit};
 
 const ALL: [Aggregator; 8] = [
     Aggregator::Avg,
@@ -78,4 +78,19 @@ fn lists(rt: HostRuntime) {
             ]
             .map(Some)
     );
+}
+
+#[test]
+fn counted(rt: HostRuntime) {
+    let mut counted = Counted::new(2);
+    for (made, millionths) in [(1, 100), (2, 5), (0, 100), (3, 4), (1, -100)] {
+        counted.sample(&Sample {
+            time: 0,
+            value: ts_decimal::clamp(millionths),
+            made,
+        });
+    }
+    let running = counted.running();
+    assert!(rt; running.result(Aggregator::Sum).map(Units::get) == Some(9));
+    assert!(rt; running.result(Aggregator::Count).map(Units::get) == Some(2_000_000));
 }

@@ -1,5 +1,6 @@
 pub mod LineLemmas
 pub mod HeaderLemmas
+pub mod BegunLemmas
 pub mod WordLemmas
 pub mod ReplyLemmas
 mod OrderLemmas

@@ -1,5 +1,5 @@
 -- What stands at the beginning of unread bytes, and what that makes of the stream, whatever follows.
-use Rattle.std.specs.Prelude.{◌≡◌, ℕ, ◌+◌, ◌-◌, ◌<◌, ◌≤◌, ◌==◌, nat_lt, if◌then◌else◌, List, [], ◌∷◌, ◌++◌, length, drop, slice_range}
+use Rattle.std.specs.Prelude.{◌≡◌, ℕ, ◌+◌, ◌-◌, ◌<◌, ◌≤◌, ◌==◌, nat_lt, if◌then◌else◌, List, [], ◌∷◌, ◌++◌, length, drop, slice_range, Option, Some, None}
 use Rattle.ts_spec.specs.declared.wire.Kind.TheVariants.{Crlf}
 use Rattle.ts_spec.specs.declared.wire.WireLimits.{WireLimits}
 use Rattle.ts_spec.specs.Wire as wire
@@ -8,6 +8,7 @@ use Rattle.ts_resp.specs.declared.header.Header.{Header}
 use Rattle.ts_resp.specs.declared.header.Header.TheVariants as header
 use Rattle.ts_resp.specs.declared.header.FoundWord.{FoundWord}
 use Rattle.ts_resp.specs.declared.header.FoundWord.TheVariants as word
+use Rattle.ts_resp.specs.Reading.{begun_after, begun_on}
 
 -- the stream of these bytes and no more, where they are not enough
 abbrev pub stopped : Mode → ℕ → List ℕ → Stream
@@ -26,6 +27,19 @@ IsHeader limits mode next bytes (header.Broken kind at) =
 -- the header of a request
 abbrev pub IsCount : WireLimits → List ℕ → Header → Type 0
 IsCount limits = IsHeader limits Start (after_count limits)
+
+-- where a request begins whose header is not whole
+abbrev pub begun_by : ℕ → List ℕ → Option ℕ
+begun_by begin [] = None
+begun_by begin (byte ∷ bytes) = Some begin
+
+-- What the header of a request says of where the request at hand begins.
+abbrev pub IsBegun : WireLimits → List ℕ → Header → Type 0
+IsBegun limits bytes header.Open = (place begin : ℕ) → begun_on limits place begin Start bytes ≡ begun_by begin bytes
+IsBegun limits bytes (header.Whole number feed) =
+    (place begin : ℕ) → begun_on limits place begin Start bytes
+    ≡ begun_after (after_count limits number) (place + feed) begin (λ from on. begun_on limits (place + feed + 1) from on (drop (feed + 1) bytes))
+IsBegun limits bytes (header.Broken kind at) = (place begin : ℕ) → begun_on limits place begin Start bytes ≡ Some begin
 
 -- the header of a word
 abbrev pub IsLength : WireLimits → Request → (later room : ℕ) → List ℕ → Header → Type 0

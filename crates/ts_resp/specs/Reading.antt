@@ -1,7 +1,7 @@
 -- What a reader of requests holds, and the stream that it stands for.
 use Rattle.std.specs.Prelude.{ℕ, ◌+◌, List, [], ◌∷◌, ◌++◌, length, Option, Some, None}
 use Rattle.ts_spec.specs.declared.wire.WireLimits.{WireLimits}
-use Rattle.ts_spec.specs.Wire.{Partial, Mode, Start, Mark, Stream, Ended, Inside, read_on}
+use Rattle.ts_spec.specs.Wire.{Partial, Mode, Start, Mark, Move, Goto, Whole, Fault, move, Stream, Ended, Inside, read_on}
 
 -- the place where the request at hand begins, the place of the first unread byte, the whole words of that request, and the unread bytes
 pub record Reading : Type 0 where
@@ -24,14 +24,31 @@ stream_of r more = read_on r.limits r.place r.begin (mode_of r.so_far) (r.unread
 abbrev pub fed : Reading → ℕ
 fed r = r.place + length r.unread
 
+-- where a request begins of which the next byte is at place: a request without words is passed over, and any other begins here
+abbrev pub begun_after : Move → (place begin : ℕ) → (ℕ → Mode → Option ℕ) → Option ℕ
+begun_after (Goto (Mark so_far)) place begin on = Some begin
+begun_after (Goto next) place begin on = on begin next
+begun_after (Whole request) place begin on = on (place + 1) Start
+begun_after (Fault kind) place begin on = Some begin
+
+-- the same where the bytes end: between two requests, or inside the one that began
+abbrev pub begun_at_end : Mode → ℕ → Option ℕ
+begun_at_end Start begin = None
+begun_at_end _ begin = Some begin
+
+-- Where the first request with words, or the one that the bytes end in, begins: the first byte stands at place, in the header of one that began at begin.
+unfoldable pub begun_on : WireLimits → (place begin : ℕ) → Mode → List ℕ → Option ℕ
+begun_on limits place begin mode [] = begun_at_end mode begin
+begun_on limits place begin mode (byte ∷ bytes) =
+    begun_after (move limits mode byte) place begin (λ from next. begun_on limits (place + 1) from next bytes)
+
 -- where the request at hand begins, once a byte of it has come
-abbrev pub begun_at : ℕ → Option Partial → List ℕ → Option ℕ
-begun_at begin (Some so_far) unread = Some begin
-begun_at begin None [] = None
-begun_at begin None (byte ∷ bytes) = Some begin
+abbrev pub begun_at : Option Partial → WireLimits → (place begin : ℕ) → List ℕ → Option ℕ
+begun_at (Some so_far) limits place begin unread = Some begin
+begun_at None limits place begin unread = begun_on limits place begin Start unread
 
 abbrev pub unfinished : Reading → Option ℕ
-unfinished r = begun_at r.begin r.so_far r.unread
+unfinished r = begun_at r.so_far r.limits r.place r.begin r.unread
 
 -- a stream that ends here: between two requests, or inside the one that begins at a place
 abbrev pub ended_at : Option ℕ → Stream

@@ -12,6 +12,7 @@ pub record GoesOn (old new : Reading) : Type 0 where
   pub fed_same : fed new ≡ fed old
   pub later : old.begin ≤ new.begin
   pub begin : new.begin ≤ fed new
+  pub place : unfinished new ≡ unfinished old
   pub limits : new.limits ≡ old.limits
 
 -- what is answered says how the stream goes on
@@ -22,6 +23,7 @@ pub record Answers (old new : Reading) (next : Next) : Type 0 where
   pub not_yet : OnNotYet next (stream_of new [] ≡ ended_at (unfinished new))
   pub broken : IfBroken next (λ p. (more : List ℕ) → stream_of old more ≡ Broken p.kind p.place)
   pub same : UnlessRequest next ((more : List ℕ) → stream_of new more ≡ stream_of old more)
+  pub place : UnlessRequest next (unfinished new ≡ unfinished old)
   pub fed_same : fed new ≡ fed old
   pub later : old.begin ≤ new.begin
   pub begin : new.begin ≤ fed new

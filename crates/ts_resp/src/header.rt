@@ -1,12 +1,13 @@
 // The first lines of a request, and a whole word, as they stand at the beginning of unread bytes.
 ghost use Rattle.std.specs.Prelude.{ℕ, ◌≡◌, ◌+◌, ◌-◌, ◌<◌, ◌≤◌, drop, length};
 ghost use Rattle.ts_spec.specs.Wire.{Request};
-ghost use Rattle.ts_resp.specs.Headers.{IsCount, IsLength, IsWord, IsHeaderWithin, IsWordWithin, HasNumber, HasAtMost, feed_at, ended_by, body_at};
+ghost use Rattle.ts_resp.specs.Headers.{IsCount, IsBegun, IsLength, IsWord, IsHeaderWithin, IsWordWithin, HasNumber, HasAtMost, feed_at, ended_by, body_at};
 
 use crate::line::{NumberLine, number_line};
 use ts_spec::{Kind, WireLimits};
 
 // A marker, a number and CRLF. The LF stands at `feed`.
+#[derive(Clone, Copy)]
 pub(crate) enum Header {
     Open,
     Whole { number: u32, feed: usize },
@@ -23,6 +24,7 @@ pub(crate) enum FoundWord {
 // How many words the request has that begins with the bytes.
 pub(crate) fn count_header(bytes: &[u8], limits: &WireLimits) -> Header
     ensures meaning { IsCount limits.now bytes.now result }
+    ensures begun { IsBegun limits.now bytes.now result }
     ensures within { IsHeaderWithin (length bytes.now) result }
 {
     let [first, line @ ..] = bytes else {

@@ -6,6 +6,7 @@ mod line;
 mod order;
 mod out;
 mod pair;
+mod parts;
 mod protocol;
 mod reader;
 mod reply;
@@ -13,6 +14,7 @@ mod word;
 
 pub use out::Out;
 pub use pair::{PAIR, put_pair};
+pub use parts::{encode_bulk, encode_count, reserve_items};
 pub use protocol::Protocol;
 pub use reader::{Next, Reader};
 pub use reply::{Reply, begin_array, encode, put, size_of};

@@ -1,9 +1,10 @@
 // The requests of a stream that comes in pieces.
 ghost use Rattle.std.specs.Prelude.{◌≡◌, ◌≢◌, ℕ, ◌+◌, ◌^◌, ◌<◌, ◌≤◌, List, [], ◌++◌, length, OnOk, OnErr};
-ghost use Rattle.ts_spec.specs.Wire.{Then, Broken, stream_at};
-ghost use Rattle.ts_resp.specs.Reading.{stream_of, fed, unfinished, ended_at};
+ghost use Rattle.ts_spec.specs.Wire.{Then, Broken, Start, stream_at};
+ghost use Rattle.ts_resp.specs.Reading.{stream_of, fed, unfinished, begun_on, ended_at};
 ghost use Rattle.ts_resp.specs.Next.{IfRequest, UnlessRequest, OnNotYet, IfBroken};
 
+use crate::header::{Header, count_header};
 use crate::{Protocol, Word};
 use bytes::BytesMut;
 use std::alloc::{AllocError, Global};
@@ -72,6 +73,7 @@ impl Model for Reader {
 
 impl Reader {
     /// A reader to which no byte was fed. Takes no memory.
+    #[tactic(auto, unfolding(crate::specs::Reading::begun_on))]
     pub fn new(alloc: Global, limits: WireLimits) -> Reader
         requires words { 1 ≤ limits.words }
         requires word_bytes { 1 ≤ limits.word_bytes }
@@ -117,6 +119,7 @@ impl Reader {
             → stream_of self.old more ≡ Broken p.kind p.place) }
         ensures same { UnlessRequest result ((more : List ℕ)
             → stream_of self.new more ≡ stream_of self.old more) }
+        ensures place { UnlessRequest result (unfinished self.new ≡ unfinished self.old) }
         ensures fed { fed self.new ≡ fed self.old }
         ensures begin { self.new.begin ≤ fed self.new }
         ensures onward { self.old.begin ≤ self.new.begin }
@@ -131,14 +134,36 @@ impl Reader {
         }
     }
 
-    /// Where an unfinished request begins, or None between requests. Takes no memory.
+    /// Where an unfinished request begins, or None between requests. Requests without words are
+    /// passed over. Takes no memory.
     pub fn place(&self) -> Option<u64>
         ensures { result ≡ unfinished self.now }
     {
         match &self.so_far {
             Some(_) => Some(self.begin),
-            None if self.unread.is_empty() => None,
-            None => Some(self.begin),
+            None => first_begin(self.unread.as_slice(), &self.limits, self.place, self.begin),
         }
     }
+}
+
+// Where the first request that has words begins, among bytes of which the first stands at `place`.
+#[tactic(auto, unfolding(crate::specs::Reading::begun_on))]
+fn first_begin(bytes: &[u8], limits: &WireLimits, place: u64, begin: u64) -> Option<u64>
+    requires { place + length bytes.now < 2 ^ 64 }
+    ensures { result ≡ begun_on limits.now place begin Start bytes.now }
+{
+    let mut rest = bytes;
+    let mut place = place;
+    let mut begin = begin;
+    while !rest.is_empty() {
+        match count_header(rest, limits) {
+            Header::Whole { number: 0, feed } => {
+                rest = &rest[feed + 1..];
+                place += feed as u64 + 1;
+                begin = place;
+            }
+            Header::Open | Header::Whole { .. } | Header::Broken { .. } => return Some(begin),
+        }
+    }
+    None
 }

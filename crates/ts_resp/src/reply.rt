@@ -82,14 +82,15 @@ fn line_len(others: usize) -> Option<usize>
 }
 
 // The length of a line with a count.
-fn count_len(count: usize) -> usize
+pub(crate) fn count_len(count: usize) -> usize
     ensures value { result ≡ length (decimal count) + 3 }
     ensures short { result ≤ 43 }
 {
     Buffer::new().format(count).len() + 3
 }
 
-fn bulk_len(bytes: &[u8]) -> Option<usize>
+// The length of the text of bytes.
+pub(crate) fn bulk_len(bytes: &[u8]) -> Option<usize>
     ensures { SomeIff result (length (text (Bulk bytes.now)) < 2 ^ 64)
         (length (text (Bulk bytes.now))) }
 {
@@ -163,7 +164,7 @@ pub fn begin_array(count: usize, out: &mut Out)
     put_count(b'*', count, out);
 }
 
-fn put_bulk(bytes: &[u8], out: &mut Out)
+pub(crate) fn put_bulk(bytes: &[u8], out: &mut Out)
     requires { length (text (Bulk bytes.now)) ≤ out.old.spare }
     ensures bytes { out.new.bytes ≡ out.old.bytes ++ text (Bulk bytes.now) }
     ensures room { out.new.spare + length (text (Bulk bytes.now)) ≡ out.old.spare }

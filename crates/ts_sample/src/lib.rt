@@ -15,7 +15,7 @@ mod visit;
 pub use cell::Cell;
 pub use gathered::Gathered;
 pub use id::Id;
-pub use place::{find, place_of, places_between};
+pub use place::{find, place_of, place_past, places_between};
 pub use sample::{MAX_TIME, Sample};
 pub use steps::Steps;
 pub use units::Units;

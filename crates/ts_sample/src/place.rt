@@ -50,8 +50,8 @@ pub fn places_between(list: &[Sample], from: u64, to: u64) -> Range<usize>
     place_of(&list[..end], from)..end
 }
 
-// How many samples of an ascending list are up to this time. A time from the last sample on costs no search.
-fn place_past(list: &[Sample], time: u64) -> usize
+/// How many samples of an ascending list are up to this time. A time from the last sample on costs no search.
+pub fn place_past(list: &[Sample], time: u64) -> usize
     requires { IsAscending list.now }
     ensures within { result ≤ length list.now }
     ensures upto { take result list.now ≡ at_times (λ t. nat_le t time) list.now }

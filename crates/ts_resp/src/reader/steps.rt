@@ -1,6 +1,6 @@
 // One header or one word at a time.
 ghost use Rattle.std.specs.Prelude.{◌≡◌, ◌+◌, ◌-◌, ◌<◌, ◌≤◌, [], ◌∷◌, ◌++◌, length, drop, slice_range, Some, None, OnOk, OnErr, IfOk, IfErr, MatchOption};
-ghost use Rattle.ts_resp.specs.Headers.{IsCount, IsWord, IsWordWithin};
+ghost use Rattle.ts_resp.specs.Headers.{IsCount, IsBegun, IsWord, IsWordWithin};
 ghost use Rattle.ts_resp.specs.Steps.{GoesOn, Answers};
 
 use super::{Next, Reader, Unfinished};
@@ -38,6 +38,7 @@ impl Reader {
     fn begin_request(&mut self, number: u32, len: usize) -> Option<Next>
         requires between { self.old.so_far ≡ None }
         requires header { IsCount self.old.limits self.old.unread (Header.Whole number (len - 1)) }
+        requires begun { IsBegun self.old.limits self.old.unread (Header.Whole number (len - 1)) }
         requires within { (0 < len) × (len ≤ length self.old.unread) }
         ensures { MatchOption result (GoesOn self.old self.new) (Answers self.old self.new) }
     {

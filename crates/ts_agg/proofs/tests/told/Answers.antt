@@ -17,4 +17,4 @@ pub loop-millionths-preserved : goal.loop-millionths-preserved
 loop-millionths-preserved c =
     let taken = c.loop-millionths.invariant in
     let next : Point = record { time = 0; value = c.clamp.result; made = 0 } in
-    (taken.0 ++ next ∷ [], c.push.ensures taken.0 taken.1, omega (arith, length-append taken.0 (next ∷ []), taken.2))
+    (taken.0 ++ next ∷ [], c.push.ensures.stands taken.0 taken.1, omega (arith, length-append taken.0 (next ∷ []), taken.2))

@@ -20,7 +20,7 @@ loop-sample-preserved c =
     elim c.if-let_through.branch [
       | then-let_through w ↦
           rw w.running-is
-          (one_pushed test samples i p c.loop-sample-test.true c.sample-item.is c.loop-sample.running _ c.loop-sample.invariant w.push.ensures (sym c.let_through.ensures ∙ w.if-let_through.true))
+          (one_pushed test samples i p c.loop-sample-test.true c.sample-item.is c.loop-sample.running _ c.loop-sample.invariant w.push.ensures.stands (sym c.let_through.ensures ∙ w.if-let_through.true))
       | else-let_through w ↦
           rw w.running-is
           (none_pushed test samples i p c.loop-sample-test.true c.sample-item.is c.loop-sample.running c.loop-sample.invariant (sym c.let_through.ensures ∙ w.if-let_through.false))

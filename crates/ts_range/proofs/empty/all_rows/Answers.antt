@@ -34,16 +34,16 @@ loop-i-init c =
 
 pub cut-requires-clause-time : goal.cut-requires-clause-time
 cut-requires-clause-time c =
-    let within = told-within c.args.buckets.now.grid c.known.ensures.some c.args.query.now.from c.args.query.now.to c.args.asked.now.ends c.in-Some.starts c.in-Some.ensures c.args.query.now.reverse c.loop-i.i c.at-start.result c.at-start.ensures in
+    let within = told-within c.args.buckets.now.grid c.known.ensures.some c.args.query.now.from c.args.query.now.to c.args.asked.now.ends c.in-Some.starts c.in-Some.ensures _ _ _ c.at-start.ensures in
     omega (arith, c.args.query.now.to_fits)
 
 pub cut-requires-clause-begins : goal.cut-requires-clause-begins
 cut-requires-clause-begins c =
-    told-start c.args.buckets.now.grid c.known.ensures.some c.args.query.now.from c.args.query.now.to c.args.asked.now.ends c.in-Some.starts c.in-Some.ensures c.args.query.now.reverse c.loop-i.i c.at-start.result c.at-start.ensures
+    told-start c.args.buckets.now.grid c.known.ensures.some c.args.query.now.from c.args.query.now.to c.args.asked.now.ends c.in-Some.starts c.in-Some.ensures _ _ _ c.at-start.ensures
 
 pub stamp-requires : goal.stamp-requires
 stamp-requires c =
-    let within = told-within c.args.buckets.now.grid c.known.ensures.some c.args.query.now.from c.args.query.now.to c.args.asked.now.ends c.in-Some.starts c.in-Some.ensures c.args.query.now.reverse c.loop-i.i c.at-start.result c.at-start.ensures in
+    let within = told-within c.args.buckets.now.grid c.known.ensures.some c.args.query.now.from c.args.query.now.to c.args.asked.now.ends c.in-Some.starts c.in-Some.ensures _ _ _ c.at-start.ensures in
     omega (arith, c.args.query.now.to_fits)
 
 pub loop-i-preserved : goal.loop-i-preserved

@@ -1,15 +1,14 @@
-use Rattle.std.proofs.Common.{◌≡◌, ◌+◌, ◌++◌, [], ◌∷◌, ◌+ℤ◌, ◌∙◌, ap, subst}
+use Rattle.std.proofs.Common.{◌≡◌, ◌+ℤ◌, ◌∙◌, ap}
 use mir.Syntax.{w128}
 use mir.Val.{to_z, of_z}
 use Rattle.ts_spec.specs.Sample.{Point}
-use Rattle.ts_spec.specs.Aggregate.{Summary}
-use Rattle.ts_agg.specs.Running.{StandsFor}
-use Rattle.ts_agg.proofs.Pushes.{summary_of, first_pushed, later_pushed, added}
+use Rattle.ts_spec.specs.Aggregate.{Summary, push}
+use Rattle.ts_agg.proofs.Pushes.{summary_of, first_pushed, later_pushed, stands_pushed, added}
 use Rattle.ts_agg.proofs.running.Running.push.Goals as goal
 use Rattle.ts_agg.proofs.running.Running.push.Goals.{then-self-eq0, else-self-eq0}
 
-pub returns : goal.returns
-returns c = λ ps stands.
+pub returns-clause-pushed : goal.returns-clause-pushed
+returns-clause-pushed c =
     let old = c.self.inside in
     let s : Summary = summary_of old.count old.sum old.least old.greatest old.first old.last in
     let p : Point = record { time = c.s.inside.time; value = c.s.inside.value; made = c.s.inside.made } in
@@ -18,10 +17,12 @@ returns c = λ ps stands.
     elim c.if-self-eq0.branch [
       | then-self-eq0 w ↦
           rw w.self-inside-is
-          (subst (λ (q : Point). StandsFor (summary_of (s.count + 1) sum p.value p.value p.value p.value) (ps ++ q ∷ [])) c.s.view_is
-          (first_pushed s p ps sum (c.self.view_is ∙ stands) total w.if-self-eq0.true))
+          (first_pushed s p sum total w.if-self-eq0.true ∙ ap (λ (q : Point). push s q) c.s.view_is ∙ ap (λ (t : Summary). push t c.args.s.now) c.self.view_is)
       | else-self-eq0 w ↦
           rw w.self-inside-is
-          (subst (λ (q : Point). StandsFor (summary_of (s.count + 1) sum w.lesser-self-inside.result w.greater-self-inside.result s.first p.value) (ps ++ q ∷ [])) c.s.view_is
-          (later_pushed s p ps sum (c.self.view_is ∙ stands) total _ _ w.if-self-eq0.false w.lesser-self-inside.ensures w.greater-self-inside.ensures))
+          (later_pushed s p sum total _ _ w.if-self-eq0.false w.lesser-self-inside.ensures w.greater-self-inside.ensures
+          ∙ ap (λ (q : Point). push s q) c.s.view_is ∙ ap (λ (t : Summary). push t c.args.s.now) c.self.view_is)
     ]
+
+pub returns-clause-stands : goal.returns-clause-stands
+returns-clause-stands c = stands_pushed c.args.self.now _ c.args.s.now (returns-clause-pushed c)

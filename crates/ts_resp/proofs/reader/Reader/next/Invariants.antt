@@ -1,5 +1,5 @@
 use Rattle.std.proofs.Common.{◌≡◌, ℕ, ◌≤◌, List, length}
-use Rattle.ts_resp.specs.Reading.{stream_of, fed}
+use Rattle.ts_resp.specs.Reading.{stream_of, fed, unfinished}
 use Rattle.ts_resp.proofs.reader.Reader.next.Given as goal
 
 -- the reader stands for the same stream as when the loop began
@@ -8,6 +8,7 @@ invariant-loop-next l = record {
   stream : (more : List ℕ) → stream_of l.self more ≡ stream_of l.initial.self more;
   fed_same : fed l.self ≡ fed l.initial.self;
   later : l.initial.self.begin ≤ l.self.begin;
+  place : unfinished l.self ≡ unfinished l.initial.self;
   limits : l.self.limits ≡ l.initial.self.limits;
 }
 

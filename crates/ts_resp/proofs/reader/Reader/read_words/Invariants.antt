@@ -1,4 +1,4 @@
-use Rattle.std.proofs.Common.{◌≡◌, ℕ, ◌≤◌, List, length, Some, None}
+use Rattle.std.proofs.Common.{◌≡◌, ℕ, List, length, Some, None}
 use Rattle.ts_resp.specs.Reading.{stream_of, fed}
 use Rattle.ts_resp.proofs.reader.Reader.read_words.Given as goal
 
@@ -9,7 +9,7 @@ invariant-loop-so_far l = record {
   stream : (more : List ℕ) → stream_of (record l.self { so_far = Some l.so_far }) more
       ≡ stream_of (record l.initial.self { so_far = Some l.initial.so_far }) more;
   fed_same : fed l.self ≡ fed l.initial.self;
-  later : l.initial.self.begin ≤ l.self.begin;
+  begin : l.self.begin ≡ l.initial.self.begin;
   limits : l.self.limits ≡ l.initial.self.limits;
 }
 
