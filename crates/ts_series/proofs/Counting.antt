@@ -12,7 +12,7 @@ abbrev pub one_if : Bool → ℕ
 one_if true = 1
 one_if false = 0
 
-times-append : (test : ℕ → Bool) (ps qs : List Point) → at_times test (ps ++ qs) ≡ at_times test ps ++ at_times test qs
+pub times-append : (test : ℕ → Bool) (ps qs : List Point) → at_times test (ps ++ qs) ≡ at_times test ps ++ at_times test qs
 times-append test [] qs = refl
 times-append test (p ∷ ps) qs = go (test p.time) (times-append test ps qs)
   where
@@ -21,7 +21,7 @@ times-append test (p ∷ ps) qs = go (test p.time) (times-append test ps qs)
     go true ih = ap (λ (l : List Point). p ∷ l) ih
     go false ih = ih
 
-length-cons_if : (b : Bool) (p : Point) (ps : List Point) → length (cond b (p ∷ ps) ps) ≡ one_if b + length ps
+pub length-cons_if : (b : Bool) (p : Point) (ps : List Point) → length (cond b (p ∷ ps) ps) ≡ one_if b + length ps
 length-cons_if true p ps = omega arith
 length-cons_if false p ps = omega arith
 
@@ -60,6 +60,14 @@ length-put test p ps none =
     ap length (times-append test before (p ∷ later)) ∙ length-append (at_times test before) (at_times test (p ∷ later)) in
     let here : length (at_times test (p ∷ later)) ≡ one_if (test p.time) + length (at_times test later) = length-cons_if (test p.time) p (at_times test later) in
     omega (arith, joined, here, parts-length test p.time ps none)
+
+pub times-each : (ps : List Point) → at_times (λ t. true) ps ≡ ps
+times-each [] = refl
+times-each (p ∷ ps) = ap (λ (l : List Point). p ∷ l) (times-each ps)
+
+-- at a time without a sample there is one more
+pub length-put_new : (p : Point) (ps : List Point) → at p.time ps ≡ None → length (put p ps) ≡ suc (length ps)
+length-put_new p ps none = omega (arith, length-put (λ t. true) p ps none, ap length (times-each (put p ps)), ap length (times-each ps))
 
 -- a part is no longer than the whole
 pub times-length : (test : ℕ → Bool) (ps : List Point) → length (at_times test ps) ≤ length ps

@@ -3,3 +3,6 @@ pub mod Counting
 pub mod Cutting
 pub mod Keeping
 pub mod Putting
+pub mod Latest
+pub mod Mending
+pub mod Writing

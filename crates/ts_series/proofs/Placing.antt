@@ -1,8 +1,6 @@
 -- Samples that take their place in a list.
 use Rattle.std.proofs.Common.{◌≡◌, ℕ, zero, suc, ◌+◌, ◌<◌, ◌≤◌, true, false, cond, List, [], ◌∷◌, ◌++◌, length, take, drop, refl, sym, ◌∙◌, ap, subst, arith}
 use Rattle.std.specs.Prelude.{◌-◌, nat_lt, nat_le, slice_get, slice_set, Option, None, Some, IsSomeAnd}
-use Rattle.std.specs.List.{insert}
-use Rattle.std.proofs.lemmas.List.{drop-set-add}
 use Rattle.std.proofs.lemmas.Bool.Decides.{nat_tests}
 use Rattle.ts_spec.specs.Sample.{Point, IsAscending, IsAfter, at, at_times, put, last_of}
 use Rattle.ts_spec.proofs.Samples.{at-time}
@@ -44,23 +42,6 @@ set-put (r ∷ ps) (suc i) p q h is same =
     ∙ sym (ap (λ b. cond b (r ∷ at_times (λ u. nat_lt u p.time) ps) (at_times (λ u. nat_lt u p.time) ps) ++ p ∷ at_times (nat_lt p.time) (r ∷ ps)) low
     ∙ ap (λ b. r ∷ at_times (λ u. nat_lt u p.time) ps ++ p ∷ cond b (r ∷ at_times (nat_lt p.time) ps) (at_times (nat_lt p.time) ps)) high)
 
--- the same behind a start
-pub set-behind : (start : ℕ) (ps : List Point) (i : ℕ) (p q : Point) → IsAscending (drop start ps) → slice_get (drop start ps) i ≡ Some q → q.time ≡ p.time
-    → drop start (slice_set ps (start + i) p) ≡ put p (drop start ps)
-set-behind start ps i p q h is same = drop-set-add start ps i p ∙ set-put (drop start ps) i p q h is same
-
-insert-at : (start : ℕ) (ps : List Point) (i j : ℕ) (p : Point) → j ≡ start + i → start ≤ length ps
-    → drop start (insert ps j p) ≡ take i (drop start ps) ++ p ∷ drop i (drop start ps)
-insert-at zero ps i j p is le = let same : j ≡ i = omega arith in ap (λ n. take n ps ++ p ∷ drop n ps) same
-insert-at (suc start) [] i j p is le = absurd (omega arith)
-insert-at (suc start) (q ∷ ps) i zero p is le = absurd (omega arith)
-insert-at (suc start) (q ∷ ps) i (suc j) p is le = insert-at start ps i j p (omega arith) (omega arith)
-
--- a sample that is inserted behind a start
-pub insert-behind : (start : ℕ) (ps : List Point) (i : ℕ) (p : Point) → start ≤ length ps
-    → drop start (insert ps (start + i) p) ≡ take i (drop start ps) ++ p ∷ drop i (drop start ps)
-insert-behind start ps i p le = insert-at start ps i (start + i) p refl le
-
 pub drop-twice : (n m : ℕ) (ps : List Point) → drop (n + m) ps ≡ drop m (drop n ps)
 drop-twice n m ps = steps n m (n + m) ps refl
   where
@@ -70,15 +51,6 @@ drop-twice n m ps = steps n m (n + m) ps refl
     steps (suc n) zero (suc j) [] is = refl
     steps (suc n) (suc m) (suc j) [] is = refl
     steps (suc n) m (suc j) (p ∷ ps) is = steps n m j ps (omega arith)
-
--- the sample of that time gives way
-pub set-found : (start : ℕ) (ps : List Point) (i : ℕ) (p : Point) → IsAscending (drop start ps) → IsSomeAnd (at p.time (drop start ps)) (λ q. slice_get (drop start ps) i ≡ Some q)
-    → drop start (slice_set ps (start + i) p) ≡ put p (drop start ps)
-set-found start ps i p h found = go (at p.time (drop start ps)) refl found
-  where
-    go : (o : Option Point) → at p.time (drop start ps) ≡ o → IsSomeAnd o (λ q. slice_get (drop start ps) i ≡ Some q) → drop start (slice_set ps (start + i) p) ≡ put p (drop start ps)
-    go None is found = absurd found
-    go (Some q) is found = set-behind start ps i p q h found (at-time p.time (drop start ps) q is)
 
 last-at : (p : Point) (ps : List Point) (i : ℕ) → i ≡ length ps → slice_get (p ∷ ps) i ≡ last_of (p ∷ ps)
 last-at p [] zero is = refl

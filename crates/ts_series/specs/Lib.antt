@@ -1,4 +1,5 @@
 pub mod History
 pub mod Line
+pub mod Mend
 pub mod Plan
 pub mod Put

@@ -1,11 +1,12 @@
 -- What a write to a series comes to.
-use Rattle.std.specs.Prelude.{◌≡◌, ℕ, ℤ, ◌<◌, ◌≤◌, nat_lt, if◌then◌else◌, ⊤, List, length, Option, None, Some, option_map, Result, Ok, Err}
+use Rattle.std.specs.Prelude.{◌≡◌, ℕ, ℤ, ◌<◌, ◌≤◌, nat_lt, if◌then◌else◌, ⊤, List, [], ◌∷◌, length, Option, None, Some, option_map, Result, Ok, Err}
 use Rattle.ts_spec.specs.declared.series.Merge.{Merge}
 use Rattle.ts_spec.specs.Sample.{Point, at}
 use Rattle.ts_spec.specs.Refusal as refusal
 use Rattle.ts_spec.specs.Refusal.{Refusal}
 use Rattle.ts_spec.specs.Rules.{Merged, Refuse, Keep, To, merge}
 use Rattle.ts_spec.specs.Step.{value_at}
+use Rattle.ts_series.specs.declared.edit.Place.TheVariants.{Over}
 use Rattle.ts_series.specs.declared.plan.PutFault.{PutFault}
 use Rattle.ts_series.specs.declared.plan.PutFault.TheVariants.{TooOld, Duplicate, OutOfRange, Full, Memory}
 use Rattle.ts_series.specs.History.{History, list_of, low}
@@ -29,17 +30,22 @@ sample_of t v h = record { time = t; value = v; made = h.born }
 
 -- a plan that changes nothing
 abbrev pub is_nothing : Plan
-is_nothing = record { cut = None; removed = 0; wrote = None; options = None; room = None }
+is_nothing = record { cut = None; removed = 0; wrote = []; place = None; options = None; room = None }
 
--- a plan that writes this value, if there is one, at a time that has a sample
-abbrev pub rewrites : (time : ℕ) → Option ℤ → (made : ℕ) → Plan
-rewrites t v made = record { cut = None; removed = 0; wrote = option_map (λ (x : ℤ). record { time = t; value = x; made = made }) v; options = None; room = None }
+-- a sample, if there is one, as a list
+abbrev pub one_of : Option Point → List Point
+one_of None = []
+one_of (Some p) = p ∷ []
+
+-- a plan that writes this value, if there is one, over the sample at this place, which has this time
+abbrev pub rewrites : (place time : ℕ) → Option ℤ → (made : ℕ) → Plan
+rewrites i t v made = record { cut = None; removed = 0; wrote = one_of (option_map (λ (x : ℤ). record { time = t; value = x; made = made }) v); place = option_map (λ (x : ℤ). Over i) v; options = None; room = None }
 
 -- a plan that writes this sample, and changes nothing else
 pub record Writes (p : Point) (plan : Plan) : Type 0 where
   pub cut : plan.cut ≡ None
   pub removed : plan.removed ≡ 0
-  pub wrote : plan.wrote ≡ Some p
+  pub wrote : plan.wrote ≡ p ∷ []
   pub options : plan.options ≡ None
 
 -- the list of a series after this write

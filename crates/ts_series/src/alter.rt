@@ -1,6 +1,7 @@
 ghost use Rattle.std.specs.Prelude.{◌≡◌, IfOk};
 ghost use Rattle.ts_series.specs.Plan.{IsFor, alters, options_with};
 
+use crate::edit::Edit;
 use crate::plan::SeriesPlan;
 use crate::series::Series;
 use std::alloc::AllocError;
@@ -30,9 +31,7 @@ impl Series {
             policy: policy.unwrap_or(old.policy),
         };
         Ok(SeriesPlan {
-            cut: None,
-            removed: 0,
-            wrote: None,
+            edit: Edit::Keep,
             options: Some(options),
             larger: None,
         })

@@ -3,7 +3,8 @@ ghost use Rattle.ts_spec.specs.Sample.{between};
 ghost use Rattle.ts_series.specs.History.{list_of};
 ghost use Rattle.ts_series.specs.Plan.{IsFor, cuts};
 
-use crate::plan::{Interval, SeriesPlan};
+use crate::edit::{Edit, Interval, Rows};
+use crate::plan::SeriesPlan;
 use crate::series::Series;
 use std::alloc::AllocError;
 use std::sync::ledger::Ledger;
@@ -22,10 +23,9 @@ impl Series {
         ensures cut { IfOk result (λ plan. plan ≡ cuts from to (length (between from to (list_of self.now)))) }
         ensures steps { steps.new ≡ steps.old }
     {
+        let removed = self.room_for(from, to) as u64;
         Ok(SeriesPlan {
-            cut: Some(Interval { from, to }),
-            removed: self.room_for(from, to) as u64,
-            wrote: None,
+            edit: Edit::Mend(Interval { from, to }, removed, Rows::Empty),
             options: None,
             larger: None,
         })

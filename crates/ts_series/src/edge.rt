@@ -2,6 +2,7 @@ ghost use Rattle.std.specs.Prelude.{◌≡◌, ◌≤◌, nat_le, length, drop};
 ghost use Rattle.ts_spec.specs.Sample.{IsAscending, at_times};
 ghost use Rattle.ts_spec.specs.State.{edge_of};
 ghost use Rattle.ts_spec.specs.Rules.{raised};
+ghost use Rattle.ts_spec.specs.Mending.{high_with};
 
 use ts_sample::{Sample, place_of};
 
@@ -31,6 +32,17 @@ pub(crate) fn raise(time: u64, high: Option<u64>) -> Option<u64>
     }
 }
 
+// The highest time once these samples are written.
+pub(crate) fn high_after(rows: &[Sample], high: Option<u64>) -> Option<u64>
+    requires { IsAscending rows.now }
+    ensures { result ≡ high_with rows.now high }
+{
+    match rows.last() {
+        None => high,
+        Some(last) => raise(last.time, high),
+    }
+}
+
 // How many samples are before the edge. There is no search where the first is not.
 pub(crate) fn expired(list: &[Sample], edge: u64) -> usize
     requires { IsAscending list.now }
@@ -44,4 +56,13 @@ pub(crate) fn expired(list: &[Sample], edge: u64) -> usize
         return 0;
     }
     place_of(list, edge)
+}
+
+// How many samples are from the edge on.
+pub(crate) fn count_kept(list: &[Sample], edge: u64) -> usize
+    requires { IsAscending list.now }
+    ensures count { result ≡ length (at_times (nat_le edge) list.now) }
+    ensures within { result ≤ length list.now }
+{
+    list.len() - expired(list, edge)
 }

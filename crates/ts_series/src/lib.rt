@@ -5,16 +5,21 @@
 mod alter;
 mod cut;
 mod edge;
+mod edit;
 mod line;
+mod mend;
 mod merged;
 mod plan;
 mod put;
 mod questions;
 mod series;
+mod splice;
 
 pub use plan::{PutFault, SeriesPlan};
 pub use series::Series;
 pub use ts_spec::{Encoding, Merge, Options, Policy};
 
+#[cfg(test)]
+mod mend_tests;
 #[cfg(test)]
 mod tests;

@@ -1,13 +1,14 @@
 ghost use Rattle.std.specs.Prelude.{◌≡◌, ◌≤◌, ◌<◌, ◌+◌, ◌-◌, nat_le, ◌++◌, take, drop, length, [], vec_len, vec_capacity, None, IfOk, IfSome};
-ghost use Rattle.ts_spec.specs.Sample.{IsAscending, at, at_times, put};
-ghost use Rattle.ts_series.specs.Line.{HoldsLine, room_after, HasPlace};
-ghost use Rattle.ts_series.specs.Plan.{with_written, without_cut};
+ghost use Rattle.ts_spec.specs.Sample.{IsAscending, at, at_times, outside, put, put_all};
+ghost use Rattle.ts_series.specs.Line.{HoldsLine, room_after};
+ghost use Rattle.ts_series.specs.Plan.{AreWithin, IsOrdered, IsPlaced, TakesPlace, written, cut_of, place_in, without_cut};
 
 use crate::edge::expired;
-use crate::plan::Interval;
+use crate::edit::{Edit, Interval, Place};
+use crate::splice::{insert, splice};
 use std::alloc::{AllocError, Global};
 use std::marker::Model;
-use ts_sample::{Sample, find, places_between};
+use ts_sample::{Sample, place_of, place_past};
 
 // Samples in ascending time, behind those that left from the front.
 #[derive(Drop)]
@@ -45,15 +46,19 @@ impl Line {
         tail(&self.samples, self.start)
     }
 
-    // Room for the list with one more sample, where it has none.
-    pub(crate) fn larger(&self, alloc: Global) -> Result<Option<Vec<Sample>>, AllocError>
-        ensures { IfOk result (HoldsLine self.now) }
+    // Room for the list with so many samples more, where it has none.
+    pub(crate) fn larger(
+        &self,
+        more: usize,
+        alloc: Global,
+    ) -> Result<Option<Vec<Sample>>, AllocError>
+        ensures { IfOk result (HoldsLine more self.now) }
     {
-        if self.samples.len() < self.samples.capacity() {
+        if more <= self.samples.capacity() - self.samples.len() {
             return Ok(None);
         }
         let len = self.as_slice().len();
-        let Some(capacity) = len.checked_add(len.max(4)) else {
+        let Some(capacity) = len.checked_add(len.max(more).max(4)) else {
             return Err(AllocError);
         };
         Ok(Some(Vec::with_capacity(alloc, capacity)?))
@@ -75,31 +80,48 @@ impl Line {
         self.start = 0;
     }
 
-    // Takes out the samples of an interval, if there is one.
-    pub(crate) fn cut(&mut self, interval: Option<Interval>)
-        ensures list { self.new.list ≡ without_cut interval self.old.list }
-        ensures room { self.new.room + length self.new.list ≡ self.old.room + length self.old.list }
+    // Does a change that it has room for.
+    pub(crate) fn edit(&mut self, edit: &Edit)
+        requires ordered { IsOrdered edit.now }
+        requires placed { TakesPlace (place_in edit.now) (written edit.now) self.old.list }
+        requires room { length (put_all (written edit.now) (without_cut (cut_of edit.now) self.old.list)) ≤ length self.old.list + self.old.room }
+        ensures { self.new.list ≡ put_all (written edit.now) (without_cut (cut_of edit.now) self.old.list) }
     {
-        let Some(interval) = interval else {
-            return;
-        };
-        let places = places_between(tail(&self.samples, self.start), interval.from, interval.to);
-        take_out(
-            &mut self.samples,
-            self.start + places.start,
-            self.start + places.end,
-        );
+        match edit {
+            Edit::Keep => {}
+            Edit::Write(place, sample) => self.write(*place, *sample),
+            Edit::Mend(interval, _, rows) => self.mend(*interval, rows.as_slice()),
+        }
     }
 
-    // Puts a sample at its time, if there is one.
-    pub(crate) fn write(&mut self, sample: Option<Sample>)
-        requires { IfSome sample (HasPlace self.old) }
-        ensures { self.new.list ≡ with_written sample self.old.list }
+    // Puts a sample at its place.
+    fn write(&mut self, place: Place, sample: Sample)
+        requires placed { IsPlaced place sample self.old.list }
+        requires room { length (put sample self.old.list) ≤ length self.old.list + self.old.room }
+        ensures { self.new.list ≡ put sample self.old.list }
     {
-        let Some(sample) = sample else {
-            return;
-        };
-        place(&mut self.samples, self.start, sample);
+        match place {
+            Place::Over(index) => self.samples[self.start + index] = sample,
+            Place::Before(index) => insert(&mut self.samples, self.start + index, sample),
+        }
+    }
+
+    // Puts rows in the place of the samples of an interval.
+    fn mend(&mut self, interval: Interval, rows: &[Sample])
+        requires ascending { IsAscending rows.now }
+        requires within { AreWithin interval.from interval.to rows.now }
+        requires room { length (put_all rows.now (outside interval.from interval.to self.old.list)) ≤ length self.old.list + self.old.room }
+        ensures { self.new.list ≡ put_all rows.now (outside interval.from interval.to self.old.list) }
+    {
+        let list = tail(&self.samples, self.start);
+        let end = place_past(list, interval.to);
+        let start = place_of(&list[..end], interval.from);
+        splice(
+            &mut self.samples,
+            self.start + start,
+            self.start + end,
+            rows,
+        );
     }
 
     // Drops the samples before this time.
@@ -116,33 +138,4 @@ fn tail(samples: &[Sample], start: usize) -> &[Sample]
     ensures { result.now ≡ drop start samples.now }
 {
     &samples[start..]
-}
-
-// Puts a sample at its time among those from `start` on.
-fn place(samples: &mut Vec<Sample>, start: usize, sample: Sample)
-    requires start { start ≤ vec_len samples.old }
-    requires ascending { IsAscending (drop start samples.old.items) }
-    requires room { at sample.time (drop start samples.old.items) ≡ None → vec_len samples.old < vec_capacity samples.old }
-    ensures start { start ≤ vec_len samples.new }
-    ensures list { drop start samples.new.items ≡ put sample (drop start samples.old.items) }
-{
-    match find(tail(samples, start), sample.time) {
-        Ok(place) => samples[start + place] = sample,
-        Err(place) => match samples.insert(start + place, sample) {
-            Ok(()) => {}
-            Err(_) => unreachable!(),
-        },
-    }
-}
-
-// Takes out the samples from one place up to another.
-fn take_out(samples: &mut Vec<Sample>, from: usize, to: usize)
-    requires ordered { from ≤ to }
-    requires within { to ≤ vec_len samples.old }
-    ensures items { samples.new.items ≡ take from samples.old.items ++ drop to samples.old.items }
-    ensures len { vec_len samples.new + (to - from) ≡ vec_len samples.old }
-    ensures capacity { vec_capacity samples.new ≡ vec_capacity samples.old }
-{
-    samples.copy_within(to.., from);
-    samples.truncate(samples.len() - (to - from));
 }

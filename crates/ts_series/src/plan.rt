@@ -1,5 +1,7 @@
 ghost use Rattle.std.specs.Prelude.{◌≡◌};
+ghost use Rattle.ts_spec.specs.Sample.{first_of};
 
+use crate::edit::Edit;
 use std::alloc::AllocError;
 use std::marker::Model;
 use thiserror::Error;
@@ -26,46 +28,40 @@ pub enum PutFault {
     Memory(AllocError),
 }
 
-// The times from one to another, both included. Where `from` is above `to` there are none.
-#[derive(Clone, Copy)]
-pub(crate) struct Interval {
-    pub(crate) from: u64,
-    pub(crate) to: u64,
-}
-
 /// A change of a series that can be committed: it has the memory that it takes.
 #[derive(Drop)]
 pub struct SeriesPlan {
-    pub(crate) cut: Option<Interval>,
-    pub(crate) removed: u64,
-    pub(crate) wrote: Option<Sample>,
+    pub(crate) edit: Edit,
     pub(crate) options: Option<Options>,
     pub(crate) larger: Option<Vec<Sample>>,
 }
 
 impl Model for SeriesPlan {
     ghost use Rattle.std.specs.Prelude.{◌≡◌, IfSome, [], vec_capacity, option_map};
-    ghost use Rattle.ts_series.specs.Plan.{Plan};
+    ghost use Rattle.ts_series.specs.Plan.{Plan, cut_of, removed_of, written, place_in, IsOrdered};
 
     ghost Value = { Plan };
 
-    ghost view = { λ p. record { cut = p.cut; removed = p.removed; wrote = p.wrote; options = p.options; room = option_map (λ v. vec_capacity v) p.larger } };
+    ghost view = { λ p. record { cut = cut_of p.edit; removed = removed_of p.edit; wrote = written p.edit; place = place_in p.edit; options = p.options; room = option_map (λ v. vec_capacity v) p.larger } };
 
-    ghost invariant = { λ p. IfSome p.larger (λ v. v.items ≡ []) };
+    ghost invariant = { λ p. IfSome p.larger (λ v. v.items ≡ []) × IsOrdered p.edit };
 }
 
 impl SeriesPlan {
-    /// The sample that is written, or `None` where nothing is.
+    /// The first of the samples that are written, or `None` where none is.
     pub fn wrote(&self) -> Option<Sample>
-        ensures { result ≡ self.now.wrote }
+        ensures { result ≡ first_of self.now.wrote }
     {
-        self.wrote
+        self.edit.written().first().copied()
     }
 
     /// How many samples a deletion takes out.
     pub fn removed(&self) -> u64
         ensures { result ≡ self.now.removed }
     {
-        self.removed
+        match &self.edit {
+            Edit::Mend(_, removed, _) => *removed,
+            _ => 0,
+        }
     }
 }

@@ -1,10 +1,12 @@
 ghost use Rattle.std.specs.Prelude.{◌≡◌, ◌≤◌, nat_lt, None, IfOk, length};
 ghost use Rattle.ts_spec.specs.Sample.{MAX_TIME, at};
 ghost use Rattle.ts_series.specs.History.{list_of};
-ghost use Rattle.ts_series.specs.Plan.{IsFor};
+ghost use Rattle.ts_series.specs.Plan.{IsFor, IsPlaced};
+ghost use Rattle.ts_series.specs.declared.edit.Place.TheVariants.{Before};
 ghost use Rattle.ts_series.specs.Put.{met, Answers, IsWrite, list_after, rewrites};
 
 use crate::edge::{edge_at, expired, raise};
+use crate::edit::{Edit, Place};
 use crate::merged::merged;
 use crate::plan::{PutFault, SeriesPlan};
 use crate::series::Series;
@@ -36,17 +38,18 @@ impl Series {
             Ok(place) => {
                 let there = list[place];
                 let wrote = merged(how, there.value, value)?;
-                Ok(rewritten(time, wrote, self.born))
+                Ok(rewritten(place, time, wrote, self.born))
             }
-            Err(_) => {
+            Err(place) => {
                 let made = self.born;
-                self.added(Sample { time, value, made }, limit)
+                self.added(place, Sample { time, value, made }, limit)
             }
         }
     }
 
-    // Plans a new sample, at a time that has none.
-    fn added(&self, sample: Sample, limit: u32) -> Result<SeriesPlan, PutFault>
+    // Plans a new sample before the one at this index, at a time that has none.
+    fn added(&self, index: usize, sample: Sample, limit: u32) -> Result<SeriesPlan, PutFault>
+        requires placed { IsPlaced (Before index) sample (list_of self.now) }
         requires absent { at sample.time (list_of self.now) ≡ None }
         requires made { sample.made ≡ self.now.born }
         ensures planned { IfOk result (λ plan. IsFor plan self.now) }
@@ -55,11 +58,9 @@ impl Series {
         if self.is_full(sample, limit) {
             return Err(PutFault::Full);
         }
-        match self.line.larger(self.alloc) {
+        match self.line.larger(1, self.alloc) {
             Ok(larger) => Ok(SeriesPlan {
-                cut: None,
-                removed: 0,
-                wrote: Some(sample),
+                edit: Edit::Write(Place::Before(index), sample),
                 options: None,
                 larger,
             }),
@@ -83,19 +84,17 @@ impl Series {
     }
 }
 
-// The plan of a write of this value, if there is one, at a time that has a sample.
-fn rewritten(time: u64, value: Option<Units>, made: u32) -> SeriesPlan
+// The plan of a write of this value, if there is one, over the sample at this index, which has this time.
+fn rewritten(index: usize, time: u64, value: Option<Units>, made: u32) -> SeriesPlan
     requires { time ≤ MAX_TIME }
-    ensures { result ≡ rewrites time value made }
+    ensures { result ≡ rewrites index time value made }
 {
-    let wrote = match value {
-        None => None,
-        Some(value) => Some(Sample { time, value, made }),
+    let edit = match value {
+        None => Edit::Keep,
+        Some(value) => Edit::Write(Place::Over(index), Sample { time, value, made }),
     };
     SeriesPlan {
-        cut: None,
-        removed: 0,
-        wrote,
+        edit,
         options: None,
         larger: None,
     }

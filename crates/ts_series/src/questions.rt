@@ -1,13 +1,24 @@
 ghost use Rattle.std.specs.Prelude.{◌≡◌, ◌≤◌, nat_lt, length};
-ghost use Rattle.ts_spec.specs.Sample.{at, at_times, between, first_of, last_of};
+ghost use Rattle.ts_spec.specs.Sample.{MAX_TIME, at, at_times, between, first_of, last_of};
 ghost use Rattle.ts_sample.specs.Visit.{visited};
-ghost use Rattle.ts_series.specs.History.{list_of};
+ghost use Rattle.ts_spec.specs.Valid.{Every};
+ghost use Rattle.ts_series.specs.History.{list_of, IsKept};
 
 use crate::series::Series;
 use std::sync::ledger::Ledger;
 use ts_sample::{Sample, Steps, Visit, find, place_of, places_between};
 
 impl Series {
+    /// Does nothing: it tells a caller what holds of every series, which a reference hides.
+    pub fn known(&self)
+        ensures kept { IsKept self.now }
+        ensures times { Every (λ p. p.time ≤ MAX_TIME) (list_of self.now) }
+    {
+        if let Some(last) = self.line.as_slice().last() {
+            last.known();
+        }
+    }
+
     /// Its first sample.
     pub fn first<L: Ledger>(&self, steps: &mut Steps<L>) -> Option<Sample>
         ensures first { result ≡ first_of (list_of self.now) }

@@ -1,9 +1,9 @@
-ghost use Rattle.std.specs.Prelude.{◌≡◌, [], None};
+ghost use Rattle.std.specs.Prelude.{◌≡◌, ◌<◌, ◌+◌, ◌-◌, ◌^◌, [], None};
 ghost use Rattle.ts_spec.specs.Sample.{last_of};
 ghost use Rattle.ts_series.specs.History.{list_of, low, IsKept};
-ghost use Rattle.ts_series.specs.Plan.{after, high_after as high_with, IsFor};
+ghost use Rattle.ts_series.specs.Plan.{after, IsFor};
 
-use crate::edge::{edge_at, raise};
+use crate::edge::{edge_at, high_after};
 use crate::line::Line;
 use crate::plan::SeriesPlan;
 use std::alloc::Global;
@@ -90,30 +90,26 @@ impl Series {
         ensures done { self.new ≡ record (after plan self.old) { room = self.new.room } }
         ensures kept { IsKept self.new }
     {
-        let high = high_after(plan.wrote(), self.high);
         let SeriesPlan {
-            cut,
-            removed: _,
-            wrote,
+            edit,
             options,
             larger,
         } = plan;
+        let high = high_after(edit.written(), self.high);
         let options = options.unwrap_or(self.options);
         self.line.grow(larger);
-        self.line.cut(cut);
-        self.line.write(wrote);
+        self.line.edit(&edit);
         self.line.expire(edge_at(options.retention, high));
         self.options = options;
         self.high = high;
     }
-}
 
-// The highest time once this sample is written.
-fn high_after(wrote: Option<Sample>, high: Option<u64>) -> Option<u64>
-    ensures { result ≡ high_with wrote high }
-{
-    match wrote {
-        None => high,
-        Some(sample) => raise(sample.time, high),
+    /// Counts one more rule that was made on it.
+    pub fn raise_born(&mut self)
+        requires { self.old.born < 2 ^ 32 - 1 }
+        ensures raised { self.new ≡ record self.old { born = self.old.born + 1 } }
+        ensures kept { IsKept self.new }
+    {
+        self.born += 1;
     }
 }
