@@ -1,0 +1,106 @@
+-- A deletion that takes no sample, and one up to the greatest time.
+use Rattle.std.proofs.Common.{◌≡◌, ◌≢◌, ℕ, suc, ◌<◌, ◌≤◌, min, Bool, true, false, not, ◌&&◌, cond, if◌then◌else◌, List, [], ◌∷◌, length, Option, None, Some, refl, sym, ap, ◌∙◌, subst, arith}
+use Rattle.std.specs.Prelude.{Result}
+use Rattle.ts_spec.specs.Sample.{Point, MAX_TIME, IsAscending, at, at_times, between, is_within}
+use Rattle.ts_spec.specs.Bucket.{starts}
+use Rattle.ts_spec.specs.Key.{Key}
+use Rattle.ts_spec.specs.Valid.{Every}
+use Rattle.ts_spec.specs.Rules.{is_past}
+use Rattle.ts_spec.specs.Mending.{lies_in, running_without, deleted_rule, deleted_rows, loses, rows_of}
+use Rattle.ts_spec.proofs.Samples.{IsBefore, each_before, at-time, at-times, ascending-times, ascending-same}
+use Rattle.ts_series.specs.History.{History, IsKept, list_of}
+use Rattle.ts_rules.specs.declared.rule.Rule.{Rule}
+use Rattle.ts_rules.specs.declared.plan.RulePlan.{RulePlan}
+use Rattle.ts_rules.specs.declared.fault.RuleFault.{RuleFault}
+use Rattle.ts_rules.specs.Rules.{kept_as, IsChanged}
+use Rattle.ts_rules.specs.Plans.{IsMendedBy, IsPlanned}
+use Rattle.ts_rules.specs.PlansOfDeletions.{IsPlanOfDeletion}
+use Rattle.ts_rules.specs.Deletions.{gone_of, left_of, is_lost, rows_left, rule_left}
+use Rattle.ts_rules.proofs.Mended.{stays}
+use Rattle.ts_rules.proofs.DestLeft.{none-pass}
+use Rattle.ts_rules.proofs.Times.{same-test, within, within-from, within-to}
+
+-- ---- without a sample
+
+empty : (ps : List Point) → length ps ≡ 0 → ps ≡ []
+empty [] e = refl
+empty (p ∷ ps) e = absurd (omega (arith, e))
+
+and-false : (x : Bool) → (x && false) ≡ false
+and-false true = refl
+and-false false = refl
+
+same-rule : (left : List Point) (r : Rule) → IsChanged (deleted_rule [] left) r r
+same-rule left r = record { dest = refl; kept = λ k. (λ i. record (kept_as k r) { running = go k r.current i }) }
+  where
+    go : (k : Key) (o : Option ℕ) → r.running ≡ running_without [] left (kept_as k r) o
+    go k None = refl
+    go k (Some o) = refl
+
+module _ (r : Rule) (source h : History) (from to limit : ℕ) (none : length (between from to (list_of source)) ≡ 0) (kept : IsKept h) (fits : length (list_of h) ≤ limit) where
+  gone-none : gone_of source from to ≡ []
+  gone-none = empty (gone_of source from to) none
+
+  lost-none : (t : ℕ) → is_lost r source from to t ≡ false
+  lost-none t = ap (λ (ps : List Point). is_past r.current t && lies_in r.grid ps t) gone-none ∙ and-false (is_past r.current t)
+
+  -- Nothing changes.
+  pub nothing-left : IsChanged (rule_left source from to) r r × IsMendedBy limit (is_lost r source from to) (rows_left r source from to h.born) h None
+  nothing-left = (
+    subst (λ (ps : List Point). IsChanged (deleted_rule ps (left_of source from to)) r r) (sym gone-none) (same-rule (left_of source from to) r),
+    stays limit (is_lost r source from to) (rows_left r source from to h.born) h kept fits
+        (ap (rows_of (left_of source from to) h.born (kept_as [] r)) (none-pass (is_lost r source from to) (starts r.grid (left_of source from to)) lost-none)) lost-none,
+  )
+
+-- ---- up to the greatest time
+
+-- where a sample goes, the interval begins no later than that
+pub begins-before : (from to : ℕ) (ps : List Point) → IsAscending ps → Every (λ p. p.time ≤ MAX_TIME) ps → length (between from to ps) ≢ 0 → from ≤ min to MAX_TIME
+begins-before from to ps a times some = go ps (each_before (suc MAX_TIME) ps a (λ t p e. (let x : p.time ≤ MAX_TIME = times t p e in omega (arith, x)))) some
+  where
+    go : (qs : List Point) → IsBefore (suc MAX_TIME) qs → length (between from to qs) ≢ 0 → from ≤ min to MAX_TIME
+    go [] k x = absurd (x refl)
+    go (q ∷ qs) k x = pick (is_within from to q.time) refl x (go qs k.1)
+      where
+        pick : (b : Bool) → is_within from to q.time ≡ b → length (cond b (q ∷ between from to qs) (between from to qs)) ≢ 0 → (length (between from to qs) ≢ 0 → from ≤ min to MAX_TIME) → from ≤ min to MAX_TIME
+        pick true e y ih =
+            let low : from ≤ q.time = within-from from to q.time e in
+            let up : q.time ≤ to = within-to from to q.time e in
+            let most : q.time < suc MAX_TIME = k.0 in
+            omega (arith, low, up, most)
+        pick false e y ih = ih y
+
+-- a test that is another one at each time of a list picks the same
+alike : (a b : ℕ → Bool) (ps : List Point) → IsAscending ps → ((t : ℕ) (p : Point) → at t ps ≡ Some p → a t ≡ b t) → at_times a ps ≡ at_times b ps
+alike a b ps h same =
+    ascending-same (at_times a ps) (at_times b ps) (ascending-times a ps h) (ascending-times b ps h)
+    (λ t. at-times t a ps ∙ go t (at t ps) refl ∙ sym (at-times t b ps))
+  where
+    nothing : (x : Bool) (o : Option Point) → o ≡ None → (if x then o else None) ≡ None
+    nothing true o e = e
+    nothing false o e = refl
+
+    go : (t : ℕ) (o : Option Point) → at t ps ≡ o → (if a t then at t ps else None) ≡ (if b t then at t ps else None)
+    go t None e = nothing (a t) (at t ps) e ∙ sym (nothing (b t) (at t ps) e)
+    go t (Some p) e = ap (λ (x : Bool). if x then at t ps else None) (same t p e)
+
+module _ (source : History) (from to : ℕ) (a : IsAscending (list_of source)) (times : Every (λ p. p.time ≤ MAX_TIME) (list_of source)) where
+  clamped : (t : ℕ) (p : Point) → at t (list_of source) ≡ Some p → is_within from (min to MAX_TIME) t ≡ is_within from to t
+  clamped t p e =
+      let most : p.time ≤ MAX_TIME = times t p e in
+      let here : p.time ≡ t = at-time t (list_of source) p e in
+      same-test (is_within from (min to MAX_TIME) t) (is_within from to t)
+      (λ x. (let up : t ≤ min to MAX_TIME = within-to from (min to MAX_TIME) t x in within from to t (within-from from (min to MAX_TIME) t x) (omega (arith, up))))
+      (λ x. (let up : t ≤ to = within-to from to t x in within from (min to MAX_TIME) t (within-from from to t x) (omega (arith, up, most, here))))
+
+  gone-clamped : gone_of source from (min to MAX_TIME) ≡ gone_of source from to
+  gone-clamped = alike (is_within from (min to MAX_TIME)) (is_within from to) (list_of source) a clamped
+
+  left-clamped : left_of source from (min to MAX_TIME) ≡ left_of source from to
+  left-clamped = alike (λ t. not (is_within from (min to MAX_TIME) t)) (λ t. not (is_within from to t)) (list_of source) a (λ t p e. ap not (clamped t p e))
+
+  -- A plan up to the greatest time is one past it.
+  pub plan-clamped : (r : Rule) (dest : History) (limit end : ℕ) (result : Result RulePlan RuleFault) → end ≡ min to MAX_TIME → IsPlanOfDeletion limit r source from end dest result → IsPlanOfDeletion limit r source from to dest result
+  plan-clamped r dest limit end result e x =
+      subst (λ (ps : List Point × List Point). IsPlanned limit (deleted_rule ps.0 ps.1) (loses ps.0 (kept_as [] r)) (deleted_rows ps.0 ps.1 dest.born (kept_as [] r)) r dest result)
+      (λ i. (gone-clamped i, left-clamped i)) (subst (λ n. IsPlanOfDeletion limit r source from n dest result) e x)

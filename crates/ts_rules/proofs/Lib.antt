@@ -1,0 +1,14 @@
+pub mod Times
+pub mod Around
+pub mod Counts
+pub mod CountWritten
+pub mod CountLeft
+pub mod Written
+pub mod Mended
+pub mod Touches
+pub mod Stays
+pub mod Left
+pub mod Spanned
+pub mod DestLeft
+pub mod Clamped
+pub mod States

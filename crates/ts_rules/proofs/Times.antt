@@ -1,0 +1,110 @@
+-- Samples picked by their times.
+use Rattle.std.proofs.Common.{◌≡◌, ℕ, ◌-◌, ◌<◌, ◌≤◌, Bool, true, false, not, ◌&&◌, nat_lt, nat_le, cond, List, [], ◌∷◌, ◌++◌, ◌⊎◌, inl, inr, refl, sym, ap, ◌∙◌, arith, ltb-true, lt-ltb, leb-true, le-leb}
+use Rattle.std.proofs.lemmas.Bool.{cases_lt, and_parts, and_from}
+use Rattle.ts_spec.specs.Sample.{Point, IsAfter, IsAscending, at_times, between, is_within}
+use Rattle.ts_rules.specs.Spans.{from_until}
+
+-- ---- tests
+
+pub same-test : (x y : Bool) → (x ≡ true → y ≡ true) → (y ≡ true → x ≡ true) → x ≡ y
+same-test true true h k = refl
+same-test true false h k = sym (h refl)
+same-test false true h k = k refl
+same-test false false h k = refl
+
+pub not-true : (x : Bool) → not x ≡ true → x ≡ false
+not-true true h = sym h
+not-true false h = refl
+
+pub true-unless : (x : Bool) → (x ≡ true → ⊥) → x ≡ false
+true-unless true h = absurd (h refl)
+true-unless false h = refl
+
+pub within : (from to t : ℕ) → from ≤ t → t ≤ to → is_within from to t ≡ true
+within from to t h k = and_from (nat_le from t) (nat_le t to) (le-leb from t h) (le-leb t to k)
+
+pub within-from : (from to t : ℕ) → is_within from to t ≡ true → from ≤ t
+within-from from to t e = leb-true from t (and_parts (nat_le from t) (nat_le t to) e).0
+
+pub within-to : (from to t : ℕ) → is_within from to t ≡ true → t ≤ to
+within-to from to t e = leb-true t to (and_parts (nat_le from t) (nat_le t to) e).1
+
+pub without : (from to t : ℕ) → (t < from) ⊎ (to < t) → is_within from to t ≡ false
+without from to t h = true-unless (is_within from to t) (λ e. go h (within-from from to t e) (within-to from to t e))
+  where
+    go : (t < from) ⊎ (to < t) → from ≤ t → t ≤ to → ⊥
+    go (inl x) y z = absurd (omega arith)
+    go (inr x) y z = absurd (omega arith)
+
+pub in-span : (from end t : ℕ) → from ≤ t → t < end → (nat_le from t && nat_lt t end) ≡ true
+in-span from end t h k = and_from (nat_le from t) (nat_lt t end) (le-leb from t h) (lt-ltb t end k)
+
+pub span-from : (from end t : ℕ) → (nat_le from t && nat_lt t end) ≡ true → from ≤ t
+span-from from end t e = leb-true from t (and_parts (nat_le from t) (nat_lt t end) e).0
+
+pub span-end : (from end t : ℕ) → (nat_le from t && nat_lt t end) ≡ true → t < end
+span-end from end t e = ltb-true t end (and_parts (nat_le from t) (nat_lt t end) e).1
+
+-- ---- lists
+
+pub times-same : (a b : ℕ → Bool) (ps : List Point) → ((t : ℕ) → a t ≡ b t) → at_times a ps ≡ at_times b ps
+times-same a b ps h = λ i. at_times (λ t. h t i) ps
+
+pub times-none : (test : ℕ → Bool) (ps : List Point) → ((t : ℕ) → test t ≡ false) → at_times test ps ≡ []
+times-none test ps h = times-same test (λ t. false) ps h ∙ none ps
+  where
+    none : (qs : List Point) → at_times (λ t. false) qs ≡ []
+    none [] = refl
+    none (q ∷ qs) = none qs
+
+pub times-both : (a b : ℕ → Bool) (ps : List Point) → at_times a (at_times b ps) ≡ at_times (λ t. b t && a t) ps
+times-both a b [] = refl
+times-both a b (p ∷ ps) = go (b p.time) (times-both a b ps)
+  where
+    go : (x : Bool) → at_times a (at_times b ps) ≡ at_times (λ t. b t && a t) ps →
+        at_times a (cond x (p ∷ at_times b ps) (at_times b ps)) ≡ cond (x && a p.time) (p ∷ at_times (λ t. b t && a t) ps) (at_times (λ t. b t && a t) ps)
+    go true ih = ap (λ (qs : List Point). cond (a p.time) (p ∷ qs) qs) ih
+    go false ih = ih
+
+-- a test that fails past a time takes no later samples
+none-past : (test : ℕ → Bool) (u : ℕ) (ps : List Point) → IsAfter u ps → ((t : ℕ) → u < t → test t ≡ false) → at_times test ps ≡ []
+none-past test u [] a h = refl
+none-past test u (p ∷ ps) a h = ap (λ (x : Bool). cond x (p ∷ at_times test ps) (at_times test ps)) (h p.time a.0) ∙ none-past test u ps a.1 h
+
+all-past : (test : ℕ → Bool) (u : ℕ) (ps : List Point) → IsAfter u ps → ((t : ℕ) → u < t → test t ≡ true) → at_times test ps ≡ ps
+all-past test u [] a h = refl
+all-past test u (p ∷ ps) a h = ap (λ (x : Bool). cond x (p ∷ at_times test ps) (at_times test ps)) (h p.time a.0) ∙ ap (λ (qs : List Point). p ∷ qs) (all-past test u ps a.1 h)
+
+-- An ascending list is the samples before a time, and then those from it on.
+pub parts : (cut : ℕ) (ps : List Point) → IsAscending ps → at_times (λ t. nat_lt t cut) ps ++ at_times (nat_le cut) ps ≡ ps
+parts cut [] a = refl
+parts cut (p ∷ ps) a = go (cases_lt p.time cut) (parts cut ps a.1)
+  where
+    go : (p.time < cut) ⊎ (cut ≤ p.time) → at_times (λ t. nat_lt t cut) ps ++ at_times (nat_le cut) ps ≡ ps →
+        cond (nat_lt p.time cut) (p ∷ at_times (λ t. nat_lt t cut) ps) (at_times (λ t. nat_lt t cut) ps)
+        ++ cond (nat_le cut p.time) (p ∷ at_times (nat_le cut) ps) (at_times (nat_le cut) ps) ≡ p ∷ ps
+    go (inl x) ih =
+        let late : nat_le cut p.time ≡ false = true-unless (nat_le cut p.time) (λ e. (let y : cut ≤ p.time = leb-true cut p.time e in absurd (omega arith))) in
+        rw (lt-ltb p.time cut x) (rw late (ap (λ (qs : List Point). p ∷ qs) ih))
+    go (inr x) ih =
+        let early : nat_lt p.time cut ≡ false = true-unless (nat_lt p.time cut) (λ e. (let y : p.time < cut = ltb-true p.time cut e in absurd (omega arith))) in
+        rw early
+        (rw (le-leb cut p.time x)
+        (rw (none-past (λ t. nat_lt t cut) p.time ps a.0 (λ t h. true-unless (nat_lt t cut) (λ e. (let y : t < cut = ltb-true t cut e in absurd (omega arith)))))
+        (ap (λ (qs : List Point). p ∷ qs) (all-past (nat_le cut) p.time ps a.0 (λ t h. le-leb cut t (omega arith))))))
+
+-- ---- spans
+
+-- the samples before a time are those up to the one before it
+pub until-between : (from end : ℕ) (ps : List Point) → from < end → from_until from end ps ≡ between from (end - 1) ps
+until-between from end ps h =
+    times-same (λ t. nat_le from t && nat_lt t end) (is_within from (end - 1)) ps
+    (λ t. same-test (nat_le from t && nat_lt t end) (is_within from (end - 1) t)
+    (λ e. (let x : t < end = span-end from end t e in within from (end - 1) t (span-from from end t e) (omega arith)))
+    (λ e. (let x : t ≤ end - 1 = within-to from (end - 1) t e in in-span from end t (within-from from (end - 1) t e) (omega arith))))
+
+pub until-none : (from end : ℕ) (ps : List Point) → end ≤ from → from_until from end ps ≡ []
+until-none from end ps h =
+    times-none (λ t. nat_le from t && nat_lt t end) ps
+    (λ t. true-unless (nat_le from t && nat_lt t end)
+    (λ e. (let x : from ≤ t = span-from from end t e in let y : t < end = span-end from end t e in absurd (omega arith))))

@@ -1,0 +1,31 @@
+use Rattle.std.proofs.Common.{refl, ap, ◌∙◌}
+use Rattle.ts_spec.specs.Sample.{Point}
+use Rattle.ts_series.specs.History.{list_of}
+use Rattle.ts_rules.proofs.CountWritten.{room-before, room-one, room-past, counts-written}
+use Rattle.ts_rules.proofs.count.count_written.Goals as goal
+
+pub scan_until-requires : goal.scan_until-requires
+scan_until-requires g c =
+    room-before c.args.rule.now.grid c.args.wrote.now c.wrote.inside.time c.start_of-first.result c.last_of-last.result (list_of c.args.source.now) c.args.rule.now.made c.new-counted.result
+    c.known-3.ensures c.known.ensures.kept.ascending c.known.ensures.times c.known-2.ensures.time (ap (λ (p : Point). p.time) c.wrote.view_is) c.start_of-first.ensures c.last_of-last.ensures c.new-counted.ensures.empty
+
+pub sample-requires : goal.sample-requires
+sample-requires g c = record {
+  room = room-one c.args.rule.now.grid c.args.wrote.now c.wrote.inside.time c.start_of-first.result c.last_of-last.result (list_of c.args.source.now) c.args.rule.now.made c.new-counted.result
+      c.known-3.ensures c.known.ensures.kept.ascending c.known.ensures.times c.known-2.ensures.time (ap (λ (p : Point). p.time) c.wrote.view_is) c.start_of-first.ensures c.last_of-last.ensures c.new-counted.ensures.empty
+      c.scan_until.new.visit _ c.scan_until.ensures.visited refl;
+}
+
+pub scan-requires : goal.scan-requires
+scan-requires g c = record {
+  room = room-past c.args.rule.now.grid c.args.wrote.now c.wrote.inside.time c.start_of-first.result c.last_of-last.result (list_of c.args.source.now) c.args.rule.now.made c.new-counted.result
+      c.known-3.ensures c.known.ensures.kept.ascending c.known.ensures.times c.known-2.ensures.time (ap (λ (p : Point). p.time) c.wrote.view_is) c.start_of-first.ensures c.last_of-last.ensures c.new-counted.ensures.empty
+      c.scan_until.new.visit c.sample.new.self c.scan_until.ensures.visited c.sample.ensures;
+}
+
+pub returns-clause-running : goal.returns-clause-running
+returns-clause-running g c =
+    c.running.ensures
+    ∙ counts-written c.args.rule.now.grid c.args.wrote.now c.wrote.inside.time c.start_of-first.result c.last_of-last.result (list_of c.args.source.now) c.args.rule.now.made c.new-counted.result
+    c.known-3.ensures c.known.ensures.kept.ascending c.known.ensures.times c.known-2.ensures.time (ap (λ (p : Point). p.time) c.wrote.view_is) c.start_of-first.ensures c.last_of-last.ensures c.new-counted.ensures.empty
+    c.scan_until.new.visit c.sample.new.self c.scan_until.ensures.visited c.sample.ensures c.scan.new.visit c.scan.ensures.visited c.new-counted.ensures.visited

@@ -1,0 +1,43 @@
+use Rattle.std.proofs.Common.{ℕ, List, sym, ap, ◌∙◌, subst}
+use Rattle.ts_spec.specs.Sample.{Point, IsAscending, is_within}
+use Rattle.ts_spec.specs.Bucket.{start}
+use Rattle.ts_spec.specs.Rules.{is_past}
+use Rattle.ts_series.specs.History.{list_of}
+use Rattle.ts_series.specs.Plan.{AreWithin, AreMade}
+use Rattle.ts_rules.specs.Plans.{IsMending}
+use Rattle.ts_rules.specs.Deletions.{span_left}
+use Rattle.ts_rules.proofs.DestLeft.{dest-stays, dest-mended, left-ascending, left-within, left-made}
+use Rattle.ts_rules.proofs.deletion.Deletion.dest_left.Goals as goal
+
+pub returns-then-not-is_closed-clause-mended : goal.returns-then-not-is_closed-clause-mended
+returns-then-not-is_closed-clause-mended g c =
+    dest-stays c.args.self.now.rule.now c.args.self.now.source.now c.args.self.now.from c.args.self.now.to c.args.limit c.args.dest.now c.known-3.ensures.kept c.requires.fits
+    (ap (is_past c.args.self.now.rule.now.current) (sym c.start_of-first.ensures) ∙ sym c.is_closed.ensures ∙ c.if-not-is_closed.true)
+
+pub mended-requires-clause-ascending : goal.mended-requires-clause-ascending
+mended-requires-clause-ascending g c =
+    let rows = c.deref.ensures.value ∙ c.in-Ok.ensures.span ∙ (λ i. span_left c.args.self.now.rule.now c.args.self.now.source.now c.args.self.now.from c.args.self.now.to c.args.dest.now.born (c.start_of-first.ensures i) (c.start_of-last.ensures i) (list_of c.args.dest.now)) in
+    subst IsAscending (sym rows) (left-ascending c.args.self.now.rule.now c.args.self.now.source.now c.args.dest.now c.args.self.now.from c.args.self.now.to c.args.self.now.in_order c.known-2.ensures.kept.ascending c.known-3.ensures.kept)
+
+pub mended-requires-clause-within : goal.mended-requires-clause-within
+mended-requires-clause-within g c =
+    let rows = c.deref.ensures.value ∙ c.in-Ok.ensures.span ∙ (λ i. span_left c.args.self.now.rule.now c.args.self.now.source.now c.args.self.now.from c.args.self.now.to c.args.dest.now.born (c.start_of-first.ensures i) (c.start_of-last.ensures i) (list_of c.args.dest.now)) in
+    subst (AreWithin c.start_of-first.result c.start_of-last.result) (sym rows)
+    (subst (λ n. AreWithin n c.start_of-last.result (span_left c.args.self.now.rule.now c.args.self.now.source.now c.args.self.now.from c.args.self.now.to c.args.dest.now.born
+    (start c.args.self.now.rule.now.grid c.args.self.now.from) (start c.args.self.now.rule.now.grid c.args.self.now.to) (list_of c.args.dest.now))) (sym c.start_of-first.ensures)
+    (subst (λ n. AreWithin (start c.args.self.now.rule.now.grid c.args.self.now.from) n (span_left c.args.self.now.rule.now c.args.self.now.source.now c.args.self.now.from c.args.self.now.to c.args.dest.now.born
+    (start c.args.self.now.rule.now.grid c.args.self.now.from) (start c.args.self.now.rule.now.grid c.args.self.now.to) (list_of c.args.dest.now))) (sym c.start_of-last.ensures)
+    (left-within c.args.self.now.rule.now c.args.self.now.source.now c.args.dest.now c.args.self.now.from c.args.self.now.to c.args.self.now.in_order c.known-2.ensures.kept.ascending c.known-3.ensures.kept)))
+
+pub mended-requires-clause-made : goal.mended-requires-clause-made
+mended-requires-clause-made g c =
+    let rows = c.deref.ensures.value ∙ c.in-Ok.ensures.span ∙ (λ i. span_left c.args.self.now.rule.now c.args.self.now.source.now c.args.self.now.from c.args.self.now.to c.args.dest.now.born (c.start_of-first.ensures i) (c.start_of-last.ensures i) (list_of c.args.dest.now)) in
+    subst (AreMade c.args.dest.now.born) (sym rows) (left-made c.args.self.now.rule.now c.args.self.now.source.now c.args.dest.now c.args.self.now.from c.args.self.now.to c.args.self.now.in_order c.known-2.ensures.kept.ascending c.known-3.ensures.kept)
+
+pub returns-in-Ok-clause-mended : goal.returns-in-Ok-clause-mended
+returns-in-Ok-clause-mended g c =
+    let rows = c.deref.ensures.value ∙ c.in-Ok.ensures.span ∙ (λ i. span_left c.args.self.now.rule.now c.args.self.now.source.now c.args.self.now.from c.args.self.now.to c.args.dest.now.born (c.start_of-first.ensures i) (c.start_of-last.ensures i) (list_of c.args.dest.now)) in
+    dest-mended c.args.self.now.rule.now c.args.self.now.source.now c.args.dest.now c.args.self.now.from c.args.self.now.to c.args.self.now.in_order c.known-2.ensures.kept.ascending c.known-3.ensures.kept
+    c.args.limit c.mended.result
+    (subst (λ (ends : ℕ × ℕ × List Point). IsMending c.args.limit (is_within ends.0 ends.1) ends.2 c.args.dest.now c.mended.result) (λ i. (c.start_of-first.ensures i, c.start_of-last.ensures i, rows i))
+    c.mended.ensures.mended)

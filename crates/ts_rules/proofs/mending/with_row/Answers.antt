@@ -1,0 +1,14 @@
+use Rattle.std.proofs.Common.{false, Option, ap, sym, subst, refl}
+use Rattle.ts_spec.specs.Sample.{Point}
+use Rattle.ts_rules.specs.Rules.{one_of}
+use Rattle.ts_rules.specs.Plans.{IsMending}
+use Rattle.ts_rules.proofs.Mended.{stays, mending-row}
+use Rattle.ts_rules.proofs.mending.with_row.Goals as goal
+
+pub returns-in-None-clause-mended : goal.returns-in-None-clause-mended
+returns-in-None-clause-mended g c = stays c.args.limit (λ t. false) (one_of c.args.row) c.args.dest.now c.known.ensures.kept c.requires.fits (ap one_of c.in-None.is) (λ t. refl)
+
+pub returns-in-Some-clause-mended : goal.returns-in-Some-clause-mended
+returns-in-Some-clause-mended g c =
+    subst (λ (o : Option Point). IsMending c.args.limit (λ t. false) (one_of o) c.args.dest.now c.mended.result) (sym c.in-Some.is)
+    (mending-row c.args.limit c.row.inside.time c.in-Some.row c.args.dest.now c.known.ensures.kept (ap (λ (p : Point). p.time) c.row.view_is) c.mended.result c.mended.ensures.mended)

@@ -1,0 +1,17 @@
+-- What a write of a sample to a source comes to for a rule of it. The source is as it was before the write.
+use Rattle.std.specs.Prelude.{ℕ, List, []}
+use Rattle.ts_spec.specs.Sample.{Point, put}
+use Rattle.ts_spec.specs.Rules.{is_append}
+use Rattle.ts_spec.specs.Kept.{KeptRule}
+use Rattle.ts_spec.specs.Mending.{written_rule, written_row}
+use Rattle.ts_series.specs.History.{History, list_of}
+use Rattle.ts_rules.specs.declared.rule.Rule.{Rule}
+use Rattle.ts_rules.specs.Rules.{kept_as}
+
+-- the rule after it
+abbrev pub rule_after : (source : History) → Point → KeptRule → KeptRule
+rule_after source p q = written_rule (is_append p.time source.high) p (put p (list_of source)) q
+
+-- the row that the destination is told, which has this many rules ever made
+abbrev pub row_told : (source : History) → Point → (born : ℕ) → Rule → List Point
+row_told source p born r = written_row p (put p (list_of source)) born (kept_as [] r)

@@ -1,0 +1,26 @@
+//! Rules over linked series: what a write and a deletion on a source come to for a rule of it and for the rule's
+//! destination, which shows what the rule tells. A change is planned here; the series commit it.
+#![tactic(auto)]
+
+mod count;
+mod deletion;
+mod fault;
+mod laws;
+mod mending;
+mod open;
+mod plan;
+mod planned;
+mod rule;
+mod span;
+mod touched;
+mod write;
+
+pub use fault::RuleFault;
+pub use laws::plans_are_what_is_kept;
+pub use open::latest;
+pub use plan::RulePlan;
+pub use planned::{plan_delete, plan_put};
+pub use rule::Rule;
+
+#[cfg(test)]
+mod tests;

@@ -1,0 +1,54 @@
+// A destination mended: rows take the place of what it shows.
+ghost use Rattle.std.specs.Prelude.{◌≡◌, ◌≤◌, false, length};
+ghost use Rattle.ts_spec.specs.Sample.{MAX_TIME, IsAscending, is_within};
+ghost use Rattle.ts_series.specs.History.{list_of};
+ghost use Rattle.ts_series.specs.Plan.{AreWithin, AreMade};
+ghost use Rattle.ts_rules.specs.Rules.{one_of};
+ghost use Rattle.ts_rules.specs.Plans.{IsMending};
+
+use crate::fault::RuleFault;
+use std::sync::ledger::Ledger;
+use ts_sample::{Sample, Steps};
+use ts_series::{PutFault, Series, SeriesPlan};
+
+// With these rows in the place of what it shows from one time to another.
+pub(crate) fn mended<L: Ledger>(
+    dest: &Series,
+    from: u64,
+    to: u64,
+    rows: &[Sample],
+    limit: u32,
+    steps: &mut Steps<L>,
+) -> Result<Option<SeriesPlan>, RuleFault>
+    requires ascending { IsAscending rows.now }
+    requires within { AreWithin from to rows.now }
+    requires made { AreMade dest.now.born rows.now }
+    ensures mended { IsMending limit (is_within from to) rows.now dest.now result }
+    ensures steps { steps.new ≡ steps.old }
+{
+    match dest.mend(from, to, rows, limit, steps) {
+        Ok(plan) => Ok(Some(plan)),
+        Err(PutFault::Full) => Err(RuleFault::Full),
+        Err(PutFault::Memory(fault)) => Err(RuleFault::Memory(fault)),
+        Err(_) => unreachable!(),
+    }
+}
+
+// With this row at its time, if there is one.
+pub(crate) fn with_row<L: Ledger>(
+    dest: &Series,
+    row: Option<Sample>,
+    limit: u32,
+    steps: &mut Steps<L>,
+) -> Result<Option<SeriesPlan>, RuleFault>
+    requires made { AreMade dest.now.born (one_of row) }
+    requires fits { length (list_of dest.now) ≤ limit }
+    ensures mended { IsMending limit (λ t. false) (one_of row) dest.now result }
+    ensures steps { steps.new ≡ steps.old }
+{
+    dest.known();
+    match row {
+        None => Ok(None),
+        Some(row) => mended(dest, row.time, row.time, &[row], limit, steps),
+    }
+}

@@ -1,0 +1,88 @@
+// What a write to a source comes to for a rule of it.
+ghost use Rattle.std.specs.Prelude.{◌≡◌, ◌^◌, ◌<◌, true, [], if◌then◌else◌};
+ghost use Rattle.ts_spec.specs.Sample.{put};
+ghost use Rattle.ts_spec.specs.Bucket.{start as start_of};
+ghost use Rattle.ts_spec.specs.Aggregate.{nothing, push};
+ghost use Rattle.ts_spec.specs.Rules.{is_append};
+ghost use Rattle.ts_spec.specs.Mending.{counted_anew};
+ghost use Rattle.ts_series.specs.History.{list_of};
+ghost use Rattle.ts_rules.specs.Rules.{kept_as, one_of, IsChanged, TakesAppended};
+ghost use Rattle.ts_rules.specs.Writes.{rule_after, row_told};
+
+use crate::count::count_written;
+use crate::open::{latest, opened, row};
+use crate::rule::Rule;
+use std::sync::ledger::Ledger;
+use ts_agg::Running;
+use ts_sample::{Sample, Steps};
+use ts_series::Series;
+
+// The rule after a write, and the row that its destination is told of a closed bucket, if it is told one: that of
+// the sample's own bucket, or that of the open one where the sample is past it. `born` is the destination's.
+pub(crate) fn written<L: Ledger>(
+    rule: &Rule,
+    source: &Series,
+    wrote: &Sample,
+    born: u32,
+    steps: &mut Steps<L>,
+) -> (Rule, Option<Sample>)
+    requires { TakesAppended rule.now source.now wrote.now }
+    ensures rule { IsChanged (rule_after source.now wrote.now) rule.now result.0 }
+    ensures row { one_of result.1 ≡ row_told source.now wrote.now born rule.now }
+    ensures steps { steps.new ≡ steps.old }
+{
+    rule.grid.known();
+    let start = rule.grid.start_of(wrote.time);
+    let Some(open) = rule.current else {
+        return (opened(rule, Some(start), of_one(wrote)), None);
+    };
+    if start < open {
+        let running = count_written(rule, source, wrote, steps);
+        return (*rule, row(rule.agg, born, start, &running));
+    }
+    if open < start {
+        return (opened(rule, Some(start), of_one(wrote)), latest(rule, born));
+    }
+    let running = grown(rule, source, wrote, steps);
+    (opened(rule, Some(open), running), None)
+}
+
+// The open bucket after a write to it: an appended sample is pushed, and after another one the bucket is told anew.
+fn grown<L: Ledger>(rule: &Rule, source: &Series, wrote: &Sample, steps: &mut Steps<L>) -> Running
+    requires { is_append wrote.now.time source.now.high ≡ true → rule.now.running.count < 10 ^ 14 }
+    ensures running { result ≡ (if is_append wrote.now.time source.now.high then push rule.now.running wrote.now
+        else counted_anew (kept_as [] rule.now) (start_of rule.now.grid wrote.now.time) (put wrote.now (list_of source.now))) }
+    ensures steps { steps.new ≡ steps.old }
+{
+    if is_past(wrote.time, source.high()) {
+        pushed(rule.running, wrote)
+    } else {
+        count_written(rule, source, wrote, steps)
+    }
+}
+
+// Whether a time is past the highest so far.
+fn is_past(time: u64, high: Option<u64>) -> bool
+    ensures { result ≡ is_append time high }
+{
+    match high {
+        None => true,
+        Some(high) => high < time,
+    }
+}
+
+// A bucket of this sample alone.
+fn of_one(sample: &Sample) -> Running
+    ensures { result ≡ push nothing sample.now }
+{
+    pushed(Running::new(), sample)
+}
+
+// A bucket with one sample more.
+fn pushed(mut running: Running, sample: &Sample) -> Running
+    requires { running.count < 10 ^ 14 }
+    ensures { result ≡ push running sample.now }
+{
+    running.push(sample);
+    running
+}
