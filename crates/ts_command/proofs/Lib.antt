@@ -1,5 +1,7 @@
 mod TableLemmas
 pub mod FaultLemmas
 pub mod OptionLemmas
+pub mod ListLemmas
+pub mod LabelLemmas
 pub mod RangeLemmas
 pub mod AnswerLemmas

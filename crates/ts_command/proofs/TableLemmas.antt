@@ -1,8 +1,11 @@
 -- Tables whose rows are seen in another way.
-use Rattle.std.proofs.Common.{◌≡◌, ℕ, Bool, true, false, if◌then◌else◌, List, [], ◌∷◌, ◌++◌, map, refl, ap, ◌∙◌}
+use Rattle.std.proofs.Common.{◌≡◌, ℕ, Bool, true, false, not, ◌&&◌, ◌||◌, if◌then◌else◌, List, [], ◌∷◌, ◌++◌, map, refl, ap, subst, ◌∙◌}
+use Rattle.std.proofs.lemmas.Bool.{false≢true}
 use Rattle.std.specs.Prelude.{Option, None, Some, option_map, IfSome, IsTrue}
 use Rattle.std.specs.Str.{str_eq_ignore_ascii_case}
+use Rattle.ts_spec.specs.Key.{same}
 use Rattle.ts_spec.specs.Names.{Table, named}
+use Rattle.ts_spec.proofs.Keys.{same-true}
 
 -- a choice seen in another way
 chosen : {X Y : Type 0} (f : X → Y) (x : X) (test : Bool) (other : Option X) (seen : Option Y)
@@ -48,3 +51,29 @@ named-holds holds word (row ∷ rows) each = go (str_eq_ignore_ascii_case row.0 
     go : (b : Bool) → (IsTrue b → holds row.1) → IfSome (named rows word) holds → IfSome (if b then Some row.1 else named rows word) holds
     go true this rest = this refl
     go false this rest = rest
+
+-- whether each row that is so has this name
+abbrev pub each_named : {X : Type 0} → (is_so : X → Bool) → (name : List ℕ) → Table X → Bool
+each_named is_so name [] = true
+each_named is_so name (row ∷ rows) = (not (is_so row.1) || same row.0 name) && each_named is_so name rows
+
+-- a row that has this name if it is so, and what holds of the others
+first_row : (name found word : List ℕ) (so has rest : Bool) → same found name ≡ has → IsTrue ((not so || has) && rest)
+    → (IsTrue (str_eq_ignore_ascii_case found word) → IsTrue so → IsTrue (str_eq_ignore_ascii_case name word)) × IsTrue rest
+first_row name found word false has rest e h = (λ named so. absurd (false≢true so), h)
+first_row name found word true true rest e h = (λ named so. subst (λ n. IsTrue (str_eq_ignore_ascii_case n word)) (same-true found name e) named, h)
+first_row name found word true false rest e h = absurd (false≢true h)
+
+-- what each row says of a word
+each_row : {X : Type 0} (is_so : X → Bool) (name word : List ℕ) (rows : Table X)
+    → IsTrue (each_named is_so name rows) → EachRow (λ x. IsTrue (is_so x) → IsTrue (str_eq_ignore_ascii_case name word)) word rows
+each_row is_so name word [] each = tt
+each_row is_so name word (row ∷ rows) each =
+    let split = first_row name row.0 word (is_so row.1) (same row.0 name) (each_named is_so name rows) refl each in
+    (split.0, each_row is_so name word rows split.1)
+
+-- then a word that names one that is so is this name
+pub named-so : {X : Type 0} (is_so : X → Bool) (name word : List ℕ) (rows : Table X)
+    → IsTrue (each_named is_so name rows) → IfSome (named rows word) (λ x. IsTrue (is_so x) → IsTrue (str_eq_ignore_ascii_case name word))
+named-so is_so name word rows each =
+    named-holds (λ x. IsTrue (is_so x) → IsTrue (str_eq_ignore_ascii_case name word)) word rows (each_row is_so name word rows each)

@@ -1,6 +1,7 @@
 -- What options say, as the definitions have it.
-use Rattle.std.specs.Prelude.{false, None, option_map}
+use Rattle.std.specs.Prelude.{None, option_map}
 use Rattle.ts_spec.specs.Settings as spec
+use Rattle.ts_labels.specs.Show.{show_of}
 use Rattle.ts_range.specs.Query.{span_of}
 use Rattle.ts_command.specs.declared.given.Given.{Given}
 use Rattle.ts_command.specs.declared.range_given.RangeGiven.{RangeGiven}
@@ -13,15 +14,19 @@ given_of g = record {
   policy = g.policy;
   on = g.on;
   at = g.at;
-  times = None;
-  values = None;
-  count = None;
-  aggregation = None;
-  align = None;
-  stamp = None;
-  empty = false;
+  labels = g.labels;
+  times = option_map (λ times. times.items) g.range.times;
+  values = option_map span_of g.range.values;
+  count = g.range.count;
+  aggregation = g.range.aggregation;
+  align = g.range.align;
+  stamp = g.range.stamp;
+  empty = g.range.empty;
+  show = option_map show_of g.show;
+  filters = option_map (λ filters. filters.items) g.filters;
 }
 
+-- the same of what is said of an interval alone
 abbrev pub range_given_of : RangeGiven → spec.Given
 range_given_of g = record {
   retention = None;
@@ -30,6 +35,7 @@ range_given_of g = record {
   policy = None;
   on = None;
   at = None;
+  labels = None;
   times = option_map (λ times. times.items) g.times;
   values = option_map span_of g.values;
   count = g.count;
@@ -37,4 +43,6 @@ range_given_of g = record {
   align = g.align;
   stamp = g.stamp;
   empty = g.empty;
+  show = None;
+  filters = None;
 }

@@ -3,4 +3,5 @@ pub mod Asked
 pub mod Faults
 pub mod Forms
 pub mod Given
+pub mod Options
 pub mod Reading

@@ -2,9 +2,10 @@
 use Rattle.std.specs.Prelude.{List, map}
 use Rattle.ts_spec.specs.Command as spec
 use Rattle.ts_labels.specs.Spec.{spec_of, change_of}
+use Rattle.ts_labels.specs.Show.{show_of}
 use Rattle.ts_range.specs.Query.{query_of}
 use Rattle.ts_command.specs.declared.command.Command.{Command}
-use Rattle.ts_command.specs.declared.command.Command.TheVariants.{Create, Alter, Add, Madd, Incr, DelRange, Range, Get, Ping, Echo, Quit, Drop, Exists}
+use Rattle.ts_command.specs.declared.command.Command.TheVariants.{Create, Alter, Add, Madd, Incr, DelRange, Range, MRange, Get, MGet, QueryIndex, Ping, Echo, Quit, Drop, Exists}
 use Rattle.ts_command.specs.declared.command.Triple.{Triple}
 use Rattle.ts_command.specs.Faults.{said_same}
 
@@ -22,7 +23,10 @@ reading (Madd triples) = spec.Madd (triples_of triples.items)
 reading (Incr key change at s) = spec.Incr key change at (spec_of s)
 reading (DelRange key from to) = spec.DelRange key from to
 reading (Range key latest query) = spec.Range key latest (query_of query)
+reading (MRange latest show filters query) = spec.MRange latest (show_of show) filters.items (query_of query)
 reading (Get key latest) = spec.Get key latest
+reading (MGet latest show filters) = spec.MGet latest (show_of show) filters.items
+reading (QueryIndex filters) = spec.QueryIndex filters.items
 reading (Ping word) = spec.Ping word
 reading (Echo word) = spec.Echo word
 reading Quit = spec.Quit

@@ -3,7 +3,7 @@ ghost use Rattle.ts_spec.specs.Settings.{IsTime};
 ghost use Rattle.ts_command.specs.Faults.{IsNoMemory};
 
 use crate::fault::CommandFault;
-use ts_labels::{Change, Spec};
+use ts_labels::{Change, Filter, Show, Spec};
 use ts_range::Query;
 use ts_resp::Word;
 use ts_sample::Units;
@@ -57,11 +57,30 @@ pub enum Command {
         latest: bool,
         query: Query,
     },
+    /// The rows that a question asks for of each series that passes filters.
+    MRange {
+        /// Whether the bucket that is still open counts too. No option says so yet.
+        latest: bool,
+        show: Show,
+        filters: Vec<Filter>,
+        query: Query,
+    },
     /// The last sample of a series.
     Get {
         key: Word,
         /// Whether the bucket that is still open counts too. No option says so yet.
         latest: bool,
+    },
+    /// The last sample of each series that passes filters.
+    MGet {
+        /// Whether the bucket that is still open counts too. No option says so yet.
+        latest: bool,
+        show: Show,
+        filters: Vec<Filter>,
+    },
+    /// The keys of the series that pass filters.
+    QueryIndex {
+        filters: Vec<Filter>,
     },
     /// A sign of life, or a word back.
     Ping {

@@ -1,16 +1,19 @@
-ghost use Rattle.std.specs.Prelude.{◌≡◌, ◌≤◌};
+ghost use Rattle.std.specs.Prelude.{◌≡◌, ◌≤◌, [], unwrap_or};
 ghost use Rattle.std.specs.Option.{ForSome};
 ghost use Rattle.ts_spec.specs.Sample.{MAX_TIME};
-ghost use Rattle.ts_spec.specs.Settings.{IsTime, IsChunkSize};
+ghost use Rattle.ts_spec.specs.Settings.{IsTime};
+ghost use Rattle.ts_spec.specs.SeriesOptions.{IsChunkSize};
 
-use ts_labels::{Change, Spec};
+use crate::range_given::RangeGiven;
+use std::alloc::Global;
+use ts_labels::{Change, Filter, Labels, Show, Spec};
 use ts_spec::{At, Encoding, Options, Policy};
 
 // The bytes of a chunk where none are given.
 const USUAL_CHUNK: u32 = 4096;
 
-// What the options of a series and of a sample have said so far.
-#[derive(Clone, Copy)]
+// What the options of a command have said so far.
+#[derive(Drop)]
 pub(crate) struct Given {
     pub(crate) retention: Option<u64>,
     pub(crate) encoding: Option<Encoding>,
@@ -18,13 +21,18 @@ pub(crate) struct Given {
     pub(crate) policy: Option<Policy>,
     pub(crate) on: Option<Policy>,
     pub(crate) at: Option<At>,
+    pub(crate) labels: Option<Labels>,
+    pub(crate) range: RangeGiven,
+    pub(crate) show: Option<Show>,
+    pub(crate) filters: Option<Vec<Filter>>,
     ghost retention_fits: { ForSome retention (λ n. n ≤ MAX_TIME) },
     ghost chunk_size_fits: { ForSome chunk_size IsChunkSize },
     ghost at_fits: { ForSome at IsTime },
 }
 
 impl Given {
-    ghost use Rattle.ts_spec.specs.Settings.{nothing, spec, change};
+    ghost use Rattle.ts_spec.specs.Settings.{nothing};
+    ghost use Rattle.ts_spec.specs.SeriesOptions.{spec, change};
     ghost use Rattle.ts_labels.specs.Spec.{spec_of, change_of};
     ghost use Rattle.ts_command.specs.Given.{given_of};
 
@@ -38,10 +46,14 @@ impl Given {
             policy: None,
             on: None,
             at: None,
+            labels: None,
+            range: RangeGiven::nothing(),
+            show: None,
+            filters: None,
         }
     }
 
-    pub(crate) fn spec(self) -> Spec
+    pub(crate) fn spec(self, alloc: Global) -> Spec
         ensures { spec_of result ≡ spec (given_of self) }
     {
         Spec {
@@ -51,6 +63,7 @@ impl Given {
                 chunk_size: self.chunk_size.unwrap_or(USUAL_CHUNK),
                 policy: self.policy.unwrap_or(Policy::Block),
             },
+            labels: labels_or_none(alloc, self.labels),
         }
     }
 
@@ -61,6 +74,17 @@ impl Given {
             retention: self.retention,
             chunk_size: self.chunk_size,
             policy: self.policy,
+            labels: self.labels,
         }
+    }
+}
+
+// Labels, or none where none are given.
+fn labels_or_none(alloc: Global, labels: Option<Labels>) -> Labels
+    ensures { result ≡ unwrap_or labels [] }
+{
+    match labels {
+        Some(labels) => labels,
+        None => Labels::new(alloc),
     }
 }

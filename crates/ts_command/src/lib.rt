@@ -2,20 +2,24 @@
 //! encodings are those of RedisTimeSeries' command reference, with letters in either case.
 #![tactic(auto)]
 
-mod bucket_options;
 mod bucket_words;
 mod clock;
 mod command;
 mod fault;
 mod forms;
 mod given;
+mod labels_option;
+mod lists;
+mod many;
 mod names;
 mod number;
+mod option_word;
+mod options;
+mod own_words;
 mod range;
 mod range_given;
 mod range_options;
 mod request;
-mod series_options;
 mod small;
 mod triple;
 mod verb;
@@ -24,7 +28,7 @@ mod words;
 pub use command::{Command, Triple};
 pub use fault::CommandFault;
 pub use request::read;
-pub use ts_labels::{Change, Spec};
+pub use ts_labels::{Change, Filter, Show, Spec};
 pub use ts_range::Query;
 pub use ts_spec::{At, Encoding, Options, Policy, ValueFault};
 

@@ -10,7 +10,8 @@ ghost use Rattle.ts_command.specs.Reading.{reading};
 
 use crate::command::Command;
 use crate::fault::CommandFault;
-use crate::range_options::read_range_options;
+use crate::option_word::OptionSet;
+use crate::options::read_options;
 use crate::words::end_word;
 use std::alloc::Global;
 use ts_range::Query;
@@ -28,20 +29,8 @@ fn read_query(
 {
     let first = end_word(from)?;
     let last = end_word(to)?;
-    let given = read_range_options(alloc, options)?;
-    if given.lacks_aggregation() || given.lacks_end(from, to) {
-        return Err(CommandFault::BadOption);
-    }
-    let buckets = given.buckets(first, last);
-    Ok(Query {
-        from: first,
-        to: last,
-        times: given.times,
-        values: given.values,
-        count: given.count,
-        buckets,
-        reverse,
-    })
+    let given = read_options(alloc, OptionSet::Range, options)?;
+    given.range.query(reverse, from, to, first, last)
 }
 
 // The words are the whole request, with its name; the key is taken out of them at the end.

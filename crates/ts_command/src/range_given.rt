@@ -3,12 +3,13 @@ ghost use Rattle.std.specs.Option.{ForSome};
 ghost use Rattle.ts_spec.specs.Ranges.{IsDuration, IsAlign};
 ghost use Rattle.ts_spec.specs.Sample.{MAX_TIME};
 
+use crate::fault::CommandFault;
 use ts_bucket::{Grid, Stamp};
-use ts_range::Buckets;
+use ts_range::{Buckets, Query};
 use ts_sample::Units;
 use ts_spec::{Aggregation, Align};
 
-// What the options of a question have said so far.
+// What the options of a question over an interval have said so far.
 #[derive(Drop)]
 pub(crate) struct RangeGiven {
     pub(crate) times: Option<Vec<u64>>,
@@ -26,8 +27,9 @@ pub(crate) struct RangeGiven {
 impl RangeGiven {
     ghost use Rattle.std.specs.Prelude.{option_map};
     ghost use Rattle.ts_spec.specs.Settings.{nothing};
-    ghost use Rattle.ts_spec.specs.Ranges.{lacks_aggregation, lacks_end, aligned, buckets};
-    ghost use Rattle.ts_range.specs.Query.{buckets_of};
+    ghost use Rattle.ts_spec.specs.Ranges.{lacks_aggregation, lacks_end, aligned, buckets, query};
+    ghost use Rattle.ts_range.specs.Query.{buckets_of, query_of};
+    ghost use Rattle.ts_command.specs.Faults.{Says};
     ghost use Rattle.ts_command.specs.Given.{range_given_of};
 
     pub(crate) fn nothing() -> RangeGiven
@@ -45,7 +47,7 @@ impl RangeGiven {
     }
 
     // Whether options speak of buckets of which nothing is told.
-    pub(crate) fn lacks_aggregation(&self) -> bool
+    fn lacks_aggregation(&self) -> bool
         ensures { result ≡ lacks_aggregation (range_given_of self.now) }
     {
         let speaks = self.align.is_some() || self.stamp.is_some() || self.empty;
@@ -53,7 +55,7 @@ impl RangeGiven {
     }
 
     // Whether buckets are to begin at an end of the interval whose word names no time.
-    pub(crate) fn lacks_end(&self, from: &[u8], to: &[u8]) -> bool
+    fn lacks_end(&self, from: &[u8], to: &[u8]) -> bool
         ensures { result ≡ lacks_end self.now.align from.now to.now }
     {
         match self.align {
@@ -79,7 +81,7 @@ impl RangeGiven {
     }
 
     // The buckets that are asked for, if any are.
-    pub(crate) fn buckets(&self, from: u64, to: u64) -> Option<Buckets>
+    fn buckets(&self, from: u64, to: u64) -> Option<Buckets>
         requires from { from ≤ MAX_TIME }
         requires to { to ≤ MAX_TIME }
         ensures { option_map buckets_of result ≡ buckets from to (range_given_of self.now) }
@@ -91,6 +93,35 @@ impl RangeGiven {
             agg: aggregation.agg,
             stamp: self.stamp.unwrap_or(Stamp::Low),
             empty: self.empty,
+        })
+    }
+
+    // What is asked of an interval, unless what is said of its buckets can't be met. The ends are given as their
+    // words and as the times that these say.
+    pub(crate) fn query(
+        self,
+        reverse: bool,
+        from: &[u8],
+        to: &[u8],
+        first: u64,
+        last: u64,
+    ) -> Result<Query, CommandFault>
+        requires first { first ≤ MAX_TIME }
+        requires last { last ≤ MAX_TIME }
+        ensures { Says query_of result (query reverse from.now to.now first last (range_given_of self)) }
+    {
+        if self.lacks_aggregation() || self.lacks_end(from, to) {
+            return Err(CommandFault::BadOption);
+        }
+        let buckets = self.buckets(first, last);
+        Ok(Query {
+            from: first,
+            to: last,
+            times: self.times,
+            values: self.values,
+            count: self.count,
+            buckets,
+            reverse,
         })
     }
 }

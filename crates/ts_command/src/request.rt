@@ -6,6 +6,7 @@ ghost use Rattle.ts_command.specs.Reading.{reading};
 use crate::command::Command;
 use crate::fault::CommandFault;
 use crate::forms::{Sign, read_add, read_alter, read_create, read_del_range, read_incr};
+use crate::many::{read_last_of_many, read_many_ranges, read_query_index};
 use crate::range::read_range;
 use crate::small::{read_drop, read_echo, read_exists, read_get, read_ping};
 use crate::triple::read_madd;
@@ -13,8 +14,9 @@ use crate::verb::Verb;
 use ts_resp::Word;
 
 /// The command that the words of a request say, with the words moved into it, or the first fault in them: the
-/// name, then the number of words, then the words from left to right. Only TS.MADD and the times of FILTER_BY_TS
-/// take memory, and not before the name and the number of words were found right; want of it is told as `Memory`.
+/// name, then the number of words, then the words from left to right. Only TS.MADD, labels, filters and the times
+/// of FILTER_BY_TS take memory, and not before the name and the number of words were found right; want of it is
+/// told as `Memory`.
 pub fn read(words: Vec<Word>) -> Result<Command, CommandFault>
     ensures ok { IfOk result (λ c. command words.items ≡ Ok (reading c)) }
     ensures time { IfOk result HasTime }
@@ -39,7 +41,11 @@ pub fn read(words: Vec<Word>) -> Result<Command, CommandFault>
         Verb::DelRange => read_del_range(words),
         Verb::Range => read_range(false, words),
         Verb::RevRange => read_range(true, words),
+        Verb::MRange => read_many_ranges(false, &words),
+        Verb::MRevRange => read_many_ranges(true, &words),
         Verb::Get => read_get(words),
+        Verb::MGet => read_last_of_many(&words),
+        Verb::QueryIndex => read_query_index(&words),
         Verb::Ping => read_ping(words),
         Verb::Echo => read_echo(words),
         Verb::Quit => Ok(Command::Quit),

@@ -1,3 +1,5 @@
+mod labels;
+mod many;
 mod questions;
 
 use super::*;
@@ -92,7 +94,6 @@ fn options_are_refused(rt: HostRuntime) {
             ("TS.CREATE z ON_DUPLICATE LAST", bad),
             ("TS.INCRBY z 1 ON_DUPLICATE LAST", bad),
             ("TS.ADD z 1 1 TIMESTAMP 1", bad),
-            ("TS.CREATE z LABELS a b", bad),
             ("TS.CREATE z IGNORE 1 1", bad),
             ("TS.CREATE z CHUNK_SIZE 50", size),
             ("TS.CREATE z CHUNK_SIZE 40", size),

@@ -1,6 +1,7 @@
 // Single words of a command.
 ghost use Rattle.std.specs.Prelude.{◌≤◌, IfOk};
-ghost use Rattle.ts_spec.specs.Settings.{IsTime, IsChunkSize, time_word, end_word, at_word, value_word, retention_word, chunk_size_word, policy_word, encoding_word};
+ghost use Rattle.ts_spec.specs.Settings.{IsTime, time_word, end_word, at_word, value_word};
+ghost use Rattle.ts_spec.specs.SeriesOptions.{IsChunkSize, retention_word, chunk_size_word, policy_word, encoding_word};
 ghost use Rattle.ts_spec.specs.Ranges.{count_word};
 ghost use Rattle.ts_spec.specs.Sample.{MAX_TIME};
 ghost use Rattle.std.specs.Result.{ForErr};
@@ -66,7 +67,7 @@ pub(crate) fn value_word(word: &[u8]) -> Result<Units, CommandFault>
     }
 }
 
-#[tactic(auto, unfolding(ts_spec::specs::Settings::retention_word))]
+#[tactic(auto, unfolding(ts_spec::specs::SeriesOptions::retention_word))]
 pub(crate) fn retention_word(word: &[u8]) -> Result<u64, CommandFault>
     ensures answer { SaysSame result (retention_word word.now) }
     ensures bound { IfOk result (λ n. n ≤ MAX_TIME) }
@@ -74,7 +75,7 @@ pub(crate) fn retention_word(word: &[u8]) -> Result<u64, CommandFault>
     number_of(word).ok_or(CommandFault::BadOption)
 }
 
-#[tactic(auto, unfolding(ts_spec::specs::Settings::chunk_size_word))]
+#[tactic(auto, unfolding(ts_spec::specs::SeriesOptions::chunk_size_word))]
 pub(crate) fn chunk_size_word(word: &[u8]) -> Result<u32, CommandFault>
     ensures answer { SaysSame result (chunk_size_word word.now) }
     ensures bound { IfOk result IsChunkSize }
@@ -92,14 +93,14 @@ pub(crate) fn count_word(word: &[u8]) -> Result<u64, CommandFault>
     number_of(word).ok_or(CommandFault::BadOption)
 }
 
-#[tactic(auto, unfolding(ts_spec::specs::Settings::policy_word))]
+#[tactic(auto, unfolding(ts_spec::specs::SeriesOptions::policy_word))]
 pub(crate) fn policy_word(word: &[u8]) -> Result<Policy, CommandFault>
     ensures { SaysSame result (policy_word word.now) }
 {
     policy_named(word).ok_or(CommandFault::BadPolicy)
 }
 
-#[tactic(auto, unfolding(ts_spec::specs::Settings::encoding_word))]
+#[tactic(auto, unfolding(ts_spec::specs::SeriesOptions::encoding_word))]
 pub(crate) fn encoding_word(word: &[u8]) -> Result<Encoding, CommandFault>
     ensures { SaysSame result (encoding_word word.now) }
 {

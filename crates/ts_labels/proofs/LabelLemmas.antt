@@ -25,9 +25,9 @@ pub lookup-value_of : (name : Key) (es : List (Key × Key)) → lookup (pointwis
 lookup-value_of name [] = refl
 lookup-value_of name (e ∷ es) = rw (pointwise-same name e.0, lookup-value_of name es) refl
 
-pub insert_entry-with_label : (es : List (Key × Key)) (name value : Key) → labels_in (insert_entry (pointwise nat_eq) es name value) ≡ with_label (labelled name value) (labels_in es)
-insert_entry-with_label [] name value = refl
-insert_entry-with_label (e ∷ es) name value = rw (pointwise-same name e.0) (by (same e.0 name) refl (insert_entry-with_label es name value))
+pub inserted_label : (es : List (Key × Key)) (name value : Key) → labels_in (insert_entry (pointwise nat_eq) es name value) ≡ with_label (labelled name value) (labels_in es)
+inserted_label [] name value = refl
+inserted_label (e ∷ es) name value = rw (pointwise-same name e.0) (by (same e.0 name) refl (inserted_label es name value))
   where
     by : (b : Bool) → same e.0 name ≡ b
         → labels_in (insert_entry (pointwise nat_eq) es name value) ≡ with_label (labelled name value) (labels_in es)

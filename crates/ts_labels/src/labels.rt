@@ -37,6 +37,7 @@ impl Labels {
     }
 
     /// Gives a label this value. A label that is there keeps its place.
+    #[tactic(auto, using(crate::proofs::LabelLemmas::inserted_label))]
     pub fn set(&mut self, label: Word, value: Word) -> Result<(), AllocError>
         ensures ok { OnOk result (self.new ≡ with_label (labelled label value) self.old) }
         ensures err { OnErr result (self.new ≡ self.old) }

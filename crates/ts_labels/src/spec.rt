@@ -1,14 +1,16 @@
 ghost use Rattle.std.specs.Prelude.{◌≤◌};
 ghost use Rattle.std.specs.Option.{ForSome};
 ghost use Rattle.ts_spec.specs.Sample.{MAX_TIME};
-ghost use Rattle.ts_spec.specs.Settings.{IsChunkSize};
+ghost use Rattle.ts_spec.specs.SeriesOptions.{IsChunkSize};
 
+use crate::labels::Labels;
 use ts_spec::{Options, Policy};
 
 /// What a new series is made with.
 #[derive(Debug, Drop)]
 pub struct Spec {
     pub options: Options,
+    pub labels: Labels,
     ghost retention_fits: { options.retention ≤ MAX_TIME },
     ghost chunk_size_fits: { IsChunkSize options.chunk_size },
 }
@@ -21,6 +23,8 @@ pub struct Change {
     /// In bytes. It holds for chunks that are begun later.
     pub chunk_size: Option<u32>,
     pub policy: Option<Policy>,
+    /// They take the place of all labels that it had.
+    pub labels: Option<Labels>,
     ghost retention_fits: { ForSome retention (λ n. n ≤ MAX_TIME) },
     ghost chunk_size_fits: { ForSome chunk_size IsChunkSize },
 }

@@ -1,5 +1,7 @@
 -- The members of an answer, as the definitions have them.
 use Rattle.std.specs.Prelude.{◌≤◌, ℕ, List, length, map, Option}
+use Rattle.ts_spec.specs.State.{Label}
+use Rattle.ts_spec.specs.Answer.{Row}
 use Rattle.ts_spec.specs.Questions.{labels_shown}
 use Rattle.ts_spec.specs.Response as spec
 use Rattle.ts_labels.specs.declared.show.Show.{Show}
@@ -11,9 +13,13 @@ use Rattle.ts_multi.specs.declared.member.Member.{Member}
 abbrev pub valued : List ℕ → Option (List ℕ) → spec.ShownLabel
 valued name value = record { name = name; value = value }
 
+-- a member with this key, those of its labels that are asked for, and these rows
+abbrev pub told : Show → (key : List ℕ) → List Label → List Row → spec.Member
+told show key labels rows = record { key = key; labels = labels_shown (show_of show) labels; rows = rows }
+
 -- a member with the labels that are asked for
 abbrev pub member_of : Show → Member → spec.Member
-member_of show m = record { key = m.key; labels = labels_shown (show_of show) m.labels; rows = map row_of m.rows.items }
+member_of show m = told show m.key m.labels (map row_of m.rows.items)
 
 -- the members, in their order
 abbrev pub members_of : Show → List Member → List spec.Member

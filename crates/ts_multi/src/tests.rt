@@ -6,7 +6,7 @@ use std::alloc::{AllocError, Global};
 use std::test::*;
 use ts_labels::Labels;
 use ts_range::Row;
-use ts_resp::{Out, Reply, Word, encode};
+use ts_resp::{Out, Reply, Word, encode, encode_count};
 use ts_sample::{Cell, Units};
 
 fn word(alloc: Global, text: &str) -> Result<Word, AllocError> {
@@ -70,5 +70,45 @@ fn a_series_without_rows(rt: HostRuntime) -> Result<(), AllocError> {
     assert_eq!(rt; text(alloc, &rows)?.bytes(), wanted.as_slice());
     let row = multi_last(alloc, &members, &Show::Nothing)?;
     assert_eq!(rt; text(alloc, &row)?.bytes(), wanted.as_slice());
+    Ok(())
+}
+
+// The texts of the members, one after another.
+fn one_after_another(alloc: Global, members: &[Member], show: &Show) -> Result<Out, AllocError> {
+    let mut out = Out::new(alloc)?;
+    encode_count(members.len(), &mut out)?;
+    for member in members {
+        encode_member(&member.key, &member.labels, show, &member.rows, &mut out)?;
+    }
+    Ok(out)
+}
+
+// The same with at most one row each.
+fn last_ones(alloc: Global, members: &[Member], show: &Show) -> Result<Out, AllocError> {
+    let mut out = Out::new(alloc)?;
+    encode_count(members.len(), &mut out)?;
+    for member in members {
+        let last = member.rows.first().copied();
+        encode_last_member(&member.key, &member.labels, show, last, &mut out)?;
+    }
+    Ok(out)
+}
+
+#[test]
+fn a_reply_and_its_members(rt: HostRuntime) -> Result<(), AllocError> {
+    let alloc = rt.alloc();
+    let members = vec![in alloc;
+        member(alloc, vec![in alloc; row()]?)?,
+        member(alloc, Vec::new(alloc))?,
+    ]?;
+    let names = vec![in alloc; word(alloc, "zone")?, word(alloc, "area")?]?;
+    for show in [Show::Nothing, Show::All, Show::Selected(names)] {
+        let reply = multi(alloc, &members, &show)?;
+        let written = one_after_another(alloc, &members, &show)?;
+        assert_eq!(rt; written.bytes(), text(alloc, &reply)?.bytes());
+        let reply = multi_last(alloc, &members, &show)?;
+        let written = last_ones(alloc, &members, &show)?;
+        assert_eq!(rt; written.bytes(), text(alloc, &reply)?.bytes());
+    }
     Ok(())
 }

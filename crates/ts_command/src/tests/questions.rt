@@ -142,7 +142,7 @@ fn ranges_are_read(rt: HostRuntime) -> Result<(), Fail> {
 }
 
 #[test]
-fn deletion_and_small_commands(rt: HostRuntime) -> Result<(), Fail> {
+fn deletions_are_read(rt: HostRuntime) -> Result<(), Fail> {
     match command(rt.alloc(), "TS.DEL a 3 +")? {
         Command::DelRange { from, to, .. } => {
             assert_eq!(rt; from, 3);
@@ -160,6 +160,11 @@ fn deletion_and_small_commands(rt: HostRuntime) -> Result<(), Fail> {
         },
         _ => assert!(rt; false, "not DEL"),
     }
+    Ok(())
+}
+
+#[test]
+fn small_commands_are_read(rt: HostRuntime) -> Result<(), Fail> {
     match &command(rt.alloc(), "ping hello")? {
         Command::Ping { word: Some(word) } => assert!(rt; is_text(word, "hello")),
         _ => assert!(rt; false, "not PING with a word"),

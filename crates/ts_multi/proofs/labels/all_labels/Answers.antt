@@ -1,22 +1,8 @@
-use Rattle.std.proofs.Common.{◌≡◌, ℕ, zero, suc, List, [], ◌∷◌, ◌+◌, map, drop, slice_get, option_map, Some, refl, ap, arith}
+use Rattle.std.proofs.Common.{map, ap, arith}
 use Rattle.std.proofs.lemmas.Grind.{common_steps}
-use native.Mathlib.Numerals.{unary_clauses}
-use Rattle.ts_spec.specs.State.{Label}
-use Rattle.ts_spec.specs.Questions.{shown_label}
 use Rattle.ts_spec.specs.Replies as spec
-use Rattle.ts_multi.specs.Members.{valued}
+use Rattle.ts_multi.proofs.LabelLists.{next_label}
 use Rattle.ts_multi.proofs.labels.all_labels.Goals as goal
-
--- the next label of those that are left
-next_label : (ls : List Label) (i : ℕ) (name value : List ℕ)
-    → option_map (λ l. l.name) (slice_get ls i) ≡ Some name → option_map (λ l. l.value) (slice_get ls i) ≡ Some value
-    → map shown_label (drop i ls) ≡ valued name (Some value) ∷ map shown_label (drop (i + 1) ls)
-next_label [] i name value e f = cc
-next_label (l ∷ ls) zero name value e f =
-    let n : l.name ≡ name = cc in
-    let v : l.value ≡ value = cc in
-    rw (n, v) refl
-next_label (l ∷ ls) (suc i) name value e f = simp unary_clauses (simp unary_clauses at (next_label ls i name value e f))
 
 pub loop-i-preserved : goal.loop-i-preserved
 loop-i-preserved c =

@@ -2,7 +2,7 @@ use Rattle.std.proofs.Common.{◌≡◌, ℕ, ◌≤◌, subst, sym, refl, arith
 use Rattle.std.specs.Prelude.{Option, None, Some, unwrap_or}
 use Rattle.std.specs.Option.{ForSome}
 use Rattle.ts_spec.specs.Sample.{MAX_TIME}
-use Rattle.ts_spec.specs.Settings.{IsChunkSize}
+use Rattle.ts_spec.specs.SeriesOptions.{IsChunkSize}
 use Rattle.ts_command.proofs.given.Given.spec.Goals as goal
 
 -- what holds of a number if it is given, and of the usual one, holds of either

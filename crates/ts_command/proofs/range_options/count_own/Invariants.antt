@@ -1,8 +1,0 @@
-use Rattle.std.proofs.Common.{◌≡◌, ◌+◌, drop}
-use Rattle.ts_spec.specs.Settings.{count_own, is_known}
-use Rattle.ts_spec.specs.Ranges.{range_options}
-use Rattle.ts_command.proofs.range_options.count_own.Given as goal
-
--- the words so far are no options
-abbrev pub invariant-loop-index : goal.invariant-loop-index
-invariant-loop-index l = l.index + count_own (is_known range_options) (drop l.index l.words) ≡ count_own (is_known range_options) l.words

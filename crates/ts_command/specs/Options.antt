@@ -1,0 +1,73 @@
+-- Options: what each option word says, which of them a command takes, and which make lists.
+use Rattle.std.specs.Prelude.{ℕ, Bool, true, false, List, codes, Option, None, Some}
+use Rattle.std.specs.Str.{str_eq_ignore_ascii_case}
+use Rattle.ts_spec.specs.Names.{Table}
+use Rattle.ts_spec.specs.Settings.{Word, Setting, has_name}
+use Rattle.ts_spec.specs.SeriesOptions as series
+use Rattle.ts_spec.specs.SeriesOptions.{series_options, alter_options, add_options, incr_options}
+use Rattle.ts_spec.specs.Ranges as ranges
+use Rattle.ts_spec.specs.Ranges.{range_options}
+use Rattle.ts_spec.specs.ManySeries as many
+use Rattle.ts_spec.specs.ManySeries.{series_told, many_options}
+use Rattle.ts_command.specs.declared.option_word.OptionWord.{OptionWord}
+use Rattle.ts_command.specs.declared.option_word.OptionWord.TheVariants as code
+use Rattle.ts_command.specs.declared.option_word.OptionSet.{OptionSet}
+use Rattle.ts_command.specs.declared.option_word.OptionSet.TheVariants as set
+
+-- the option of an option word
+abbrev pub setting_of : OptionWord → Setting
+setting_of code.Retention = series.retention
+setting_of code.Encoding = series.encoding
+setting_of code.ChunkSize = series.chunk_size
+setting_of code.DuplicatePolicy = series.duplicate_policy
+setting_of code.OnDuplicate = series.on_duplicate
+setting_of code.Timestamp = series.timestamp
+setting_of code.Labels = series.labels
+setting_of code.FilterByTs = ranges.filter_by_ts
+setting_of code.FilterByValue = ranges.filter_by_value
+setting_of code.Count = ranges.count
+setting_of code.Aggregation = ranges.aggregation
+setting_of code.Align = ranges.align
+setting_of code.BucketTimestamp = ranges.bucket_timestamp
+setting_of code.Empty = ranges.empty
+setting_of code.WithLabels = many.with_labels
+setting_of code.SelectedLabels = many.selected_labels
+setting_of code.Filter = many.filter
+
+-- whether it is one with a list
+abbrev pub is_list : OptionWord → Bool
+is_list code.Labels = true
+is_list code.FilterByTs = true
+is_list code.SelectedLabels = true
+is_list code.Filter = true
+is_list _ = false
+
+-- the table of a set of options
+abbrev pub table_of : OptionSet → Table Setting
+table_of set.Create = series_options
+table_of set.Alter = alter_options
+table_of set.Add = add_options
+table_of set.Incr = incr_options
+table_of set.Range = range_options
+table_of set.ManyRanges = many_options
+table_of set.ManyLast = series_told
+
+-- the name of the option with a list, in a set that has only one
+abbrev pub lister : OptionSet → Option (List ℕ)
+lister set.Create = Some (codes "LABELS")
+lister set.Alter = Some (codes "LABELS")
+lister set.Add = Some (codes "LABELS")
+lister set.Incr = Some (codes "LABELS")
+lister set.Range = Some (codes "FILTER_BY_TS")
+lister set.ManyRanges = None
+lister set.ManyLast = None
+
+-- whether a word may be the name of an option with a list
+abbrev pub is_lister : Option (List ℕ) → Word → Bool
+is_lister None word = true
+is_lister (Some name) word = str_eq_ignore_ascii_case name word
+
+-- whether words may make a list
+abbrev pub may_list : Option (List ℕ) → List Word → Bool
+may_list None words = true
+may_list (Some name) words = has_name name words

@@ -1,0 +1,66 @@
+// The words of the option with labels: a label and its value, again and again.
+ghost use Rattle.std.specs.Prelude.{◌≡◌, ⊤, [], ◌∷◌, OnOk};
+ghost use Rattle.ts_spec.specs.Labels.{with_label};
+ghost use Rattle.ts_spec.specs.Settings.{is_known};
+ghost use Rattle.ts_spec.specs.SeriesOptions.{labels_after, count_pairs};
+ghost use Rattle.ts_labels.specs.Labels.{labelled};
+ghost use Rattle.ts_command.specs.Faults.{SaysOr};
+ghost use Rattle.ts_command.specs.Options.{table_of};
+
+use crate::fault::CommandFault;
+use crate::option_word::OptionSet;
+use crate::own_words::split_own;
+use std::alloc::{AllocError, Global};
+use ts_labels::Labels;
+use ts_resp::Word;
+
+// How many words come before an option that stands where a label would.
+pub(crate) fn count_pairs(set: OptionSet, words: &[Word]) -> usize
+    ensures { result ≡ count_pairs (is_known (table_of set)) words.now }
+{
+    let mut rest = words;
+    while let Some((name, after)) = rest.split_first() {
+        if set.named(name.bytes()).is_some() {
+            return words.len() - rest.len();
+        }
+        let (_value, next) = split_own(1, after);
+        rest = next;
+    }
+    words.len()
+}
+
+// The labels that words say.
+pub(crate) fn read_labels(alloc: Global, words: &[Word]) -> Result<Labels, CommandFault>
+    ensures { SaysOr ⊤ (λ labels. labels) result (labels_after [] words.now) }
+{
+    let mut labels = Labels::new(alloc);
+    let mut rest = words;
+    while let Some((name, after)) = rest.split_first() {
+        let Some((value, next)) = after.split_first() else {
+            return Err(CommandFault::BadLabels);
+        };
+        add_label(&mut labels, name, value)?;
+        rest = next;
+    }
+    Ok(labels)
+}
+
+// Adds a label, unless it or its value is empty.
+fn add_label(labels: &mut Labels, name: &Word, value: &Word) -> Result<(), CommandFault>
+    ensures { SaysOr ⊤ (λ done. labels.new) result (labels_after labels.old (name.now ∷ value.now ∷ [])) }
+{
+    if name.bytes().is_empty() || value.bytes().is_empty() {
+        return Err(CommandFault::BadLabels);
+    }
+    match set_copies(labels, name, value) {
+        Ok(()) => Ok(()),
+        Err(error) => Err(CommandFault::Memory(error)),
+    }
+}
+
+// Gives a label a value, both copied.
+fn set_copies(labels: &mut Labels, name: &Word, value: &Word) -> Result<(), AllocError>
+    ensures { OnOk result (labels.new ≡ with_label (labelled name.now value.now) labels.old) }
+{
+    labels.set(name.copy()?, value.copy()?)
+}

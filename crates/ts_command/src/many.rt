@@ -1,0 +1,92 @@
+// The questions over many series.
+ghost use Rattle.std.specs.Prelude.{⊤, ◌∷◌, drop, IfOk};
+ghost use Rattle.ts_spec.specs.Grammar.{many_ranges, last_of_many, query_index};
+ghost use Rattle.ts_spec.specs.ManySeries.{selecting};
+ghost use Rattle.ts_command.specs.Answers.{HasTime};
+ghost use Rattle.ts_command.specs.Faults.{Says, SaysOr};
+ghost use Rattle.ts_command.specs.Reading.{reading};
+
+use crate::command::Command;
+use crate::fault::CommandFault;
+use crate::lists::read_filters;
+use crate::option_word::OptionSet;
+use crate::options::read_options;
+use crate::own_words::split_own;
+use crate::words::end_word;
+use std::alloc::Global;
+use ts_labels::{Filter, Show, has_positive};
+use ts_resp::Word;
+
+// Filters, of which one asks for a value.
+fn selecting(filters: Vec<Filter>) -> Result<Vec<Filter>, CommandFault>
+    ensures { Says (λ filters. filters.items) result (selecting filters.items) }
+{
+    if has_positive(&filters) {
+        Ok(filters)
+    } else {
+        Err(CommandFault::NoPositiveFilter)
+    }
+}
+
+// What two words, the ends of an interval, and the options after them ask.
+fn read_asked(
+    alloc: Global,
+    reverse: bool,
+    from: &[u8],
+    to: &[u8],
+    options: &[Word],
+) -> Result<Command, CommandFault>
+    ensures command { SaysOr ⊤ reading result (many_ranges reverse (from.now ∷ to.now ∷ options.now)) }
+    ensures time { IfOk result HasTime }
+{
+    let first = end_word(from)?;
+    let last = end_word(to)?;
+    let given = read_options(alloc, OptionSet::ManyRanges, options)?;
+    let filters = given.filters.ok_or(CommandFault::BadOption)?;
+    let query = given.range.query(reverse, from, to, first, last)?;
+    Ok(Command::MRange {
+        latest: false,
+        show: given.show.unwrap_or(Show::Nothing),
+        filters: selecting(filters)?,
+        query,
+    })
+}
+
+// The words are the whole request, with its name.
+pub(crate) fn read_many_ranges(reverse: bool, words: &Vec<Word>) -> Result<Command, CommandFault>
+    ensures command { SaysOr ⊤ reading result (many_ranges reverse (drop 1 words.now.items)) }
+    ensures time { IfOk result HasTime }
+{
+    let alloc = *words.allocator();
+    let [_, from, to, options @ ..] = words.as_slice() else {
+        return Err(CommandFault::Arity);
+    };
+    read_asked(alloc, reverse, from.bytes(), to.bytes(), options)
+}
+
+pub(crate) fn read_last_of_many(words: &Vec<Word>) -> Result<Command, CommandFault>
+    ensures command { SaysOr ⊤ reading result (last_of_many (drop 1 words.now.items)) }
+    ensures time { IfOk result HasTime }
+{
+    let alloc = *words.allocator();
+    let (_name, options) = split_own(1, words);
+    let given = read_options(alloc, OptionSet::ManyLast, options)?;
+    let filters = given.filters.ok_or(CommandFault::BadOption)?;
+    Ok(Command::MGet {
+        latest: false,
+        show: given.show.unwrap_or(Show::Nothing),
+        filters: selecting(filters)?,
+    })
+}
+
+pub(crate) fn read_query_index(words: &Vec<Word>) -> Result<Command, CommandFault>
+    ensures command { SaysOr ⊤ reading result (query_index (drop 1 words.now.items)) }
+    ensures time { IfOk result HasTime }
+{
+    let alloc = *words.allocator();
+    let (_name, texts) = split_own(1, words);
+    let filters = read_filters(alloc, texts)?;
+    Ok(Command::QueryIndex {
+        filters: selecting(filters)?,
+    })
+}

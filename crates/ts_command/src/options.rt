@@ -1,0 +1,138 @@
+// The options of a command, in any order.
+ghost use Rattle.std.specs.Prelude.{◌≡◌, IfOk, IsTrue};
+ghost use Rattle.ts_spec.specs.Names.{named};
+ghost use Rattle.ts_spec.specs.Settings.{nothing, new_setting, options, count_own, is_known};
+ghost use Rattle.ts_command.specs.Faults.{Says, SaysOr};
+ghost use Rattle.ts_command.specs.Given.{given_of};
+ghost use Rattle.ts_command.specs.Options.{setting_of, table_of, is_list, lister, is_lister, may_list};
+
+use crate::fault::CommandFault;
+use crate::given::Given;
+use crate::labels_option::{count_pairs, read_labels};
+use crate::lists::{read_filters, read_names, read_times};
+use crate::option_word::{OptionSet, OptionWord};
+use crate::own_words::{own_word, own_words, split_own};
+use crate::range_options::{add_aggregation, add_align, add_stamp, add_values};
+use crate::words::{
+    at_word, chunk_size_word, count_word, encoding_word, policy_word, retention_word,
+};
+use std::alloc::Global;
+use ts_labels::Show;
+use ts_resp::Word;
+
+impl OptionWord {
+    // Whether it stood before.
+    fn stood(self, given: &Given) -> bool
+        ensures { result ≡ (setting_of self).stood (given_of given.now) }
+    {
+        match self {
+            OptionWord::Retention => given.retention.is_some(),
+            OptionWord::Encoding => given.encoding.is_some(),
+            OptionWord::ChunkSize => given.chunk_size.is_some(),
+            OptionWord::DuplicatePolicy => given.policy.is_some(),
+            OptionWord::OnDuplicate => given.on.is_some(),
+            OptionWord::Timestamp => given.at.is_some(),
+            OptionWord::Labels => given.labels.is_some(),
+            OptionWord::FilterByTs => given.range.times.is_some(),
+            OptionWord::FilterByValue => given.range.values.is_some(),
+            OptionWord::Count => given.range.count.is_some(),
+            OptionWord::Aggregation => given.range.aggregation.is_some(),
+            OptionWord::Align => given.range.align.is_some(),
+            OptionWord::BucketTimestamp => given.range.stamp.is_some(),
+            OptionWord::Empty => given.range.empty,
+            OptionWord::WithLabels | OptionWord::SelectedLabels => given.show.is_some(),
+            OptionWord::Filter => given.filters.is_some(),
+        }
+    }
+
+    // How many of the words after it are its own, if there are so many.
+    fn size(self, set: OptionSet, words: &[Word]) -> usize
+        ensures { result ≡ (setting_of self).size (is_known (table_of set)) words.now }
+    {
+        match self {
+            OptionWord::Labels => count_pairs(set, words),
+            OptionWord::FilterByTs | OptionWord::SelectedLabels | OptionWord::Filter => {
+                count_own(set, words)
+            }
+            OptionWord::FilterByValue | OptionWord::Aggregation => 2,
+            OptionWord::Empty | OptionWord::WithLabels => 0,
+            _ => 1,
+        }
+    }
+}
+
+// How many words come before the next option.
+fn count_own(set: OptionSet, words: &[Word]) -> usize
+    ensures { result ≡ count_own (is_known (table_of set)) words.now }
+{
+    for (index, word) in words.iter().enumerate() {
+        if set.named(word.bytes()).is_some() {
+            return index;
+        }
+    }
+    words.len()
+}
+
+// The option that a word names, unless it stood before.
+fn new_option(set: OptionSet, word: &[u8], given: &Given) -> Result<OptionWord, CommandFault>
+    ensures option { Says setting_of result (new_setting (given_of given.now) (named (table_of set) word.now)) }
+    ensures list { IfOk result (λ option. IsTrue (is_list option) → IsTrue (is_lister (lister set) word.now)) }
+{
+    match set.named(word) {
+        None => Err(CommandFault::BadOption),
+        Some(option) if option.stood(given) => Err(CommandFault::RepeatedOption),
+        Some(option) => Ok(option),
+    }
+}
+
+// What an option adds by its own words.
+fn add_own(
+    alloc: Global,
+    option: OptionWord,
+    own: &[Word],
+    given: &mut Given,
+) -> Result<(), CommandFault>
+    ensures { SaysOr (IsTrue (is_list option)) (λ done. given_of given.new) result ((setting_of option).says own.now (given_of given.old)) }
+{
+    match option {
+        OptionWord::Retention => given.retention = Some(retention_word(own_word(own)?)?),
+        OptionWord::Encoding => given.encoding = Some(encoding_word(own_word(own)?)?),
+        OptionWord::ChunkSize => given.chunk_size = Some(chunk_size_word(own_word(own)?)?),
+        OptionWord::DuplicatePolicy => given.policy = Some(policy_word(own_word(own)?)?),
+        OptionWord::OnDuplicate => given.on = Some(policy_word(own_word(own)?)?),
+        OptionWord::Timestamp => given.at = Some(at_word(own_word(own)?)?),
+        OptionWord::Labels => given.labels = Some(read_labels(alloc, own)?),
+        OptionWord::FilterByTs => given.range.times = Some(read_times(alloc, own_words(own)?)?),
+        OptionWord::FilterByValue => add_values(own, given)?,
+        OptionWord::Count => given.range.count = Some(count_word(own_word(own)?)?),
+        OptionWord::Aggregation => add_aggregation(own, given)?,
+        OptionWord::Align => add_align(own, given)?,
+        OptionWord::BucketTimestamp => add_stamp(own, given)?,
+        OptionWord::Empty => given.range.empty = true,
+        OptionWord::WithLabels => given.show = Some(Show::All),
+        OptionWord::SelectedLabels => {
+            given.show = Some(Show::Selected(read_names(alloc, own_words(own)?)?));
+        }
+        OptionWord::Filter => given.filters = Some(read_filters(alloc, own_words(own)?)?),
+    }
+    Ok(())
+}
+
+// What the options say, which these words are and no more.
+pub(crate) fn read_options(
+    alloc: Global,
+    set: OptionSet,
+    words: &[Word],
+) -> Result<Given, CommandFault>
+    ensures { SaysOr (IsTrue (may_list (lister set) words.now)) given_of result (options (table_of set) nothing 0 words.now) }
+{
+    let mut given = Given::nothing();
+    let mut rest = words;
+    while let Some((name, after)) = rest.split_first() {
+        let option = new_option(set, name.bytes(), &given)?;
+        let (own, next) = split_own(option.size(set, after), after);
+        add_own(alloc, option, own, &mut given)?;
+        rest = next;
+    }
+    Ok(given)
+}
