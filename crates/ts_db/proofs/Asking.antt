@@ -1,43 +1,60 @@
 -- What a question finds.
-use Rattle.std.proofs.Common.{◌≡◌, Bool, true, false, List, [], refl, sym, ◌∙◌, ap, subst}
-use Rattle.std.specs.Prelude.{Option, None, Some, Result, Err, option_map}
-use Rattle.ts_spec.specs.declared.limits.Limits.{Limits}
+use Rattle.std.proofs.Common.{◌≡◌, Bool, true, false, List, refl, sym, ◌∙◌, ap, subst}
+use Rattle.std.specs.Prelude.{Option, None, Some, is_some, Result, Err}
 use Rattle.ts_spec.specs.Sample.{Point}
 use Rattle.ts_spec.specs.Key.{Key}
 use Rattle.ts_spec.specs.Keyed.{get}
-use Rattle.ts_spec.specs.State.{Record, State, Link, link_to, rule_into}
-use Rattle.ts_spec.specs.Rules.{latest_at, latest_by}
-use Rattle.ts_spec.specs.Questions.{asked}
-use Rattle.ts_spec.proofs.PlainWrite.{plain-shown}
-use Rattle.ts_spec.proofs.Unmoved.{no-rules-no-link}
+use Rattle.ts_spec.specs.Kept.{Kept}
+use Rattle.ts_spec.specs.KeptStep.{list_at}
+use Rattle.ts_spec.specs.KeptQuestions.{latest_list_at, kept_asked}
 use Rattle.ts_sample.specs.declared.id.Id.{Id}
-use Rattle.ts_series.specs.History.{History, list_of, record_of}
+use Rattle.ts_series.specs.History.{list_of}
 use Rattle.ts_db.specs.declared.fault.DbFault.{DbFault}
 use Rattle.ts_db.specs.declared.fault.DbFault.TheVariants.{NoKey}
-use Rattle.ts_db.specs.Held.{Finds}
-use Rattle.ts_db.specs.Store.{Series, Numbers, collected, number_of, IsStore}
-use Rattle.ts_db.proofs.Storing.{no_rules, there, missing}
-use Rattle.ts_db.proofs.Touching.{Holds}
+use Rattle.ts_db.specs.declared.node.Node.{Node}
+use Rattle.ts_db.specs.declared.store.Store.{Store}
+use Rattle.ts_db.specs.Held.{Finds, IsLive}
+use Rattle.ts_db.specs.Store.{kept_at, stock_of, number_of, IsInOrder, Holds}
+use Rattle.slab.specs.Slab as slab
+use Rattle.ts_db.proofs.Applying.{there}
+use Rattle.ts_db.proofs.Collecting.{get-ids}
+use Rattle.ts_db.proofs.Storing.{missing}
 
 -- without a source the open bucket adds nothing
-asked-own : (m : State) (with_open : Bool) (key : Key) (d : Record) → get key m ≡ Some d → link_to m key ≡ None → asked m with_open key ≡ d.plain
-asked-own m true key d is none =
-    ap (λ (o : Option Record). latest_at o (rule_into m key)) is ∙ ap (λ (l : Option Link). latest_by (option_map (λ (x : Link). x.rule) l) d) none
-asked-own m false key d is none = plain-shown m key d is none
+pub asked-own : (s : Store) (store : IsInOrder s) (key : Key) (id : Id) (n : Node) → Holds s key id n → (latest : Bool) → kept_asked (stock_of s).keys latest key ≡ list_of n.series
+asked-own s store key id n holds true = ap (latest_list_at (stock_of s).keys key) (there s store key id n holds)
+asked-own s store key id n holds false = ap list_at (there s store key id n holds)
 
 -- a key that is missing
-pub finds-no-key : {T : Type 0} (limits : Limits) (nodes : Series) (es : Numbers) (store : IsStore limits nodes es) (key : Key) (what : T → Type 0)
-    → number_of key es ≡ None → Finds (get key (collected nodes es)) what (Err NoKey)
-finds-no-key {T} limits nodes es store key what is =
-    subst (λ (o : Option Record). Finds o what (Err NoKey)) (sym (missing limits nodes es store key is)) refl
+pub finds-no-key : {T : Type 0} (s : Store) (store : IsInOrder s) (key : Key) (what : T → Type 0) → number_of key s.keys.entries ≡ None → Finds (get key (stock_of s).keys) what (Err NoKey)
+finds-no-key {T} s store key what is =
+    subst (λ (o : Option Kept). Finds o what (Err NoKey)) (sym (missing s.limits s.nodes s.keys.entries store key is)) refl
 
--- a key that is there
-pub finds-own : {T : Type 0} (limits : Limits) (nodes : Series) (es : Numbers) (key : Key) (id : Id) (h : History) (holds : Holds limits nodes es key id h)
-    (with_open : Bool) (what : List Point → T → Type 0) (r : Result T DbFault)
-    → Finds (Some (record_of [] h)) (what (list_of h)) r → Finds (get key (collected nodes es)) (what (asked (collected nodes es) with_open key)) r
-finds-own {T} limits nodes es key id h holds with_open what r found =
-    let is : get key (collected nodes es) ≡ Some (record_of [] h) = there limits nodes es holds.store key id h holds.number holds.series in
-    let own : asked (collected nodes es) with_open key ≡ list_of h =
-    asked-own (collected nodes es) with_open key (record_of [] h) is (no-rules-no-link (collected nodes es) key (no_rules limits nodes es holds.store)) in
-    subst (λ (o : Option Record). Finds o (what (asked (collected nodes es) with_open key)) r) (sym is)
-    (subst (λ (ps : List Point). Finds (Some (record_of [] h)) (what ps) r) (sym own) found)
+-- ---- by numbers
+
+-- the node of the number of a key
+pub numbered-holds : (s : Store) (key : Key) (id : Id) (n : Node) → get key (stock_of s).ids ≡ Some id → slab.get s.nodes id.0 ≡ Some n → Holds s key id n
+numbered-holds s key id n is at = record { number = sym (get-ids key s.keys.entries) ∙ is; node = at }
+
+-- the number that a key was found to have is that of a key
+pub live-of : (s : Store) (key : Key) (id : Id) → number_of key s.keys.entries ≡ Some id → IsLive (stock_of s).ids id
+live-of s key id is = record { key = key; is = get-ids key s.keys.entries ∙ is }
+
+-- a number of a key has a node
+pub node-live : (s : Store) (store : IsInOrder s) (id : Id) → IsLive (stock_of s).ids id → (n : Node) × (slab.get s.nodes id.0 ≡ Some n)
+node-live s store id live = store.stored live.key id (sym (get-ids live.key s.keys.entries) ∙ live.is)
+
+-- a key that is there finds what does not depend on what is kept of it
+pub finds-there : {T : Type 0} (s : Store) (store : IsInOrder s) (key : Key) (id : Id) (what : T → Type 0) (r : Result T DbFault) → number_of key s.keys.entries ≡ Some id
+    → ((d : Kept) → Finds (Some d) what r) → Finds (get key (stock_of s).keys) what r
+finds-there s store key id what r is found =
+    let of = store.stored key id is in
+    subst (λ (o : Option Kept). Finds o what r) (sym (there s store key id of.0 (record { number = is; node = of.1 }))) (found (kept_at of.0))
+
+-- a key has a number exactly where something is kept of it
+pub numbered-there : (s : Store) (store : IsInOrder s) (key : Key) → is_some (number_of key s.keys.entries) ≡ is_some (get key (stock_of s).keys)
+numbered-there s store key = go (number_of key s.keys.entries) refl
+  where
+    go : (o : Option Id) → number_of key s.keys.entries ≡ o → is_some o ≡ is_some (get key (stock_of s).keys)
+    go None is = ap is_some (sym (missing s.limits s.nodes s.keys.entries store key is))
+    go (Some id) is = let of = store.stored key id is in ap is_some (sym (there s store key id of.0 (record { number = is; node = of.1 })))

@@ -1,4 +1,4 @@
--- The state that numbered series stand for, by what each key has.
+-- What numbered series keep, by what each key has.
 use Rattle.std.proofs.Common.{◌≡◌, ◌≢◌, ℕ, Bool, true, false, cond, List, [], ◌∷◌, refl, sym, ◌∙◌, ap, ◌⊎◌, inl, inr}
 use Rattle.std.specs.Prelude.{slice_index_or, ◌&&◌, ◌==◌, Option, None, Some, option_map, if◌then◌else◌, nat_eq}
 use Rattle.std.specs.Cmp.Lexicographic.{pointwise}
@@ -6,14 +6,14 @@ use Rattle.std.proofs.lemmas.Bool.{cases_Bool}
 use Rattle.std.proofs.lemmas.Map.Text.{is_eq-slice_cmp}
 use Rattle.slab.specs.Slab as slab
 use Rattle.ts_spec.specs.Key.{Key, same}
-use Rattle.ts_spec.specs.Keyed.{get, with_key, without_key}
-use Rattle.ts_spec.specs.State.{Record, State}
+use Rattle.ts_spec.specs.Keyed.{Keyed, get, with_key, without_key}
+use Rattle.ts_spec.specs.Kept.{Kept}
 use Rattle.ts_spec.proofs.Keys.{same-sym, same-true}
 use Rattle.ts_spec.proofs.Maps.{get-with, get-without, maps-same}
 use Rattle.ts_spec.proofs.Tidy.{some-same}
 use Rattle.ts_sample.specs.declared.id.Id.{Id}
-use Rattle.ts_series.specs.History.{History, record_of}
-use Rattle.ts_db.specs.Store.{Series, Numbers, record_in, with_found, collected, has_key, number_of}
+use Rattle.ts_db.specs.declared.node.Node.{Node}
+use Rattle.ts_db.specs.Store.{Nodes, Numbers, kept_at, kept_in, with_found, collected, ids_of, has_key, number_of}
 
 same-pointwise : (j k : Key) → same j k ≡ pointwise nat_eq j k
 same-pointwise [] [] = refl
@@ -24,27 +24,40 @@ same-pointwise (x ∷ xs) (y ∷ ys) = ap (λ b. (x == y) && b) (same-pointwise 
 pub same-at : (j k : Key) → same j k ≡ has_key j k
 same-at j k = same-pointwise j k ∙ sym (is_eq-slice_cmp j k)
 
--- the record of a number, if there is one
-abbrev pub found : Series → Option Id → Option Record
+-- what is kept of a number, if there is one
+abbrev pub found : Nodes → Option Id → Option Kept
 found nodes None = None
-found nodes (Some id) = record_in nodes id
+found nodes (Some id) = kept_in nodes id
 
-get-found : (q k : Key) (o : Option Record) (m : State) → get q (with_found k o m) ≡ cond (same k q) o (get q m)
-get-found q k None m = get-without q k m
-get-found q k (Some d) m = get-with q k d m
+get-found : {X : Type 0} (q k : Key) (o : Option X) (m : Keyed X) → get q (with_found k o m) ≡ cond (same k q) o (get q m)
+get-found {X} q k None m = get-without q k m
+get-found {X} q k (Some d) m = get-with q k d m
 
-found-cond : (nodes : Series) (b : Bool) (id : Id) (o : Option Id) → cond b (record_in nodes id) (found nodes o) ≡ found nodes (cond b (Some id) o)
+found-cond : (nodes : Nodes) (b : Bool) (id : Id) (o : Option Id) → cond b (kept_in nodes id) (found nodes o) ≡ found nodes (cond b (Some id) o)
 found-cond nodes true id o = refl
 found-cond nodes false id o = refl
 
 -- what a key has
-pub get-collected : (q : Key) (nodes : Series) (es : Numbers) → get q (collected nodes es) ≡ found nodes (number_of q es)
+pub get-collected : (q : Key) (nodes : Nodes) (es : Numbers) → get q (collected nodes es) ≡ found nodes (number_of q es)
 get-collected q nodes [] = refl
 get-collected q nodes (e ∷ es) =
-    get-found q e.0 (record_in nodes e.1) (collected nodes es)
-    ∙ ap (λ b. cond b (record_in nodes e.1) (get q (collected nodes es))) (same-sym e.0 q ∙ same-at q e.0)
-    ∙ ap (cond (has_key q e.0) (record_in nodes e.1)) (get-collected q nodes es)
+    get-found q e.0 (kept_in nodes e.1) (collected nodes es)
+    ∙ ap (λ b. cond b (kept_in nodes e.1) (get q (collected nodes es))) (same-sym e.0 q ∙ same-at q e.0)
+    ∙ ap (cond (has_key q e.0) (kept_in nodes e.1)) (get-collected q nodes es)
     ∙ found-cond nodes (has_key q e.0) e.1 (number_of q es)
+
+cond-same : (b : Bool) (id : Id) (o : Option Id) → cond b (Some id) o ≡ (if b then Some id else o)
+cond-same true id o = refl
+cond-same false id o = refl
+
+-- the number of a key, by the map of all numbers
+pub get-ids : (q : Key) (es : Numbers) → get q (ids_of es) ≡ number_of q es
+get-ids q [] = refl
+get-ids q (e ∷ es) =
+    get-with q e.0 e.1 (ids_of es)
+    ∙ ap (λ b. if b then Some e.1 else get q (ids_of es)) (same-sym e.0 q ∙ same-at q e.0)
+    ∙ sym (cond-same (has_key q e.0) e.1 (get q (ids_of es)))
+    ∙ ap (cond (has_key q e.0) (Some e.1)) (get-ids q es)
 
 -- a key has the number of any key that is the same
 pub number-same : (j k : Key) (es : Numbers) → same j k ≡ true → number_of j es ≡ number_of k es
@@ -54,55 +67,55 @@ pub id-same : (a b : Id) → a.0 ≡ b.0 → a ≡ b
 id-same a b is = λ i. record { 0 = is i }
 
 -- where one series changes, other keys have what they had
-others-found : (nodes new : Series) (es : Numbers) (key : Key) (id : Id)
+others-found : (nodes new : Nodes) (es : Numbers) (key : Key) (id : Id)
     → ((j k : Key) (i : Id) → number_of j es ≡ Some i → number_of k es ≡ Some i → same j k ≡ true)
     → number_of key es ≡ Some id → ((other : ℕ) → other ≢ id.0 → slab.get new other ≡ slab.get nodes other)
     → (q : Key) (o : Option Id) → number_of q es ≡ o → same key q ≡ false → found new o ≡ found nodes o
 others-found nodes new es key id apart is others q None at unlike = refl
 others-found nodes new es key id apart is others q (Some i) at unlike =
-    ap (option_map (record_of [])) (others i.0 (λ e. absurd (cc (apart key q i (is ∙ ap (λ (x : Id). Some x) (sym (id-same i id e))) at, unlike))))
+    ap (option_map kept_at) (others i.0 (λ e. absurd (cc (apart key q i (is ∙ ap (λ (x : Id). Some x) (sym (id-same i id e))) at, unlike))))
 
 -- a series that changed is that of its key alone
-pub collected-written : (nodes new : Series) (es : Numbers) (key : Key) (id : Id) (h : History)
+pub collected-written : (nodes new : Nodes) (es : Numbers) (key : Key) (id : Id) (n : Node)
     → ((j k : Key) (i : Id) → number_of j es ≡ Some i → number_of k es ≡ Some i → same j k ≡ true)
-    → number_of key es ≡ Some id → slab.Updates nodes new id.0 (Some h) → collected new es ≡ with_key key (record_of [] h) (collected nodes es)
-collected-written nodes new es key id h apart is change = maps-same _ _ (λ q.
-    get-collected q new es ∙ pick q (number_of q es) refl (cases_Bool (same key q)) ∙ sym (get-with q key (record_of [] h) (collected nodes es)))
+    → number_of key es ≡ Some id → slab.Updates nodes new id.0 (Some n) → collected new es ≡ with_key key (kept_at n) (collected nodes es)
+collected-written nodes new es key id n apart is change = maps-same _ _ (λ q.
+    get-collected q new es ∙ pick q (number_of q es) refl (cases_Bool (same key q)) ∙ sym (get-with q key (kept_at n) (collected nodes es)))
   where
-    here : found new (Some id) ≡ Some (record_of [] h)
-    here = ap (option_map (record_of [])) change.changed
+    here : found new (Some id) ≡ Some (kept_at n)
+    here = ap (option_map kept_at) change.changed
 
     pick : (q : Key) (o : Option Id) → number_of q es ≡ o → (same key q ≡ true) ⊎ (same key q ≡ false)
-        → found new o ≡ (if same key q then Some (record_of [] h) else get q (collected nodes es))
+        → found new o ≡ (if same key q then Some (kept_at n) else get q (collected nodes es))
     pick q o at (inl alike) =
-        ap (found new) (sym at ∙ sym (number-same key q es alike) ∙ is) ∙ here ∙ ap (λ b. if b then Some (record_of [] h) else get q (collected nodes es)) (sym alike)
+        ap (found new) (sym at ∙ sym (number-same key q es alike) ∙ is) ∙ here ∙ ap (λ b. if b then Some (kept_at n) else get q (collected nodes es)) (sym alike)
     pick q o at (inr unlike) =
-        others-found nodes new es key id apart is change.others q o at unlike ∙ ap (found nodes) (sym at) ∙ sym (get-collected q nodes es) ∙ ap (λ b. if b then Some (record_of [] h) else get q (collected nodes es)) (sym unlike)
+        others-found nodes new es key id apart is change.others q o at unlike ∙ ap (found nodes) (sym at) ∙ sym (get-collected q nodes es) ∙ ap (λ b. if b then Some (kept_at n) else get q (collected nodes es)) (sym unlike)
 
 -- a series under a new key
-pub collected-added : (nodes new : Series) (es fs : Numbers) (key : Key) (id : Id) (h : History)
-    → ((k : Key) (i : Id) → number_of k es ≡ Some i → (g : History) × (slab.get nodes i.0 ≡ Some g))
-    → slab.get nodes id.0 ≡ None → slab.Updates nodes new id.0 (Some h) → ((q : Key) → number_of q fs ≡ cond (has_key key q) (Some id) (number_of q es))
-    → collected new fs ≡ with_key key (record_of [] h) (collected nodes es)
-collected-added nodes new es fs key id h stored vacant change differs = maps-same _ _ (λ q.
+pub collected-added : (nodes new : Nodes) (es fs : Numbers) (key : Key) (id : Id) (n : Node)
+    → ((k : Key) (i : Id) → number_of k es ≡ Some i → (g : Node) × (slab.get nodes i.0 ≡ Some g))
+    → slab.get nodes id.0 ≡ None → slab.Updates nodes new id.0 (Some n) → ((q : Key) → number_of q fs ≡ cond (has_key key q) (Some id) (number_of q es))
+    → collected new fs ≡ with_key key (kept_at n) (collected nodes es)
+collected-added nodes new es fs key id n stored vacant change differs = maps-same _ _ (λ q.
     get-collected q new fs ∙ ap (found new) (differs q ∙ ap (λ b. cond b (Some id) (number_of q es)) (sym (same-at key q)))
-    ∙ pick q (same key q) (number_of q es) refl ∙ sym (get-with q key (record_of [] h) (collected nodes es)))
+    ∙ pick q (same key q) (number_of q es) refl ∙ sym (get-with q key (kept_at n) (collected nodes es)))
   where
-    here : found new (Some id) ≡ Some (record_of [] h)
-    here = ap (option_map (record_of [])) change.changed
+    here : found new (Some id) ≡ Some (kept_at n)
+    here = ap (option_map kept_at) change.changed
 
     other : (q : Key) (o : Option Id) → number_of q es ≡ o → found new o ≡ found nodes o
     other q None at = refl
     other q (Some i) at =
         let there = stored q i at in
-        ap (option_map (record_of [])) (change.others i.0 (λ e. absurd (cc (there.1, ap (slab.get nodes) e, vacant))))
+        ap (option_map kept_at) (change.others i.0 (λ e. absurd (cc (there.1, ap (slab.get nodes) e, vacant))))
 
-    pick : (q : Key) (b : Bool) (o : Option Id) → number_of q es ≡ o → found new (cond b (Some id) o) ≡ (if b then Some (record_of [] h) else get q (collected nodes es))
+    pick : (q : Key) (b : Bool) (o : Option Id) → number_of q es ≡ o → found new (cond b (Some id) o) ≡ (if b then Some (kept_at n) else get q (collected nodes es))
     pick q true o at = here
     pick q false o at = other q o at ∙ ap (found nodes) (sym at) ∙ sym (get-collected q nodes es)
 
 -- a key that is taken out, with its series
-pub collected-removed : (nodes new : Series) (es fs : Numbers) (key : Key) (id : Id)
+pub collected-removed : (nodes new : Nodes) (es fs : Numbers) (key : Key) (id : Id)
     → ((j k : Key) (i : Id) → number_of j es ≡ Some i → number_of k es ≡ Some i → same j k ≡ true)
     → number_of key es ≡ Some id → slab.Updates nodes new id.0 None → ((q : Key) → number_of q fs ≡ cond (has_key key q) None (number_of q es))
     → collected new fs ≡ without_key key (collected nodes es)
@@ -114,28 +127,28 @@ collected-removed nodes new es fs key id apart is change differs = maps-same _ _
     pick q true x = refl
     pick q false x = others-found nodes new es key id apart is change.others q (number_of q es) refl x ∙ sym (get-collected q nodes es)
 
--- the series of a record
-pub record IsOf (nodes : Series) (d : Record) : Type 0 where
+-- the series of what is kept
+pub record IsOf (nodes : Nodes) (d : Kept) : Type 0 where
   pub number : ℕ
-  pub series : History
-  pub there : slab.get nodes number ≡ Some series
-  pub same : d ≡ record_of [] series
+  pub node : Node
+  pub there : slab.get nodes number ≡ Some node
+  pub same : d ≡ kept_at node
 
-pub record-from : (nodes : Series) (es : Numbers) (k : Key) (d : Record) → get k (collected nodes es) ≡ Some d → IsOf nodes d
-record-from nodes es k d is = from (number_of k es) (sym (get-collected k nodes es) ∙ is)
+pub node-of : (nodes : Nodes) (es : Numbers) (k : Key) (d : Kept) → get k (collected nodes es) ≡ Some d → IsOf nodes d
+node-of nodes es k d is = from (number_of k es) (sym (get-collected k nodes es) ∙ is)
   where
-    of : (i : ℕ) (o : Option History) → slab.get nodes i ≡ o → option_map (record_of []) o ≡ Some d → IsOf nodes d
+    of : (i : ℕ) (o : Option Node) → slab.get nodes i ≡ o → option_map kept_at o ≡ Some d → IsOf nodes d
     of i None at e = absurd (cc e)
-    of i (Some h) at e = record { number = i; series = h; there = at; same = some-same d (record_of [] h) (sym e) }
+    of i (Some n) at e = record { number = i; node = n; there = at; same = some-same d (kept_at n) (sym e) }
 
     from : (o : Option Id) → found nodes o ≡ Some d → IsOf nodes d
     from None e = absurd (cc e)
     from (Some id) e = of id.0 (slab.get nodes id.0) refl e
 
 -- room alone changes nothing
-pub collected-slots : (nodes new : Series) (es : Numbers) → new.slots ≡ nodes.slots → collected new es ≡ collected nodes es
+pub collected-slots : (nodes new : Nodes) (es : Numbers) → new.slots ≡ nodes.slots → collected new es ≡ collected nodes es
 collected-slots nodes new es same = maps-same _ _ (λ q. get-collected q new es ∙ go (number_of q es) ∙ sym (get-collected q nodes es))
   where
     go : (o : Option Id) → found new o ≡ found nodes o
     go None = refl
-    go (Some id) = ap (λ (s : List (Option History)). option_map (record_of []) (slice_index_or s id.0 None)) same
+    go (Some id) = ap (λ (s : List (Option Node)). option_map kept_at (slice_index_or s id.0 None)) same

@@ -1,12 +1,19 @@
--- What a database holds, and how its answers follow from those of the definitions.
-use Rattle.std.specs.Prelude.{◌≡◌, ◌≤◌, ℕ, ⊤, List, [], ◌∷◌, Option, None, Some, Result, Ok, Err}
+-- What contracts see of a database, the states that it stands for, and how its answers follow from those of the definitions.
+use Rattle.std.specs.Prelude.{◌≡◌, ◌≤◌, ℕ, Bool, true, ⊤, if◌then◌else◌, List, [], ◌∷◌, Option, None, Some, is_some, Result, Ok, Err}
 use Rattle.ts_spec.specs.Sample.{Point, MAX_TIME, last_of, later_or}
 use Rattle.ts_spec.specs.declared.limits.Limits.{Limits}
+use Rattle.ts_spec.specs.Key.{Key}
+use Rattle.ts_spec.specs.Keyed.{Keyed, get}
 use Rattle.ts_spec.specs.Refusal.{Refusal, NoKey}
-use Rattle.ts_spec.specs.State.{Record, State}
+use Rattle.ts_spec.specs.State.{State}
+use Rattle.ts_spec.specs.Rules.{dropped}
 use Rattle.ts_spec.specs.Step.{Outcome, refused}
 use Rattle.ts_spec.specs.Response.{Response, Done, Count}
+use Rattle.ts_spec.specs.Kept.{Keeping}
+use Rattle.ts_spec.specs.Stands.{StandsFor}
+use Rattle.ts_sample.specs.declared.id.Id.{Id}
 use Rattle.ts_db.specs.declared.fault.DbFault.{DbFault}
+use Rattle.ts_db.specs.declared.fault.DbFault.TheVariants.{SamplesFull}
 use Rattle.ts_db.specs.Faults.{refusal_of}
 
 -- the limits of a database, and its state
@@ -14,29 +21,62 @@ pub record Held : Type 0 where
   pub limits : Limits
   pub state : State
 
+-- what contracts see of a database: its limits, what it keeps of each key, and the number of each key
+pub record Stock : Type 0 where
+  pub limits : Limits
+  pub keys : Keeping
+  pub ids : Keyed Id
+
+-- a state that it stands for, under its limits
+pub record Stands (stock : Stock) (held : Held) : Type 0 where
+  pub limits : held.limits ≡ stock.limits
+  pub state : StandsFor stock.limits stock.keys held.state
+
+-- it stands for a state of which P holds
+pub record Leads (stock : Stock) (P : Held → Type 0) : Type 0 where
+  pub to : Held
+  pub done : P to
+  pub stands : Stands stock to
+
+-- from each state that it stood for it came to one so
+abbrev pub Carries : (old new : Stock) → (Held → Held → Type 0) → Type 0
+Carries old new P = (from : Held) → Stands old from → Leads new (P from)
+
 -- a refusal is the step's answer; want of memory is free
 abbrev pub IsAnswer : Option Refusal → State → Outcome → Type 0
 IsAnswer None m step = ⊤
 IsAnswer (Some refusal) m step = step ≡ refused m refusal
 
--- the step answers so, and leaves this state under the same limits
-abbrev pub Leaves : Response → Held → Held → Outcome → Type 0
-Leaves response old new step = (step ≡ record { state = new.state; response = response }) × (new.limits ≡ old.limits)
+-- the step answers so, and the database stands for the state after it
+pub record IsDone (response : Response) (limits : Limits) (step : Outcome) (new : Stock) : Type 0 where
+  pub says : step.response ≡ response
+  pub stands : Stands new (record { limits = limits; state = step.state })
 
--- An answer is that of the step, which leaves the new state, or it is the step's refusal or want of memory, and nothing has changed.
-abbrev pub Answers : {T : Type 0} → (T → Response) → Held → Outcome → Result T DbFault → Held → Type 0
-Answers response old step (Ok x) new = Leaves (response x) old new step
-Answers response old step (Err fault) new = IsAnswer (refusal_of fault) old.state step × (new ≡ old)
+-- For each state that the database stood for: an answer is that of the step, after which it stands for the step's state; or it is the
+-- step's refusal or want of memory, and nothing has changed.
+abbrev pub Answers : {T : Type 0} → (T → Response) → (old : Stock) → (Held → Outcome) → Result T DbFault → (new : Stock) → Type 0
+Answers response old step (Ok x) new = (from : Held) → Stands old from → IsDone (response x) from.limits (step from) new
+Answers response old step (Err fault) new = ((from : Held) → Stands old from → IsAnswer (refusal_of fault) from.state (step from)) × (new ≡ old)
 
 -- a call that answers nothing, and one that answers a time, or how many
-abbrev pub AnswersDone : Held → Outcome → Result (Unit {0}) DbFault → Held → Type 0
+abbrev pub AnswersDone : (old : Stock) → (Held → Outcome) → Result (Unit {0}) DbFault → (new : Stock) → Type 0
 AnswersDone old step result new = Answers (λ x. Done) old step result new
 
-abbrev pub AnswersNumber : Held → Outcome → Result ℕ DbFault → Held → Type 0
+abbrev pub AnswersNumber : (old : Stock) → (Held → Outcome) → Result ℕ DbFault → (new : Stock) → Type 0
 AnswersNumber old step result new = Answers (λ t. Count t) old step result new
 
--- A question about a record is refused where there is none; else such an answer is given, or there is no memory.
-abbrev pub Finds : {T : Type 0} → Option Record → (T → Type 0) → Result T DbFault → Type 0
+-- where the samples of a series are full, it is that of the key to be written
+abbrev pub IsOwn : Stock → Key → DbFault → Type 0
+IsOwn stock key (SamplesFull id written) = (written ≡ true) × (get key stock.ids ≡ Some id)
+IsOwn stock key other = ⊤
+
+-- whether a key was there; it is gone then
+pub record Drops (key : Key) (was : Bool) (from : Held) (new : Stock) : Type 0 where
+  pub there : was ≡ is_some (get key from.state)
+  pub stands : Stands new (record { limits = from.limits; state = if was then dropped key from.state else from.state })
+
+-- A question about what a key has is refused where it has nothing; else such an answer is given, or there is no memory.
+abbrev pub Finds : {X T : Type 0} → Option X → (T → Type 0) → Result T DbFault → Type 0
 Finds None what (Ok x) = ⊥
 Finds None what (Err fault) = refusal_of fault ≡ Some NoKey
 Finds (Some d) what (Ok x) = what x
@@ -50,3 +90,15 @@ ends_of (p ∷ ps) = Some (p.time, (later_or p (last_of ps)).time)
 -- both are times
 abbrev pub AreTimes : ℕ × ℕ → Type 0
 AreTimes ends = (ends.0 ≤ MAX_TIME) × (ends.1 ≤ MAX_TIME)
+
+-- The number is that of a key.
+pub record IsLive (ids : Keyed Id) (id : Id) : Type 0 where
+  pub key : Key
+  pub is : get key ids ≡ Some id
+
+-- these are the numbers of the keys, in their order
+abbrev pub AreNumbersOf : Keyed Id → List Key → List Id → Type 0
+AreNumbersOf ids [] [] = ⊤
+AreNumbersOf ids [] (n ∷ ns) = ⊥
+AreNumbersOf ids (k ∷ ks) [] = ⊥
+AreNumbersOf ids (k ∷ ks) (n ∷ ns) = (get k ids ≡ Some n) × AreNumbersOf ids ks ns

@@ -1,36 +1,57 @@
 -- How a database keeps its series: by their numbers, which stand under the keys.
-use Rattle.std.specs.Prelude.{◌≡◌, ◌≤◌, ℕ, Bool, true, List, [], ◌∷◌, length, Option, None, Some, option_map}
+use Rattle.std.specs.Prelude.{◌≡◌, ◌≤◌, ℕ, Bool, ⊤, List, [], ◌∷◌, length, Option, None, Some, option_map}
 use Rattle.std.specs.Cmp.Lexicographic.{slice_cmp}
 use Rattle.std.specs.Ordering.{nat_cmp}
 use Rattle.std.specs.BTreeMap.{is_at}
 use Rattle.std.specs.Map.{lookup}
 use Rattle.slab.specs.Slab as slab
 use Rattle.ts_spec.specs.declared.limits.Limits.{Limits}
-use Rattle.ts_spec.specs.Key.{Key, same}
-use Rattle.ts_spec.specs.Keyed.{none, with_key, without_key, count_keys}
-use Rattle.ts_spec.specs.State.{Record, State}
+use Rattle.ts_spec.specs.Sample.{MAX_TIME}
+use Rattle.ts_spec.specs.Key.{Key}
+use Rattle.ts_spec.specs.Keyed.{Keyed, none, with_key, without_key, count_keys}
+use Rattle.ts_spec.specs.State.{Label}
+use Rattle.ts_spec.specs.Kept.{Kept, Keeping}
 use Rattle.ts_sample.specs.declared.id.Id.{Id}
-use Rattle.ts_series.specs.History.{History, list_of, record_of, IsKept}
+use Rattle.ts_series.specs.History.{History, list_of, IsKept}
+use Rattle.ts_db.specs.declared.node.Node.{Node}
+use Rattle.ts_db.specs.declared.store.Store.{Store}
+use Rattle.ts_db.specs.Held.{Stock, Leads}
+
+-- what is kept of a series with these labels, without rules and without a source
+abbrev pub kept_of : List Label → History → Kept
+kept_of labels h = record { options = h.options; labels = labels; list = list_of h; high = h.high; born = h.born; rules = []; source = None }
+
+abbrev pub kept_at : Node → Kept
+kept_at n = kept_of n.labels n.series
 
 -- the series by their numbers, and the numbers by their keys
-abbrev pub Series : Type 0
-Series = slab.Slab History
+abbrev pub Nodes : Type 0
+Nodes = slab.Slab Node
 
 abbrev pub Numbers : Type 0
 Numbers = List (Key × Id)
 
--- the record of a number
-abbrev pub record_in : Series → Id → Option Record
-record_in nodes id = option_map (record_of []) (slab.get nodes id.0)
+-- what is kept of a number
+abbrev pub kept_in : Nodes → Id → Option Kept
+kept_in nodes id = option_map kept_at (slab.get nodes id.0)
 
-abbrev pub with_found : Key → Option Record → State → State
+abbrev pub with_found : {X : Type 0} → Key → Option X → Keyed X → Keyed X
 with_found k None m = without_key k m
-with_found k (Some d) m = with_key k d m
+with_found k (Some x) m = with_key k x m
 
--- the state that they stand for
-abbrev pub collected : Series → Numbers → State
+-- what they keep of each key
+abbrev pub collected : Nodes → Numbers → Keeping
 collected nodes [] = none
-collected nodes (e ∷ es) = with_found e.0 (record_in nodes e.1) (collected nodes es)
+collected nodes (e ∷ es) = with_found e.0 (kept_in nodes e.1) (collected nodes es)
+
+-- the number of each key
+abbrev pub ids_of : Numbers → Keyed Id
+ids_of [] = none
+ids_of (e ∷ es) = with_key e.0 e.1 (ids_of es)
+
+-- what contracts see of a store
+abbrev pub stock_of : Store → Stock
+stock_of s = record { limits = s.limits; keys = collected s.nodes s.keys.entries; ids = ids_of s.keys.entries }
 
 -- whether an entry stands under this key
 abbrev pub has_key : Key → Key → Bool
@@ -40,15 +61,41 @@ has_key k = is_at (slice_cmp nat_cmp k)
 abbrev pub number_of : Key → Numbers → Option Id
 number_of k es = lookup (has_key k) es
 
--- Each key has a series of its own, and no other series is kept. Each is in order and within the limit, as the keys are.
-pub record IsStore (limits : Limits) (nodes : Series) (es : Numbers) : Type 0 where
-  pub stored : (k : Key) (id : Id) → number_of k es ≡ Some id → (h : History) × (slab.get nodes id.0 ≡ Some h)
-  pub apart : (j k : Key) (id : Id) → number_of j es ≡ Some id → number_of k es ≡ Some id → same j k ≡ true
-  pub kept : (i : ℕ) (h : History) → slab.get nodes i ≡ Some h → IsKept h
-  pub within : (i : ℕ) (h : History) → slab.get nodes i ≡ Some h → length (list_of h) ≤ limits.samples
-  pub born : (i : ℕ) (h : History) → slab.get nodes i ≡ Some h → h.born ≤ limits.born
+-- A series is in order, and it and its labels are within the limits.
+pub record IsNode (limits : Limits) (n : Node) : Type 0 where
+  pub kept : IsKept n.series
+  pub within : length (list_of n.series) ≤ limits.samples
+  pub born : n.series.born ≤ limits.born
+  pub labels : length n.labels ≤ limits.labels
+
+-- Each key has a series of its own, which tells the key, and no other series is kept. Each is in order and within the limits, as the keys are.
+pub record IsStore (limits : Limits) (nodes : Nodes) (es : Numbers) : Type 0 where
+  pub stored : (k : Key) (id : Id) → number_of k es ≡ Some id → (n : Node) × (slab.get nodes id.0 ≡ Some n)
+  pub named : (k : Key) (id : Id) (n : Node) → number_of k es ≡ Some id → slab.get nodes id.0 ≡ Some n → n.key ≡ k
+  pub each : (i : ℕ) (n : Node) → slab.get nodes i ≡ Some n → IsNode limits n
   pub counted : count_keys (collected nodes es) ≡ length es
   -- the slab holds as many series as there are keys, so none that has no key
   pub no_other : slab.slab_len nodes ≡ length es
   pub few : length es ≤ limits.keys
   pub some_samples : 1 ≤ limits.samples
+  pub bounded : limits.samples ≤ MAX_TIME
+
+-- the store is in order
+abbrev pub IsInOrder : Store → Type 0
+IsInOrder s = IsStore s.limits s.nodes s.keys.entries
+
+-- A store is in order, and there is a state that it stands for.
+pub record IsDb (s : Store) : Type 0 where
+  pub store : IsInOrder s
+  pub stands : Leads (stock_of s) (λ held. ⊤)
+
+-- The store holds this series, with its labels, under this key.
+pub record Holds (s : Store) (key : Key) (id : Id) (n : Node) : Type 0 where
+  pub number : number_of key s.keys.entries ≡ Some id
+  pub node : slab.get s.nodes id.0 ≡ Some n
+
+-- The number is that of a key.
+pub record IsThere (s : Store) (id : Id) : Type 0 where
+  pub key : Key
+  pub node : Node
+  pub holds : Holds s key id node

@@ -1,6 +1,6 @@
 ghost use Rattle.std.specs.Prelude.{◌≡◌};
 ghost use Rattle.ts_series.specs.Put.{refusal_of as put_refusal};
-ghost use Rattle.ts_db.specs.Faults.{refusal_of, IsOwn};
+ghost use Rattle.ts_db.specs.Faults.{refusal_of, IsFaultAt};
 
 use std::alloc::AllocError;
 use thiserror::Error;
@@ -19,6 +19,9 @@ pub enum DbFault {
     /// There are as many keys as there may be.
     #[error("too many keys")]
     KeysFull,
+    /// There are more labels than a series may have.
+    #[error("too many labels")]
+    LabelsFull,
     /// The time is before the edge of the series.
     #[error("the time is before the retention")]
     TooOld,
@@ -43,7 +46,7 @@ pub enum DbFault {
 // The same fault of the series with this number.
 pub(crate) fn fault_at(id: Id, fault: PutFault) -> DbFault
     ensures refusal { refusal_of result ≡ put_refusal fault }
-    ensures own { IsOwn result }
+    ensures own { IsFaultAt id result }
 {
     match fault {
         PutFault::TooOld => DbFault::TooOld,

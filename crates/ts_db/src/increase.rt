@@ -1,46 +1,60 @@
-ghost use Rattle.std.specs.Prelude.{◌≡◌, ◌≤◌, length, IfOk, IfErr};
+ghost use Rattle.std.specs.Prelude.{◌≡◌, ◌≤◌, IfOk, IfErr};
 ghost use Rattle.ts_spec.specs.Sample.{MAX_TIME, last_of};
+ghost use Rattle.ts_spec.specs.Keyed.{get};
 ghost use Rattle.ts_spec.specs.Rules.{within_bound};
 ghost use Rattle.ts_spec.specs.Step.{is_before_last, changed_value};
-ghost use Rattle.ts_series.specs.History.{list_of, IsKept};
-ghost use Rattle.ts_db.specs.Faults.{IsOwn};
-ghost use Rattle.ts_db.specs.Writes.{IsWritten, IsChanged, increased};
+ghost use Rattle.ts_spec.specs.KeptStep.{kept_incr_at};
+ghost use Rattle.ts_labels.specs.Spec.{spec_of};
+ghost use Rattle.ts_series.specs.History.{list_of};
+ghost use Rattle.ts_db.specs.Held.{IsOwn};
+ghost use Rattle.ts_db.specs.Store.{stock_of, IsInOrder};
+ghost use Rattle.ts_db.specs.Answering.{KeptNumber};
+ghost use Rattle.ts_db.specs.Writes.{IsChanged};
 
 use crate::fault::DbFault;
-use crate::write::write;
+use crate::store::Store;
 use std::sync::ledger::Ledger;
-use ts_sample::{Id, Steps, Units};
+use ts_labels::Spec;
+use ts_resp::Word;
+use ts_sample::{Steps, Units};
 use ts_series::Series;
 use ts_spec::Merge;
 
-// Writes the last value and a change to a series. Answers the time.
-pub(crate) fn increase<L: Ledger>(
-    series: &mut Series,
-    id: Id,
-    time: u64,
-    change: Units,
-    limit: u32,
-    steps: &mut Steps<L>,
-) -> Result<u64, DbFault>
-    requires time { time ≤ MAX_TIME }
-    requires kept { IsKept series.old }
-    ensures written { IsWritten (increased change time series.old) limit time series.old result series.new }
-    ensures kept { IsKept series.new }
-    ensures born { series.new.born ≡ series.old.born }
-    ensures within { length (list_of series.old) ≤ limit → length (list_of series.new) ≤ limit }
-    ensures time { IfOk result (λ t. t ≡ time) }
-    ensures own { IfErr result IsOwn }
-    ensures steps { steps.new ≡ steps.old }
-{
-    if is_before(series, time) {
-        return Err(DbFault::BeforeLast);
-    }
-    if time < series.edge() {
-        return Err(DbFault::TooOld);
-    }
-    match changed(series, change) {
-        Some(value) => write(series, id, Merge::Set, time, value, limit, steps),
-        None => Err(DbFault::OutOfRange),
+impl Store {
+    // Adds a sample with the last value and a change, or changes the last sample where it has the time. Where
+    // the key is missing it begins with the change. Answers the time.
+    pub(crate) fn incr<L: Ledger>(
+        &mut self,
+        key: Word,
+        change: Units,
+        time: u64,
+        spec: Spec,
+        steps: &mut Steps<L>,
+    ) -> Result<u64, DbFault>
+        requires time { time ≤ MAX_TIME }
+        requires store { IsInOrder self.old }
+        ensures changed { KeptNumber (stock_of self.old) (kept_incr_at self.old.limits (stock_of self.old).keys key change time (spec_of spec) (get key (stock_of self.old).keys)) result (stock_of self.new) }
+        ensures bounded { IfOk result (λ t. t ≤ MAX_TIME) }
+        ensures own { IfErr result (IsOwn (stock_of self.old) key) }
+        ensures store { IsInOrder self.new }
+        ensures steps { steps.new ≡ steps.old }
+    {
+        let Some(id) = self.keys.get(&key).copied() else {
+            return self.begin(key, spec, time, change, steps);
+        };
+        let Some(node) = self.nodes.get(id.0) else {
+            unreachable!();
+        };
+        if is_before(&node.series, time) {
+            return Err(DbFault::BeforeLast);
+        }
+        if time < node.series.edge() {
+            return Err(DbFault::TooOld);
+        }
+        match changed(&node.series, change) {
+            Some(value) => self.write(id, Merge::Set, time, value, steps),
+            None => Err(DbFault::OutOfRange),
+        }
     }
 }
 

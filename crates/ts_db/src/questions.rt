@@ -1,45 +1,41 @@
 ghost use Rattle.std.specs.Prelude.{◌≡◌, Some, IfOk, IfErr};
 ghost use Rattle.ts_spec.specs.Keyed.{get};
-ghost use Rattle.ts_spec.specs.Questions.{asked};
+ghost use Rattle.ts_spec.specs.KeptQuestions.{kept_asked};
 ghost use Rattle.ts_spec.specs.Refusal.{NoKey};
 ghost use Rattle.ts_spec.specs.Sample.{IsAscending, between, last_of};
-ghost use Rattle.ts_series.specs.History.{list_of, IsKept};
 ghost use Rattle.ts_db.specs.Faults.{refusal_of};
+ghost use Rattle.ts_db.specs.Store.{stock_of, IsInOrder};
 ghost use Rattle.ts_db.specs.Held.{Finds};
 
-use crate::db::Db;
 use crate::fault::DbFault;
-use std::alloc::{AllocError, Global};
+use crate::store::Store;
 use std::sync::ledger::Ledger;
 use ts_resp::Word;
-use ts_sample::{Gathered, Sample, Steps};
-use ts_series::Series;
+use ts_sample::{Sample, Steps};
 
-impl Db {
-    /// The last sample of a key, if it has one; with `latest` also that of an open bucket. It takes no memory:
-    /// only a missing key refuses it.
-    pub fn last<L: Ledger>(
+impl Store {
+    // The last sample of a key, if it has one; with `latest` also that of an open bucket. It takes no memory:
+    // only a missing key refuses it.
+    pub(crate) fn last<L: Ledger>(
         &self,
         key: &Word,
         latest: bool,
         steps: &mut Steps<L>,
     ) -> Result<Option<Sample>, DbFault>
-        ensures last { Finds (get key.now self.now.state) (λ last. last ≡ last_of (asked self.now.state latest key.now)) result }
+        requires { IsInOrder self.now }
+        ensures last { Finds (get key.now (stock_of self.now).keys) (λ last. last ≡ last_of (kept_asked (stock_of self.now).keys latest key.now)) result }
         ensures refused { IfErr result (λ fault. refusal_of fault ≡ Some NoKey) }
         ensures steps { steps.new ≡ steps.old }
     {
         let Some(id) = self.keys.get(key).copied() else {
             return Err(DbFault::NoKey);
         };
-        let Some(series) = self.nodes.get(id.0) else {
-            unreachable!();
-        };
-        Ok(series.last())
+        Ok(self.last_of(id, latest, steps))
     }
 
-    /// The samples of a key between two times, in milliseconds, both included, in their order; with `latest`
-    /// also that of an open bucket.
-    pub fn samples<L: Ledger>(
+    // The samples of a key between two times, in milliseconds, both included, in their order; with `latest`
+    // also that of an open bucket.
+    pub(crate) fn samples<L: Ledger>(
         &self,
         key: &Word,
         from: u64,
@@ -47,37 +43,18 @@ impl Db {
         latest: bool,
         steps: &mut Steps<L>,
     ) -> Result<Vec<Sample>, DbFault>
-        ensures samples { Finds (get key.now self.now.state) (λ samples. samples.items ≡ between from to (asked self.now.state latest key.now)) result }
+        requires { IsInOrder self.now }
+        ensures samples { Finds (get key.now (stock_of self.now).keys) (λ samples. samples.items ≡ between from to (kept_asked (stock_of self.now).keys latest key.now)) result }
         ensures ascending { IfOk result (λ samples. IsAscending samples.items) }
+        ensures within { IfOk result (λ samples. between from to samples.items ≡ samples.items) }
         ensures steps { steps.new ≡ steps.old }
     {
         let Some(id) = self.keys.get(key).copied() else {
             return Err(DbFault::NoKey);
         };
-        let Some(series) = self.nodes.get(id.0) else {
-            unreachable!();
-        };
-        match gather(self.alloc, series, from, to, steps) {
+        match self.samples_of(id, from, to, latest, steps) {
             Ok(samples) => Ok(samples),
             Err(fault) => Err(DbFault::Memory(fault)),
         }
     }
-}
-
-// The samples of a series between two times, both included.
-fn gather<L: Ledger>(
-    alloc: Global,
-    series: &Series,
-    from: u64,
-    to: u64,
-    steps: &mut Steps<L>,
-) -> Result<Vec<Sample>, AllocError>
-    requires { IsKept series.now }
-    ensures gathered { IfOk result (λ samples. samples.items ≡ between from to (list_of series.now)) }
-    ensures ascending { IfOk result (λ samples. IsAscending samples.items) }
-    ensures steps { steps.new ≡ steps.old }
-{
-    let mut gathered = Gathered::with_room(alloc, series.room_for(from, to))?;
-    series.scan(from, to, &mut gathered, steps);
-    Ok(gathered.into_samples())
 }

@@ -1,12 +1,14 @@
 // The calls of a database, with ample memory.
 mod call;
 mod came;
+mod labelled;
 
 ghost use Rattle.std.specs.Prelude.{◌≡◌, ◌<◌};
 
 use crate::db::Db;
 use crate::tests::call::{Call, run, word};
 use crate::tests::came::Came;
+use crate::tests::labelled::Labelled;
 use std::alloc::{AllocError, Global};
 use std::marker::Brand;
 use std::sync::ledger::{Blank, Ledger};
@@ -14,7 +16,7 @@ use std::test::Fail;
 use ts_sample::{MAX_TIME, Steps};
 use ts_spec::{Limits, Policy};
 
-// The first of the calls that came to something else, in a database of 2 keys and 3 samples a key.
+// The first of the calls that came to something else, in a database of 2 keys and 3 samples and one label a key.
 fn wrong<L: Ledger>(
     alloc: Global,
     blank: Blank,
@@ -27,6 +29,7 @@ fn wrong<L: Ledger>(
     let limits = Limits {
         keys: 2,
         samples: 3,
+        labels: 1,
         ..Limits::usual()
     };
     let mut steps = Steps::<L>::new(blank);
@@ -122,6 +125,35 @@ fn samples_are_asked_for_and_deleted(rt: HostRuntime) -> Result<(), Fail> {
         (Call::Delete(b'a', 1, 1), Came::Number(1)),
         (Call::Last(b'a', false), Came::Last(None)),
         (Call::Create(b'c', 0), Came::Done),
+    ];
+    assert_eq!(rt; wrong::<Brand>(rt.alloc(), Blank::new(1), &calls)?, None);
+    Ok(())
+}
+
+#[test]
+fn labels_are_limited_and_replaced(rt: HostRuntime) -> Result<(), Fail> {
+    let calls = [
+        (Call::With(Labelled::Create(b'a', 2)), Came::LabelsFull),
+        (Call::With(Labelled::Add(b'a', 2)), Came::LabelsFull),
+        (Call::With(Labelled::Incr(b'a', 2)), Came::LabelsFull),
+        (Call::With(Labelled::Alter(b'a', 2, 9)), Came::NoKey),
+        (Call::With(Labelled::Create(b'a', 1)), Came::Done),
+        (Call::With(Labelled::Create(b'a', 2)), Came::KeyExists),
+        (Call::Put(b'a', 4, 1), Came::Number(4)),
+        (Call::With(Labelled::Add(b'a', 2)), Came::Number(5)),
+        (Call::LabelsOf(b'a'), Came::Labels(1, Some(b'a'))),
+        (Call::With(Labelled::Alter(b'a', 2, 9)), Came::LabelsFull),
+        (Call::LabelsOf(b'a'), Came::Labels(1, Some(b'a'))),
+        (Call::With(Labelled::Alter(b'a', 1, 9)), Came::Done),
+        (Call::Alter(b'a', 1), Came::Done),
+        (Call::Delete(b'a', 5, 5), Came::Number(1)),
+        (Call::LabelsOf(b'a'), Came::Labels(1, Some(9))),
+        (Call::With(Labelled::Alter(b'a', 0, 9)), Came::Done),
+        (Call::LabelsOf(b'a'), Came::Labels(0, None)),
+        (Call::With(Labelled::Add(b'c', 1)), Came::Number(5)),
+        (Call::LabelsOf(b'c'), Came::Labels(1, Some(b'c'))),
+        (Call::With(Labelled::Create(b'z', 2)), Came::LabelsFull),
+        (Call::With(Labelled::Create(b'z', 1)), Came::KeysFull),
     ];
     assert_eq!(rt; wrong::<Brand>(rt.alloc(), Blank::new(1), &calls)?, None);
     Ok(())

@@ -1,41 +1,109 @@
-ghost use Rattle.std.specs.Prelude.{◌≡◌, ◌≤◌, length, IfOk, IfErr};
+ghost use Rattle.std.specs.Prelude.{◌≡◌, ◌≤◌, Some, IfOk, IfErr};
 ghost use Rattle.ts_spec.specs.Sample.{MAX_TIME};
-ghost use Rattle.ts_series.specs.History.{list_of, IsKept};
+ghost use Rattle.ts_spec.specs.Key.{Key};
+ghost use Rattle.ts_spec.specs.Keyed.{get};
+ghost use Rattle.ts_spec.specs.KeptStep.{kept_add_at, kept_put_at, kept_write_merged};
+ghost use Rattle.ts_labels.specs.Spec.{spec_of};
 ghost use Rattle.ts_series.specs.Put.{met};
-ghost use Rattle.ts_db.specs.Faults.{IsOwn};
-ghost use Rattle.ts_db.specs.Writes.{IsWritten};
+ghost use Rattle.ts_db.specs.declared.node.Node.{Node as TheNode};
+ghost use Rattle.ts_db.specs.Held.{IsOwn};
+ghost use Rattle.ts_db.specs.Store.{stock_of, number_of, IsInOrder, IsThere, Holds};
+ghost use Rattle.ts_db.specs.Answering.{KeptNumber};
 
 use crate::fault::{DbFault, fault_at};
+use crate::store::Store;
 use std::sync::ledger::Ledger;
+use ts_labels::Spec;
+use ts_resp::Word;
 use ts_sample::{Id, Steps, Units};
-use ts_series::Series;
-use ts_spec::Merge;
+use ts_spec::{Merge, Policy};
 
-// Writes to a series. Answers the time.
-pub(crate) fn write<L: Ledger>(
-    series: &mut Series,
-    id: Id,
-    how: Merge,
-    time: u64,
-    value: Units,
-    limit: u32,
-    steps: &mut Steps<L>,
-) -> Result<u64, DbFault>
-    requires time { time ≤ MAX_TIME }
-    requires kept { IsKept series.old }
-    ensures written { IsWritten (met how time value series.old) limit time series.old result series.new }
-    ensures kept { IsKept series.new }
-    ensures born { series.new.born ≡ series.old.born }
-    ensures within { length (list_of series.old) ≤ limit → length (list_of series.new) ≤ limit }
-    ensures time { IfOk result (λ t. t ≡ time) }
-    ensures own { IfErr result IsOwn }
-    ensures steps { steps.new ≡ steps.old }
-{
-    match series.put(time, value, how, limit, steps) {
-        Ok(plan) => {
-            series.commit(plan);
-            Ok(time)
+impl Store {
+    // Adds a sample to the series of a key, by this policy or else its own where the time has one. Where the key
+    // is missing it begins with the sample. Answers the time.
+    pub(crate) fn add<L: Ledger>(
+        &mut self,
+        key: Word,
+        time: u64,
+        value: Units,
+        on: Option<Policy>,
+        spec: Spec,
+        steps: &mut Steps<L>,
+    ) -> Result<u64, DbFault>
+        requires time { time ≤ MAX_TIME }
+        requires store { IsInOrder self.old }
+        ensures added { KeptNumber (stock_of self.old) (kept_add_at self.old.limits (stock_of self.old).keys key time value on (spec_of spec) (get key (stock_of self.old).keys)) result (stock_of self.new) }
+        ensures bounded { IfOk result (λ t. t ≤ MAX_TIME) }
+        ensures own { IfErr result (IsOwn (stock_of self.old) key) }
+        ensures store { IsInOrder self.new }
+        ensures steps { steps.new ≡ steps.old }
+    {
+        let Some(id) = self.keys.get(&key).copied() else {
+            return self.begin(key, spec, time, value, steps);
+        };
+        let Some(node) = self.nodes.get(id.0) else {
+            unreachable!();
+        };
+        let how = Merge::By(on.unwrap_or(node.series.options().policy));
+        self.write(id, how, time, value, steps)
+    }
+
+    // Adds a sample to the series of a key, by its own policy where the time has one. Answers the time.
+    pub(crate) fn put<L: Ledger>(
+        &mut self,
+        key: &Word,
+        time: u64,
+        value: Units,
+        steps: &mut Steps<L>,
+    ) -> Result<u64, DbFault>
+        requires time { time ≤ MAX_TIME }
+        requires store { IsInOrder self.old }
+        ensures put { KeptNumber (stock_of self.old) (kept_put_at self.old.limits (stock_of self.old).keys key.now time value (get key.now (stock_of self.old).keys)) result (stock_of self.new) }
+        ensures bounded { IfOk result (λ t. t ≤ MAX_TIME) }
+        ensures own { IfErr result (IsOwn (stock_of self.old) key.now) }
+        ensures store { IsInOrder self.new }
+        ensures steps { steps.new ≡ steps.old }
+    {
+        let Some(id) = self.keys.get(key).copied() else {
+            return Err(DbFault::NoKey);
+        };
+        let Some(node) = self.nodes.get(id.0) else {
+            unreachable!();
+        };
+        let how = Merge::By(node.series.options().policy);
+        self.write(id, how, time, value, steps)
+    }
+
+    // Writes to the series of a number. Answers the time.
+    pub(crate) fn write<L: Ledger>(
+        &mut self,
+        id: Id,
+        how: Merge,
+        time: u64,
+        value: Units,
+        steps: &mut Steps<L>,
+    ) -> Result<u64, DbFault>
+        requires time { time ≤ MAX_TIME }
+        requires store { IsInOrder self.old }
+        requires there { IsThere self.old id }
+        ensures written { (key : Key) (n : TheNode) → Holds self.old key id n → KeptNumber (stock_of self.old) (kept_write_merged self.old.limits (stock_of self.old).keys key time (met how time value n.series)) result (stock_of self.new) }
+        ensures time { IfOk result (λ t. t ≡ time) }
+        ensures own { (key : Key) → number_of key self.old.keys.entries ≡ Some id → IfErr result (IsOwn (stock_of self.old) key) }
+        ensures store { IsInOrder self.new }
+        ensures steps { steps.new ≡ steps.old }
+    {
+        let Some(node) = self.nodes.get(id.0) else {
+            unreachable!();
+        };
+        match node
+            .series
+            .put(time, value, how, self.limits.samples, steps)
+        {
+            Ok(plan) => {
+                self.apply(id, plan, None);
+                Ok(time)
+            }
+            Err(fault) => Err(fault_at(id, fault)),
         }
-        Err(fault) => Err(fault_at(id, fault)),
     }
 }

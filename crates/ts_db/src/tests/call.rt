@@ -4,9 +4,10 @@ ghost use Rattle.ts_spec.specs.Sample.{MAX_TIME};
 
 use crate::db::Db;
 use crate::tests::came::{Came, done, last, number, samples};
+use crate::tests::labelled::{Labelled, labels_of, run_labelled};
 use std::alloc::{AllocError, Global};
 use std::sync::ledger::Ledger;
-use ts_labels::{Change, Spec};
+use ts_labels::{Change, Labels, Spec};
 use ts_resp::Word;
 use ts_sample::{Steps, Units};
 use ts_spec::{Encoding, Options, Policy};
@@ -23,9 +24,11 @@ pub(crate) enum Call {
     Last(u8, bool),
     Samples(u8, u64, u64, bool),
     Delete(u8, u64, u64),
+    With(Labelled),
+    LabelsOf(u8),
 }
 
-fn spec(retention: u64) -> Spec
+pub(crate) fn spec(retention: u64, labels: Labels) -> Spec
     requires { retention ≤ MAX_TIME }
 {
     Spec {
@@ -35,6 +38,7 @@ fn spec(retention: u64) -> Spec
             chunk_size: 4096,
             policy: Policy::Block,
         },
+        labels,
     }
 }
 
@@ -55,35 +59,52 @@ pub(crate) fn run<L: Ledger>(
 ) -> Result<Came, AllocError> {
     match call {
         Call::Create(key, retention) if retention <= 1000 => {
-            Ok(done(db.create(word(alloc, key)?, spec(retention))))
+            Ok(done(db.create(word(alloc, key)?, spec(retention, Labels::new(alloc)))))
         }
         Call::Alter(key, retention) if retention <= 1000 => {
             let change = Change {
                 retention: Some(retention),
                 chunk_size: None,
                 policy: None,
+                labels: None,
             };
             Ok(done(db.alter(&word(alloc, key)?, change, steps)))
         }
         Call::Add(key, at, value, on) if at <= 1000 => {
-            Ok(number(db.add(word(alloc, key)?, at, units(value), on, spec(0), steps)))
+            let spec = spec(0, Labels::new(alloc));
+            Ok(number(db.add(word(alloc, key)?, at, units(value), on, spec, steps)))
         }
         Call::Put(key, at, value) if at <= 1000 => {
             Ok(number(db.put(&word(alloc, key)?, at, units(value), steps)))
         }
         Call::Incr(key, change, at) if at <= 1000 => {
-            Ok(number(db.incr(word(alloc, key)?, units(change), at, spec(0), steps)))
+            let spec = spec(0, Labels::new(alloc));
+            Ok(number(db.incr(word(alloc, key)?, units(change), at, spec, steps)))
         }
         Call::Drop(key) => Ok(Came::Gone(db.drop_key(&word(alloc, key)?))),
+        Call::Delete(key, from, to) => {
+            let key = word(alloc, key)?;
+            Ok(number(db.delete_range(&key, from, to, steps)))
+        }
+        Call::With(call) => run_labelled(alloc, db, call, steps),
+        other => ask(alloc, db, other, steps),
+    }
+}
+
+// Makes a call that asks.
+fn ask<L: Ledger>(
+    alloc: Global,
+    db: &Db,
+    call: Call,
+    steps: &mut Steps<L>,
+) -> Result<Came, AllocError> {
+    match call {
         Call::Last(key, latest) => Ok(last(db.last(&word(alloc, key)?, latest, steps))),
         Call::Samples(key, from, to, latest) => {
             let key = word(alloc, key)?;
             Ok(samples(db.samples(&key, from, to, latest, steps)))
         }
-        Call::Delete(key, from, to) => {
-            let key = word(alloc, key)?;
-            Ok(number(db.delete_range(&key, from, to, steps)))
-        }
+        Call::LabelsOf(key) => labels_of(alloc, db, key),
         _ => Ok(Came::Memory),
     }
 }

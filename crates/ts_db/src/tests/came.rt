@@ -11,9 +11,12 @@ pub(crate) enum Came {
     Last(Option<(u64, i128)>),
     // How many samples, the first one and the last.
     Samples(usize, Option<(u64, i128)>, Option<(u64, i128)>),
+    // How many labels, and the first byte of the value of the first one.
+    Labels(usize, Option<u8>),
     KeyExists,
     NoKey,
     KeysFull,
+    LabelsFull,
     TooOld,
     Duplicate,
     OutOfRange,
@@ -27,6 +30,7 @@ pub(crate) fn fault(fault: DbFault) -> Came {
         DbFault::KeyExists => Came::KeyExists,
         DbFault::NoKey => Came::NoKey,
         DbFault::KeysFull => Came::KeysFull,
+        DbFault::LabelsFull => Came::LabelsFull,
         DbFault::TooOld => Came::TooOld,
         DbFault::Duplicate => Came::Duplicate,
         DbFault::OutOfRange => Came::OutOfRange,

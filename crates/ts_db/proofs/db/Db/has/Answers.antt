@@ -1,11 +1,12 @@
-use Rattle.std.proofs.Common.{sym, ◌∙◌, ap}
-use Rattle.std.specs.Prelude.{is_some}
+use Rattle.std.proofs.Common.{subst}
+use Rattle.std.specs.Prelude.{◌≡◌, is_some}
 use Rattle.ts_spec.specs.Keyed.{get}
-use Rattle.ts_db.specs.Held.{Held}
-use Rattle.ts_db.proofs.Storing.{found-some}
+use Rattle.ts_db.specs.Held.{Held, Stock, Stands}
+use Rattle.ts_db.specs.Store.{stock_of}
+use Rattle.ts_db.proofs.Laws.{there-law}
 use Rattle.ts_db.proofs.db.Db.has.Goals as goal
 
-pub returns : goal.returns
-returns c =
-    c.contains_key.ensures ∙ sym (found-some c.self.inside.limits c.self.inside.nodes c.self.inside.keys.entries c.self.invariant c.args.key.now)
-    ∙ ap (λ (h : Held). is_some (get c.args.key.now h.state)) c.self.view_is
+pub returns-clause-each : goal.returns-clause-each
+returns-clause-each c =
+    subst (λ (stock : Stock). (held : Held) → Stands stock held → c.has.result ≡ is_some (get c.args.key.now held.state)) c.self.view_is
+    (there-law (stock_of c.self.inside.store) c.args.key.now c.has.result c.has.ensures)

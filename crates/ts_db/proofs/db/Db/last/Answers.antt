@@ -1,23 +1,14 @@
-use Rattle.std.proofs.Common.{◌≡◌, List, sym, ◌∙◌, subst}
-use Rattle.std.specs.Prelude.{Option, Ok, Err}
+use Rattle.std.proofs.Common.{◌≡◌, List, subst}
+use Rattle.std.specs.Prelude.{Option}
 use Rattle.ts_spec.specs.Sample.{Point, last_of}
 use Rattle.ts_spec.specs.Keyed.{get}
 use Rattle.ts_spec.specs.Questions.{asked}
-use Rattle.ts_db.specs.declared.fault.DbFault.TheVariants.{NoKey}
-use Rattle.ts_db.specs.Held.{Held, Finds}
-use Rattle.ts_db.proofs.Asking.{finds-no-key, finds-own}
-use Rattle.ts_db.proofs.Touching.{Holds}
+use Rattle.ts_db.specs.Held.{Held, Stock, Stands, Finds}
+use Rattle.ts_db.specs.Store.{stock_of}
+use Rattle.ts_db.proofs.Laws.{asked-law}
 use Rattle.ts_db.proofs.db.Db.last.Goals as goal
-
-pub returns-in_default-clause-last : goal.returns-in_default-clause-last
-returns-in_default-clause-last g c =
-    subst (λ (h : Held). Finds {T = Option Point} (get c.args.key.now h.state) (λ last. last ≡ last_of (asked h.state c.args.latest c.args.key.now)) (Err NoKey)) c.self.view_is
-    (finds-no-key c.self.inside.limits c.self.inside.nodes c.self.inside.keys.entries c.self.invariant c.args.key.now _ (sym (c.in_default.ensures ∙ c.get.ensures.value)))
 
 pub returns-clause-last : goal.returns-clause-last
 returns-clause-last g c =
-    let holds : Holds c.self.inside.limits c.self.inside.nodes c.self.inside.keys.entries c.args.key.now c.in-Some.id c.in-Some-get.series.now =
-    record { store = c.self.invariant; number = sym (c.in-Some.ensures ∙ c.get.ensures.value); series = sym c.in-Some-get.ensures } in
-    subst (λ (h : Held). Finds {T = Option Point} (get c.args.key.now h.state) (λ last. last ≡ last_of (asked h.state c.args.latest c.args.key.now)) (Ok c.last.result)) c.self.view_is
-    (finds-own c.self.inside.limits c.self.inside.nodes c.self.inside.keys.entries c.args.key.now c.in-Some.id c.in-Some-get.series.now holds c.args.latest
-    (λ (ps : List Point) (last : Option Point). last ≡ last_of ps) (Ok c.last.result) c.last.ensures)
+    subst (λ (stock : Stock). (held : Held) → Stands stock held → Finds {T = Option Point} (get c.args.key.now held.state) (λ last. last ≡ last_of (asked held.state c.args.latest c.args.key.now)) c.last.result) c.self.view_is
+    (asked-law (stock_of c.self.inside.store) c.args.key.now c.args.latest (λ (ps : List Point) (last : Option Point). last ≡ last_of ps) c.last.result c.last.ensures.last)

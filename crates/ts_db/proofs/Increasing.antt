@@ -1,0 +1,65 @@
+-- How a change of the last value answers.
+use Rattle.std.proofs.Common.{◌≡◌, ℕ, ℤ, Bool, true, false, refl, sym, ◌∙◌, ap}
+use Rattle.std.specs.Prelude.{nat_lt, nat_le, unsigned_abs, if◌then◌else◌, None, Some}
+use Rattle.ts_spec.specs.Value.{bound}
+use Rattle.ts_spec.specs.Refusal as refusal
+use Rattle.ts_spec.specs.declared.series.Merge.TheVariants.{Set}
+use Rattle.ts_spec.specs.Sample.{last_of}
+use Rattle.ts_spec.specs.Key.{Key}
+use Rattle.ts_spec.specs.Keyed.{get}
+use Rattle.ts_spec.specs.Command.{Spec}
+use Rattle.ts_spec.specs.Rules.{Refuse, To, within_bound}
+use Rattle.ts_spec.specs.Step.{is_before_last, changed_value}
+use Rattle.ts_spec.specs.KeptStep.{kept_refused, kept_write_merged, kept_incr_at}
+use Rattle.ts_sample.specs.declared.id.Id.{Id}
+use Rattle.ts_series.specs.History.{list_of, low}
+use Rattle.ts_series.specs.Put.{met}
+use Rattle.ts_db.specs.declared.node.Node.{Node}
+use Rattle.ts_db.specs.declared.store.Store.{Store}
+use Rattle.ts_db.specs.Store.{stock_of, IsInOrder, Holds}
+use Rattle.ts_db.specs.Writes.{IsChanged}
+use Rattle.ts_db.proofs.Applying.{there}
+use Rattle.ts_db.proofs.Writing.{set-met}
+
+module _ (s : Store) (store : IsInOrder s) (key : Key) (id : Id) (n : Node) (holds : Holds s key id n) (x : ℤ) (t : ℕ) (spec : Spec) where
+  -- the step, by what its tests say
+  tested : (a b : Bool) → is_before_last t (last_of (list_of n.series)) ≡ a → nat_lt t (low n.series) ≡ b
+      → kept_incr_at s.limits (stock_of s).keys key x t spec (get key (stock_of s).keys) ≡ (if a then kept_refused (stock_of s).keys refusal.BeforeLast
+      else (if b then kept_refused (stock_of s).keys refusal.TooOld else kept_write_merged s.limits (stock_of s).keys key t (within_bound (changed_value x (last_of (list_of n.series))))))
+  tested a b e f =
+      ap (kept_incr_at s.limits (stock_of s).keys key x t spec) (there s store key id n holds)
+      ∙ ap (λ c. if c then kept_refused (stock_of s).keys refusal.BeforeLast
+      else (if nat_lt t (low n.series) then kept_refused (stock_of s).keys refusal.TooOld else kept_write_merged s.limits (stock_of s).keys key t (within_bound (changed_value x (last_of (list_of n.series)))))) e
+      ∙ ap (λ c. if a then kept_refused (stock_of s).keys refusal.BeforeLast
+      else (if c then kept_refused (stock_of s).keys refusal.TooOld else kept_write_merged s.limits (stock_of s).keys key t (within_bound (changed_value x (last_of (list_of n.series)))))) f
+
+  pub incr-before : is_before_last t (last_of (list_of n.series)) ≡ true → kept_incr_at s.limits (stock_of s).keys key x t spec (get key (stock_of s).keys) ≡ kept_refused (stock_of s).keys refusal.BeforeLast
+  incr-before e = tested true (nat_lt t (low n.series)) e refl
+
+  pub incr-old : is_before_last t (last_of (list_of n.series)) ≡ false → nat_lt t (low n.series) ≡ true
+      → kept_incr_at s.limits (stock_of s).keys key x t spec (get key (stock_of s).keys) ≡ kept_refused (stock_of s).keys refusal.TooOld
+  incr-old e f = tested false true e f
+
+  out : (v : ℤ) → IsChanged (within_bound v) None → within_bound v ≡ Refuse refusal.OutOfRange
+  out v is = go (nat_le (unsigned_abs v) bound) is
+    where
+      go : (b : Bool) → IsChanged (if b then To v else Refuse refusal.OutOfRange) None → (if b then To v else Refuse refusal.OutOfRange) ≡ Refuse refusal.OutOfRange
+      go true e = absurd (cc e)
+      go false e = refl
+
+  pub incr-out : is_before_last t (last_of (list_of n.series)) ≡ false → nat_lt t (low n.series) ≡ false → IsChanged (within_bound (changed_value x (last_of (list_of n.series)))) None
+      → kept_incr_at s.limits (stock_of s).keys key x t spec (get key (stock_of s).keys) ≡ kept_refused (stock_of s).keys refusal.OutOfRange
+  incr-out e f is = tested false false e f ∙ ap (kept_write_merged s.limits (stock_of s).keys key t) (out (changed_value x (last_of (list_of n.series))) is)
+
+  within : (w v : ℤ) → IsChanged (within_bound w) (Some v) → within_bound w ≡ To v
+  within w v is = go (nat_le (unsigned_abs w) bound) is
+    where
+      go : (b : Bool) → IsChanged (if b then To w else Refuse refusal.OutOfRange) (Some v) → (if b then To w else Refuse refusal.OutOfRange) ≡ To v
+      go true e = let same : w ≡ v = cc e in ap (λ (y : ℤ). To y) same
+      go false e = absurd (cc e)
+
+  pub incr-write : (v : ℤ) → is_before_last t (last_of (list_of n.series)) ≡ false → nat_lt t (low n.series) ≡ false → IsChanged (within_bound (changed_value x (last_of (list_of n.series)))) (Some v)
+      → kept_incr_at s.limits (stock_of s).keys key x t spec (get key (stock_of s).keys) ≡ kept_write_merged s.limits (stock_of s).keys key t (met Set t v n.series)
+  incr-write v e f is =
+      tested false false e f
+      ∙ ap (kept_write_merged s.limits (stock_of s).keys key t) (within (changed_value x (last_of (list_of n.series))) v is ∙ sym (set-met t v n.series f))

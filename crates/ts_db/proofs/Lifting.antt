@@ -1,0 +1,61 @@
+-- From answers over what is kept to those of each state that is stood for.
+use Rattle.std.proofs.Common.{◌≡◌, sym, ◌∙◌, ap, subst}
+use Rattle.std.specs.Prelude.{Option, None, Some, ⊤, option_map, Result, Ok, Err}
+use Rattle.ts_spec.specs.declared.limits.Limits.{Limits}
+use Rattle.ts_spec.specs.Refusal.{Refusal}
+use Rattle.ts_spec.specs.Response.{Response}
+use Rattle.ts_spec.specs.Outcome.{Outcome}
+use Rattle.ts_spec.specs.State.{State}
+use Rattle.ts_spec.specs.KeptStep.{KeptOutcome}
+use Rattle.ts_spec.specs.Stands.{StandsFor, IsStepOf}
+use Rattle.ts_db.specs.declared.fault.DbFault.{DbFault}
+use Rattle.ts_db.specs.Faults.{refusal_of}
+use Rattle.ts_db.specs.Held.{Held, Stock, Stands, Leads, IsAnswer, IsDone, Answers, Finds}
+use Rattle.ts_db.specs.Answering.{IsKeptAnswer, KeptAnswers}
+use Rattle.ts_db.proofs.Refusing.{Refuses}
+
+-- what is told of keys and of a state for each that they are stood for
+pub at-limits : (stock : Stock) (P : Held → Type 0) → ((m : State) → StandsFor stock.limits stock.keys m → P (record { limits = stock.limits; state = m })) → (from : Held) → Stands stock from → P from
+at-limits stock P each from st = subst (λ (l : Limits). P (record { limits = l; state = from.state })) (sym st.limits) (each from.state st.state)
+
+-- A step over what is kept, and that of each state: it is its step, and leaves the state where it refuses.
+pub record IsLaw (limits : Limits) (m : State) (step : Outcome) (kept_step : KeptOutcome) : Type 0 where
+  pub is_step : IsStepOf limits step kept_step
+  pub refuses : Refuses m step
+
+module _ (old new : Stock) (step : Held → Outcome) (kept_step : KeptOutcome)
+    (law : (m : State) → StandsFor old.limits old.keys m → IsLaw old.limits m (step (record { limits = old.limits; state = m })) kept_step) where
+  done : (response : Response) → (kept_step ≡ record { keys = new.keys; response = response }) × (new.limits ≡ old.limits)
+      → (from : Held) → Stands old from → IsDone response from.limits (step from) new
+  done response a = at-limits old (λ from. IsDone response from.limits (step from) new) (λ m s.
+      let is : IsStepOf old.limits (step (record { limits = old.limits; state = m })) kept_step = (law m s).is_step in
+      record {
+        says = is.response ∙ ap (λ (o : KeptOutcome). o.response) a.0;
+        stands = record {
+          limits = sym a.1;
+          state = subst (λ (l : Limits). StandsFor l new.keys (step (record { limits = old.limits; state = m })).state) (sym a.1)
+              (subst (λ (o : KeptOutcome). StandsFor old.limits o.keys (step (record { limits = old.limits; state = m })).state) a.0 is.stands);
+        };
+      })
+
+  refusal : (o : Option Refusal) → IsKeptAnswer o old.keys kept_step → (from : Held) → Stands old from → IsAnswer o from.state (step from)
+  refusal None a = λ from st. tt
+  refusal (Some r) a = at-limits old (λ from. IsAnswer (Some r) from.state (step from)) (λ m s.
+      let both = law m s in both.refuses r (both.is_step.response ∙ ap (λ (o : KeptOutcome). o.response) a))
+
+  -- the answers of each state
+  pub lifted : {T : Type 0} (response : T → Response) (r : Result T DbFault) → KeptAnswers response old kept_step r new → Answers response old step r new
+  lifted response (Ok x) a = done (response x) a
+  lifted response (Err fault) a = (refusal (refusal_of fault) a.0, a.1)
+
+-- where there was a state that was stood for there is one after that
+pub leads-on : {T : Type 0} (response : T → Response) (old new : Stock) (step : Held → Outcome) (r : Result T DbFault) → Answers response old step r new → Leads old (λ held. ⊤) → Leads new (λ held. ⊤)
+leads-on response old new step (Ok x) a w = record { to = record { limits = w.to.limits; state = (step w.to).state }; done = tt; stands = (a w.to w.stands).stands }
+leads-on response old new step (Err fault) a w = subst (λ (s : Stock). Leads s (λ held. ⊤)) (sym a.1) w
+
+-- a question about what is kept, and one about the state
+pub finds-state : {X Y T : Type 0} (f : X → Y) (o : Option X) (what : T → Type 0) (r : Result T DbFault) → Finds (option_map f o) what r → Finds o what r
+finds-state f None what (Ok x) a = a
+finds-state f None what (Err fault) a = a
+finds-state f (Some d) what (Ok x) a = a
+finds-state f (Some d) what (Err fault) a = a

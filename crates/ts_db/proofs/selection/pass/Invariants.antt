@@ -1,0 +1,7 @@
+use Rattle.std.proofs.Common.{◌≡◌, drop}
+use Rattle.ts_spec.specs.Filter.{all_hold}
+use Rattle.ts_db.proofs.selection.pass.Given as goal
+
+-- the labels pass the filters that are left exactly where they pass all
+abbrev pub invariant-loop-filter : goal.invariant-loop-filter
+invariant-loop-filter g l = all_hold (drop l.filter-index l.filters) l.labels ≡ all_hold l.filters l.labels

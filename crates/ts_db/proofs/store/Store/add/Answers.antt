@@ -1,0 +1,34 @@
+use Rattle.std.proofs.Common.{sym, ◌∙◌, ap, subst}
+use Rattle.std.specs.Prelude.{Option}
+use Rattle.std.specs.Option.{unwrap_or}
+use Rattle.ts_spec.specs.declared.series.Options.{Options}
+use Rattle.ts_spec.specs.declared.series.Policy.{Policy}
+use Rattle.ts_spec.specs.declared.series.Merge.TheVariants.{By}
+use Rattle.ts_spec.specs.Kept.{Kept}
+use Rattle.ts_spec.specs.KeptStep.{KeptOutcome, kept_add_at, kept_write}
+use Rattle.ts_labels.specs.Spec.{spec_of}
+use Rattle.ts_db.specs.Store.{kept_at, stock_of, Holds}
+use Rattle.ts_db.specs.Answering.{KeptNumber}
+use Rattle.ts_db.proofs.Storing.{missing}
+use Rattle.ts_db.proofs.Applying.{there}
+use Rattle.ts_db.proofs.Writing.{write-met}
+use Rattle.ts_db.proofs.store.Store.add.Goals as goal
+
+pub begin-requires-clause-absent : goal.begin-requires-clause-absent
+begin-requires-clause-absent g c = missing c.args.self.now.limits c.args.self.now.nodes c.args.self.now.keys.entries c.requires.store c.args.key (sym (c.in_default.ensures ∙ c.get.ensures.value))
+
+pub returns-in_default-clause-added : goal.returns-in_default-clause-added
+returns-in_default-clause-added g c =
+    subst (λ (o : Option Kept). KeptNumber (stock_of c.args.self.now) (kept_add_at c.args.self.now.limits (stock_of c.args.self.now).keys c.args.key c.args.time c.args.value c.args.on (spec_of c.args.spec) o) c.begin.result (stock_of c.begin.new.self))
+    (sym (missing c.args.self.now.limits c.args.self.now.nodes c.args.self.now.keys.entries c.requires.store c.args.key (sym (c.in_default.ensures ∙ c.get.ensures.value)))) c.begin.ensures.begun
+
+pub returns-clause-added : goal.returns-clause-added
+returns-clause-added g c =
+    let holds : Holds c.args.self.now c.args.key c.in-Some.id c.in-Some-get.node.now = record { number = sym (c.in-Some.ensures ∙ c.get.ensures.value); node = sym c.in-Some-get.ensures } in
+    subst (λ (o : Option Kept). KeptNumber (stock_of c.args.self.now) (kept_add_at c.args.self.now.limits (stock_of c.args.self.now).keys c.args.key c.args.time c.args.value c.args.on (spec_of c.args.spec) o) c.write.result (stock_of c.write.new.self))
+    (sym (there c.args.self.now c.requires.store c.args.key c.in-Some.id c.in-Some-get.node.now holds))
+    (subst (λ (p : Policy). KeptNumber (stock_of c.args.self.now) (kept_write c.args.self.now.limits (stock_of c.args.self.now).keys c.args.key (kept_at c.in-Some-get.node.now) (By p) c.args.time c.args.value) c.write.result (stock_of c.write.new.self))
+    (c.unwrap_or.ensures ∙ ap (λ (o : Options). unwrap_or c.args.on o.policy) c.options.ensures)
+    (subst (λ (step : KeptOutcome). KeptNumber (stock_of c.args.self.now) step c.write.result (stock_of c.write.new.self))
+    (sym (write-met (stock_of c.args.self.now).keys c.args.self.now c.args.key c.in-Some-get.node.now (By c.unwrap_or.result) c.args.time c.args.value))
+    (c.write.ensures.written c.args.key c.in-Some-get.node.now holds)))

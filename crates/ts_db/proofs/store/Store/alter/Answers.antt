@@ -1,0 +1,39 @@
+use Rattle.std.proofs.Common.{refl, sym, ◌∙◌, ap}
+use Rattle.ts_spec.specs.KeptStep.{kept_alter_at}
+use Rattle.ts_labels.specs.Spec.{change_of}
+use Rattle.ts_db.specs.Held.{Stock}
+use Rattle.ts_db.specs.Store.{stock_of, Holds, IsNode}
+use Rattle.ts_db.proofs.Storing.{missing}
+use Rattle.ts_db.proofs.Changing.{few-altered, altered-within, alter-longer, alter-answers}
+use Rattle.ts_db.proofs.store.Store.alter.Goals as goal
+
+pub returns-in_default-clause-altered : goal.returns-in_default-clause-altered
+returns-in_default-clause-altered g c = (
+  ap (kept_alter_at c.args.self.now.limits (stock_of c.args.self.now).keys c.args.key.now (change_of c.args.change)) (missing c.args.self.now.limits c.args.self.now.nodes c.args.self.now.keys.entries c.requires c.args.key.now (sym (c.in_default.ensures ∙ c.get.ensures.value))),
+  refl,
+)
+
+pub returns-then-are_too_many-clause-altered : goal.returns-then-are_too_many-clause-altered
+returns-then-are_too_many-clause-altered g c =
+    let holds : Holds c.args.self.now c.args.key.now c.in-Some.id c.in-Some-get.node.now = record { number = sym (c.in-Some.ensures ∙ c.get.ensures.value); node = sym c.in-Some-get.ensures } in
+    (alter-longer c.args.self.now c.requires c.args.key.now c.in-Some.id c.in-Some-get.node.now holds (change_of c.args.change) (sym c.are_too_many.ensures ∙ c.if-are_too_many.true), refl)
+
+pub apply-requires-clause-planned : goal.apply-requires-clause-planned
+apply-requires-clause-planned g c =
+    let fits : IsNode c.args.self.now.limits c.in-Some-get.node.now = c.requires.each c.in-Some.id.0 c.in-Some-get.node.now (sym c.in-Some-get.ensures) in
+    record {
+      key = c.args.key.now;
+      node = c.in-Some-get.node.now;
+      holds = record { number = sym (c.in-Some.ensures ∙ c.get.ensures.value); node = sym c.in-Some-get.ensures };
+      ready = c.in-Ok.ensures.planned;
+      within = altered-within c.in-Some-get.node.now c.in-Ok.plan (change_of c.args.change) c.args.self.now.limits.samples c.in-Ok.ensures.options fits.within;
+      few = few-altered c.args.self.now.limits.labels c.args.change.labels c.in-Some-get.node.now.labels (sym c.are_too_many.ensures ∙ c.if-are_too_many.false) fits.labels;
+    }
+
+pub returns-in-Ok-clause-altered : goal.returns-in-Ok-clause-altered
+returns-in-Ok-clause-altered g c =
+    let holds : Holds c.args.self.now c.args.key.now c.in-Some.id c.in-Some-get.node.now = record { number = sym (c.in-Some.ensures ∙ c.get.ensures.value); node = sym c.in-Some-get.ensures } in (
+      alter-answers c.args.self.now c.requires c.args.key.now c.in-Some.id c.in-Some-get.node.now holds (change_of c.args.change) c.in-Ok.plan (stock_of c.apply.new.self)
+          (sym c.are_too_many.ensures ∙ c.if-are_too_many.false) c.in-Ok.ensures.options (c.apply.ensures.applied c.args.key.now c.in-Some-get.node.now holds),
+      ap (λ (x : Stock). x.limits) (c.apply.ensures.applied c.args.key.now c.in-Some-get.node.now holds),
+    )

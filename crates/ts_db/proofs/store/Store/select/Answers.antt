@@ -1,0 +1,54 @@
+use Rattle.std.proofs.Common.{◌≡◌, ◌++◌, List, [], ◌∷◌, refl, sym, ap, subst, ◌∙◌}
+use Rattle.ts_spec.specs.KeptQuestions.{kept_selection}
+use Rattle.ts_sample.specs.declared.id.Id.{Id}
+use Rattle.ts_db.specs.Held.{AreNumbersOf}
+use Rattle.ts_db.specs.Store.{stock_of, ids_of, Numbers}
+use Rattle.ts_db.proofs.Collecting.{get-ids}
+use Rattle.ts_db.proofs.Selecting.{chosen, HaveNodes, chosen-selected, all-found, all-there, walk-takes, walk-skips, walk-ends, there-next}
+use Rattle.ts_db.proofs.store.Store.select.Goals as goal
+
+pub loop-key-init : goal.loop-key-init
+loop-key-init g c =
+    let all : c.into_iter-key-iterator.result ≡ c.args.self.now.keys.entries = c.into_iter-key-iterator.ensures.into_iter_gives ∙ c.iter-key-items.ensures.rest in
+    record {
+      chosen = ap (λ (l : List Id). l ++ chosen c.args.self.now.nodes c.args.filters.now c.into_iter-key-iterator.result) c.new-ids.ensures.items
+          ∙ ap (chosen c.args.self.now.nodes c.args.filters.now) all;
+      there = subst (HaveNodes c.args.self.now.nodes) (sym all)
+          (all-there c.args.self.now.nodes c.args.self.now.keys.entries c.args.self.now.keys.entries c.requires.stored c.iter-key-items.ensures.found);
+    }
+
+pub unreachable-requires : goal.unreachable-requires
+unreachable-requires g c =
+    let here = there-next c.args.self.now.nodes c.loop-key._key-iterator c.next.new.self c.in-Some._key.now c.in-Some.id.now c.in-Some.ensures.steps c.loop-key.invariant.there in
+    absurd (cc (here.0.1, c.get.ensures, c.in_default.ensures))
+
+pub loop-key-preserved-in-Continue-1 : goal.loop-key-preserved-in-Continue-1
+loop-key-preserved-in-Continue-1 g c =
+    let here = there-next c.args.self.now.nodes c.loop-key._key-iterator c.next.new.self c.in-Some._key.now c.in-Some.id.now c.in-Some.ensures.steps c.loop-key.invariant.there in
+    record {
+      chosen = walk-takes c.args.self.now.nodes c.args.filters.now c.in-Some._key.now c.in-Some.id.now c.in-Some-get.node.now c.loop-key._key-iterator c.next.new.self
+          c.loop-key.ids.items c.push.new.self.items (chosen c.args.self.now.nodes c.args.filters.now c.args.self.now.keys.entries)
+          c.in-Some.ensures.steps (sym c.in-Some-get.ensures) c.loop-key.invariant.chosen (sym c.pass.ensures ∙ c.if-pass.true) c.in_ok-push.ensures.items;
+      there = here.1;
+    }
+
+pub loop-key-preserved : goal.loop-key-preserved
+loop-key-preserved g c =
+    let here = there-next c.args.self.now.nodes c.loop-key._key-iterator c.next.new.self c.in-Some._key.now c.in-Some.id.now c.in-Some.ensures.steps c.loop-key.invariant.there in
+    record {
+      chosen = walk-skips c.args.self.now.nodes c.args.filters.now c.in-Some._key.now c.in-Some.id.now c.in-Some-get.node.now c.loop-key._key-iterator c.next.new.self
+          c.loop-key.ids.items c.loop-key.ids.items (chosen c.args.self.now.nodes c.args.filters.now c.args.self.now.keys.entries)
+          c.in-Some.ensures.steps (sym c.in-Some-get.ensures) c.loop-key.invariant.chosen (sym c.pass.ensures ∙ c.if-pass.false) refl;
+      there = here.1;
+    }
+
+pub returns : goal.returns
+returns g c =
+    let nodes = c.args.self.now.nodes in
+    let es = c.args.self.now.keys.entries in
+    let fs = c.args.filters.now in
+    subst (AreNumbersOf (ids_of es) (kept_selection (stock_of c.args.self.now).keys fs))
+    (walk-ends nodes fs c.loop-key._key-iterator c.loop-key.ids.items (chosen nodes fs es) c.in-None.ensures.steps.0 c.loop-key.invariant.chosen)
+    (chosen-selected nodes (ids_of es) fs es c.iter-key-items.ensures.ordered
+    (all-there nodes es es c.requires.stored c.iter-key-items.ensures.found)
+    (all-found (ids_of es) es es (λ key. get-ids key es) c.iter-key-items.ensures.found))

@@ -1,0 +1,55 @@
+-- How the calls of a store answer: by the functions of what is kept.
+use Rattle.std.specs.Prelude.{◌≡◌, ◌≤◌, ℕ, ⊤, List, length, Option, None, Some, Result, Ok, Err}
+use Rattle.std.specs.Option.{unwrap_or}
+use Rattle.ts_spec.specs.Refusal.{Refusal}
+use Rattle.ts_spec.specs.Response.{Response, Done, Count}
+use Rattle.ts_spec.specs.Key.{Key}
+use Rattle.ts_spec.specs.Keyed.{with_key}
+use Rattle.ts_spec.specs.State.{Label}
+use Rattle.ts_spec.specs.Kept.{Kept, Keeping}
+use Rattle.ts_spec.specs.KeptStep.{KeptOutcome, kept_refused}
+use Rattle.ts_sample.specs.declared.id.Id.{Id}
+use Rattle.ts_series.specs.History.{list_of}
+use Rattle.ts_series.specs.Plan.{Plan, after, IsFor}
+use Rattle.ts_db.specs.declared.fault.DbFault.{DbFault}
+use Rattle.ts_db.specs.declared.node.Node.{Node}
+use Rattle.ts_db.specs.declared.store.Store.{Store}
+use Rattle.ts_db.specs.Faults.{refusal_of}
+use Rattle.ts_db.specs.Held.{Stock}
+use Rattle.ts_db.specs.Store.{kept_of, stock_of, Holds}
+
+-- a refusal is the step's answer; want of memory is free
+abbrev pub IsKeptAnswer : Option Refusal → Keeping → KeptOutcome → Type 0
+IsKeptAnswer None m step = ⊤
+IsKeptAnswer (Some refusal) m step = step ≡ kept_refused m refusal
+
+-- An answer is that of the step over what is kept, and so is what is kept then; or it is the step's refusal or want of memory, and
+-- nothing has changed.
+abbrev pub KeptAnswers : {T : Type 0} → (T → Response) → (old : Stock) → KeptOutcome → Result T DbFault → (new : Stock) → Type 0
+KeptAnswers response old step (Ok x) new = (step ≡ record { keys = new.keys; response = response x }) × (new.limits ≡ old.limits)
+KeptAnswers response old step (Err fault) new = IsKeptAnswer (refusal_of fault) old.keys step × (new ≡ old)
+
+-- a node after a plan of its series, with these labels, where they are given
+abbrev pub kept_after : Plan → Option (List Label) → Node → Kept
+kept_after plan labels n = kept_of (unwrap_or labels n.labels) (after plan n.series)
+
+-- A plan was made for the series of a number, and leaves it within the limits, as these labels are.
+pub record IsPlanned (s : Store) (id : Id) (plan : Plan) (labels : Option (List Label)) : Type 0 where
+  pub key : Key
+  pub node : Node
+  pub holds : Holds s key id node
+  pub ready : IsFor plan node.series
+  pub within : length (list_of (after plan node.series)) ≤ s.limits.samples
+  pub few : length (unwrap_or labels node.labels) ≤ s.limits.labels
+
+-- what is kept of the key of a number is that after the plan, and all else is as it was
+abbrev pub IsApplied : (old : Store) → Id → Plan → Option (List Label) → (new : Store) → Type 0
+IsApplied old id plan labels new =
+    (key : Key) (n : Node) → Holds old key id n → stock_of new ≡ record (stock_of old) { keys = with_key key (kept_after plan labels n) (stock_of old).keys }
+
+-- a call that answers nothing, and one that answers a time, or how many
+abbrev pub KeptDone : (old : Stock) → KeptOutcome → Result (Unit {0}) DbFault → (new : Stock) → Type 0
+KeptDone old step result new = KeptAnswers (λ x. Done) old step result new
+
+abbrev pub KeptNumber : (old : Stock) → KeptOutcome → Result ℕ DbFault → (new : Stock) → Type 0
+KeptNumber old step result new = KeptAnswers (λ t. Count t) old step result new

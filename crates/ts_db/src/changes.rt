@@ -1,0 +1,126 @@
+ghost use Rattle.std.specs.Prelude.{◌≡◌, ◌≤◌, is_some, IfOk, IfErr};
+ghost use Rattle.ts_spec.specs.Sample.{MAX_TIME};
+ghost use Rattle.ts_spec.specs.Keyed.{get};
+ghost use Rattle.ts_spec.specs.Step.{create, alter_at, add_at, put_at, incr_at, delete_at};
+ghost use Rattle.ts_labels.specs.Spec.{spec_of, change_of};
+ghost use Rattle.ts_db.specs.Held.{Held, Stands, AnswersDone, AnswersNumber, IsOwn, Drops};
+
+use crate::db::Db;
+use crate::fault::DbFault;
+use std::sync::ledger::Ledger;
+use ts_labels::{Change, Spec};
+use ts_resp::Word;
+use ts_sample::{Steps, Units};
+use ts_spec::Policy;
+
+impl Db {
+    /// Makes a series without samples under a new key.
+    pub fn create(&mut self, key: Word, spec: Spec) -> Result<(), DbFault>
+        ensures created { AnswersDone self.old (λ h. create h.limits h.state key (spec_of spec)) result self.new }
+        ensures limits { self.new.limits ≡ self.old.limits }
+        ensures own { IfErr result (IsOwn self.old key) }
+    {
+        self.store.create(key, spec)
+    }
+
+    /// Gives a series new options and labels, where they are given. Samples before its new edge are dropped.
+    pub fn alter<L: Ledger>(
+        &mut self,
+        key: &Word,
+        change: Change,
+        steps: &mut Steps<L>,
+    ) -> Result<(), DbFault>
+        ensures altered { AnswersDone self.old (λ h. alter_at h.limits h.state key.now (change_of change) (get key.now h.state)) result self.new }
+        ensures limits { self.new.limits ≡ self.old.limits }
+        ensures own { IfErr result (IsOwn self.old key.now) }
+        ensures steps { steps.new ≡ steps.old }
+    {
+        self.store.alter(key, change, steps)
+    }
+
+    /// Adds a sample to the series of a key, by this policy or else its own where the time has one. Where
+    /// the key is missing it begins with the sample. Answers the time.
+    pub fn add<L: Ledger>(
+        &mut self,
+        key: Word,
+        time: u64,
+        value: Units,
+        on: Option<Policy>,
+        spec: Spec,
+        steps: &mut Steps<L>,
+    ) -> Result<u64, DbFault>
+        requires time { time ≤ MAX_TIME }
+        ensures added { AnswersNumber self.old (λ h. add_at h.limits h.state key time value on (spec_of spec) (get key h.state)) result self.new }
+        ensures bounded { IfOk result (λ t. t ≤ MAX_TIME) }
+        ensures limits { self.new.limits ≡ self.old.limits }
+        ensures own { IfErr result (IsOwn self.old key) }
+        ensures steps { steps.new ≡ steps.old }
+    {
+        self.store.add(key, time, value, on, spec, steps)
+    }
+
+    /// Adds a sample with the last value and a change, or changes the last sample where it has the time.
+    /// Where the key is missing it begins with the change. Answers the time.
+    pub fn incr<L: Ledger>(
+        &mut self,
+        key: Word,
+        change: Units,
+        time: u64,
+        spec: Spec,
+        steps: &mut Steps<L>,
+    ) -> Result<u64, DbFault>
+        requires time { time ≤ MAX_TIME }
+        ensures changed { AnswersNumber self.old (λ h. incr_at h.limits h.state key change time (spec_of spec) (get key h.state)) result self.new }
+        ensures bounded { IfOk result (λ t. t ≤ MAX_TIME) }
+        ensures limits { self.new.limits ≡ self.old.limits }
+        ensures own { IfErr result (IsOwn self.old key) }
+        ensures steps { steps.new ≡ steps.old }
+    {
+        self.store.incr(key, change, time, spec, steps)
+    }
+
+    /// Adds a sample to the series of a key, by its own policy where the time has one. Answers the time.
+    pub fn put<L: Ledger>(
+        &mut self,
+        key: &Word,
+        time: u64,
+        value: Units,
+        steps: &mut Steps<L>,
+    ) -> Result<u64, DbFault>
+        requires time { time ≤ MAX_TIME }
+        ensures put { AnswersNumber self.old (λ h. put_at h.limits h.state key.now time value (get key.now h.state)) result self.new }
+        ensures bounded { IfOk result (λ t. t ≤ MAX_TIME) }
+        ensures limits { self.new.limits ≡ self.old.limits }
+        ensures own { IfErr result (IsOwn self.old key.now) }
+        ensures steps { steps.new ≡ steps.old }
+    {
+        self.store.put(key, time, value, steps)
+    }
+
+    /// Takes the samples between two times, in milliseconds, both included, out of the series of a key. Answers
+    /// how many they were: none where `from` is above `to`.
+    pub fn delete_range<L: Ledger>(
+        &mut self,
+        key: &Word,
+        from: u64,
+        to: u64,
+        steps: &mut Steps<L>,
+    ) -> Result<u64, DbFault>
+        ensures deleted { AnswersNumber self.old (λ h. delete_at h.limits h.state key.now from to (get key.now h.state)) result self.new }
+        ensures bounded { IfOk result (λ n. n ≤ MAX_TIME) }
+        ensures limits { self.new.limits ≡ self.old.limits }
+        ensures own { IfErr result (IsOwn self.old key.now) }
+        ensures steps { steps.new ≡ steps.old }
+    {
+        self.store.delete_range(key, from, to, steps)
+    }
+
+    /// Takes a key away, with its series, without memory. Answers whether it was there.
+    pub fn drop_key(&mut self, key: &Word) -> bool
+        ensures there { result ≡ is_some (get key.now self.old.keys) }
+        ensures dropped { (from : Held) → Stands self.old from → Drops key.now result from self.new }
+        ensures limits { self.new.limits ≡ self.old.limits }
+    {
+        self.store.drop_key(key)
+    }
+}

@@ -1,0 +1,137 @@
+ghost use Rattle.std.specs.Prelude.{◌≡◌, ◌≤◌, ◌<◌, [], ◌∷◌, length, None, Some, IfOk, IfErr};
+ghost use Rattle.ts_spec.specs.Sample.{MAX_TIME};
+ghost use Rattle.ts_spec.specs.Keyed.{get, with_key, count_keys};
+ghost use Rattle.ts_spec.specs.Keeping.{kept_fresh};
+ghost use Rattle.ts_spec.specs.KeptStep.{kept_create, kept_create_with};
+ghost use Rattle.ts_labels.specs.Spec.{spec_of};
+ghost use Rattle.ts_series.specs.History.{list_of, IsKept};
+ghost use Rattle.ts_db.specs.Faults.{IsMemory};
+ghost use Rattle.ts_db.specs.Held.{IsOwn};
+ghost use Rattle.ts_db.specs.Store.{kept_of, stock_of, IsInOrder};
+ghost use Rattle.ts_db.specs.Answering.{KeptDone, KeptNumber};
+
+use crate::fault::DbFault;
+use crate::node::Node;
+use crate::store::Store;
+use std::alloc::{AllocError, Global};
+use std::sync::ledger::Ledger;
+use ts_labels::{Labels, Spec};
+use ts_resp::Word;
+use ts_sample::{Id, Steps, Units};
+use ts_series::{PutFault, Series};
+use ts_spec::{Merge, Options};
+
+impl Store {
+    // Makes a series without samples under a new key.
+    pub(crate) fn create(&mut self, key: Word, spec: Spec) -> Result<(), DbFault>
+        requires { IsInOrder self.old }
+        ensures created { KeptDone (stock_of self.old) (kept_create self.old.limits (stock_of self.old).keys key (spec_of spec)) result (stock_of self.new) }
+        ensures store { IsInOrder self.new }
+        ensures own { IfErr result (IsOwn (stock_of self.old) key) }
+    {
+        if self.has(&key) {
+            return Err(DbFault::KeyExists);
+        }
+        if self.are_too_many(&spec.labels) {
+            return Err(DbFault::LabelsFull);
+        }
+        if self.is_full() {
+            return Err(DbFault::KeysFull);
+        }
+        let series = Series::new(self.alloc, spec.options);
+        self.insert(key, series, spec.labels)
+    }
+
+    // Puts a series with labels under a new key.
+    fn insert(&mut self, key: Word, series: Series, labels: Labels) -> Result<(), DbFault>
+        requires store { IsInOrder self.old }
+        requires absent { get key (stock_of self.old).keys ≡ None }
+        requires room { count_keys (stock_of self.old).keys < self.old.limits.keys }
+        requires kept { IsKept series }
+        requires within { length (list_of series) ≤ self.old.limits.samples }
+        requires born { series.born ≤ self.old.limits.born }
+        requires labels { length labels ≤ self.old.limits.labels }
+        ensures added { IfOk result (λ _. (stock_of self.new).keys ≡ with_key key (kept_of labels series) (stock_of self.old).keys) }
+        ensures limits { self.new.limits ≡ self.old.limits }
+        ensures memory { IfErr result IsMemory }
+        ensures unchanged { IfErr result (λ _. stock_of self.new ≡ stock_of self.old) }
+        ensures store { IsInOrder self.new }
+    {
+        let name = match key.copy() {
+            Ok(name) => name,
+            Err(fault) => return Err(DbFault::Memory(fault)),
+        };
+        match self.nodes.reserve(1) {
+            Ok(()) => {}
+            Err(fault) => return Err(DbFault::Memory(fault)),
+        }
+        let id = Id(self.nodes.vacant_key());
+        match self.keys.insert(key, id) {
+            Ok(_) => {}
+            Err(_) => return Err(DbFault::Memory(AllocError)),
+        }
+        self.nodes.insert_reserved(Node {
+            key: name,
+            series,
+            labels,
+        });
+        Ok(())
+    }
+
+    // Begins a series with one sample under a new key.
+    pub(crate) fn begin<L: Ledger>(
+        &mut self,
+        key: Word,
+        spec: Spec,
+        time: u64,
+        value: Units,
+        steps: &mut Steps<L>,
+    ) -> Result<u64, DbFault>
+        requires time { time ≤ MAX_TIME }
+        requires store { IsInOrder self.old }
+        requires absent { get key (stock_of self.old).keys ≡ None }
+        ensures begun { KeptNumber (stock_of self.old) (kept_create_with self.old.limits (stock_of self.old).keys key (spec_of spec) time value) result (stock_of self.new) }
+        ensures bounded { IfOk result (λ t. t ≤ MAX_TIME) }
+        ensures own { IfErr result (IsOwn (stock_of self.old) key) }
+        ensures store { IsInOrder self.new }
+        ensures steps { steps.new ≡ steps.old }
+    {
+        if self.are_too_many(&spec.labels) {
+            return Err(DbFault::LabelsFull);
+        }
+        if self.is_full() {
+            return Err(DbFault::KeysFull);
+        }
+        match begun(self.alloc, spec.options, time, value, steps) {
+            Ok(series) => match self.insert(key, series, spec.labels) {
+                Ok(()) => Ok(time),
+                Err(fault) => Err(fault),
+            },
+            Err(fault) => Err(DbFault::Memory(fault)),
+        }
+    }
+}
+
+// A series with one sample.
+fn begun<L: Ledger>(
+    alloc: Global,
+    options: Options,
+    time: u64,
+    value: Units,
+    steps: &mut Steps<L>,
+) -> Result<Series, AllocError>
+    requires time { time ≤ MAX_TIME }
+    ensures begun { IfOk result (λ series. kept_of [] series ≡ kept_fresh (record { options = options; labels = [] }) (record { time = time; value = value; made = 0 } ∷ []) (Some time)) }
+    ensures kept { IfOk result (λ series. IsKept series) }
+    ensures steps { steps.new ≡ steps.old }
+{
+    let mut series = Series::new(alloc, options);
+    match series.put(time, value, Merge::Set, 1, steps) {
+        Ok(plan) => {
+            series.commit(plan);
+            Ok(series)
+        }
+        Err(PutFault::Memory(fault)) => Err(fault),
+        Err(_) => unreachable!(),
+    }
+}

@@ -1,0 +1,114 @@
+ghost use Rattle.std.specs.Prelude.{◌≡◌, nat_lt, is_some, Some, IfOk};
+ghost use Rattle.std.specs.Option.{ForSome};
+ghost use Rattle.ts_spec.specs.Key.{Key};
+ghost use Rattle.ts_spec.specs.Keyed.{get};
+ghost use Rattle.ts_spec.specs.KeptQuestions.{kept_asked, kept_labels_at, kept_selection};
+ghost use Rattle.ts_spec.specs.Sample.{IsAscending, at_times, between, last_of};
+ghost use Rattle.ts_db.specs.Held.{IsLive, AreNumbersOf, AreTimes, ends_of};
+
+use crate::db::Db;
+use std::alloc::AllocError;
+use std::sync::ledger::Ledger;
+use ts_labels::{Filter, Labels};
+use ts_resp::Word;
+use ts_sample::{Id, Sample, Steps};
+
+impl Db {
+    /// The numbers of the keys whose labels pass all filters, in ascending order of the bytes of the keys.
+    pub fn select<L: Ledger>(
+        &self,
+        filters: &[Filter],
+        steps: &mut Steps<L>,
+    ) -> Result<Vec<Id>, AllocError>
+        ensures { IfOk result (λ ids. AreNumbersOf self.now.ids (kept_selection self.now.keys filters.now) ids.items) }
+    {
+        self.store.select(filters, steps)
+    }
+
+    /// The number of a key, if the key is there. Takes no memory.
+    pub fn id_of(&self, key: &Word) -> Option<Id>
+        ensures id { result ≡ get key.now self.now.ids }
+        ensures there { is_some result ≡ is_some (get key.now self.now.keys) }
+    {
+        self.store.keys.get(key).copied()
+    }
+
+    /// The key of a number. Takes no memory.
+    pub fn key_of(&self, id: Id) -> &Word
+        requires { IsLive self.now.ids id }
+        ensures { (key : Key) → get key self.now.ids ≡ Some id → result.now ≡ key }
+    {
+        self.store.key_of(id)
+    }
+
+    /// The labels of the key of a number. Takes no memory.
+    pub fn labels_of(&self, id: Id) -> &Labels
+        requires { IsLive self.now.ids id }
+        ensures { (key : Key) → get key self.now.ids ≡ Some id → result.now ≡ kept_labels_at (get key self.now.keys) }
+    {
+        self.store.labels_of(id)
+    }
+
+    /// The last sample of the key of a number, if it has one; with `latest` also that of an open bucket. Takes no
+    /// memory.
+    pub fn last_of<L: Ledger>(&self, id: Id, latest: bool, steps: &mut Steps<L>) -> Option<Sample>
+        requires { IsLive self.now.ids id }
+        ensures last { (key : Key) → get key self.now.ids ≡ Some id → result ≡ last_of (kept_asked self.now.keys latest key) }
+        ensures steps { steps.new ≡ steps.old }
+    {
+        self.store.last_of(id, latest, steps)
+    }
+
+    /// The samples of the key of a number between two times, in milliseconds, both included, in their order; with
+    /// `latest` also that of an open bucket.
+    pub fn samples_of<L: Ledger>(
+        &self,
+        id: Id,
+        from: u64,
+        to: u64,
+        latest: bool,
+        steps: &mut Steps<L>,
+    ) -> Result<Vec<Sample>, AllocError>
+        requires { IsLive self.now.ids id }
+        ensures samples { IfOk result (λ samples. (key : Key) → get key self.now.ids ≡ Some id
+            → samples.items ≡ between from to (kept_asked self.now.keys latest key)) }
+        ensures ascending { IfOk result (λ samples. IsAscending samples.items) }
+        ensures within { IfOk result (λ samples. between from to samples.items ≡ samples.items) }
+        ensures steps { steps.new ≡ steps.old }
+    {
+        self.store.samples_of(id, from, to, latest, steps)
+    }
+
+    /// The last sample of the key of a number before a time, in milliseconds, if it has one; with `latest` that of
+    /// an open bucket counts too. Takes no memory.
+    pub fn before_of<L: Ledger>(
+        &self,
+        id: Id,
+        t: u64,
+        latest: bool,
+        steps: &mut Steps<L>,
+    ) -> Option<Sample>
+        requires { IsLive self.now.ids id }
+        ensures before { (key : Key) → get key self.now.ids ≡ Some id
+            → result ≡ last_of (at_times (λ u. nat_lt u t) (kept_asked self.now.keys latest key)) }
+        ensures steps { steps.new ≡ steps.old }
+    {
+        self.store.before_of(id, t, latest, steps)
+    }
+
+    /// The times of the first and of the last sample of the key of a number, in milliseconds, if it has any; with
+    /// `latest` that of an open bucket counts too. Takes no memory.
+    pub fn ends_of<L: Ledger>(
+        &self,
+        id: Id,
+        latest: bool,
+        steps: &mut Steps<L>,
+    ) -> Option<(u64, u64)>
+        requires { IsLive self.now.ids id }
+        ensures ends { (key : Key) → get key self.now.ids ≡ Some id → result ≡ ends_of (kept_asked self.now.keys latest key) }
+        ensures bounded { ForSome result AreTimes }
+        ensures steps { steps.new ≡ steps.old }
+    {
+        self.store.ends_of(id, latest, steps)
+    }
+}

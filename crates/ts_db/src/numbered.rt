@@ -1,0 +1,154 @@
+// What is kept under the number of a key.
+ghost use Rattle.std.specs.Prelude.{◌≡◌, nat_lt, Some, IfOk};
+ghost use Rattle.std.specs.Option.{ForSome};
+ghost use Rattle.ts_spec.specs.Key.{Key};
+ghost use Rattle.ts_spec.specs.Keyed.{get};
+ghost use Rattle.ts_spec.specs.KeptQuestions.{kept_asked, kept_labels_at};
+ghost use Rattle.ts_spec.specs.Sample.{IsAscending, at_times, between, last_of};
+ghost use Rattle.ts_series.specs.History.{list_of, IsKept};
+ghost use Rattle.ts_db.specs.Store.{stock_of, IsInOrder, Holds};
+ghost use Rattle.ts_db.specs.Held.{IsLive, AreTimes, ends_of};
+
+use crate::node::Node;
+use crate::store::Store;
+use std::alloc::{AllocError, Global};
+use std::sync::ledger::Ledger;
+use ts_labels::Labels;
+use ts_resp::Word;
+use ts_sample::{Gathered, Id, Sample, Steps};
+use ts_series::Series;
+
+impl Store {
+    // The node of a number.
+    fn node(&self, id: Id) -> &Node
+        requires store { IsInOrder self.now }
+        requires live { IsLive (stock_of self.now).ids id }
+        ensures holds { (key : Key) → get key (stock_of self.now).ids ≡ Some id → Holds self.now key id result.now }
+        ensures kept { IsKept result.now.series }
+    {
+        let Some(node) = self.nodes.get(id.0) else {
+            unreachable!();
+        };
+        node
+    }
+
+    // The key of a number.
+    pub(crate) fn key_of(&self, id: Id) -> &Word
+        requires store { IsInOrder self.now }
+        requires live { IsLive (stock_of self.now).ids id }
+        ensures { (key : Key) → get key (stock_of self.now).ids ≡ Some id → result.now ≡ key }
+    {
+        &self.node(id).key
+    }
+
+    // The labels of the key of a number.
+    pub(crate) fn labels_of(&self, id: Id) -> &Labels
+        requires store { IsInOrder self.now }
+        requires live { IsLive (stock_of self.now).ids id }
+        ensures { (key : Key) → get key (stock_of self.now).ids ≡ Some id → result.now ≡ kept_labels_at (get key (stock_of self.now).keys) }
+    {
+        &self.node(id).labels
+    }
+
+    // The last sample, if there is one; with `latest` also that of an open bucket.
+    pub(crate) fn last_of<L: Ledger>(
+        &self,
+        id: Id,
+        latest: bool,
+        steps: &mut Steps<L>,
+    ) -> Option<Sample>
+        requires store { IsInOrder self.now }
+        requires live { IsLive (stock_of self.now).ids id }
+        ensures last { (key : Key) → get key (stock_of self.now).ids ≡ Some id → result ≡ last_of (kept_asked (stock_of self.now).keys latest key) }
+        ensures steps { steps.new ≡ steps.old }
+    {
+        self.node(id).series.last()
+    }
+
+    // The samples between two times, in milliseconds, both included, in their order; with `latest` also that of an
+    // open bucket.
+    pub(crate) fn samples_of<L: Ledger>(
+        &self,
+        id: Id,
+        from: u64,
+        to: u64,
+        latest: bool,
+        steps: &mut Steps<L>,
+    ) -> Result<Vec<Sample>, AllocError>
+        requires store { IsInOrder self.now }
+        requires live { IsLive (stock_of self.now).ids id }
+        ensures samples { IfOk result (λ samples. (key : Key) → get key (stock_of self.now).ids ≡ Some id
+            → samples.items ≡ between from to (kept_asked (stock_of self.now).keys latest key)) }
+        ensures ascending { IfOk result (λ samples. IsAscending samples.items) }
+        ensures within { IfOk result (λ samples. between from to samples.items ≡ samples.items) }
+        ensures steps { steps.new ≡ steps.old }
+    {
+        gather(self.alloc, &self.node(id).series, from, to, steps)
+    }
+
+    // The last sample before a time, in milliseconds, if there is one; with `latest` that of an open bucket counts
+    // too.
+    pub(crate) fn before_of<L: Ledger>(
+        &self,
+        id: Id,
+        t: u64,
+        latest: bool,
+        steps: &mut Steps<L>,
+    ) -> Option<Sample>
+        requires store { IsInOrder self.now }
+        requires live { IsLive (stock_of self.now).ids id }
+        ensures before { (key : Key) → get key (stock_of self.now).ids ≡ Some id
+            → result ≡ last_of (at_times (λ u. nat_lt u t) (kept_asked (stock_of self.now).keys latest key)) }
+        ensures steps { steps.new ≡ steps.old }
+    {
+        let sample = self.node(id).series.before(t, steps);
+        sample
+    }
+
+    // The times of the first and of the last sample, in milliseconds, if there are any; with `latest` that of an open
+    // bucket counts too.
+    pub(crate) fn ends_of<L: Ledger>(
+        &self,
+        id: Id,
+        latest: bool,
+        steps: &mut Steps<L>,
+    ) -> Option<(u64, u64)>
+        requires store { IsInOrder self.now }
+        requires live { IsLive (stock_of self.now).ids id }
+        ensures ends { (key : Key) → get key (stock_of self.now).ids ≡ Some id → result ≡ ends_of (kept_asked (stock_of self.now).keys latest key) }
+        ensures bounded { ForSome result AreTimes }
+        ensures steps { steps.new ≡ steps.old }
+    {
+        ends(&self.node(id).series, steps)
+    }
+}
+
+// The samples of a series between two times, both included.
+fn gather<L: Ledger>(
+    alloc: Global,
+    series: &Series,
+    from: u64,
+    to: u64,
+    steps: &mut Steps<L>,
+) -> Result<Vec<Sample>, AllocError>
+    requires { IsKept series.now }
+    ensures gathered { IfOk result (λ samples. samples.items ≡ between from to (list_of series.now)) }
+    ensures ascending { IfOk result (λ samples. IsAscending samples.items) }
+    ensures within { IfOk result (λ samples. between from to samples.items ≡ samples.items) }
+    ensures steps { steps.new ≡ steps.old }
+{
+    let mut gathered = Gathered::with_room(alloc, series.room_for(from, to))?;
+    series.scan(from, to, &mut gathered, steps);
+    Ok(gathered.into_samples())
+}
+
+// The times of the first and of the last sample of a series.
+fn ends<L: Ledger>(series: &Series, steps: &mut Steps<L>) -> Option<(u64, u64)>
+    ensures ends { result ≡ ends_of (list_of series.now) }
+    ensures bounded { ForSome result AreTimes }
+    ensures steps { steps.new ≡ steps.old }
+{
+    let first = series.first(steps)?;
+    let last = series.last()?;
+    Some((first.time, last.time))
+}

@@ -1,0 +1,63 @@
+ghost use Rattle.std.specs.Prelude.{◌≡◌, nat_lt, nat_le, length, is_some};
+ghost use Rattle.ts_spec.specs.Keyed.{get, count_keys};
+ghost use Rattle.ts_db.specs.Store.{stock_of, IsInOrder};
+ghost use Rattle.ts_db.specs.Answering.{IsPlanned, IsApplied};
+
+use crate::node::Node;
+use slab::Slab;
+use std::alloc::Global;
+use std::collections::BTreeMap;
+use ts_labels::Labels;
+use ts_resp::Word;
+use ts_sample::Id;
+use ts_series::SeriesPlan;
+use ts_spec::Limits;
+
+// Series by their numbers, and the numbers by their keys.
+#[derive(Drop)]
+pub(crate) struct Store {
+    pub(crate) alloc: Global,
+    pub(crate) limits: Limits,
+    pub(crate) nodes: Slab<Node>,
+    pub(crate) keys: BTreeMap<Word, Id>,
+}
+
+impl Store {
+    // Does what was planned for the series of a number, and puts these labels in place of its own, where they
+    // are given. It can't fail, and takes no memory.
+    pub(crate) fn apply(&mut self, id: Id, plan: SeriesPlan, labels: Option<Labels>)
+        requires store { IsInOrder self.old }
+        requires planned { IsPlanned self.old id plan labels }
+        ensures store { IsInOrder self.new }
+        ensures applied { IsApplied self.old id plan labels self.new }
+    {
+        let Some(node) = self.nodes.get_mut(id.0) else {
+            unreachable!();
+        };
+        node.series.commit(plan);
+        node.relabel(labels);
+    }
+
+    // Whether the key is there.
+    pub(crate) fn has(&self, key: &Word) -> bool
+        requires { IsInOrder self.now }
+        ensures { result ≡ is_some (get key.now (stock_of self.now).keys) }
+    {
+        self.keys.contains_key(key)
+    }
+
+    // Whether these are more labels than a series may have.
+    pub(crate) fn are_too_many(&self, labels: &Labels) -> bool
+        ensures { result ≡ nat_lt self.now.limits.labels (length labels.now) }
+    {
+        (self.limits.labels as usize) < labels.len()
+    }
+
+    // Whether there are as many keys as there may be.
+    pub(crate) fn is_full(&self) -> bool
+        requires { IsInOrder self.now }
+        ensures { result ≡ nat_le self.now.limits.keys (count_keys (stock_of self.now).keys) }
+    {
+        self.limits.keys as usize <= self.keys.len()
+    }
+}

@@ -1,0 +1,72 @@
+// Calls that give labels, named from 0 on, each with the same value, both of one byte.
+use crate::db::Db;
+use crate::tests::call::{spec, word};
+use crate::tests::came::{Came, done, number};
+use std::alloc::{AllocError, Global};
+use std::sync::ledger::Ledger;
+use ts_labels::{Change, Labels};
+use ts_sample::{Steps, Units};
+
+// A call on a key of one byte, and how many labels it gives; for the last, with their value.
+#[derive(Clone, Copy)]
+pub(crate) enum Labelled {
+    Create(u8, u8),
+    Add(u8, u8),
+    Incr(u8, u8),
+    Alter(u8, u8, u8),
+}
+
+fn labels(alloc: Global, count: u8, value: u8) -> Result<Labels, AllocError> {
+    let mut labels = Labels::new(alloc);
+    for name in 0..count {
+        labels.set(word(alloc, name)?, word(alloc, value)?)?;
+    }
+    Ok(labels)
+}
+
+// Makes a call.
+pub(crate) fn run_labelled<L: Ledger>(
+    alloc: Global,
+    db: &mut Db,
+    call: Labelled,
+    steps: &mut Steps<L>,
+) -> Result<Came, AllocError> {
+    match call {
+        Labelled::Create(key, count) => {
+            let spec = spec(0, labels(alloc, count, key)?);
+            Ok(done(db.create(word(alloc, key)?, spec)))
+        }
+        Labelled::Add(key, count) => {
+            let spec = spec(0, labels(alloc, count, key)?);
+            Ok(number(db.add(word(alloc, key)?, 5, Units::ZERO, None, spec, steps)))
+        }
+        Labelled::Incr(key, count) => {
+            let spec = spec(0, labels(alloc, count, key)?);
+            Ok(number(db.incr(word(alloc, key)?, Units::ZERO, 5, spec, steps)))
+        }
+        Labelled::Alter(key, count, value) => {
+            let change = Change {
+                retention: None,
+                chunk_size: None,
+                policy: None,
+                labels: Some(labels(alloc, count, value)?),
+            };
+            Ok(done(db.alter(&word(alloc, key)?, change, steps)))
+        }
+    }
+}
+
+// How many labels a key has, and the value of the first.
+pub(crate) fn labels_of(alloc: Global, db: &Db, key: u8) -> Result<Came, AllocError> {
+    let Some(id) = db.store.keys.get(&word(alloc, key)?).copied() else {
+        return Ok(Came::NoKey);
+    };
+    let Some(node) = db.store.nodes.get(id.0) else {
+        return Ok(Came::NoKey);
+    };
+    if node.labels.len() == 0 {
+        return Ok(Came::Labels(0, None));
+    }
+    let value = node.labels.value_at(0).bytes().first().copied();
+    Ok(Came::Labels(node.labels.len(), value))
+}
