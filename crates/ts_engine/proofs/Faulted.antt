@@ -1,22 +1,21 @@
 -- Words that were no command have their turn.
 use Rattle.std.proofs.Common.{◌≡◌, false, inl, inr, ⊎_elim, ℕ, List, refl, sym, ◌∙◌, ap, subst}
-use Rattle.std.specs.Prelude.{Result, Ok, Err, IsTrue}
-use Rattle.ts_spec.specs.Command.{Command, Create, Alter, Add, Madd, Incr, DelRange, CreateRule, DeleteRule, Range, MRange, Get, MGet, QueryIndex, InfoOf, Ping, Echo, Quit, Drop, Exists}
+use Rattle.std.specs.Prelude.{Result}
+use Rattle.ts_spec.specs.Command.{Command}
 use Rattle.ts_spec.specs.Run.{is_quit, says_quit}
 use Rattle.ts_spec.specs.Refusal as refusal
 use Rattle.ts_spec.specs.Refusal.{Fault}
 use Rattle.ts_spec.specs.Text.{Error, text}
 use Rattle.ts_spec.specs.Wire.{Request}
-use Rattle.ts_spec.specs.Grammar.{command}
 use Rattle.ts_command.specs.declared.fault.CommandFault.{CommandFault}
 use Rattle.ts_command.specs.declared.fault.CommandFault.TheVariants as code
 use Rattle.ts_command.specs.Answers.{IsFaultIn}
 use Rattle.ts_command.specs.Faults.{message}
 use Rattle.ts_command.proofs.AnswerLemmas.{IsToldFault, IsToldMemory, IsFaultIn-told}
 use Rattle.ts_engine.specs.Answering.{IsShort}
-use Rattle.ts_engine.specs.Turn.{World, TurnBy, may_want_memory, turn}
+use Rattle.ts_engine.specs.Turn.{World, TurnBy, turn}
 use Rattle.ts_engine.proofs.Short.{short_fault, short_memory}
-use Rattle.ts_engine.proofs.Wants.{lists_may_want}
+use Rattle.ts_engine.proofs.Lists.{lists_no_quit}
 
 pub faulted : (words : Request) (fault : CommandFault) (from : World) (written : List ℕ) → IsFaultIn words fault → written ≡ text (Error (message fault)) → turn from words written from
 faulted words fault from written is says =
@@ -26,40 +25,17 @@ faulted words fault from written is says =
       same = refl;
     })))
     (λ (told : IsToldMemory words fault). inr (record {
-      may = lists_may_want words told.lists;
+      may = told.lists;
       says = says ∙ ap (λ (l : List ℕ). text (Error l)) told.message;
       same = refl;
     }))
     (IsFaultIn-told words fault is)
 
--- words that may want memory are not QUIT
-wants_no_quit : (said : Result Command Fault) → IsTrue (may_want_memory said) → says_quit said ≡ false
-wants_no_quit (Err fault) may = refl
-wants_no_quit (Ok (Create key spec)) may = refl
-wants_no_quit (Ok (Alter key change)) may = refl
-wants_no_quit (Ok (Add key at value on spec)) may = refl
-wants_no_quit (Ok (Madd triples)) may = refl
-wants_no_quit (Ok (Incr key change at spec)) may = refl
-wants_no_quit (Ok (DelRange key from to)) may = refl
-wants_no_quit (Ok (CreateRule source dest agg grid)) may = refl
-wants_no_quit (Ok (DeleteRule source dest)) may = refl
-wants_no_quit (Ok (Range key latest query)) may = refl
-wants_no_quit (Ok (MRange latest show filters query)) may = refl
-wants_no_quit (Ok (Get key latest)) may = refl
-wants_no_quit (Ok (MGet latest show filters)) may = refl
-wants_no_quit (Ok (QueryIndex filters)) may = refl
-wants_no_quit (Ok (InfoOf key)) may = refl
-wants_no_quit (Ok (Ping word)) may = refl
-wants_no_quit (Ok (Echo word)) may = refl
-wants_no_quit (Ok Quit) may = (cc)
-wants_no_quit (Ok (Drop keys)) may = refl
-wants_no_quit (Ok (Exists keys)) may = refl
-
 -- words that were answered by a fault, or by want of memory, are not QUIT
 pub faulted_no_quit : (words : Request) (fault : CommandFault) → IsFaultIn words fault → is_quit words ≡ false
 faulted_no_quit words fault is =
     ⊎_elim (λ (told : IsToldFault words fault). ap says_quit told.command)
-    (λ (told : IsToldMemory words fault). wants_no_quit (command words) (lists_may_want words told.lists))
+    (λ (told : IsToldMemory words fault). lists_no_quit words told.lists)
     (IsFaultIn-told words fault is)
 
 pub short_told : (fault : CommandFault) → IsShort (Error (message fault))

@@ -1,6 +1,6 @@
 -- What the database finds of a question.
 use Rattle.std.proofs.Common.{◌≡◌, ℕ, Bool, true, false, cond, List, [], ◌∷◌, filter, refl, sym, ◌∙◌, ap, subst}
-use Rattle.std.specs.Prelude.{Option, None, Some, Ok, Err}
+use Rattle.std.specs.Prelude.{⊤, Option, None, Some, is_some, Ok, Err}
 use Rattle.std.specs.Option.{ForSome}
 use Rattle.std.proofs.lemmas.Bool.{false≢true}
 use Rattle.ts_spec.specs.declared.limits.Limits.{Limits}
@@ -19,8 +19,13 @@ use Rattle.ts_spec.proofs.Samples.{ascending-times, ascending-put_all}
 use Rattle.ts_range.specs.declared.query.Query.{Query}
 use Rattle.ts_range.specs.declared.row.Asked.{Asked}
 use Rattle.ts_range.specs.Walk.{times_of, IsAroundOf, IsAskedOf}
+use Rattle.std.specs.declared.alloc.AllocError.{AllocError}
 use Rattle.ts_db.specs.declared.fault.DbFault.{DbFault}
-use Rattle.ts_db.specs.Held.{Finds, ends_of}
+use Rattle.ts_db.specs.declared.fault.DbFault.TheVariants.{NoKey, Memory}
+use Rattle.ts_spec.specs.Kept.{Keeping}
+use Rattle.ts_spec.specs.KeptQuestions.{kept_asked}
+use Rattle.ts_spec.proofs.KeptAsked.{asked-kept}
+use Rattle.ts_db.specs.Held.{Held, Stock, Stands, Leads, Finds, ends_of}
 
 -- an answer that was found
 pub found : {T : Type 0} (o : Option Record) (what : T → Type 0) (x : T) → Finds o what (Ok x) → what x
@@ -95,3 +100,27 @@ pub range_told : (limits : Limits) (m : State) (key : Key) (with_open : Bool) (q
     → Finds o what (Ok a) → IsTold (rows_response (answer limits.empty_rows q (asked m with_open key))) written → IsTold (range_response limits m key with_open q o) written
 range_told limits m key with_open q None what a written finds is = absurd finds
 range_told limits m key with_open q (Some d) what a written finds is = is
+
+-- what is kept of a key shows ascending samples too
+pub kept_ascending : (stock : Stock) → Leads stock (λ held. ⊤) → (latest : Bool) (k : Key) → IsAscending (kept_asked stock.keys latest k)
+kept_ascending stock w latest k =
+    let m = w.to.state in
+    subst (λ (keys : Keeping). IsAscending (kept_asked keys latest k)) (sym w.stands.state.kept)
+    (subst IsAscending (sym (asked-kept m latest k)) (asked_ascending stock.limits m latest k w.stands.state.valid))
+
+-- what is kept of a key shows what each state that is stood for shows
+pub asked_stands : (stock : Stock) (latest : Bool) (k : Key) (from : Held) → Stands stock from → kept_asked stock.keys latest k ≡ asked from.state latest k
+asked_stands stock latest k from stands = ap (λ (keys : Keeping). kept_asked keys latest k) stands.state.kept ∙ asked-kept from.state latest k
+
+-- a key that is there, and one that is not
+pub finds_here : {T : Type 0} (o : Option Record) (what : T → Type 0) (x : T) → true ≡ is_some o → what x → Finds o what (Ok x)
+finds_here None what x here is = absurd (false≢true (sym here))
+finds_here (Some d) what x here is = is
+
+pub finds_none : {T : Type 0} (o : Option Record) (what : T → Type 0) → false ≡ is_some o → Finds o what (Err NoKey)
+finds_none None what here = refl
+finds_none (Some d) what here = absurd (false≢true here)
+
+pub finds_memory : {T : Type 0} (o : Option Record) (what : T → Type 0) (e : AllocError) → true ≡ is_some o → Finds o what (Err (Memory e))
+finds_memory None what e here = absurd (false≢true (sym here))
+finds_memory (Some d) what e here = refl

@@ -9,13 +9,9 @@ use Rattle.ts_spec.specs.Wire.{Request, Stream, Ended, Inside, Broken, stream_at
 use Rattle.ts_spec.proofs.Runs.{Runs-append, Runs-one, requests_of-then_all, ending_of-then_all, requests_in-append}
 use Rattle.ts_engine.specs.declared.piped.End.{End}
 use Rattle.ts_engine.specs.declared.piped.End.TheVariants as end
-use Rattle.ts_engine.specs.declared.piped.Outcome.{Outcome}
-use Rattle.ts_spec.specs.State.{empty}
-use Rattle.ts_spec.specs.declared.limits.Limits.{Limits}
-use Rattle.ts_db.specs.Held.{Held}
 use Rattle.ts_engine.specs.Turn.{World, turn}
 use Rattle.ts_engine.specs.Session.{Spot, Went, WentSome, LastReply, Quitted, CutFault, IsUpToDate}
-use Rattle.ts_engine.specs.Piping.{beginning, Ends, Piped}
+use Rattle.ts_engine.specs.Piping.{beginning, Ends}
 use Rattle.ts_engine.specs.Headline.{requests, asks_to_quit, ending, start, Seen, AllAnswered, WholeAnswered, SomeAnswered, LastCut, FaultCut, FrontAnswered, Writes}
 use Rattle.ts_engine.proofs.Quits.{has_quit-append, until_quit-append, until_quit-last, has_quit-last}
 use Rattle.ts_engine.proofs.Sessions.{grows_as}
@@ -24,13 +20,13 @@ use Rattle.ts_engine.proofs.Sessions.{grows_as}
 abbrev pub Splits : List ℕ → Option (List ℕ) → List ℕ → Type 0
 Splits bytes left front = (rest : List ℕ) × (bytes ≡ front ++ rest) × (left ≡ Some rest)
 
-splits : (bytes : List ℕ) (left : Option (List ℕ)) (front : List ℕ) → Consumes (Some bytes) left front → Splits bytes left front
+pub splits : (bytes : List ℕ) (left : Option (List ℕ)) (front : List ℕ) → Consumes (Some bytes) left front → Splits bytes left front
 splits bytes None front took = absurd took
 splits bytes (Some rest) front took = (rest, took, refl)
 
 module _ (seen : Seen) (last : Spot) (readings : last.world.readings ≡ seen.readings_left) where
   -- the world at the end, with the readings that are left
-  world_is : last.world ≡ record { held = last.world.held; readings = seen.readings_left }
+  pub world_is : last.world ≡ record { held = last.world.held; readings = seen.readings_left }
   world_is = ap (λ (q : Option (List ℕ)). record { held = last.world.held; readings = q }) readings
 
   module _ (front tail : List ℕ) (went : Went (beginning seen.limits.wire (start seen.limits seen.readings)) last seen.had seen.has front tail) where
@@ -48,7 +44,7 @@ module _ (seen : Seen) (last : Spot) (readings : last.world.readings ≡ seen.re
     its_ending more = ap ending_of (follows more) ∙ ending_of-then_all went.done (stream_of last.reader more)
 
     -- all requests had their turns, where no further one follows
-    all_answered : (bytes more : List ℕ) → bytes ≡ front ++ more → requests_of (stream_of last.reader more) ≡ [] → AllAnswered seen bytes tail
+    pub all_answered : (bytes more : List ℕ) → bytes ≡ front ++ more → requests_of (stream_of last.reader more) ≡ [] → AllAnswered seen bytes tail
     all_answered bytes more whole none = record {
       text = went.text;
       held = last.world.held;
@@ -60,19 +56,19 @@ module _ (seen : Seen) (last : Spot) (readings : last.world.readings ≡ seen.re
     }
 
     -- none of them is QUIT, where no further one follows
-    no_quit : (bytes more : List ℕ) → bytes ≡ front ++ more → requests_of (stream_of last.reader more) ≡ [] → asks_to_quit seen.limits.wire bytes ≡ false
+    pub no_quit : (bytes more : List ℕ) → bytes ≡ front ++ more → requests_of (stream_of last.reader more) ≡ [] → asks_to_quit seen.limits.wire bytes ≡ false
     no_quit bytes more whole none =
         ap (asks_to_quit seen.limits.wire) whole ∙ ap has_quit (its_requests more) ∙ has_quit-append (requests_in went.done) (requests_of (stream_of last.reader more)) went.goes_on ∙ ap has_quit none
 
     -- the ending of the bytes, where the rest of the stream is known
-    ends_as : (bytes more : List ℕ) (stream : Stream) → bytes ≡ front ++ more → stream_of last.reader more ≡ stream → ending seen.limits.wire bytes ≡ ending_of stream
+    pub ends_as : (bytes more : List ℕ) (stream : Stream) → bytes ≡ front ++ more → stream_of last.reader more ≡ stream → ending seen.limits.wire bytes ≡ ending_of stream
     ends_as bytes more stream whole is = ap (ending seen.limits.wire) whole ∙ its_ending more ∙ ap ending_of is
 
-no_requests : (place : Option ℕ) → requests_of (ended_at place) ≡ []
+pub no_requests : (place : Option ℕ) → requests_of (ended_at place) ≡ []
 no_requests None = refl
 no_requests (Some place) = refl
 
-its_own_ending : (place : Option ℕ) → ending_of (ended_at place) ≡ ended_at place
+pub its_own_ending : (place : Option ℕ) → ending_of (ended_at place) ≡ ended_at place
 its_own_ending None = refl
 its_own_ending (Some place) = refl
 
@@ -86,7 +82,7 @@ module _ (seen : Seen) (last : Spot) (readings : last.world.readings ≡ seen.re
       let none : split.0 ≡ [] = subst IsAtEnd split.2 at_end in
       (split.1 ∙ ap (λ (l : List ℕ). front ++ l) none, split.2 ∙ ap Some none)
 
-  abbrev front_answered : Went (beginning seen.limits.wire (start seen.limits seen.readings)) last seen.had seen.has front [] → IsUpToDate last → FrontAnswered seen bytes left
+  abbrev pub front_answered : Went (beginning seen.limits.wire (start seen.limits seen.readings)) last seen.had seen.has front [] → IsUpToDate last → FrontAnswered seen bytes left
   front_answered went current = record {
     front = front;
     rest = split.0;
@@ -99,7 +95,7 @@ module _ (seen : Seen) (last : Spot) (readings : last.world.readings ≡ seen.re
     answered = all_answered seen last readings front [] went front [] (sym (append-nil front)) (ap requests_of current.rest ∙ no_requests (unfinished last.reader));
   }
 
-  some_answered : WentSome (beginning seen.limits.wire (start seen.limits seen.readings)) last seen.had seen.has front → SomeAnswered seen bytes
+  pub some_answered : WentSome (beginning seen.limits.wire (start seen.limits seen.readings)) last seen.had seen.has front → SomeAnswered seen bytes
   some_answered went =
       let rest = went.stream split.0 in
       record {
@@ -114,7 +110,7 @@ module _ (seen : Seen) (last : Spot) (readings : last.world.readings ≡ seen.re
       }
 
   -- the requests of the bytes, with the last one that had its turn
-  with_last : (cut : LastReply (beginning seen.limits.wire (start seen.limits seen.readings)) last seen.had seen.has front)
+  pub with_last : (cut : LastReply (beginning seen.limits.wire (start seen.limits seen.readings)) last seen.had seen.has front)
       → requests_of (stream_at seen.limits.wire 0 bytes) ≡ requests_in cut.done ++ cut.last.request ∷ requests_of (stream_of last.reader split.0)
   with_last cut =
       ap (λ (l : List ℕ). requests_of (stream_at seen.limits.wire 0 l)) split.1 ∙ ap requests_of (cut.stream split.0)
@@ -122,7 +118,7 @@ module _ (seen : Seen) (last : Spot) (readings : last.world.readings ≡ seen.re
       ∙ ap (λ (l : List Request). l ++ requests_of (stream_of last.reader split.0)) (requests_in-append cut.done (cut.last ∷ []))
       ∙ append_assoc (requests_in cut.done) (cut.last.request ∷ []) (requests_of (stream_of last.reader split.0))
 
-  last_cut : LastReply (beginning seen.limits.wire (start seen.limits seen.readings)) last seen.had seen.has front → LastCut seen bytes
+  abbrev pub last_cut : LastReply (beginning seen.limits.wire (start seen.limits seen.readings)) last seen.had seen.has front → LastCut seen bytes
   last_cut cut = record {
     done = requests_in cut.done;
     last = cut.last.request;
@@ -139,7 +135,7 @@ module _ (seen : Seen) (last : Spot) (readings : last.world.readings ≡ seen.re
   }
 
   -- QUIT was answered
-  quitted_all : (quitted : Quitted (beginning seen.limits.wire (start seen.limits seen.readings)) last seen.had seen.has front)
+  pub quitted_all : (quitted : Quitted (beginning seen.limits.wire (start seen.limits seen.readings)) last seen.had seen.has front)
       → AllAnswered seen bytes [] × (asks_to_quit seen.limits.wire bytes ≡ true)
   quitted_all quitted =
       let cut = quitted.reply in
@@ -159,7 +155,7 @@ module _ (seen : Seen) (last : Spot) (readings : last.world.readings ≡ seen.re
       )
 
   -- the input was read to its end, which is of this kind
-  whole_answered : (end : Stream) → requests_of end ≡ [] → ending_of end ≡ end
+  pub whole_answered : (end : Stream) → requests_of end ≡ [] → ending_of end ≡ end
       → Went (beginning seen.limits.wire (start seen.limits seen.readings)) last seen.had seen.has front [] → stream_of last.reader [] ≡ end → IsAtEnd left
       → WholeAnswered seen bytes left end
   whole_answered end none own went is at_end =
@@ -171,7 +167,7 @@ module _ (seen : Seen) (last : Spot) (readings : last.world.readings ≡ seen.re
         left_is = all.1;
       }
 
-  fault_cut : CutFault (beginning seen.limits.wire (start seen.limits seen.readings)) last seen.had seen.has front → FaultCut seen bytes
+  abbrev pub fault_cut : CutFault (beginning seen.limits.wire (start seen.limits seen.readings)) last seen.had seen.has front → FaultCut seen bytes
   fault_cut cut = record {
     kind = cut.fault.kind;
     place = cut.fault.place;
@@ -182,7 +178,7 @@ module _ (seen : Seen) (last : Spot) (readings : last.world.readings ≡ seen.re
   }
 
   -- what was done over the bytes taken is what the headline says of its end
-  pub writes : (budget : ℕ) (e : End) → (e ≡ end.Budget → length front ≡ budget) → Ends e left (beginning seen.limits.wire (start seen.limits seen.readings)) last seen.had seen.has front
+  abbrev pub writes : (budget : ℕ) (e : End) → (e ≡ end.Budget → length front ≡ budget) → Ends e left (beginning seen.limits.wire (start seen.limits seen.readings)) last seen.had seen.has front
       → Writes seen budget bytes left e
   writes budget end.Ended spent (inl all) = inl (whole_answered Ended refl refl all.went all.ended all.at_end)
   writes budget end.Ended spent (inr quitted) = inr (quitted_all quitted)
@@ -197,18 +193,3 @@ module _ (seen : Seen) (last : Spot) (readings : last.world.readings ≡ seen.re
   writes budget end.Memory spent ends = some_answered ends
   writes budget end.WriteFault spent (inl cut) = inl (last_cut cut)
   writes budget end.WriteFault spent (inr cut) = inr (fault_cut cut)
-
--- what `pipe` did from the empty database with an input that told its bytes
-pub piped_writes : (seen : Seen) (budget : ℕ) (outcome : Outcome) (held held' : Held) (bytes : List ℕ) (told left : Option (List ℕ)) → held.limits ≡ seen.limits → held.state ≡ empty → told ≡ Some bytes
-    → Piped seen.limits.wire budget outcome (record { held = held; readings = seen.readings }) (record { held = held'; readings = seen.readings_left }) told left seen.had seen.has
-    → Writes seen budget bytes left outcome.end
-piped_writes seen budget outcome held held' bytes told left same none tells given =
-    let to : World = record { held = held'; readings = seen.readings_left } in
-    let begins : held ≡ record { limits = seen.limits; state = empty } = starts held seen.limits same none in
-    let piped = subst (λ (o : Option (List ℕ)). Piped seen.limits.wire budget outcome (start seen.limits seen.readings) to o left seen.had seen.has) tells
-    (subst (λ (h : Held). Piped seen.limits.wire budget outcome (record { held = h; readings = seen.readings }) to told left seen.had seen.has) begins given) in
-    writes seen piped.last (ap (λ (w : World). w.readings) piped.world) bytes piped.bytes left (splits bytes left piped.bytes piped.took) budget outcome.end
-    (λ is. piped.count ∙ piped.spent is) piped.ends
-  where
-    starts : (h : Held) (limits : Limits) → h.limits ≡ limits → h.state ≡ empty → h ≡ record { limits = limits; state = empty }
-    starts h limits one two = ap (λ l. record { limits = l; state = h.state }) one ∙ ap (λ s. record { limits = limits; state = s }) two

@@ -1,18 +1,20 @@
 -- How what was read and answered adds up over a whole input.
-use Rattle.std.specs.Prelude.{Option, Some, None, IfSome}
-use Rattle.std.specs.Io.KnownBytes.{Consumes, IsAtEnd}
-use Rattle.std.proofs.Common.{◌≡◌, ◌⊎◌, inl, inr, ◌<◌, ℕ, ◌+◌, ◌≤◌, List, [], ◌++◌, length, take, refl, sym, ◌∙◌, ap, subst, append_assoc, arith, length-append}
-use Rattle.ts_resp.specs.Reading.{stream_of, fed, ended_at, unfinished}
+use Rattle.std.specs.Prelude.{true, Option, Some, None, IfSome}
+use Rattle.std.specs.Io.KnownBytes.{Consumes, Keeps, IsAtEnd}
+use Rattle.std.proofs.KnownBytes.{Consumes-nil, Consumes-trans, Consumes-kept}
+use Rattle.std.proofs.Common.{◌≡◌, ◌⊎◌, inl, inr, ◌<◌, ℕ, ◌+◌, ◌≤◌, List, [], ◌++◌, length, take, refl, sym, ◌∙◌, ap, subst, arith, length-append}
+use Rattle.ts_resp.specs.Reading.{Reading, stream_of, fed, ended_at, unfinished}
 use Rattle.ts_spec.specs.Wire.{stream_at, read_on}
 use Rattle.ts_spec.specs.declared.wire.WireLimits.{WireLimits}
 use Rattle.ts_engine.specs.declared.piped.End.{End}
 use Rattle.ts_engine.specs.declared.piped.End.TheVariants as end
 use Rattle.ts_engine.specs.declared.piped.Step.{Step}
+use Rattle.ts_engine.specs.declared.go.Go.{Go}
 use Rattle.ts_engine.specs.declared.go.Go.TheVariants as go
 use Rattle.ts_engine.specs.Turn.{World}
-use Rattle.ts_engine.specs.Ending.{end_at}
-use Rattle.ts_engine.specs.Session.{Spot, Went, Quitted, IsUpToDate}
-use Rattle.ts_engine.specs.Piping.{beginning, ReadAll, Ends, EndsOr, PIECE, shown_at, Pumped, Piped}
+use Rattle.ts_engine.specs.Ending.{end_at, end_by}
+use Rattle.ts_engine.specs.Session.{Spot, Went, Quitted, IsUpToDate, Answers}
+use Rattle.ts_engine.specs.Piping.{beginning, ReadAll, Ends, EndsOr, PIECE, shown_at, is_of_input, has_ended, Pumped, Piped}
 use Rattle.ts_engine.proofs.Places.{reply_past, break_past}
 use Rattle.ts_engine.proofs.Sessions.{fed_only, not_fed, went_on, quitted_on, answers_on}
 
@@ -23,23 +25,13 @@ pub record SoFar (limits : WireLimits) (taken : ℕ) (from : World) (now : Spot)
   pub took : Consumes left rest bytes
   pub went : Went (beginning limits from) now had has bytes []
 
-consumes_none : (left : Option (List ℕ)) → Consumes left left []
-consumes_none None = tt
-consumes_none (Some xs) = refl
-
-consumes_both : (a b c : Option (List ℕ)) (x y : List ℕ) → Consumes a b x → Consumes b c y → Consumes a c (x ++ y)
-consumes_both None b c x y one two = tt
-consumes_both (Some xs) None c x y one two = absurd one
-consumes_both (Some xs) (Some ys) None x y one two = absurd two
-consumes_both (Some xs) (Some ys) (Some zs) x y one two = one ∙ ap (λ (l : List ℕ). x ++ l) two ∙ sym (append_assoc x y zs)
-
 -- nothing was taken yet
 pub so_far_none : (limits : WireLimits) (now : Spot) (left : Option (List ℕ)) (has : List ℕ → Type 0)
     → ((more : List ℕ) → stream_of now.reader more ≡ stream_at limits 0 more) → now.executed ≡ 0 → SoFar limits 0 now.world now left left has has
 so_far_none limits now left has stream executed = record {
   bytes = [];
   count = refl;
-  took = consumes_none left;
+  took = Consumes-nil left;
   went = fed_only (beginning limits now.world) now has [] stream executed refl;
 }
 
@@ -66,6 +58,7 @@ pumped_end now left rest has e is current n buffer none took at_end = record {
   took = subst (λ (i : ℕ). Consumes left rest (take i buffer)) none took;
   ends = subst (λ (x : End). Ends x rest now now has has []) (sym is)
       (ends_read (unfinished now.reader) rest now now has has (fed_only now now has [] (λ more. refl) refl refl) current.rest at_end);
+  none = λ same. refl;
 }
 
 -- an end after some bytes is an end over all of them
@@ -97,6 +90,18 @@ ends_past end.WriteFault first mid last had has' has x y rest went current (inr 
 ends_past end.Memory first mid last had has' has x y rest went current ends = tt
 ends_past end.Budget first mid last had has' has x y rest went current ends = tt
 
+-- and it is that of the input where it was
+of_input : (e : End) (first mid last : Spot) (had has' has : List ℕ → Type 0) (x y : List ℕ) (rest : Option (List ℕ)) (went : Went first mid had has' x []) (ends : Ends e rest mid last has' has y)
+    → is_of_input e rest first last had has (x ++ y) (ends_on e first mid last had has' has x y rest went ends) ≡ is_of_input e rest mid last has' has y ends
+of_input end.Ended first mid last had has' has x y rest went (inl all) = refl
+of_input end.Ended first mid last had has' has x y rest went (inr quitted) = refl
+of_input (end.Truncated place) first mid last had has' has x y rest went ends = refl
+of_input (end.Protocol fault) first mid last had has' has x y rest went ends = refl
+of_input end.ReadFault first mid last had has' has x y rest went ends = refl
+of_input end.WriteFault first mid last had has' has x y rest went ends = refl
+of_input end.Memory first mid last had has' has x y rest went ends = refl
+of_input end.Budget first mid last had has' has x y rest went ends = refl
+
 -- so the last read went at most one piece past it
 near_by : (shown : Option ℕ) (before taken : ℕ) → taken ≤ before + PIECE → IfSome shown (λ place. before ≤ place) → IfSome shown (λ place. taken ≤ place + PIECE)
 near_by None before taken piece past = tt
@@ -106,39 +111,46 @@ module _ (limits : WireLimits) (taken : ℕ) (from : World) (mid : Spot) (left b
     (so_far : SoFar limits taken from mid left between had has') where
   -- one more piece was answered
   pub so_far_more : (step : Step) (now : Spot) (rest : Option (List ℕ)) (has : List ℕ → Type 0) → step.end ≡ None
-      → Pumped step between rest mid now has' has → SoFar limits (taken + step.taken) from now left rest had has × IsUpToDate now
+      → Pumped step between rest mid now has' has → SoFar limits (taken + step.taken) from now left rest had has
   so_far_more step now rest has is pumped =
-      let ends = subst (λ e. EndsOr e rest mid now has' has pumped.bytes) is pumped.ends in (
-        record {
-          bytes = so_far.bytes ++ pumped.bytes;
-          count = omega (arith, so_far.count, pumped.count, length-append so_far.bytes pumped.bytes);
-          took = consumes_both left between rest so_far.bytes pumped.bytes so_far.took pumped.took;
-          went = went_on (beginning limits from) mid had has' so_far.bytes so_far.went now has pumped.bytes [] ends.0;
-        },
-        ends.1,
-      )
+      let ends = subst (λ e. EndsOr e rest mid now has' has pumped.bytes) is pumped.ends in
+      record {
+        bytes = so_far.bytes ++ pumped.bytes;
+        count = omega (arith, so_far.count, pumped.count, length-append so_far.bytes pumped.bytes);
+        took = Consumes-trans left between rest so_far.bytes pumped.bytes so_far.took pumped.took;
+        went = went_on (beginning limits from) mid had has' so_far.bytes so_far.went now has pumped.bytes [] ends.0;
+      }
 
   -- the last piece was answered
+  pub piped_last : (budget executed count : ℕ) (e : End) (now : Spot) (rest : Option (List ℕ)) (has : List ℕ → Type 0)
+      → executed ≡ now.executed → taken < budget → taken + count ≤ budget → (e ≡ end.Budget → ⊥) → IsUpToDate mid → fed mid.reader ≡ taken → count ≤ PIECE
+      → Pumped (record { taken = count; end = Some e }) between rest mid now has' has
+      → Piped limits budget (record { executed = executed; taken = taken + count; end = e }) from now.world left rest had has
+  piped_last budget executed count e now rest has done less within unspent current fed_is piece pumped = record {
+    bytes = so_far.bytes ++ pumped.bytes;
+    last = now;
+    count = omega (arith, so_far.count, pumped.count, length-append so_far.bytes pumped.bytes);
+    within = within;
+    spent = λ same. absurd (unspent same);
+    took = Consumes-trans left between rest so_far.bytes pumped.bytes so_far.took pumped.took;
+    world = refl;
+    executed = sym done;
+    ends = ends_on e (beginning limits from) mid now had has' has so_far.bytes pumped.bytes rest so_far.went pumped.ends;
+    near = near_by (shown_at e rest (beginning limits from) now had has (so_far.bytes ++ pumped.bytes) (ends_on e (beginning limits from) mid now had has' has so_far.bytes pumped.bytes rest so_far.went pumped.ends)) (fed mid.reader) (taken + count) (omega (arith, fed_is, piece))
+        (ends_past e (beginning limits from) mid now had has' has so_far.bytes pumped.bytes rest so_far.went current pumped.ends);
+    below = λ same.
+        let none : count ≡ 0 = pumped.none (sym (of_input e (beginning limits from) mid now had has' has so_far.bytes pumped.bytes rest so_far.went pumped.ends) ∙ same) in
+        omega (arith, none, less);
+  }
+
   pub piped_end : (budget executed : ℕ) (step : Step) (e : End) (now : Spot) (rest : Option (List ℕ)) (has : List ℕ → Type 0)
-      → executed ≡ now.executed → taken + step.taken ≤ budget → step.end ≡ Some e → (step.end ≡ Some end.Budget → ⊥)
+      → executed ≡ now.executed → taken < budget → taken + step.taken ≤ budget → step.end ≡ Some e → (step.end ≡ Some end.Budget → ⊥)
       → IsUpToDate mid → fed mid.reader ≡ taken → step.taken ≤ PIECE
       → Pumped step between rest mid now has' has
       → Piped limits budget (record { executed = executed; taken = taken + step.taken; end = e }) from now.world left rest had has
-  piped_end budget executed step e now rest has done within is unspent current fed_is piece pumped =
-      let ends = subst (λ e'. EndsOr e' rest mid now has' has pumped.bytes) is pumped.ends in
-      record {
-        bytes = so_far.bytes ++ pumped.bytes;
-        last = now;
-        count = omega (arith, so_far.count, pumped.count, length-append so_far.bytes pumped.bytes);
-        within = within;
-        spent = λ same. absurd (unspent (is ∙ ap Some same));
-        took = consumes_both left between rest so_far.bytes pumped.bytes so_far.took pumped.took;
-        world = refl;
-        executed = sym done;
-        ends = ends_on e (beginning limits from) mid now had has' has so_far.bytes pumped.bytes rest so_far.went ends;
-        near = near_by (shown_at e rest (beginning limits from) now had has (so_far.bytes ++ pumped.bytes) (ends_on e (beginning limits from) mid now had has' has so_far.bytes pumped.bytes rest so_far.went ends)) (fed mid.reader) (taken + step.taken) (omega (arith, fed_is, piece))
-            (ends_past e (beginning limits from) mid now had has' has so_far.bytes pumped.bytes rest so_far.went current ends);
-      }
+  piped_end budget executed step e now rest has done less within is unspent current fed_is piece pumped =
+      piped_last budget executed step.taken e now rest has done less within (λ same. unspent (is ∙ ap Some same)) current fed_is piece
+      (subst (λ (o : Option End). Pumped (record { taken = step.taken; end = o }) between rest mid now has' has) is pumped)
 
   -- the budget is used up
   pub piped_budget : (budget executed : ℕ) → executed ≡ mid.executed → taken ≡ budget → IsUpToDate mid
@@ -154,6 +166,7 @@ module _ (limits : WireLimits) (taken : ℕ) (from : World) (mid : Spot) (left b
     executed = sym done;
     ends = (so_far.went, current);
     near = tt;
+    below = λ same. (cc);
   }
 
 -- there was no memory to begin
@@ -165,14 +178,63 @@ piped_none limits budget from left has = record {
   count = refl;
   within = omega arith;
   spent = λ same. (cc);
-  took = consumes_none left;
+  took = Consumes-nil left;
   world = refl;
   executed = refl;
   ends = not_fed (beginning limits from) (beginning limits from) has [] refl refl;
   near = tt;
+  below = λ same. (cc);
 }
 
 -- a session that begins is where an input begins
-pub begins_current : (now : Spot) (limits : WireLimits) → ((more : List ℕ) → stream_of now.reader more ≡ stream_at limits 0 more)
-    → unfinished now.reader ≡ None → IsUpToDate now
-begins_current now limits stream none = record { rest = stream [] ∙ unfold read_on in ap ended_at (sym none) }
+pub begins_current : (reader : Reading) (limits : WireLimits) → ((more : List ℕ) → stream_of reader more ≡ stream_at limits 0 more)
+    → unfinished reader ≡ None → stream_of reader [] ≡ ended_at (unfinished reader)
+begins_current reader limits stream none = stream [] ∙ unfold read_on in ap ended_at (sym none)
+
+-- how the input goes on, or ends, with an answer of the session
+abbrev ends_by : (answer : Go) (rest : Option (List ℕ)) (old new : Spot) (had has : List ℕ → Type 0) (bytes : List ℕ) → Answers answer old new had has bytes → EndsOr (end_by answer) rest old new had has bytes
+ends_by go.More rest old new had has bytes goes = goes
+ends_by go.Quit rest old new had has bytes goes = inr goes
+ends_by (go.Broken fault) rest old new had has bytes goes = goes
+ends_by go.WriteFault rest old new had has bytes goes = goes
+ends_by go.Memory rest old new had has bytes goes = goes
+
+-- none of them is the end of the input
+no_end : (answer : Go) (rest : Option (List ℕ)) (old new : Spot) (had has : List ℕ → Type 0) (bytes : List ℕ) (goes : Answers answer old new had has bytes)
+    → has_ended (end_by answer) rest old new had has bytes (ends_by answer rest old new had has bytes goes) ≡ true → ⊥
+no_end go.More rest old new had has bytes goes same = (cc)
+no_end go.Quit rest old new had has bytes goes same = (cc)
+no_end (go.Broken fault) rest old new had has bytes goes same = (cc)
+no_end go.WriteFault rest old new had has bytes goes same = (cc)
+no_end go.Memory rest old new had has bytes goes same = (cc)
+
+-- a read took some bytes, and what they hold was answered
+pub pumped_piece : (answer : Go) (e : Option End) (taken : ℕ) (old new : Spot) (left rest : Option (List ℕ)) (had has : List ℕ → Type 0) (bytes : List ℕ) → e ≡ end_by answer
+    → length bytes ≡ taken → Consumes left rest bytes → Answers answer old new had has bytes → Pumped (record { taken = taken; end = e }) left rest old new had has
+pumped_piece answer e taken old new left rest had has bytes is count took goes =
+    subst (λ (x : Option End). Pumped (record { taken = taken; end = x }) left rest old new had has) (sym is) (record {
+      bytes = bytes;
+      count = count;
+      took = took;
+      ends = ends_by answer rest old new had has bytes goes;
+      none = λ same. absurd (no_end answer rest old new had has bytes goes same);
+    })
+
+-- a read failed
+pub pumped_fault : (now : Spot) (left rest : Option (List ℕ)) (has : List ℕ → Type 0) → Keeps left rest → IsUpToDate now
+    → Pumped (record { taken = 0; end = Some end.ReadFault }) left rest now now has has
+pumped_fault now left rest has keeps current = record {
+  bytes = [];
+  count = refl;
+  took = Consumes-kept left left rest [] (Consumes-nil left) keeps;
+  ends = (fed_only now now has [] (λ more. refl) refl refl, current);
+  none = λ same. refl;
+}
+
+-- the session goes on where it is no end
+pub goes_by : (answer : Go) (e : Option End) → e ≡ end_by answer → e ≡ None → answer ≡ go.More
+goes_by go.More e is none = refl
+goes_by go.Quit e is none = (cc)
+goes_by (go.Broken fault) e is none = (cc)
+goes_by go.WriteFault e is none = (cc)
+goes_by go.Memory e is none = (cc)

@@ -6,7 +6,7 @@ use Rattle.ts_spec.specs.Wire.{Request}
 use Rattle.ts_spec.specs.Run.{Placed, requests_in, is_quit, has_quit, until_quit}
 use Rattle.ts_spec.proofs.Runs.{requests_in-append}
 
-neither : (a b : Bool) → (a || b) ≡ false → (a ≡ false) × (b ≡ false)
+pub neither : (a b : Bool) → (a || b) ≡ false → (a ≡ false) × (b ≡ false)
 neither true b h = absurd (false≢true (sym h))
 neither false b h = (refl, h)
 

@@ -2,9 +2,11 @@ pub mod Answering
 pub mod Ending
 pub mod Going
 pub mod Headline
+pub mod Members
 pub mod Piping
 pub mod Session
 pub mod Standing
 pub mod Status
+pub mod Taken
 pub mod Top
 pub mod Turn

@@ -1,5 +1,5 @@
 -- What `pipe` does to an input, an output and a database.
-use Rattle.std.specs.Prelude.{◌≡◌, ◌⊎◌, ℕ, ◌+◌, ◌≤◌, List, [], length, Option, None, Some, IfSome}
+use Rattle.std.specs.Prelude.{◌≡◌, ◌⊎◌, Bool, true, false, ℕ, ◌+◌, ◌<◌, ◌≤◌, List, [], length, Option, None, Some, IfSome}
 use Rattle.std.specs.Io.KnownBytes.{Consumes, IsAtEnd}
 use Rattle.std.proofs.Common.{inl, inr}
 use Rattle.ts_io.specs.Causes.{Rose}
@@ -43,12 +43,33 @@ abbrev pub EndsOr : Option End → Option (List ℕ) → Spot → Spot → (List
 EndsOr None left old new had has bytes = Answers go.More old new had has bytes
 EndsOr (Some e) left old new had has bytes = Ends e left old new had has bytes
 
--- one read took these bytes, and what they hold was answered
+-- whether the end of the input was read, and no QUIT
+abbrev pub was_read : (left : Option (List ℕ)) (old new : Spot) (had has : List ℕ → Type 0) (bytes : List ℕ) → ReadAll left old new had has bytes ⊎ Quitted old new had has bytes → Bool
+was_read left old new had has bytes (inl all) = true
+was_read left old new had has bytes (inr quitted) = false
+
+-- whether an end is that of the input
+abbrev pub is_of_input : (e : End) (left : Option (List ℕ)) (old new : Spot) (had has : List ℕ → Type 0) (bytes : List ℕ) → Ends e left old new had has bytes → Bool
+is_of_input end.Ended left old new had has bytes ends = was_read left old new had has bytes ends
+is_of_input (end.Truncated place) left old new had has bytes ends = true
+is_of_input (end.Protocol fault) left old new had has bytes ends = false
+is_of_input end.ReadFault left old new had has bytes ends = false
+is_of_input end.WriteFault left old new had has bytes ends = false
+is_of_input end.Memory left old new had has bytes ends = false
+is_of_input end.Budget left old new had has bytes ends = false
+
+-- whether the input has ended
+abbrev pub has_ended : (e : Option End) (left : Option (List ℕ)) (old new : Spot) (had has : List ℕ → Type 0) (bytes : List ℕ) → EndsOr e left old new had has bytes → Bool
+has_ended None left old new had has bytes ends = false
+has_ended (Some e) left old new had has bytes ends = is_of_input e left old new had has bytes ends
+
+-- one read took these bytes, none at the end of the input, and what they hold was answered
 pub record Pumped (step : Step) (left rest : Option (List ℕ)) (old new : Spot) (had has : List ℕ → Type 0) : Type 0 where
   pub bytes : List ℕ
   pub count : length bytes ≡ step.taken
   pub took : Consumes left rest bytes
   pub ends : EndsOr step.end rest old new had has bytes
+  pub none : has_ended step.end rest old new had has bytes ends ≡ true → step.taken ≡ 0
 
 -- the place after the request whose reply failed, or of the fault whose text did
 abbrev pub cut_at : (old new : Spot) (had has : List ℕ → Type 0) (bytes : List ℕ) → LastReply old new had has bytes ⊎ CutFault old new had has bytes → ℕ
@@ -74,7 +95,8 @@ shown_at end.Budget left old new had has bytes ends = None
 abbrev pub PIECE : ℕ
 PIECE = 4096
 
--- These bytes were taken, at most the budget, and what they hold was answered from the start on. No read was made past an end that showed itself.
+-- These bytes were taken, at most the budget, and fewer where the end of the input was read. What they hold was answered from the start on.
+-- No read was made past an end that showed itself.
 pub record Piped (limits : WireLimits) (budget : ℕ) (outcome : Outcome) (from to : World) (left rest : Option (List ℕ)) (had has : List ℕ → Type 0) : Type 0 where
   pub bytes : List ℕ
   pub last : Spot
@@ -86,6 +108,7 @@ pub record Piped (limits : WireLimits) (budget : ℕ) (outcome : Outcome) (from 
   pub executed : last.executed ≡ outcome.executed
   pub ends : Ends outcome.end rest (beginning limits from) last had has bytes
   pub near : IfSome (shown_at outcome.end rest (beginning limits from) last had has bytes ends) (λ place. outcome.taken ≤ place + PIECE)
+  pub below : is_of_input outcome.end rest (beginning limits from) last had has bytes ends ≡ true → outcome.taken < budget
 
 -- the counts of faults did not fall, and a fault is an end only where its count rose
 pub record HasCauses (e : End) (reads reads' writes writes' : ℕ) : Type 0 where

@@ -1,6 +1,6 @@
 -- What a session shows: what its reader holds, how many requests it executed, and how it ended.
-use Rattle.std.specs.Prelude.{◌≡◌, ℕ, List, Option, None}
-use Rattle.ts_resp.specs.Reading.{Reading, stream_of, fed, unfinished}
+use Rattle.std.specs.Prelude.{◌≡◌, ℕ, List, [], Option, None}
+use Rattle.ts_resp.specs.Reading.{Reading, stream_of, fed, unfinished, ended_at}
 use Rattle.ts_spec.specs.Wire.{stream_at}
 use Rattle.ts_spec.specs.declared.wire.WireLimits.{WireLimits}
 use Rattle.ts_engine.specs.declared.go.Go.{Go}
@@ -20,6 +20,10 @@ ended_of s = s.ended
 -- where it stands over this database, with these readings left
 abbrev pub spot : Kept → Held → Option (List ℕ) → Spot
 spot s held readings = record { reader = s.reader; executed = s.executed; world = record { held = held; readings = readings } }
+
+-- every whole request had its turn, and the rest is no whole request
+abbrev pub HasAnswered : Kept → Type 0
+HasAnswered s = stream_of s.reader [] ≡ ended_at (unfinished s.reader)
 
 -- a session to which no byte came
 pub record Begins (limits : WireLimits) (s : Kept) : Type 0 where

@@ -56,6 +56,15 @@ abbrev pub status_by : (has_quit : Bool) → Stream → Status
 status_by true end = status.Ended
 status_by false end = status_at end
 
+-- The status of an input of which these first bytes may be taken, and no more: the good one where a QUIT is in them, that of a fault in
+-- them, and else that of a budget that is used up.
+abbrev pub status_cut : (has_quit : Bool) → Stream → Status
+status_cut true end = status.Ended
+status_cut false (Broken kind place) = status.Protocol
+status_cut false Ended = status.Budget
+status_cut false (Inside place) = status.Budget
+status_cut false (Then request place rest) = status.Budget
+
 -- no count of faults rose
 abbrev pub NoneRose : (reads reads' writes writes' told told' : ℕ) → Type 0
 NoneRose reads reads' writes writes' told told' = (Rose reads reads' → ⊥) × (Rose writes writes' → ⊥) × (Rose told told' → ⊥)

@@ -3,8 +3,8 @@ use Rattle.std.specs.Prelude.{◌≡◌, ◌⊎◌, ◌<◌, ◌^◌, ℕ, Bool,
 use Rattle.std.specs.Result.{is_ok}
 use Rattle.ts_io.specs.Clocks.{reading_of, readings_after}
 use Rattle.ts_spec.specs.Command.{Triple, Command, Madd, DeleteRule, Ping, Quit, Drop, Exists}
-use Rattle.ts_spec.specs.Grammar.{command, needs_clock}
-use Rattle.ts_spec.specs.Refusal.{Fault, UnknownCommand, Arity}
+use Rattle.ts_spec.specs.Grammar.{command, makes_list, needs_clock}
+use Rattle.ts_spec.specs.Refusal.{Fault}
 use Rattle.ts_spec.specs.Replies.{array, fault_reply, memory_reply, item_reply, reply_to}
 use Rattle.ts_spec.specs.State.{State}
 use Rattle.ts_spec.specs.Step.{Outcome, step, triple_step, item_of}
@@ -134,16 +134,9 @@ pub record IsRefused (fault : Fault) (from : World) (written : List ℕ) (to : W
   pub says : written ≡ text (fault_reply fault)
   pub same : to ≡ from
 
--- want of memory may be said where the first word and the number of words are those of a command, unless it is one that takes none
-abbrev pub may_want_memory : Result Command Fault → Bool
-may_want_memory (Ok command) = takes_memory command
-may_want_memory (Err UnknownCommand) = false
-may_want_memory (Err Arity) = false
-may_want_memory other = true
-
--- want of memory is said of the words, and nothing is changed
-pub record IsUnread (said : Result Command Fault) (from : World) (written : List ℕ) (to : World) : Type 0 where
-  pub may : IsTrue (may_want_memory said)
+-- want of memory is said of words that make a list, and nothing is changed
+pub record IsUnread (request : Request) (from : World) (written : List ℕ) (to : World) : Type 0 where
+  pub may : IsTrue (makes_list request)
   pub says : written ≡ text memory_reply
   pub same : to ≡ from
 
@@ -153,4 +146,4 @@ TurnBy (Ok command) from written to = IsExecuted command from written to
 TurnBy (Err fault) from written to = IsRefused fault from written to
 
 abbrev pub turn : World → Request → List ℕ → World → Type 0
-turn from request written to = TurnBy (command request) from written to ⊎ IsUnread (command request) from written to
+turn from request written to = TurnBy (command request) from written to ⊎ IsUnread request from written to

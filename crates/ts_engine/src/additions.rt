@@ -2,11 +2,12 @@
 ghost use Rattle.std.specs.Prelude.{◌≡◌, ◌+◌, ◌*◌, ◌≤◌, [], length};
 ghost use Rattle.ts_resp.specs.Replies.{reply_of};
 ghost use Rattle.ts_command.specs.Reading.{triple_of, triples_of};
+ghost use Rattle.ts_db.specs.Held.{Carries};
 ghost use Rattle.ts_engine.specs.Answering.{IsShort};
 ghost use Rattle.ts_engine.specs.Turn.{IsTold, Executes, WritesAll};
 ghost use Rattle.ts_spec.specs.Command.{Madd};
 
-use crate::answers::{at_time, time_at};
+use crate::answers::{at_time, refusal, time_at};
 use crate::room::{put_no_memory, reserve_items};
 use std::sync::ledger::Ledger;
 use ts_command::Triple;
@@ -24,7 +25,7 @@ pub(crate) fn put_items<L: Ledger>(
 )
     requires empty { out.old.bytes ≡ [] }
     requires room { 128 ≤ out.old.spare }
-    ensures executes { Executes reading (Madd (triples_of triples.items)) db.old out.new.bytes db.new }
+    ensures executes { Carries db.old db.new (λ from to. Executes reading (Madd (triples_of triples.items)) from out.new.bytes to) }
     ensures room { 128 ≤ length out.new.bytes + out.new.spare }
 {
     match reserve_items(triples.len(), out) {
@@ -44,7 +45,7 @@ fn add_all<L: Ledger>(
     requires empty { out.old.bytes ≡ [] }
     requires room { 128 ≤ out.old.spare }
     requires items { 64 * length triples.items + 64 ≤ out.old.spare }
-    ensures told { WritesAll reading (triples_of triples.items) db.old out.new.bytes db.new }
+    ensures told { Carries db.old db.new (λ from to. WritesAll reading (triples_of triples.items) from out.new.bytes to) }
     ensures room { 128 ≤ length out.new.bytes + out.new.spare }
 {
     begin_array(triples.len(), out);
@@ -56,16 +57,16 @@ fn add_all<L: Ledger>(
 
 // Executes one triple, and answers its item.
 fn add_one<L: Ledger>(db: &mut Db, triple: Triple, reading: u64, steps: &mut Steps<L>) -> Reply
-    ensures told { IsTold db.old.limits reading (triple_of triple) db.old.state (reply_of result) db.new.state }
-    ensures limits { db.new.limits ≡ db.old.limits }
+    ensures told { Carries db.old db.new (λ from to. IsTold from.limits reading (triple_of triple) from.state (reply_of result) to.state
+        × (to.limits ≡ from.limits)) }
     ensures short { IsShort (reply_of result) }
 {
     let at = match triple.at {
         Ok(at) => at,
-        Err(fault) => return Reply::Error(fault.message()),
+        Err(fault) => return refusal(fault),
     };
     match triple.value {
         Ok(value) => at_time(db.put(&triple.key, time_at(at, reading), value, steps)),
-        Err(fault) => Reply::Error(fault.message()),
+        Err(fault) => refusal(fault),
     }
 }

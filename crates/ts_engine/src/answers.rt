@@ -5,13 +5,19 @@ ghost use Rattle.ts_spec.specs.Sample.{MAX_TIME};
 ghost use Rattle.ts_spec.specs.Settings.{IsTime};
 ghost use Rattle.ts_spec.specs.Step.{time_of, create, alter_at, add_at, incr_at, delete_at};
 ghost use Rattle.ts_labels.specs.Spec.{spec_of, change_of};
-ghost use Rattle.ts_spec.specs.Replies.{number as shown};
+ghost use Rattle.ts_spec.specs.Refusal.{EmptyRows};
+ghost use Rattle.ts_spec.specs.Replies.{number as shown, reply_to, refusal_reply};
+ghost use Rattle.ts_spec.specs.Response.{Done};
+ghost use Rattle.ts_spec.specs.Text.{Error};
 ghost use Rattle.ts_resp.specs.Replies.{reply_of};
+ghost use Rattle.ts_command.specs.Faults.{message as told_fault};
 ghost use Rattle.ts_db.specs.Faults.{refusal_of};
+ghost use Rattle.ts_db.specs.Held.{Carries};
 ghost use Rattle.ts_engine.specs.Answering.{message_of, done_reply, number_reply, IsShort};
 ghost use Rattle.ts_engine.specs.Turn.{StepOrMemory};
 
 use std::sync::ledger::Ledger;
+use ts_command::CommandFault;
 use ts_db::{Change, Db, DbFault, Spec};
 use ts_resp::{Reply, Word};
 use ts_sample::{MAX_TIME, Steps, Units};
@@ -19,7 +25,7 @@ use ts_spec::{At, Policy};
 
 /// The reply to TS.CREATE.
 pub(crate) fn create(db: &mut Db, key: Word, spec: Spec) -> Reply
-    ensures answer { StepOrMemory (create db.old.limits db.old.state key (spec_of spec)) db.old (reply_of result) db.new }
+    ensures answer { Carries db.old db.new (λ from to. StepOrMemory (create from.limits from.state key (spec_of spec)) from (reply_of result) to) }
     ensures short { IsShort (reply_of result) }
 {
     done(db.create(key, spec))
@@ -32,8 +38,8 @@ pub(crate) fn alter<L: Ledger>(
     change: Change,
     steps: &mut Steps<L>,
 ) -> Reply
-    ensures answer { StepOrMemory (alter_at db.old.limits db.old.state key.now (change_of change) (get key.now db.old.state))
-        db.old (reply_of result) db.new }
+    ensures answer { Carries db.old db.new (λ from to. StepOrMemory (alter_at from.limits from.state key.now (change_of change) (get key.now from.state))
+        from (reply_of result) to) }
     ensures short { IsShort (reply_of result) }
 {
     done(db.alter(key, change, steps))
@@ -50,8 +56,8 @@ pub(crate) fn add<L: Ledger>(
     steps: &mut Steps<L>,
 ) -> Reply
     requires { time ≤ MAX_TIME }
-    ensures answer { StepOrMemory (add_at db.old.limits db.old.state key time value on (spec_of spec) (get key db.old.state))
-        db.old (reply_of result) db.new }
+    ensures answer { Carries db.old db.new (λ from to. StepOrMemory (add_at from.limits from.state key time value on (spec_of spec) (get key from.state))
+        from (reply_of result) to) }
     ensures short { IsShort (reply_of result) }
 {
     at_time(db.add(key, time, value, on, spec, steps))
@@ -67,8 +73,8 @@ pub(crate) fn incr<L: Ledger>(
     steps: &mut Steps<L>,
 ) -> Reply
     requires { time ≤ MAX_TIME }
-    ensures answer { StepOrMemory (incr_at db.old.limits db.old.state key change time (spec_of spec) (get key db.old.state))
-        db.old (reply_of result) db.new }
+    ensures answer { Carries db.old db.new (λ from to. StepOrMemory (incr_at from.limits from.state key change time (spec_of spec) (get key from.state))
+        from (reply_of result) to) }
     ensures short { IsShort (reply_of result) }
 {
     at_time(db.incr(key, change, time, spec, steps))
@@ -82,8 +88,8 @@ pub(crate) fn delete<L: Ledger>(
     to: u64,
     steps: &mut Steps<L>,
 ) -> Reply
-    ensures answer { StepOrMemory (delete_at db.old.limits db.old.state key.now from to (get key.now db.old.state))
-        db.old (reply_of result) db.new }
+    ensures answer { Carries db.old db.new (λ h h'. StepOrMemory (delete_at h.limits h.state key.now from to (get key.now h.state))
+        h (reply_of result) h') }
     ensures short { IsShort (reply_of result) }
 {
     at_time(db.delete_range(key, from, to, steps))
@@ -94,9 +100,16 @@ fn done(outcome: Result<(), DbFault>) -> Reply
     ensures { reply_of result ≡ done_reply outcome }
 {
     match outcome {
-        Ok(()) => Reply::Simple("OK"),
+        Ok(()) => ok(),
         Err(fault) => Reply::Error(message(fault)),
     }
+}
+
+/// The reply to a command that was done, and answers no more.
+pub(crate) fn ok() -> Reply
+    ensures { reply_of result ≡ reply_to Done }
+{
+    Reply::Simple("OK")
 }
 
 /// The reply to a command that answers a time.
@@ -138,6 +151,20 @@ fn signed(number: u64) -> i64
     number as i64
 }
 
+/// The error reply to a fault in the words.
+pub(crate) fn refusal(fault: CommandFault) -> Reply
+    ensures { reply_of result ≡ Error (told_fault fault) }
+{
+    Reply::Error(fault.message())
+}
+
+/// The reply where the rows of a question are too many.
+pub(crate) fn too_many_rows() -> Reply
+    ensures { reply_of result ≡ refusal_reply EmptyRows }
+{
+    Reply::Error("ERR TSDB: too many empty buckets")
+}
+
 /// The words of the error reply to a command that the database refuses.
 pub(crate) fn message(fault: DbFault) -> &'static str
     ensures { result.now ≡ message_of (refusal_of fault) }
@@ -146,6 +173,7 @@ pub(crate) fn message(fault: DbFault) -> &'static str
         DbFault::NoKey => "ERR TSDB: the key does not exist",
         DbFault::KeyExists => "ERR TSDB: the key already exists",
         DbFault::KeysFull => "ERR TSDB: too many keys",
+        DbFault::LabelsFull => "ERR TSDB: too many labels",
         DbFault::TooOld => "ERR TSDB: timestamp is older than retention",
         DbFault::Duplicate => "ERR TSDB: duplicate sample",
         DbFault::OutOfRange => "ERR TSDB: result out of range",

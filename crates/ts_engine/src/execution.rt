@@ -1,16 +1,19 @@
 ghost use Rattle.std.specs.Prelude.{◌≡◌, ◌+◌, ◌≤◌, length};
 ghost use Rattle.ts_command.specs.Answers.{HasTime};
 ghost use Rattle.ts_command.specs.Reading.{reading as command_of};
+ghost use Rattle.ts_db.specs.Held.{Carries};
 ghost use Rattle.ts_engine.specs.Turn.{Executes};
 
 use crate::additions::put_items;
-use crate::answers::{add, alter, create, delete, incr, time_at};
+use crate::answers::{add, alter, create, delete, incr, ok, time_at};
 use crate::keys::{count_keys, drop_keys};
+use crate::members::put_members;
 use crate::questions::{put_get, put_pong, put_range, put_word};
+use crate::wanted::Wanted;
 use std::sync::ledger::Ledger;
 use ts_command::Command;
 use ts_db::Db;
-use ts_resp::{Out, Reply, put};
+use ts_resp::{Out, put};
 use ts_sample::Steps;
 
 /// Executes a command and leaves exactly the text of its reply in `out`. Want of memory is answered by its text,
@@ -26,7 +29,7 @@ pub fn execute<L: Ledger>(
 )
     requires room { 128 ≤ length out.old.bytes + out.old.spare }
     requires time { HasTime command }
-    ensures executes { Executes reading (command_of command) db.old out.new.bytes db.new }
+    ensures executes { Carries db.old db.new (λ from to. Executes reading (command_of command) from out.new.bytes to) }
     ensures room { 128 ≤ length out.new.bytes + out.new.spare }
 {
     out.clear();
@@ -55,10 +58,29 @@ pub fn execute<L: Ledger>(
         ),
         Command::DelRange { key, from, to } => put(&delete(db, &key, from, to, steps), out),
         Command::Range { key, latest, query } => put_range(db, &key, latest, &query, out, steps),
+        Command::MRange {
+            latest,
+            show,
+            filters,
+            query,
+        } => {
+            let wanted = Wanted::Rows {
+                latest,
+                show,
+                query,
+            };
+            put_members(db, &filters, &wanted, out, steps);
+        }
         Command::Get { key, latest } => put_get(db, &key, latest, out, steps),
+        Command::MGet {
+            latest,
+            show,
+            filters,
+        } => put_members(db, &filters, &Wanted::Last { latest, show }, out, steps),
+        Command::QueryIndex { filters } => put_members(db, &filters, &Wanted::Key, out, steps),
         Command::Ping { word } => put_pong(word, out),
         Command::Echo { word } => put_word(word, out),
-        Command::Quit => put(&Reply::Simple("OK"), out),
+        Command::Quit => put(&ok(), out),
         Command::Drop { keys } => put(&drop_keys(db, &keys), out),
         Command::Exists { keys } => put(&count_keys(db, &keys), out),
     }

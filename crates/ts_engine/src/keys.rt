@@ -3,6 +3,7 @@ ghost use Rattle.std.specs.Prelude.{◌≡◌, ◌<◌, ◌^◌, length};
 ghost use Rattle.ts_spec.specs.Step.{drop_keys, count_there};
 ghost use Rattle.ts_resp.specs.Replies.{reply_of};
 ghost use Rattle.ts_spec.specs.Replies.{number};
+ghost use Rattle.ts_db.specs.Held.{Held, Stands, Carries};
 ghost use Rattle.ts_engine.specs.Answering.{IsShort};
 ghost use Rattle.ts_engine.specs.Turn.{IsStep};
 
@@ -13,7 +14,7 @@ use ts_resp::{Reply, Word};
 /// Takes keys away, one after another, and replies how many were there. A key that is named twice counts once.
 pub(crate) fn drop_keys(db: &mut Db, keys: &[Word]) -> Reply
     requires few { length keys.now < 2 ^ 63 }
-    ensures answer { IsStep (drop_keys db.old.state 0 keys.now) db.old (reply_of result) db.new }
+    ensures answer { Carries db.old db.new (λ from to. IsStep (drop_keys from.state 0 keys.now) from (reply_of result) to) }
     ensures short { IsShort (reply_of result) }
 {
     let mut count = 0;
@@ -28,7 +29,7 @@ pub(crate) fn drop_keys(db: &mut Db, keys: &[Word]) -> Reply
 /// Replies how many of the words are keys.
 pub(crate) fn count_keys(db: &Db, keys: &[Word]) -> Reply
     requires few { length keys.now < 2 ^ 63 }
-    ensures answer { reply_of result ≡ number (count_there db.now.state keys.now) }
+    ensures answer { (from : Held) → Stands db.now from → reply_of result ≡ number (count_there from.state keys.now) }
     ensures short { IsShort (reply_of result) }
 {
     let mut count = 0;

@@ -8,6 +8,8 @@ mod found;
 mod go;
 mod keys;
 mod laws;
+mod member;
+mod members;
 mod piped;
 mod questions;
 mod room;
@@ -16,6 +18,7 @@ mod running;
 mod session;
 mod status;
 mod turn;
+mod wanted;
 
 pub use execution::execute;
 pub use go::Go;

@@ -1,7 +1,7 @@
 ghost use Rattle.std.specs.Prelude.{◌≡◌, ◌+◌, ◌<◌, ◌≤◌, ◌^◌, length, None, Some};
 ghost use Rattle.ts_resp.specs.Reading.{fed, unfinished};
-ghost use Rattle.ts_engine.specs.Standing.{spot, reading, ended_of};
-ghost use Rattle.ts_engine.specs.Session.{IsUpToDate};
+ghost use Rattle.ts_db.specs.Held.{Carries};
+ghost use Rattle.ts_engine.specs.Standing.{spot, reading, ended_of, HasAnswered};
 ghost use Rattle.ts_engine.specs.Piping.{Piped, Pumped, HasCauses, HasCausesOr};
 ghost use Rattle.ts_engine.specs.Ending.{end_at, end_by};
 
@@ -67,9 +67,10 @@ pub fn pipe<S: Source, K: Sink, C: Clock>(
     requires word_bytes { 1 ≤ limits.word_bytes }
     requires request_bytes { 1 ≤ limits.request_bytes }
     requires budget { 1 ≤ budget }
-    ensures piped { Piped limits budget result
-        (record { held = db.old; readings = C.readings clock.old }) (record { held = db.new; readings = C.readings clock.new })
-        (S.left input.old) (S.left input.new) (K.has out.old) (K.has out.new) }
+    ensures piped { Carries db.old db.new (λ from to. Piped limits budget result
+        (record { held = from; readings = C.readings clock.old }) (record { held = to; readings = C.readings clock.new })
+        (S.left input.old) (S.left input.new) (K.has out.old) (K.has out.new)) }
+    ensures within { result.taken ≤ budget }
     ensures causes { HasCauses result.end (S.faults input.old) (S.faults input.new) (K.faults out.old) (K.faults out.new) }
 {
     let Ok(mut session) = Session::new(alloc, limits) else {
@@ -110,11 +111,12 @@ fn pump<S: Source, K: Sink, C: Clock>(
     buffer: &mut [u8],
 ) -> Step
     requires ended { ended_of session.old ≡ None }
-    requires current { IsUpToDate (spot session.old db.old (C.readings clock.old)) }
+    requires current { HasAnswered session.old }
     requires within { fed (reading session.old) + length buffer.old < 2 ^ 64 }
     requires room { 0 < length buffer.old }
-    ensures pumped { Pumped result (S.left input.old) (S.left input.new)
-        (spot session.old db.old (C.readings clock.old)) (spot session.new db.new (C.readings clock.new)) (K.has out.old) (K.has out.new) }
+    ensures pumped { Carries db.old db.new (λ from to. Pumped result (S.left input.old) (S.left input.new)
+        (spot session.old from (C.readings clock.old)) (spot session.new to (C.readings clock.new)) (K.has out.old) (K.has out.new)) }
+    ensures current { result.end ≡ None → HasAnswered session.new }
     ensures causes { HasCausesOr result.end (S.faults input.old) (S.faults input.new) (K.faults out.old) (K.faults out.new) }
     ensures ended { result.end ≡ None → ended_of session.new ≡ None }
     ensures fed { result.end ≡ None → fed (reading session.new) ≡ fed (reading session.old) + result.taken }

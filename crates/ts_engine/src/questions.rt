@@ -9,9 +9,10 @@ ghost use Rattle.ts_spec.specs.Replies.{reply_to};
 ghost use Rattle.ts_spec.specs.Text.{text};
 ghost use Rattle.ts_range.specs.Query.{query_of};
 ghost use Rattle.ts_range.specs.Walk.{IsAskedOf};
+ghost use Rattle.ts_db.specs.Held.{Held, Stands};
 ghost use Rattle.ts_engine.specs.Answering.{IsTold};
 
-use crate::answers::message;
+use crate::answers::{message, too_many_rows};
 use crate::found::find_asked;
 use crate::room::put_no_memory;
 use crate::rows::{put_last, put_rows};
@@ -32,10 +33,10 @@ pub(crate) fn put_range<L: Ledger>(
 )
     requires empty { out.old.bytes ≡ [] }
     requires room { 128 ≤ out.old.spare }
-    ensures told { IsTold (range_response db.now.limits db.now.state key.now latest (query_of query.now) (get key.now db.now.state)) out.new.bytes }
+    ensures told { (from : Held) → Stands db.now from
+        → IsTold (range_response from.limits from.state key.now latest (query_of query.now) (get key.now from.state)) out.new.bytes }
     ensures room { 128 ≤ length out.new.bytes + out.new.spare }
 {
-    db.known();
     match find_asked(db, key, latest, query, steps) {
         Ok(asked) => put_answer(query, &asked, db.limits().empty_rows, out),
         Err(fault) => put(&Reply::Error(message(fault)), out),
@@ -55,7 +56,7 @@ fn put_answer(query: &Query, asked: &Asked, empty_rows: u32, out: &mut Out)
     let alloc = *asked.rows.allocator();
     match answer(alloc, query, asked, empty_rows) {
         Ok(rows) => put_rows(&rows, out),
-        Err(RangeFault::EmptyRows) => put(&Reply::Error("ERR TSDB: too many empty buckets"), out),
+        Err(RangeFault::EmptyRows) => put(&too_many_rows(), out),
         Err(RangeFault::Memory(_)) => put_no_memory(out),
     }
 }
@@ -70,7 +71,7 @@ pub(crate) fn put_get<L: Ledger>(
 )
     requires empty { out.old.bytes ≡ [] }
     requires room { 128 ≤ out.old.spare }
-    ensures told { IsTold (last_response db.now.state key.now latest (get key.now db.now.state)) out.new.bytes }
+    ensures told { (from : Held) → Stands db.now from → IsTold (last_response from.state key.now latest (get key.now from.state)) out.new.bytes }
     ensures room { 128 ≤ length out.new.bytes + out.new.spare }
 {
     match db.last(key, latest, steps) {

@@ -1,8 +1,9 @@
-ghost use Rattle.std.specs.Prelude.{◌≡◌, ◌⊎◌, ◌≤◌, ◌<◌, ◌↔◌, ℕ, false, List, length, None, Some, IsTrue, codes};
+ghost use Rattle.std.specs.Prelude.{◌≡◌, ◌⊎◌, ◌≤◌, ◌<◌, ◌↔◌, ℕ, false, List, length, take, None, Some, IsTrue, codes};
 ghost use Rattle.std.specs.String.{string_bytes};
 ghost use Rattle.ts_io.specs.Causes.{Rose};
 ghost use Rattle.ts_engine.specs.Headline.{Seen, ending, asks_to_quit};
-ghost use Rattle.ts_engine.specs.Top.{AreUsable, IsPipe, Reports, Headline, status_by, NoneRose};
+ghost use Rattle.ts_engine.specs.Taken.{Taken, Told};
+ghost use Rattle.ts_engine.specs.Top.{AreUsable, IsPipe, Reports, Headline, status_by, status_cut, NoneRose};
 
 use crate::piped::pipe;
 use crate::status::{Status, told_place, write_line};
@@ -37,6 +38,20 @@ pub fn top<S: Source, K: Sink, E: Sink, C: Clock, N: Listener>(
     ensures complete { IsPipe words.now → (bytes : List ℕ) → S.left input.old ≡ Some bytes → length bytes < budget
         → NoneRose (S.faults input.old) (S.faults input.new) (K.faults out.old) (K.faults out.new) (E.faults err.old) (E.faults err.new)
         → (result ≡ Status.Memory) ⊎ (result ≡ status_by (asks_to_quit limits.wire bytes) (ending limits.wire bytes)) }
+
+    // Where none fails and the budget is not above the input, the status is what the grammar says of the bytes that may be taken: a used up
+    // budget, unless a QUIT or a fault is among them; or want of memory.
+    ensures spent { IsPipe words.now → (bytes : List ℕ) → S.left input.old ≡ Some bytes → budget ≤ length bytes
+        → NoneRose (S.faults input.old) (S.faults input.new) (K.faults out.old) (K.faults out.new) (E.faults err.old) (E.faults err.new)
+        → (result ≡ Status.Memory) ⊎ (result ≡ status_cut (asks_to_quit limits.wire (take budget bytes)) (ending limits.wire (take budget bytes))) }
+
+    // What is taken of an input, and what is left of it.
+    ensures taken { IsPipe words.now → (bytes : List ℕ) → S.left input.old ≡ Some bytes → Taken
+        (record { limits = limits; readings = C.readings clock.old; readings_left = C.readings clock.new; had = K.has out.old; has = K.has out.new })
+        budget bytes (S.left input.new) (E.has err.old) (E.has err.new) result }
+
+    // A status has its line, also where the input tells nothing of itself.
+    ensures told { IsPipe words.now → Told (E.has err.old) (E.has err.new) result }
 
     // Other words touch nothing but `err`.
     ensures usage { (IsPipe words.now → ⊥) → Reports Status.Usage None result (E.has err.old) (E.has err.new) }
@@ -78,6 +93,7 @@ fn report<E: Sink>(err: &mut E, status: Status, place: Option<u64>) -> Status
     ensures reported { Reports status place result (E.has err.old) (E.has err.new) }
     ensures cause { result ≡ Status.WriteFault → (status ≡ Status.WriteFault) ⊎ Rose (E.faults err.old) (E.faults err.new) }
     ensures same { result ≡ Status.WriteFault ⊎ result ≡ status }
+    ensures good { status ≡ Status.Ended → result ≡ Status.Ended }
 {
     if status == Status::Ended {
         return status;

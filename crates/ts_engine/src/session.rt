@@ -1,4 +1,4 @@
-ghost use Rattle.std.specs.Prelude.{◌≡◌, ◌+◌, ◌<◌, ◌≤◌, ◌^◌, [], length, IfOk, IfNone, IfSome};
+ghost use Rattle.std.specs.Prelude.{◌≡◌, ◌+◌, ◌<◌, ◌≤◌, ◌^◌, [], length, None, Some, IfOk, IfNone, IfSome};
 ghost use Rattle.ts_engine.specs.Going.{end_of};
 
 use crate::go::Go;
@@ -24,8 +24,9 @@ pub struct Session {
 
 impl Session {
     ghost use Rattle.ts_resp.specs.Reading.{fed, unfinished};
+    ghost use Rattle.ts_db.specs.Held.{Carries};
     ghost use Rattle.ts_engine.specs.Session.{GoesOn, Answers, Replied, Refused, WroteOrFault};
-    ghost use Rattle.ts_engine.specs.Standing.{spot, reading, executed_by, ended_of, Begins};
+    ghost use Rattle.ts_engine.specs.Standing.{spot, reading, executed_by, ended_of, Begins, HasAnswered};
 
     /// A session to which no byte came.
     pub fn new(alloc: Global, limits: WireLimits) -> Result<Session, AllocError>
@@ -53,9 +54,10 @@ impl Session {
         out: &mut K,
     ) -> Go
         requires { fed (reading self.old) + length bytes.now < 2 ^ 64 }
-        ensures goes { IfNone (ended_of self.old) (Answers result
-            (spot self.old db.old (C.readings clock.old)) (spot self.new db.new (C.readings clock.new))
-            (K.has out.old) (K.has out.new) bytes.now) }
+        ensures goes { IfNone (ended_of self.old) (Carries db.old db.new (λ from to. Answers result
+            (spot self.old from (C.readings clock.old)) (spot self.new to (C.readings clock.new))
+            (K.has out.old) (K.has out.new) bytes.now)) }
+        ensures current { IfNone (ended_of self.old) (result ≡ Go.More → HasAnswered self.new) }
         ensures again { IfSome (ended_of self.old) (λ go. (result ≡ go)
             × (self.new ≡ self.old) × (db.new ≡ db.old) × (clock.new ≡ clock.old) × (out.new ≡ out.old)) }
         ensures ended { IfNone (ended_of self.old) (ended_of self.new ≡ end_of result) }
@@ -97,9 +99,10 @@ impl Session {
         requires name { blank.name ≡ L.name }
         requires parts { blank.parts ≡ L.parts }
         requires some { 0 < blank.parts }
-        ensures goes { Answers result
-            (spot self.old db.old (C.readings clock.old)) (spot self.new db.new (C.readings clock.new))
-            (K.has out.old) (K.has out.new) bytes.now }
+        ensures goes { Carries db.old db.new (λ from to. Answers result
+            (spot self.old from (C.readings clock.old)) (spot self.new to (C.readings clock.new))
+            (K.has out.old) (K.has out.new) bytes.now) }
+        ensures current { result ≡ Go.More → HasAnswered self.new }
         ensures fed { result ≡ Go.More → fed (reading self.new) ≡ fed (reading self.old) + length bytes.now }
         ensures cause { WroteOrFault (K.faults out.old) (K.faults out.new) (Some result) }
     {
@@ -118,9 +121,10 @@ impl Session {
         out: &mut K,
         steps: &mut Steps<L>,
     ) -> Go
-        ensures goes { Answers result
-            (spot self.old db.old (C.readings clock.old)) (spot self.new db.new (C.readings clock.new))
-            (K.has out.old) (K.has out.new) [] }
+        ensures goes { Carries db.old db.new (λ from to. Answers result
+            (spot self.old from (C.readings clock.old)) (spot self.new to (C.readings clock.new))
+            (K.has out.old) (K.has out.new) []) }
+        ensures current { result ≡ Go.More → HasAnswered self.new }
         ensures fed { fed (reading self.new) ≡ fed (reading self.old) }
         ensures cause { WroteOrFault (K.faults out.old) (K.faults out.new) (Some result) }
     {
@@ -139,7 +143,10 @@ impl Session {
         out: &mut K,
         steps: &mut Steps<L>,
     ) -> Option<Go>
-        ensures goes { GoesOn result (spot self.old db.old (C.readings clock.old)) (spot self.new db.new (C.readings clock.new)) (K.has out.old) (K.has out.new) }
+        ensures goes { Carries db.old db.new (λ from to. GoesOn result
+            (spot self.old from (C.readings clock.old)) (spot self.new to (C.readings clock.new)) (K.has out.old) (K.has out.new)) }
+        ensures onward { result ≡ None → (reading self.old).begin < (reading self.new).begin }
+        ensures current { result ≡ Some Go.More → HasAnswered self.new }
         ensures fed { fed (reading self.new) ≡ fed (reading self.old) }
         ensures within { (reading self.new).begin ≤ fed (reading self.new) }
         ensures cause { WroteOrFault (K.faults out.old) (K.faults out.new) result }
@@ -163,7 +170,10 @@ impl Session {
     ) -> Option<Go>
         requires counted { executed_by self.old < (reading self.old).begin }
         requires bounded { (reading self.old).begin < 2 ^ 64 }
-        ensures replied { Replied result words.items (spot self.old db.old (C.readings clock.old)) (spot self.new db.new (C.readings clock.new)) (K.has out.old) (K.has out.new) }
+        ensures replied { Carries db.old db.new (λ from to. Replied result words.items
+            (spot self.old from (C.readings clock.old)) (spot self.new to (C.readings clock.new)) (K.has out.old) (K.has out.new)) }
+        ensures reader { reading self.new ≡ reading self.old }
+        ensures ends { result ≡ Some Go.More → ⊥ }
         ensures cause { WroteOrFault (K.faults out.old) (K.faults out.new) result }
     {
         let quits = take_turn(db, words, clock, &mut self.room, steps);
@@ -178,6 +188,7 @@ impl Session {
     // Writes the error that answers a broken stream.
     fn refuse<K: Sink>(&mut self, fault: Protocol, out: &mut K) -> Go
         ensures refused { Refused result fault (K.has out.old) (K.has out.new) }
+        ensures ends { result ≡ Go.More → ⊥ }
         ensures reader { reading self.new ≡ reading self.old }
         ensures executed { executed_by self.new ≡ executed_by self.old }
         ensures cause { WroteOrFault (K.faults out.old) (K.faults out.new) (Some result) }

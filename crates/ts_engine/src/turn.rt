@@ -1,18 +1,17 @@
 ghost use Rattle.std.specs.Prelude.{◌≡◌, ◌+◌, ◌≤◌, length, Ok};
 ghost use Rattle.ts_spec.specs.Run.{is_quit, says_quit};
 ghost use Rattle.ts_spec.specs.Grammar.{needs_clock};
-ghost use Rattle.ts_spec.specs.Text.{Error};
-ghost use Rattle.ts_resp.specs.Replies.{reply_of};
-ghost use Rattle.ts_command.specs.Faults.{message};
 ghost use Rattle.ts_command.specs.Reading.{reading as command_of};
+ghost use Rattle.ts_db.specs.Held.{Carries};
 ghost use Rattle.ts_engine.specs.Turn.{turn, IsReading, left_by};
 
+use crate::answers::refusal;
 use crate::execution::execute;
 use std::sync::ledger::Ledger;
-use ts_command::{Command, CommandFault, read};
+use ts_command::{Command, read};
 use ts_db::Db;
 use ts_io::Clock;
-use ts_resp::{Out, Reply, Word, put};
+use ts_resp::{Out, Word, put};
 use ts_sample::Steps;
 
 /// Gives a request its turn, and leaves its reply in `room`. Answers whether the request is QUIT.
@@ -24,8 +23,8 @@ pub(crate) fn take_turn<C: Clock, L: Ledger>(
     steps: &mut Steps<L>,
 ) -> bool
     requires { 128 ≤ length room.old.bytes + room.old.spare }
-    ensures turn { turn (record { held = db.old; readings = C.readings clock.old }) words.items room.new.bytes
-        (record { held = db.new; readings = C.readings clock.new }) }
+    ensures turn { Carries db.old db.new (λ from to. turn (record { held = from; readings = C.readings clock.old }) words.items room.new.bytes
+        (record { held = to; readings = C.readings clock.new })) }
     ensures quits { result ≡ is_quit words.items }
     ensures room { 128 ≤ length room.new.bytes + room.new.spare }
 {
@@ -52,13 +51,6 @@ fn says_quit(command: &Command) -> bool
         Command::Quit => true,
         _ => false,
     }
-}
-
-// The error reply to words that are no command.
-fn refusal(fault: CommandFault) -> Reply
-    ensures { reply_of result ≡ Error (message fault) }
-{
-    Reply::Error(fault.message())
 }
 
 // The time, for a command that needs it, and else 0.

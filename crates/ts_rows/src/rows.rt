@@ -8,19 +8,24 @@ use ts_io::{MemClock, MemListener, MemSink, MemSource};
 
 mod buckets;
 mod devices;
+mod many;
 mod questions;
 mod series;
 mod sessions;
 mod talk;
 mod wire;
+mod words;
 
 /// What is given to a run, and what it must come to.
 #[derive(Clone, Copy)]
 struct Row<'a> {
+    /// The words of the command line, after the program's name.
+    words: &'a [&'a str],
     input: &'a [u8],
     budget: u64,
-    /// How many keys and samples per series there may be.
+    /// How many keys, and labels and samples per series, there may be.
     keys: u32,
+    labels: u32,
     samples: u32,
     /// How many rows an answer with empty buckets may have.
     empty_rows: u32,
@@ -36,9 +41,11 @@ struct Row<'a> {
 
 /// A run of `pipe` with room and without failing devices, which ends well.
 const PLAIN: Row<'static> = Row {
+    words: &["pipe"],
     input: b"",
     budget: 1 << 60,
     keys: 65_536,
+    labels: 64,
     samples: 16_777_216,
     empty_rows: 1_000_000,
     readings: &[],
@@ -63,7 +70,9 @@ fn run(rt: &impl Abort, alloc: Global, row: &Row, piece: usize) -> Result<(), Fa
     requires { 1 ≤ piece }
 {
     let mut words = Vec::new(alloc);
-    words.push(String::from_str(alloc, "pipe")?)?;
+    for word in row.words {
+        words.push(String::from_str(alloc, word)?)?;
+    }
     let input = Vec::from_slice(alloc, row.input)?;
     let mut source = MemSource::new(input, piece, fails(alloc, row.failing_read)?);
     let mut out = MemSink::new(alloc, 4096, fails(alloc, row.failing_write)?);
@@ -72,6 +81,7 @@ fn run(rt: &impl Abort, alloc: Global, row: &Row, piece: usize) -> Result<(), Fa
     let mut net = MemListener::new(alloc, Vec::new(alloc), Vec::new(alloc))?;
     let limits = Limits {
         keys: row.keys.max(1),
+        labels: row.labels.max(1),
         samples: row.samples.max(1),
         empty_rows: row.empty_rows.max(1),
         ..Limits::usual()

@@ -1,11 +1,10 @@
-use Rattle.std.proofs.Common.{◌≡◌, ◌≤◌, ◌∙◌, ◌++◌, ℕ, List, [], length, sym, ap, subst, arith, rules, length-append}
+use Rattle.std.proofs.Common.{◌≡◌, ◌≤◌, ◌∙◌, ◌++◌, ℕ, List, [], length, sym, ap, arith, rules}
 use Rattle.std.specs.Fmt.{decimal}
 use Rattle.std.specs.Vec.Iter.{into_iter_items}
-use Rattle.ts_spec.specs.Text.{line, text}
-use Rattle.ts_command.specs.declared.command.Triple.{Triple}
+use Rattle.ts_spec.specs.Text.{line}
 use Rattle.ts_command.specs.Reading.{triple_of, triples_of}
 use Rattle.ts_resp.specs.Replies.{reply_of}
-use Rattle.ts_engine.proofs.Items.{SoFar, so_far_none, so_far_more, all_told, length-triples, no_items}
+use Rattle.ts_engine.proofs.Items.{each_none, adding_more, each_told, length-triples, no_items}
 use Rattle.ts_engine.proofs.Short.{short_head}
 use Rattle.ts_engine.proofs.additions.add_all.Goals as goal
 
@@ -23,28 +22,38 @@ loop-triple-init g c =
     c.begin_array.ensures.bytes ∙ ap (λ (l : List ℕ). l ++ line 42 (decimal c.len.result)) c.requires.empty in
     let short : length (line 42 (decimal c.len.result)) ≤ 64 = short_head c.len.result c.len.type_inv in
     record {
-      so_far = subst (λ (ts : List Triple). SoFar c.args.reading triples (triples_of ts) c.args.db.now c.args.db.now c.begin_array.new.out.bytes) (sym gives)
-          (so_far_none c.args.reading triples c.args.db.now c.begin_array.new.out.bytes (head ∙ ap (λ (n : ℕ). line 42 (decimal n)) count));
-      items = omega (arith, ap length gives, c.begin_array.ensures.room, c.requires.items, short);
+      so_far = each_none c.args.reading triples (triples_of (into_iter_items c.into_iter-triple-iterator.result)) c.args.db.now c.begin_array.new.out.bytes (ap triples_of gives)
+          (head ∙ ap (λ (n : ℕ). line 42 (decimal n)) count);
+      items = omega (arith, ap length gives, length-triples (into_iter_items c.into_iter-triple-iterator.result), c.begin_array.ensures.room, c.requires.items, short);
       room = omega (arith, ap length head, c.begin_array.ensures.room, c.requires.room);
     }
 
 pub loop-triple-preserved : goal.loop-triple-preserved
 loop-triple-preserved g c =
-    let triples = triples_of c.args.triples.items in
-    let steps = c.in-Some.ensures.steps.0 in
-    record {
-      so_far = so_far_more c.args.reading triples (triples_of (into_iter_items c.next.new.self)) (triple_of c.in-Some.triple) c.args.db.now c.loop-triple.db c.add_one-item.new.db
-          (reply_of c.add_one-item.result) c.loop-triple.out.bytes c.put.new.out.bytes
-          (subst (λ (ts : List Triple). SoFar c.args.reading triples (triples_of ts) c.args.db.now c.loop-triple.db c.loop-triple.out.bytes) steps c.loop-triple.invariant.so_far)
-          c.add_one-item.ensures.told c.add_one-item.ensures.limits c.put.ensures.bytes;
-      items = omega (arith, ap length steps, c.loop-triple.invariant.items, c.put.ensures.room, c.add_one-item.ensures.short);
-      room = omega (arith, ap length c.put.ensures.bytes, length-append c.loop-triple.out.bytes (text (reply_of c.add_one-item.result)), c.put.ensures.room, c.loop-triple.invariant.room);
-    }
+    adding_more c.args.reading (triples_of c.args.triples.items) (triples_of (into_iter_items c.loop-triple.triple-iterator)) (triples_of (into_iter_items c.next.new.self)) (triple_of c.in-Some.triple)
+    c.args.db.now c.loop-triple.db c.add_one-item.new.db (reply_of c.add_one-item.result) c.loop-triple.out.bytes c.put.new.out.bytes c.loop-triple.out.spare c.put.new.out.spare
+    c.loop-triple.invariant (ap triples_of c.in-Some.ensures.steps.0) c.add_one-item.ensures.told c.add_one-item.ensures.short c.put.ensures.bytes c.put.ensures.room
+
+pub loop-triple-preserved-in-Some : goal.loop-triple-preserved-in-Some
+loop-triple-preserved-in-Some g c =
+    adding_more c.args.reading (triples_of c.args.triples.items) (triples_of (into_iter_items c.loop-triple.triple-iterator)) (triples_of (into_iter_items c.next.new.self)) (triple_of c.in-Some.triple)
+    c.args.db.now c.loop-triple.db c.add_one-item.new.db (reply_of c.add_one-item.result) c.loop-triple.out.bytes c.put.new.out.bytes c.loop-triple.out.spare c.put.new.out.spare
+    c.loop-triple.invariant (ap triples_of c.in-Some.ensures.steps.0) c.add_one-item.ensures.told c.add_one-item.ensures.short c.put.ensures.bytes c.put.ensures.room
+
+pub loop-triple-preserved-in-Some-2 : goal.loop-triple-preserved-in-Some-2
+loop-triple-preserved-in-Some-2 g c =
+    adding_more c.args.reading (triples_of c.args.triples.items) (triples_of (into_iter_items c.loop-triple.triple-iterator)) (triples_of (into_iter_items c.next.new.self)) (triple_of c.in-Some.triple)
+    c.args.db.now c.loop-triple.db c.add_one-item.new.db (reply_of c.add_one-item.result) c.loop-triple.out.bytes c.put.new.out.bytes c.loop-triple.out.spare c.put.new.out.spare
+    c.loop-triple.invariant (ap triples_of c.in-Some.ensures.steps.0) c.add_one-item.ensures.told c.add_one-item.ensures.short c.put.ensures.bytes c.put.ensures.room
+
+pub loop-triple-preserved-in-Some-3 : goal.loop-triple-preserved-in-Some-3
+loop-triple-preserved-in-Some-3 g c =
+    adding_more c.args.reading (triples_of c.args.triples.items) (triples_of (into_iter_items c.loop-triple.triple-iterator)) (triples_of (into_iter_items c.next.new.self)) (triple_of c.in-Some.triple)
+    c.args.db.now c.loop-triple.db c.add_one-item.new.db (reply_of c.add_one-item.result) c.loop-triple.out.bytes c.put.new.out.bytes c.loop-triple.out.spare c.put.new.out.spare
+    c.loop-triple.invariant (ap triples_of c.in-Some.ensures.steps.0) c.add_one-item.ensures.told c.add_one-item.ensures.short c.put.ensures.bytes c.put.ensures.room
 
 pub returns-clause-told : goal.returns-clause-told
 returns-clause-told g c =
-    let triples = triples_of c.args.triples.items in
     let none : into_iter_items c.loop-triple.triple-iterator ≡ [] = no_items (into_iter_items c.loop-triple.triple-iterator) (omega (arith, c.in-None.ensures.steps.0, c.loop-triple.triple-iterator.rest.ok.0)) in
-    all_told c.args.reading triples c.args.db.now c.loop-triple.db c.loop-triple.out.bytes
-    (subst (λ (ts : List Triple). SoFar c.args.reading triples (triples_of ts) c.args.db.now c.loop-triple.db c.loop-triple.out.bytes) none c.loop-triple.invariant.so_far)
+    each_told c.args.reading (triples_of c.args.triples.items) (triples_of (into_iter_items c.loop-triple.triple-iterator)) c.args.db.now c.loop-triple.db c.loop-triple.out.bytes
+    c.loop-triple.invariant.so_far (ap triples_of none)

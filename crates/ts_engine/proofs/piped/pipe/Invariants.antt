@@ -1,17 +1,17 @@
 use Rattle.std.proofs.Common.{◌-◌, ◌≡◌, ◌≤◌, None}
 use Rattle.ts_resp.specs.Reading.{fed}
-use Rattle.ts_engine.specs.Standing.{spot, reading, ended_of}
-use Rattle.ts_engine.specs.Session.{IsUpToDate}
+use Rattle.ts_db.specs.Held.{Carries}
+use Rattle.ts_engine.specs.Standing.{spot, reading, ended_of, HasAnswered}
 use Rattle.ts_engine.proofs.Pipes.{SoFar}
 use Rattle.ts_engine.proofs.piped.pipe.Given as goal
 
 -- every whole request in the bytes taken had its turn, and the session goes on
 abbrev pub invariant-loop-taken : goal.invariant-loop-taken
 invariant-loop-taken g l = record {
-  so_far : SoFar l.fn.limits l.taken (record { held = l.initial.db; readings = g.C.Clock.readings l.initial.clock })
-      (spot l.session l.db (g.C.Clock.readings l.clock)) (g.S.Source.left l.initial.input) (g.S.Source.left l.input)
-      (g.K.Sink.has l.initial.out) (g.K.Sink.has l.out);
-  current : IsUpToDate (spot l.session l.db (g.C.Clock.readings l.clock));
+  so_far : Carries l.initial.db l.db (λ from to. SoFar l.fn.limits l.taken (record { held = from; readings = g.C.Clock.readings l.initial.clock })
+      (spot l.session to (g.C.Clock.readings l.clock)) (g.S.Source.left l.initial.input) (g.S.Source.left l.input)
+      (g.K.Sink.has l.initial.out) (g.K.Sink.has l.out));
+  current : HasAnswered l.session;
   goes_on : ended_of l.session ≡ None;
   fed : fed (reading l.session) ≡ l.taken;
   within : l.taken ≤ l.budget;

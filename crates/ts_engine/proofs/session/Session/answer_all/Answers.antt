@@ -1,13 +1,22 @@
-use Rattle.std.proofs.Common.{◌∙◌, arith}
-use Rattle.ts_engine.proofs.Sessions.{answers_then, went_then}
+use Rattle.std.proofs.Common.{[], refl, ◌∙◌, ap, arith}
+use Rattle.std.specs.Prelude.{Some}
+use Rattle.ts_engine.proofs.Carried.{carries_none, carries_then}
+use Rattle.ts_engine.proofs.Sessions.{fed_only, answers_then, went_then}
 use Rattle.ts_engine.proofs.session.Session.answer_all.Goals as goal
 
+pub loop-go-init : goal.loop-go-init
+loop-go-init g c = record { went = carries_none _ _ (λ from stands. fed_only _ _ _ [] (λ more. refl) refl refl); fed = refl; later = omega arith }
+
 pub returns-in-Some-clause-goes : goal.returns-in-Some-clause-goes
-returns-in-Some-clause-goes g c = answers_then _ _ _ _ _ c.loop-go.invariant.went c.in-Some.go _ _ c.in-Some.ensures.goes
+returns-in-Some-clause-goes g c =
+    carries_then _ _ _ _ _ _ (λ from between to went goes. answers_then _ _ _ _ [] went c.in-Some.go _ _ goes) c.loop-go.invariant.went c.in-Some.ensures.goes
+
+pub returns-in-Some-clause-current : goal.returns-in-Some-clause-current
+returns-in-Some-clause-current g c = λ is. c.in-Some.ensures.current (ap Some is)
 
 pub loop-go-preserved : goal.loop-go-preserved
 loop-go-preserved g c = record {
-  went = went_then _ _ _ _ _ c.loop-go.invariant.went _ _ c.in_default.ensures.goes.0;
+  went = carries_then _ _ _ _ _ _ (λ from between to went goes. went_then _ _ _ _ [] went _ _ goes.0) c.loop-go.invariant.went c.in_default.ensures.goes;
   fed = c.in_default.ensures.fed ∙ c.loop-go.invariant.fed;
   later = omega (arith, c.in_default.ensures.cause);
 }

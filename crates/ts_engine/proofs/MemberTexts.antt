@@ -1,0 +1,43 @@
+-- One member that is written.
+use Rattle.std.proofs.Common.{◌≡◌, Bool, ℕ, List, ◌++◌, map, sym, ap, subst, ◌∙◌}
+use Rattle.std.specs.Prelude.{Option, None, Some, option_map, Result, Ok, Err, OnOk}
+use Rattle.std.specs.declared.alloc.AllocError.{AllocError}
+use Rattle.ts_spec.specs.declared.limits.Limits.{Limits}
+use Rattle.ts_spec.specs.Answer.{Row, answer}
+use Rattle.ts_spec.specs.Command as command
+use Rattle.ts_spec.specs.Key.{Key}
+use Rattle.ts_spec.specs.Keyed.{get}
+use Rattle.ts_spec.specs.Kept.{Keeping}
+use Rattle.ts_spec.specs.KeptQuestions.{kept_asked, kept_labels_at, kept_member}
+use Rattle.ts_spec.specs.Questions.{labels_shown}
+use Rattle.ts_spec.specs.Replies.{member_reply}
+use Rattle.ts_spec.specs.Response.{Member}
+use Rattle.ts_spec.specs.State.{Label}
+use Rattle.ts_spec.specs.Text.{Reply, text}
+use Rattle.ts_labels.specs.declared.show.Show.{Show}
+use Rattle.ts_labels.specs.Show.{show_of}
+use Rattle.ts_range.specs.declared.fault.RangeFault.{RangeFault}
+use Rattle.ts_multi.specs.Members.{told}
+use Rattle.ts_engine.specs.Members.{in_memory, rows_at, IsAdded}
+
+-- what follows where a call that may only find no memory is done
+pub in-memory-done : (r : Result (Unit {0}) AllocError) (x : Result (Unit {0}) RangeFault) (P Q : Type 0) → x ≡ in_memory r → (P → Q) → OnOk r P → OnOk x Q
+in-memory-done (Ok done) x P Q is more h = subst (λ (y : Result (Unit {0}) RangeFault). OnOk y Q) (sym is) (more h)
+in-memory-done (Err fault) x P Q is more h = subst (λ (y : Result (Unit {0}) RangeFault). OnOk y Q) (sym is) tt
+
+-- the member that a key and labels make is that of what is kept
+pub member-told : (m : Keeping) (show : Show) (key k : Key) (labels : List Label) (rows : List Row) → k ≡ key → labels ≡ kept_labels_at (get key m)
+    → told show k labels rows ≡ kept_member m (show_of show) key rows
+member-told m show key k labels rows name own = λ i. record { key = name i; labels = labels_shown (show_of show) (own i); rows = rows }
+
+module _ (limits : Limits) (m : Keeping) (latest : Bool) (show : command.Show) (q : command.Query) (key : Key) where
+  -- its rows are told
+  pub rows-added : (rows : List Row) (member : Member) (before after : List ℕ) → answer limits.empty_rows q (kept_asked m latest key) ≡ Some rows → member ≡ kept_member m show key rows
+      → after ≡ before ++ text (member_reply member) → IsAdded (rows_at limits m latest show q key) before after
+  rows-added rows member before after answered is added =
+      subst (λ (o : Option (List Row)). IsAdded (option_map (λ rows. member_reply (kept_member m show key rows)) o) before after) (sym answered)
+      (added ∙ ap (λ (x : Member). before ++ text (member_reply x)) is)
+
+  -- they are too many
+  pub rows-none : answer limits.empty_rows q (kept_asked m latest key) ≡ None → rows_at limits m latest show q key ≡ None
+  rows-none none = ap (option_map (λ rows. member_reply (kept_member m show key rows))) none

@@ -1,0 +1,28 @@
+use Rattle.std.proofs.Common.{◌≡◌, ◌++◌, List, sym, ap, subst, ◌∙◌}
+use Rattle.ts_resp.specs.Replies.{reply_of}
+use Rattle.ts_spec.specs.KeptQuestions.{kept_selection}
+use Rattle.ts_spec.specs.Text.{text}
+use Rattle.ts_sample.specs.declared.id.Id.{Id}
+use Rattle.ts_db.specs.Held.{IsLive, AreNumbersOf}
+use Rattle.ts_engine.proofs.Executed.{alone}
+use Rattle.ts_engine.proofs.ManyTexts.{numbers-live}
+use Rattle.ts_engine.proofs.ManyTold.{many-told, many-refused}
+use Rattle.ts_engine.proofs.members.put_members.Goals as goal
+
+pub add_members-requires : goal.add_members-requires
+add_members-requires g c =
+    let keys = kept_selection c.args.db.now.keys c.args.filters.now in
+    numbers-live c.args.db.now.ids keys c.deref.result.now (subst (AreNumbersOf c.args.db.now.ids keys) (sym c.deref.ensures.value) c.in-Ok.ensures)
+
+pub returns-in-Ok-add_members-clause-told : goal.returns-in-Ok-add_members-clause-told
+returns-in-Ok-add_members-clause-told g c =
+    let keys = kept_selection c.args.db.now.keys c.args.filters.now in
+    many-told c.args.db.now c.args.wanted.now c.args.filters.now c.args.out.now.bytes c.add_members.new.out.bytes c.requires.empty
+    (c.in-Ok-add_members.ensures.added keys (subst (AreNumbersOf c.args.db.now.ids keys) (sym c.deref.ensures.value) c.in-Ok.ensures))
+
+pub returns-in-Err-EmptyRows-clause-told : goal.returns-in-Err-EmptyRows-clause-told
+returns-in-Err-EmptyRows-clause-told g c =
+    let keys = kept_selection c.args.db.now.keys c.args.filters.now in
+    many-refused c.args.db.now c.args.wanted.now c.args.filters.now c.put.new.out.bytes
+    (c.in-Err-EmptyRows.ensures.refused c.in-Err-EmptyRows.field-0-is keys (subst (AreNumbersOf c.args.db.now.ids keys) (sym c.deref.ensures.value) c.in-Ok.ensures))
+    (alone (reply_of c.too_many_rows.result) c.clear.new.self.bytes c.put.new.out.bytes c.put.ensures.bytes c.clear.ensures.empty ∙ ap text c.too_many_rows.ensures)

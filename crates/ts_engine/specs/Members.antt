@@ -1,0 +1,61 @@
+-- Answers over many series, member by member.
+use Rattle.std.specs.Prelude.{◌≡◌, Bool, ℕ, List, [], ◌∷◌, ◌++◌, map, Option, None, Some, option_map, Result, Ok, Err}
+use Rattle.std.specs.declared.alloc.AllocError.{AllocError}
+use Rattle.ts_spec.specs.declared.limits.Limits.{Limits}
+use Rattle.ts_spec.specs.Key.{Key}
+use Rattle.ts_spec.specs.Command.{Show, Query}
+use Rattle.ts_spec.specs.Filter.{Filter, selection}
+use Rattle.ts_spec.specs.Answer.{Row, answer}
+use Rattle.ts_spec.specs.Response.{Response, Keys, LastRows}
+use Rattle.ts_spec.specs.Replies.{member_reply, last_member_reply, array}
+use Rattle.ts_spec.specs.Text.{Reply, Bulk, text}
+use Rattle.ts_spec.specs.Kept.{Keeping}
+use Rattle.ts_spec.specs.KeptQuestions.{kept_asked, kept_member, kept_last_member}
+use Rattle.ts_spec.specs.Questions.{members_of, members_response, last_member}
+use Rattle.ts_labels.specs.Show.{show_of}
+use Rattle.ts_range.specs.Query.{query_of}
+use Rattle.ts_range.specs.declared.fault.RangeFault.{RangeFault}
+use Rattle.ts_range.specs.declared.fault.RangeFault.TheVariants.{Memory}
+use Rattle.ts_db.specs.Held.{Held}
+use Rattle.ts_engine.specs.declared.wanted.Wanted.{Wanted}
+use Rattle.ts_engine.specs.declared.wanted.Wanted.TheVariants as wanted
+
+-- what comes of a call that may only find no memory
+abbrev pub in_memory : Result (Unit {0}) AllocError → Result (Unit {0}) RangeFault
+in_memory (Ok done) = Ok done
+in_memory (Err fault) = Err (Memory fault)
+
+-- the member of a key with the rows of a question, unless these are too many
+abbrev pub rows_at : Limits → Keeping → Bool → Show → Query → Key → Option Reply
+rows_at limits m latest show q k = option_map (λ rows. member_reply (kept_member m show k rows)) (answer limits.empty_rows q (kept_asked m latest k))
+
+-- what is told of a key, unless its rows are too many
+abbrev pub reply_at : Limits → Keeping → Wanted → Key → Option Reply
+reply_at limits m wanted.Key k = Some (Bulk k)
+reply_at limits m (wanted.Last latest show) k = Some (last_member_reply (kept_last_member m latest (show_of show) k))
+reply_at limits m (wanted.Rows latest show query) k = rows_at limits m latest (show_of show) (query_of query) k
+
+abbrev pub replies_then : Option Reply → Option (List Reply) → Option (List Reply)
+replies_then None others = None
+replies_then (Some reply) None = None
+replies_then (Some reply) (Some others) = Some (reply ∷ others)
+
+-- what is told of keys, unless there is nothing to tell of one
+abbrev pub replies_of : (Key → Option Reply) → List Key → Option (List Reply)
+replies_of reply [] = Some []
+replies_of reply (k ∷ ks) = replies_then (reply k) (replies_of reply ks)
+
+-- the text of a reply was added, or of an array of replies
+abbrev pub IsAdded : Option Reply → (before after : List ℕ) → Type 0
+IsAdded None before after = ⊥
+IsAdded (Some reply) before after = after ≡ before ++ text reply
+
+abbrev pub AreAdded : Option (List Reply) → (before after : List ℕ) → Type 0
+AreAdded None before after = ⊥
+AreAdded (Some replies) before after = after ≡ before ++ text (array replies)
+
+-- the response over the series that pass filters
+abbrev pub many_response : Held → Wanted → List Filter → Response
+many_response from wanted.Key fs = Keys (selection from.state fs)
+many_response from (wanted.Last latest show) fs = LastRows (map (last_member from.state latest (show_of show)) (selection from.state fs))
+many_response from (wanted.Rows latest show query) fs = members_response (members_of from.limits from.state latest (show_of show) (query_of query) (selection from.state fs))

@@ -1,0 +1,74 @@
+-- How much of an input is taken, by how it is answered.
+use Rattle.std.specs.Prelude.{◌≡◌, ◌⊎◌, ⊤, true, ℕ, zero, suc, ◌+◌, ◌≤◌, if◌then◌else◌, List, [], ◌++◌, length, Option, None, Some}
+use Rattle.std.proofs.Common.{inl, inr}
+use Rattle.ts_spec.specs.Run.{is_quit}
+use Rattle.ts_spec.specs.Wire.{Stream, Then, Ended, Inside, Broken, stream_at}
+use Rattle.ts_engine.specs.declared.piped.End.{End}
+use Rattle.ts_engine.specs.declared.piped.End.TheVariants as end
+use Rattle.ts_engine.specs.declared.status.Status.{Status}
+use Rattle.ts_engine.specs.declared.status.Status.TheVariants as status
+use Rattle.ts_engine.specs.Headline.{Seen, AllAnswered, WholeAnswered, LastCut, FaultCut, asks_to_quit, Writes}
+use Rattle.ts_engine.specs.Piping.{PIECE}
+use Rattle.ts_engine.specs.Status.{status_of, place_of}
+use Rattle.ts_engine.specs.Top.{Headline, Reports}
+
+-- the place after the first QUIT, if there is one
+abbrev pub quit_place : Stream → Option ℕ
+quit_place (Then request after rest) = if is_quit request then Some after else quit_place rest
+quit_place Ended = None
+quit_place (Inside place) = None
+quit_place (Broken kind place) = None
+
+-- the place after the request that so many others come before
+abbrev pub place_after : Stream → ℕ → Option ℕ
+place_after (Then request after rest) zero = Some after
+place_after (Then request after rest) (suc n) = place_after rest n
+place_after Ended n = None
+place_after (Inside place) n = None
+place_after (Broken kind place) n = None
+
+-- there is such a place, and at most one piece was taken past it
+pub record IsNear (place : Option ℕ) (taken : ℕ) : Type 0 where
+  pub at : ℕ
+  pub is : place ≡ Some at
+  pub near : taken ≤ at + PIECE
+
+module _ (seen : Seen) (bytes : List ℕ) (left : Option (List ℕ)) where
+  -- past a QUIT
+  abbrev pub QuitNear : WholeAnswered seen bytes left Ended ⊎ (AllAnswered seen bytes [] × (asks_to_quit seen.limits.wire bytes ≡ true)) → ℕ → Type 0
+  QuitNear (inl whole) taken = ⊤
+  QuitNear (inr quits) taken = IsNear (quit_place (stream_at seen.limits.wire 0 bytes)) taken
+
+  -- past the request whose reply failed, or past the fault whose text did
+  abbrev pub CutNear : LastCut seen bytes ⊎ FaultCut seen bytes → ℕ → Type 0
+  CutNear (inl cut) taken = IsNear (place_after (stream_at seen.limits.wire 0 bytes) (length cut.done)) taken
+  CutNear (inr cut) taken = taken ≤ cut.place + PIECE
+
+  -- no read was made past an end that showed itself in the input
+  abbrev pub Near : (budget : ℕ) (e : End) → Writes seen budget bytes left e → (taken : ℕ) → Type 0
+  Near budget end.Ended written taken = QuitNear written taken
+  Near budget (end.Truncated place) written taken = ⊤
+  Near budget (end.Protocol fault) written taken = taken ≤ fault.place + PIECE
+  Near budget end.ReadFault written taken = ⊤
+  Near budget end.Budget written taken = ⊤
+  Near budget end.Memory written taken = ⊤
+  Near budget end.WriteFault written taken = CutNear written taken
+
+-- How an input with these bytes was answered, and what was taken of it: a front of at most the budget, which alone would be answered so.
+-- A good end is not reported otherwise.
+pub record Taken (seen : Seen) (budget : ℕ) (bytes : List ℕ) (left : Option (List ℕ)) (had has : List ℕ → Type 0) (given : Status) : Type 0 where
+  pub headline : Headline seen budget bytes left had has given
+  pub front : List ℕ
+  pub rest : List ℕ
+  pub split : bytes ≡ front ++ rest
+  pub left_is : left ≡ Some rest
+  pub within : length front ≤ budget
+  pub alone : Writes seen budget front (Some []) headline.end
+  pub near : Near seen bytes left budget headline.end headline.written (length front)
+  pub quiet : headline.end ≡ end.Ended → given ≡ status.Ended
+
+-- An end was reported by its status and line, whatever the input tells of itself. A good end is not reported otherwise.
+pub record Told (had has : List ℕ → Type 0) (given : Status) : Type 0 where
+  pub ended : End
+  pub reported : Reports (status_of ended) (place_of ended) given had has
+  pub quiet : ended ≡ end.Ended → given ≡ status.Ended
