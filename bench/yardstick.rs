@@ -1,11 +1,19 @@
 // A yardstick for `tsd pipe`: the same work in plain Rust, without crates and without proofs.
 //
 // It reads requests from standard input, at most 4096 bytes a read, checks them as the server does, and makes one write
-// for each reply. Samples stand in a BTreeMap from keys to ascending vectors, their values in millionths. It knows
+// for each reply. Series stand in a BTreeMap by their keys: their samples in an ascending vector, with values in
+// millionths, and their labels in a vector. A question over many series walks all of them. It knows
+//   TS.CREATE key
+//   TS.CREATE key LABELS label value ..
 //   TS.ADD key time value
 //   TS.RANGE key from to
 //   TS.RANGE key from to FILTER_BY_VALUE least greatest
 //   TS.RANGE key from to AGGREGATION avg duration
+//   TS.MRANGE from to FILTER label=value ..
+//   TS.MRANGE from to FILTER_BY_VALUE least greatest FILTER label=value ..
+//   TS.MRANGE from to AGGREGATION avg duration FILTER label=value ..
+//   TS.QUERYINDEX label=value ..
+// and is run as
 //   yardstick          copies each word of a request, as the server does
 //   yardstick slices   takes the words as slices of the buffer, and copies a key only where it is new
 use std::collections::BTreeMap;
@@ -22,6 +30,7 @@ const REQUEST_BYTES: u64 = 16_777_216;
 const MAX_TIME: u64 = i64::MAX as u64;
 const DURATION: u64 = 100_000_000_000_000;
 const BOUND: i128 = 1_000_000_000_000_000_000_000_000;
+const LABELS: usize = 64;
 
 const MULTIBULK: &[u8] = b"-ERR Protocol error: invalid multibulk length\r\n";
 const BULK: &[u8] = b"-ERR Protocol error: invalid bulk length\r\n";
@@ -274,7 +283,23 @@ struct Sample {
     made: u32,
 }
 
-type Series = BTreeMap<Vec<u8>, Vec<Sample>>;
+#[derive(Default)]
+struct Series {
+    samples: Vec<Sample>,
+    labels: Vec<(Vec<u8>, Vec<u8>)>,
+}
+
+impl Series {
+    /// Whether each of these labels has its value here.
+    fn has(&self, filters: &[Filter]) -> bool {
+        filters.iter().all(|(label, value)| self.labels.iter().any(|(name, held)| name == label && held == value))
+    }
+}
+
+/// A label, and the value that is asked of it.
+type Filter<'a> = (&'a [u8], &'a [u8]);
+
+type Database = BTreeMap<Vec<u8>, Series>;
 
 /// Adds a sample, unless its time has one.
 fn insert(list: &mut Vec<Sample>, sample: Sample) -> bool {
@@ -311,6 +336,13 @@ fn put_digits(mut number: u64, room: &mut Vec<u8>) {
 fn put_line(kind: u8, number: u64, room: &mut Vec<u8>) {
     room.push(kind);
     put_digits(number, room);
+    room.extend_from_slice(b"\r\n");
+}
+
+/// Puts a text of any bytes in the room, after its length.
+fn put_bulk(text: &[u8], room: &mut Vec<u8>) {
+    put_line(b'$', text.len() as u64, room);
+    room.extend_from_slice(text);
     room.extend_from_slice(b"\r\n");
 }
 
@@ -403,28 +435,112 @@ fn duration(told: &[u8], length: &[u8]) -> Result<u64, &'static [u8]> {
     }
 }
 
-/// What TS.RANGE tells of an interval: its samples, those with some values, or the means of buckets.
+const ARITY: &[u8] = b"-ERR wrong number of arguments\r\n";
+const OPTION: &[u8] = b"-ERR TSDB: invalid option\r\n";
+
+/// What is told of an interval: its samples, those with some values, or the means of buckets.
 enum Asked {
     Samples,
     Values(RangeInclusive<i128>),
     Means(u64),
 }
 
+impl Asked {
+    /// What the options of a range ask.
+    fn read<W: AsRef<[u8]>>(options: &[W]) -> Result<Asked, &'static [u8]> {
+        match options {
+            [] => Ok(Asked::Samples),
+            [name, least, greatest] if name.as_ref().eq_ignore_ascii_case(b"FILTER_BY_VALUE") => {
+                Ok(Asked::Values(value(least.as_ref())?..=value(greatest.as_ref())?))
+            }
+            [name, told, length] if name.as_ref().eq_ignore_ascii_case(b"AGGREGATION") => {
+                Ok(Asked::Means(duration(told.as_ref(), length.as_ref())?))
+            }
+            _ => Err(OPTION),
+        }
+    }
+
+    /// Puts what it asks of these samples in the room.
+    fn put(&self, samples: &[Sample], room: &mut Vec<u8>) {
+        match self {
+            Asked::Samples => put_rows(samples.iter(), room),
+            Asked::Values(values) => put_rows(samples.iter().filter(|s| values.contains(&s.value)), room),
+            Asked::Means(duration) => put_rows(means(samples, *duration).iter(), room),
+        }
+    }
+}
+
+/// A filter, which is a label and its value, cut at the first `=`.
+fn filter(text: &[u8]) -> Result<Filter<'_>, &'static [u8]> {
+    let place = text.iter().position(|&byte| byte == b'=');
+    match place.map(|at| (&text[..at], &text[at + 1..])) {
+        None | Some(([] | [.., b'!'], _) | (_, [] | [b'(', ..])) => Err(b"-ERR TSDB: invalid filter\r\n"),
+        Some(found) => Ok(found),
+    }
+}
+
+fn filters<W: AsRef<[u8]>>(words: &[W]) -> Result<Vec<Filter<'_>>, &'static [u8]> {
+    words.iter().map(|word| filter(word.as_ref())).collect()
+}
+
+/// The series whose labels meet all filters, in the order of their keys.
+fn select<'a>(database: &'a Database, filters: &[Filter]) -> Vec<(&'a Vec<u8>, &'a Series)> {
+    database.iter().filter(|(_, series)| series.has(filters)).collect()
+}
+
+/// The labels of a new series. One that is told twice keeps its first place and takes its last value.
+fn labels<W: AsRef<[u8]>>(words: &[W]) -> Result<Vec<(Vec<u8>, Vec<u8>)>, &'static [u8]> {
+    let mut labels: Vec<(Vec<u8>, Vec<u8>)> = Vec::with_capacity(words.len() / 2);
+    for pair in words.chunks(2) {
+        let [label, value] = pair else {
+            return Err(b"-ERR TSDB: invalid labels\r\n");
+        };
+        let (label, value) = (label.as_ref(), value.as_ref());
+        if label.is_empty() || value.is_empty() {
+            return Err(b"-ERR TSDB: invalid labels\r\n");
+        }
+        match labels.iter_mut().find(|(name, _)| name == label) {
+            Some((_, held)) => *held = value.to_vec(),
+            None => labels.push((label.to_vec(), value.to_vec())),
+        }
+    }
+    Ok(labels)
+}
+
+/// TS.CREATE, after its name.
+fn create<W: AsRef<[u8]>>(words: &[W], database: &mut Database, room: &mut Vec<u8>) -> Result<(), &'static [u8]> {
+    let (key, labels) = match words {
+        [] => return Err(ARITY),
+        [key] => (key, Vec::new()),
+        [key, name, rest @ ..] if name.as_ref().eq_ignore_ascii_case(b"LABELS") => (key, labels(rest)?),
+        _ => return Err(OPTION),
+    };
+    if database.contains_key(key.as_ref()) {
+        return Err(b"-ERR TSDB: the key already exists\r\n");
+    }
+    if labels.len() > LABELS {
+        return Err(b"-ERR TSDB: too many labels\r\n");
+    }
+    database.insert(key.as_ref().to_vec(), Series { samples: Vec::new(), labels });
+    room.extend_from_slice(b"+OK\r\n");
+    Ok(())
+}
+
 /// TS.ADD, after its name.
-fn add<W: AsRef<[u8]>>(words: &[W], series: &mut Series, room: &mut Vec<u8>) -> Result<(), &'static [u8]> {
+fn add<W: AsRef<[u8]>>(words: &[W], database: &mut Database, room: &mut Vec<u8>) -> Result<(), &'static [u8]> {
     let [key, at, amount] = words else {
-        return Err(b"-ERR wrong number of arguments\r\n");
+        return Err(ARITY);
     };
     let time = time(at.as_ref())?;
     let sample = Sample { time, value: value(amount.as_ref())?, made: 0 };
-    match series.get_mut(key.as_ref()) {
-        Some(list) => {
-            if !insert(list, sample) {
+    match database.get_mut(key.as_ref()) {
+        Some(series) => {
+            if !insert(&mut series.samples, sample) {
                 return Err(b"-ERR TSDB: duplicate sample\r\n");
             }
         }
         None => {
-            series.insert(key.as_ref().to_vec(), vec![sample]);
+            database.insert(key.as_ref().to_vec(), Series { samples: vec![sample], labels: Vec::new() });
         }
     }
     put_line(b':', time, room);
@@ -432,36 +548,64 @@ fn add<W: AsRef<[u8]>>(words: &[W], series: &mut Series, room: &mut Vec<u8>) -> 
 }
 
 /// TS.RANGE, after its name.
-fn range<W: AsRef<[u8]>>(words: &[W], series: &Series, room: &mut Vec<u8>) -> Result<(), &'static [u8]> {
+fn range<W: AsRef<[u8]>>(words: &[W], database: &Database, room: &mut Vec<u8>) -> Result<(), &'static [u8]> {
     let [key, from, to, options @ ..] = words else {
-        return Err(b"-ERR wrong number of arguments\r\n");
+        return Err(ARITY);
     };
     let (from, to) = (bound(from.as_ref())?, bound(to.as_ref())?);
-    let asked = match options {
-        [] => Asked::Samples,
-        [name, least, greatest] if name.as_ref().eq_ignore_ascii_case(b"FILTER_BY_VALUE") => {
-            Asked::Values(value(least.as_ref())?..=value(greatest.as_ref())?)
-        }
-        [name, told, length] if name.as_ref().eq_ignore_ascii_case(b"AGGREGATION") => {
-            Asked::Means(duration(told.as_ref(), length.as_ref())?)
-        }
-        _ => return Err(b"-ERR TSDB: invalid option\r\n"),
+    let asked = Asked::read(options)?;
+    let series = database.get(key.as_ref()).ok_or(&b"-ERR TSDB: the key does not exist\r\n"[..])?;
+    asked.put(between(&series.samples, from, to), room);
+    Ok(())
+}
+
+/// TS.MRANGE, after its name. FILTER is the last of its options.
+fn many_range<W: AsRef<[u8]>>(words: &[W], database: &Database, room: &mut Vec<u8>) -> Result<(), &'static [u8]> {
+    let [from, to, options @ ..] = words else {
+        return Err(ARITY);
     };
-    let list = series.get(key.as_ref()).ok_or(&b"-ERR TSDB: the key does not exist\r\n"[..])?;
-    let samples = between(list, from, to);
-    match asked {
-        Asked::Samples => put_rows(samples.iter(), room),
-        Asked::Values(values) => put_rows(samples.iter().filter(|s| values.contains(&s.value)), room),
-        Asked::Means(duration) => put_rows(means(samples, duration).iter(), room),
+    if options.len() < 2 {
+        return Err(ARITY);
+    }
+    let (from, to) = (bound(from.as_ref())?, bound(to.as_ref())?);
+    let place = options.iter().position(|word| word.as_ref().eq_ignore_ascii_case(b"FILTER")).unwrap_or(options.len());
+    let asked = Asked::read(&options[..place])?;
+    let members = match options.get(place + 1..) {
+        None | Some([]) => return Err(OPTION),
+        Some(words) => select(database, &filters(words)?),
+    };
+    put_line(b'*', members.len() as u64, room);
+    for (key, series) in members {
+        room.extend_from_slice(b"*3\r\n");
+        put_bulk(key, room);
+        room.extend_from_slice(b"*0\r\n");
+        asked.put(between(&series.samples, from, to), room);
+    }
+    Ok(())
+}
+
+/// TS.QUERYINDEX, after its name.
+fn query_index<W: AsRef<[u8]>>(words: &[W], database: &Database, room: &mut Vec<u8>) -> Result<(), &'static [u8]> {
+    if words.is_empty() {
+        return Err(ARITY);
+    }
+    let found = select(database, &filters(words)?);
+    put_line(b'*', found.len() as u64, room);
+    for (key, _) in found {
+        put_bulk(key, room);
     }
     Ok(())
 }
 
 /// The reply to a request, in the room.
-fn answer<W: AsRef<[u8]>>(words: &[W], series: &mut Series, room: &mut Vec<u8>) -> Result<(), &'static [u8]> {
+fn answer<W: AsRef<[u8]>>(words: &[W], database: &mut Database, room: &mut Vec<u8>) -> Result<(), &'static [u8]> {
+    let is = |name: &W, wanted: &[u8]| name.as_ref().eq_ignore_ascii_case(wanted);
     match words {
-        [name, rest @ ..] if name.as_ref().eq_ignore_ascii_case(b"TS.ADD") => add(rest, series, room),
-        [name, rest @ ..] if name.as_ref().eq_ignore_ascii_case(b"TS.RANGE") => range(rest, series, room),
+        [name, rest @ ..] if is(name, b"TS.ADD") => add(rest, database, room),
+        [name, rest @ ..] if is(name, b"TS.CREATE") => create(rest, database, room),
+        [name, rest @ ..] if is(name, b"TS.RANGE") => range(rest, database, room),
+        [name, rest @ ..] if is(name, b"TS.MRANGE") => many_range(rest, database, room),
+        [name, rest @ ..] if is(name, b"TS.QUERYINDEX") => query_index(rest, database, room),
         _ => Err(b"-ERR unknown command\r\n"),
     }
 }
@@ -481,7 +625,7 @@ fn main() {
     let slices = std::env::args().nth(1).as_deref() == Some("slices");
     let (mut input, mut out) = unsafe { (File::from_raw_fd(0), File::from_raw_fd(1)) };
     let mut reader = Reader { buf: Vec::new(), place: 0, begin: 0, at: 0, left: None, room: 0, words: Vec::new() };
-    let mut series = Series::new();
+    let mut database = Database::new();
     let mut room = Vec::with_capacity(128);
     let mut piece = [0; PIECE];
     loop {
@@ -499,10 +643,10 @@ fn main() {
                     let buf = &reader.buf;
                     let outcome = if slices {
                         let words: Vec<&[u8]> = reader.words.iter().map(|r| &buf[r.clone()]).collect();
-                        answer(&words, &mut series, &mut room)
+                        answer(&words, &mut database, &mut room)
                     } else {
                         let words: Vec<Vec<u8>> = reader.words.iter().map(|r| buf[r.clone()].to_vec()).collect();
-                        answer(&words, &mut series, &mut room)
+                        answer(&words, &mut database, &mut room)
                     };
                     match outcome {
                         Ok(()) => write(&mut out, &room),
