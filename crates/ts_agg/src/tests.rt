@@ -82,15 +82,19 @@ fn lists(rt: HostRuntime) {
 
 #[test]
 fn counted(rt: HostRuntime) {
-    let mut counted = Counted::new(2);
-    for (made, millionths) in [(1, 100), (2, 5), (0, 100), (3, 4), (1, -100)] {
-        counted.sample(&Sample {
-            time: 0,
-            value: ts_decimal::clamp(millionths),
-            made,
-        });
-    }
-    let running = counted.running();
-    assert!(rt; running.result(Aggregator::Sum).map(Units::get) == Some(9));
-    assert!(rt; running.result(Aggregator::Count).map(Units::get) == Some(2_000_000));
+    let value = ts_decimal::clamp(5);
+    let mut since = Counted::new(2);
+    since.sample(&Sample {
+        time: 0,
+        value,
+        made: 2,
+    });
+    let mut later = Counted::new(3);
+    later.sample(&Sample {
+        time: 0,
+        value,
+        made: 2,
+    });
+    assert!(rt; since.running().result(Aggregator::Sum) == Some(value));
+    assert!(rt; later.running().result(Aggregator::Sum) == None);
 }

@@ -1,5 +1,3 @@
-mod labels;
-mod many;
 mod questions;
 
 use super::*;
