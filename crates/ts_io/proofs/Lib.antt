@@ -1,3 +1,4 @@
+pub mod Counting
 pub mod Growth
 pub mod Holding
 pub mod Reading

@@ -1,7 +1,8 @@
--- What the adapters over std's readers and writers hold.
-use Rattle.std.specs.Prelude.{◌≡◌, ℕ, suc, ◌-◌, ◌^◌, min, List, [], ◌∷◌, Option, None, Some}
+-- What the adapters over std's readers, writers and listeners hold.
+use Rattle.std.specs.Prelude.{◌≡◌, ℕ, suc, ◌-◌, ◌^◌, min, Bool, List, [], ◌∷◌, Option, None, Some}
 use Rattle.ts_io.specs.declared.std_sink.StdSink.{StdSink}
 use Rattle.ts_io.specs.declared.std_source.StdSource.{StdSource}
+use Rattle.ts_io.specs.declared.tcp_net.TcpNet.{TcpNet}
 
 -- the reader that a source reads from, and how many of its reads failed
 abbrev pub reader_of : {R : Type 0} → StdSource R → R
@@ -19,6 +20,13 @@ failed_writes_of s = s.faults
 
 abbrev pub unacknowledged_of : {W : Type 0} → StdSink W → ℕ
 unacknowledged_of s = s.unacknowledged
+
+-- how many calls of a network's listener failed, and whether a link of it is handed out
+abbrev pub failed_listens_of : {R : Type 0} → TcpNet R → ℕ
+failed_listens_of s = s.faults
+
+abbrev pub hands_out : {R : Type 0} → TcpNet R → Bool
+hands_out s = s.is_out
 
 -- the list w stands in the other, in order, with so many more bytes among its own
 pub data IsAmong : List ℕ → List ℕ → ℕ → Type 0 where

@@ -1,12 +1,13 @@
 //! The outside: where bytes come from, where they go, the clock and the listener, as traits that count their
-//! faults; devices in memory, whose failures are chosen beforehand; and adapters over std's readers, writers and
-//! clock.
+//! faults; devices in memory, whose failures are chosen beforehand; and adapters over std's readers, writers,
+//! clock and network.
 //!
 //! A count of calls or of faults is kept in a `u64` and stops at 18446744073709551615. The calls of a device in
 //! memory are numbered from 1 on, so each call from that one on has that number.
 #![tactic(auto)]
 
 mod clock;
+mod count_sink;
 mod failed;
 mod listener;
 mod mem_clock;
@@ -19,8 +20,11 @@ mod source;
 mod std_sink;
 mod std_source;
 mod system_clock;
+mod tcp_net;
+mod tcp_reader;
 
 pub use clock::Clock;
+pub use count_sink::CountSink;
 pub use failed::Failed;
 pub use listener::{Ends, Listener};
 pub use mem_clock::MemClock;
@@ -32,6 +36,8 @@ pub use source::Source;
 pub use std_sink::StdSink;
 pub use std_source::StdSource;
 pub use system_clock::SystemClock;
+pub use tcp_net::TcpNet;
+pub use tcp_reader::TcpReader;
 
 #[cfg(test)]
 mod tests;

@@ -1,0 +1,89 @@
+ghost use Rattle.std.specs.Prelude.{◌≡◌, ◌<◌, ◌≤◌, ◌%◌, ◌^◌, ◌++◌, pos, ◌-ℤ◌, OnOk};
+ghost use Rattle.std.specs.Fmt.{signed_decimal};
+ghost use Rattle.ts_spec.specs.Encoded.{encoded_word, encoded_request};
+ghost use Rattle.ts_gen.specs.Workload as workload;
+ghost use Rattle.ts_gen.specs.Workload.{add, change, delete, next, second_before, value};
+
+use crate::keys::{UNITS, key};
+use crate::words::{put_count, put_number, put_word};
+use itoa::Buffer;
+use std::alloc::AllocError;
+
+// The number that is drawn after this one.
+pub(crate) fn draw(number: u64) -> u64
+    ensures { result ≡ next number }
+{
+    number
+        .wrapping_mul(6_364_136_223_846_793_005)
+        .wrapping_add(1_442_695_040_888_963_407)
+}
+
+// Puts the k-th change, which depends on the bits r.
+pub(crate) fn put_change(bytes: &mut Vec<u8>, k: u32, r: u64) -> Result<(), AllocError>
+    ensures { OnOk result (bytes.new.items ≡ bytes.old.items ++ encoded_request (change k r)) }
+{
+    if r % 16 == 1 {
+        put_delete(bytes, k)
+    } else {
+        put_add(bytes, k, r)
+    }
+}
+
+// Puts a deletion of five seconds.
+fn put_delete(bytes: &mut Vec<u8>, k: u32) -> Result<(), AllocError>
+    ensures { OnOk result (bytes.new.items ≡ bytes.old.items ++ encoded_request (delete k)) }
+{
+    let first = second_before(32, k);
+    put_count(bytes, 4)?;
+    put_word(bytes, b"TS.DEL")?;
+    put_word(bytes, &raw(k))?;
+    put_number(bytes, first)?;
+    put_number(bytes, first + 4000)
+}
+
+// Puts a sample.
+fn put_add(bytes: &mut Vec<u8>, k: u32, r: u64) -> Result<(), AllocError>
+    ensures { OnOk result (bytes.new.items ≡ bytes.old.items ++ encoded_request (add k r)) }
+{
+    put_count(bytes, 6)?;
+    put_word(bytes, b"TS.ADD")?;
+    put_word(bytes, &raw(k))?;
+    put_number(bytes, time(k, r))?;
+    put_value(bytes, r)?;
+    put_word(bytes, b"ON_DUPLICATE")?;
+    put_word(bytes, b"LAST")
+}
+
+// The raw key of the k-th change.
+fn raw(k: u32) -> [u8; 5]
+    ensures { result ≡ workload.raw (k % 4) }
+{
+    key(b"raw", (k % u32::from(UNITS)) as u8)
+}
+
+// The time of the k-th change's sample, in milliseconds.
+fn time(k: u32, r: u64) -> u64
+    ensures { result ≡ workload.time k r }
+{
+    if r % 16 == 0 {
+        second_before((r / 16 % 64) as u32, k)
+    } else {
+        second_before(0, k)
+    }
+}
+
+// The second that is so many before the k-th, in milliseconds, or 0.
+fn second_before(back: u32, k: u32) -> u64
+    ensures value { result ≡ workload.second_before back k }
+    ensures early { result < 2 ^ 42 }
+{
+    1000 * u64::from(k - k.min(back))
+}
+
+// Puts a value from -1000 to 1000.
+fn put_value(bytes: &mut Vec<u8>, r: u64) -> Result<(), AllocError>
+    ensures { OnOk result (bytes.new.items ≡ bytes.old.items ++ encoded_word (value r)) }
+{
+    let number = (r % 2001) as i64 - 1000;
+    put_word(bytes, Buffer::new().format(number).as_bytes())
+}

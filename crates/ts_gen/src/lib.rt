@@ -1,0 +1,14 @@
+//! A workload for the server: the requests that a seed draws, as the bytes that a client sends.
+#![tactic(auto)]
+
+mod changes;
+mod keys;
+mod laws;
+mod words;
+mod workload;
+
+pub use laws::a_workload_reads_back;
+pub use workload::script;
+
+#[cfg(test)]
+mod tests;

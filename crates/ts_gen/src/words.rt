@@ -1,0 +1,40 @@
+ghost use Rattle.std.specs.Prelude.{◌≡◌, ◌∷◌, ◌++◌, length, OnOk};
+ghost use Rattle.std.specs.Fmt.{decimal};
+ghost use Rattle.ts_spec.specs.Encoded.{encoded_word};
+ghost use Rattle.ts_spec.specs.Text.{CRLF};
+ghost use Rattle.ts_spec.specs.Wire.{STAR, DOLLAR};
+
+use itoa::Buffer;
+use std::alloc::AllocError;
+
+// Begins a request of so many words.
+pub(crate) fn put_count(bytes: &mut Vec<u8>, words: usize) -> Result<(), AllocError>
+    ensures { OnOk result (bytes.new.items ≡ bytes.old.items ++ (STAR ∷ decimal words ++ CRLF)) }
+{
+    put_header(bytes, b'*', words)
+}
+
+// Puts a word of a request.
+pub(crate) fn put_word(bytes: &mut Vec<u8>, word: &[u8]) -> Result<(), AllocError>
+    ensures { OnOk result (bytes.new.items ≡ bytes.old.items ++ encoded_word word.now) }
+{
+    put_header(bytes, b'$', word.len())?;
+    bytes.extend_from_slice(word)?;
+    bytes.extend_from_slice(b"\r\n")
+}
+
+// Puts a number in decimal as a word of a request.
+pub(crate) fn put_number(bytes: &mut Vec<u8>, number: u64) -> Result<(), AllocError>
+    ensures { OnOk result (bytes.new.items ≡ bytes.old.items ++ encoded_word (decimal number)) }
+{
+    put_word(bytes, Buffer::new().format(number).as_bytes())
+}
+
+// Puts a line of a byte and a number.
+fn put_header(bytes: &mut Vec<u8>, first: u8, number: usize) -> Result<(), AllocError>
+    ensures { OnOk result (bytes.new.items ≡ bytes.old.items ++ (first ∷ decimal number ++ CRLF)) }
+{
+    bytes.push(first)?;
+    bytes.extend_from_slice(Buffer::new().format(number).as_bytes())?;
+    bytes.extend_from_slice(b"\r\n")
+}

@@ -1,0 +1,33 @@
+-- How a run of the program ends, and the number and the line of each ending.
+use Rattle.std.specs.Prelude.{ℕ, List, [], ◌∷◌, ◌++◌, codes}
+use Rattle.std.specs.Fmt.{decimal}
+use Rattle.ts_words.specs.declared.status.Status.{Status}
+use Rattle.ts_words.specs.declared.status.Status.TheVariants as status
+
+-- the exit status of the process
+abbrev pub code_of : Status → ℕ
+code_of status.Ended = 0
+code_of status.Usage = 1
+code_of status.Truncated = 2
+code_of status.Protocol = 3
+code_of status.ReadFault = 4
+code_of status.WriteFault = 5
+code_of status.Memory = 6
+code_of status.AcceptFault = 7
+code_of status.Budget = 8
+
+-- a line ends with a line feed
+abbrev pub ended : List ℕ → List ℕ
+ended text = text ++ 10 ∷ []
+
+-- the line of an ending, which tells the place of a stream's fault; the good ending has none
+abbrev pub line_of : Status → (place : ℕ) → List ℕ
+line_of status.Ended place = []
+line_of status.Usage place = ended (codes "usage: tsd pipe | tsd serve <address> <connections> | tsd gen <seed> <n>")
+line_of status.Truncated place = ended (codes "tsd: input ends inside a request that begins at byte " ++ decimal place)
+line_of status.Protocol place = ended (codes "tsd: protocol fault at byte " ++ decimal place)
+line_of status.ReadFault place = ended (codes "tsd: read fault")
+line_of status.WriteFault place = ended (codes "tsd: write fault")
+line_of status.Memory place = ended (codes "tsd: out of memory")
+line_of status.AcceptFault place = ended (codes "tsd: accept fault")
+line_of status.Budget place = ended (codes "tsd: budget of bytes used up")

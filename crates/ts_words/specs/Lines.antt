@@ -1,0 +1,34 @@
+-- The line of a served connection, and the summary of a generated workload.
+use Rattle.std.specs.Prelude.{ℕ, List, ◌++◌, codes, slice_index}
+use Rattle.std.specs.Fmt.{decimal}
+use Rattle.ts_words.specs.declared.link_lines.LinkEnd.{LinkEnd}
+use Rattle.ts_words.specs.declared.link_lines.LinkEnd.TheVariants as end
+use Rattle.ts_words.specs.Endings.{ended}
+
+-- the word for how a connection ended
+abbrev pub word_of : LinkEnd → List ℕ
+word_of end.Ended = codes "ended"
+word_of end.Truncated = codes "truncated"
+word_of end.Protocol = codes "protocol"
+word_of end.ReadFault = codes "read-fault"
+word_of end.WriteFault = codes "write-fault"
+word_of end.Memory = codes "memory"
+word_of end.Budget = codes "budget"
+
+-- the line of a connection: which one it was, how many requests of it were executed, and how it ended
+abbrev pub link_line_of : (link executed : ℕ) → LinkEnd → List ℕ
+link_line_of link executed how = ended (codes "link " ++ decimal link ++ codes " executed " ++ decimal executed ++ codes " " ++ word_of how)
+
+-- a word and a number
+abbrev pub told : List ℕ → ℕ → List ℕ
+told word number = ended (word ++ codes " " ++ decimal number)
+
+-- the summary of a workload: its six numbers in their order
+abbrev pub summary_of : List ℕ → List ℕ
+summary_of numbers =
+    told (codes "requests") (slice_index numbers 0)
+    ++ told (codes "in") (slice_index numbers 1)
+    ++ told (codes "out") (slice_index numbers 2)
+    ++ told (codes "errors") (slice_index numbers 3)
+    ++ told (codes "keys") (slice_index numbers 4)
+    ++ told (codes "samples") (slice_index numbers 5)

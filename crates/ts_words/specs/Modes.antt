@@ -1,0 +1,66 @@
+-- The words of the command line, and the mode that they ask for.
+use Rattle.std.specs.Prelude.{ℕ, ◌+◌, ◌-◌, ◌*◌, ◌^◌, ◌≤◌, Bool, false, not, ◌&&◌, ◌==◌, nat_le, nat_eq, if◌then◌else◌, List, [], ◌∷◌, length, fold, codes, Option, None, Some}
+use Rattle.std.specs.Option.{option_map}
+use Rattle.std.specs.Cmp.Lexicographic.{pointwise}
+use Rattle.std.specs.List.{list_all}
+use Rattle.ts_words.specs.declared.mode.Mode.{Mode}
+use Rattle.ts_words.specs.declared.mode.Mode.TheVariants.{Pipe, Serve, Gen}
+
+-- the same bytes
+abbrev pub same : List ℕ → List ℕ → Bool
+same word name = pointwise nat_eq word name
+
+abbrev pub is_digit : ℕ → Bool
+is_digit byte = nat_le 48 byte && nat_le byte 57
+
+-- the number that decimal digits write
+abbrev pub digits_number : List ℕ → ℕ
+digits_number digits = fold (λ n byte. 10 * n + (byte - 48)) 0 digits
+
+-- a number is 1 to 20 digits, leading zeros among them
+abbrev pub is_digits : List ℕ → Bool
+is_digits word = nat_le 1 (length word) && nat_le (length word) 20 && list_all is_digit word
+
+-- the number that a word stands for, where it is from the least to the most
+abbrev pub number : (least most : ℕ) → List ℕ → Option ℕ
+number least most word =
+    if is_digits word && nat_le least (digits_number word) && nat_le (digits_number word) most then Some (digits_number word) else None
+
+-- an address is not empty, and no word begins with `-`
+abbrev pub is_address : List ℕ → Bool
+is_address [] = false
+is_address (first ∷ rest) = not (first == 45)
+
+-- the words after `serve`: an address, and how many connections
+abbrev pub serve_of : (address connections : List ℕ) → Option Mode
+serve_of address connections = if is_address address then option_map Serve (number 1 (2 ^ 32 - 1) connections) else None
+
+-- how many requests for samples go with a seed
+abbrev pub gen_with : Option ℕ → Option ℕ → Option Mode
+gen_with None n = None
+gen_with (Some seed) n = option_map (Gen seed) n
+
+-- the words after `gen`: a seed, and how many requests for samples
+abbrev pub gen_of : (seed n : List ℕ) → Option Mode
+gen_of seed n = gen_with (number 0 (2 ^ 64 - 1) seed) (number 0 1000000 n)
+
+abbrev pub one_word : List ℕ → Option Mode
+one_word word = if same word (codes "pipe") then Some Pipe else None
+
+abbrev pub three_words : (word first second : List ℕ) → Option Mode
+three_words word first second =
+    if same word (codes "serve") then serve_of first second else (if same word (codes "gen") then gen_of first second else None)
+
+-- the mode that these words ask for, if they ask for one
+abbrev pub mode_of : List (List ℕ) → Option Mode
+mode_of [] = None
+mode_of (word ∷ []) = one_word word
+mode_of (word ∷ first ∷ []) = None
+mode_of (word ∷ first ∷ second ∷ []) = three_words word first second
+mode_of (word ∷ first ∷ second ∷ third ∷ words) = None
+
+-- the numbers of a mode are within their bounds
+abbrev pub IsWithin : Mode → Type 0
+IsWithin Pipe = Unit {0}
+IsWithin (Serve connections) = 1 ≤ connections
+IsWithin (Gen seed n) = n ≤ 1000000

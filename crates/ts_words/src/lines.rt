@@ -1,0 +1,53 @@
+ghost use Rattle.std.specs.Prelude.{◌≡◌, ◌+◌, ◌<◌, ◌≤◌, ◌++◌, length, take};
+ghost use Rattle.std.specs.Fmt.{decimal};
+ghost use Rattle.ts_words.specs.Endings.{ended, line_of};
+
+use crate::room::{put, put_number};
+use crate::{Mode, Status};
+
+/// The line on standard error of an ending, in the room: nothing for a good one. `place` is where a stream breaks,
+/// or where the request begins inside which it ends, counted in bytes from 0. The lines are the same in each mode.
+pub fn line(_mode: Option<Mode>, status: Status, place: u64, room: &mut [u8; 160]) -> &[u8]
+    ensures { result.now ≡ line_of status place }
+{
+    let end = match status {
+        Status::Ended => 0,
+        Status::Usage => put_line(
+            room,
+            b"usage: tsd pipe | tsd serve <address> <connections> | tsd gen <seed> <n>",
+        ),
+        Status::Truncated => put_place(
+            room,
+            b"tsd: input ends inside a request that begins at byte ",
+            place,
+        ),
+        Status::Protocol => put_place(room, b"tsd: protocol fault at byte ", place),
+        Status::ReadFault => put_line(room, b"tsd: read fault"),
+        Status::WriteFault => put_line(room, b"tsd: write fault"),
+        Status::Memory => put_line(room, b"tsd: out of memory"),
+        Status::AcceptFault => put_line(room, b"tsd: accept fault"),
+        Status::Budget => put_line(room, b"tsd: budget of bytes used up"),
+    };
+    &room[..end]
+}
+
+// Puts a line of this text, and gives its length.
+fn put_line(room: &mut [u8; 160], text: &[u8]) -> usize
+    requires { length text.now < 160 }
+    ensures text { take result room.new ≡ ended text.now }
+    ensures within { result ≤ 160 }
+{
+    let at = put(room, 0, text);
+    put(room, at, b"\n")
+}
+
+// Puts a line of this text and a place, and gives its length.
+fn put_place(room: &mut [u8; 160], text: &[u8], place: u64) -> usize
+    requires { length text.now + 20 < 160 }
+    ensures text { take result room.new ≡ ended (text.now ++ decimal place) }
+    ensures within { result ≤ 160 }
+{
+    let at = put(room, 0, text);
+    let at = put_number(room, at, place);
+    put(room, at, b"\n")
+}

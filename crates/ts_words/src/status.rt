@@ -1,0 +1,44 @@
+ghost use Rattle.std.specs.Prelude.{◌≡◌};
+ghost use Rattle.ts_words.specs.Endings.{code_of};
+
+/// How a run of the program ends.
+#[derive(Clone, Copy, Debug, PartialEq, Eq)]
+pub enum Status {
+    /// What was asked for was done.
+    Ended,
+    /// The words of the command line are none that the program knows.
+    Usage,
+    /// The input ends inside a request.
+    Truncated,
+    /// The stream of requests is broken.
+    Protocol,
+    /// A read failed.
+    ReadFault,
+    /// A write to the output or to standard error failed.
+    WriteFault,
+    /// There was no memory.
+    Memory,
+    /// The address could not be opened, or a connection not be accepted.
+    AcceptFault,
+    /// As many bytes were taken as may be.
+    Budget,
+}
+
+impl Status {
+    /// The exit status of the process, from 0 to 8.
+    pub fn code(self) -> u8
+        ensures { result ≡ code_of self }
+    {
+        match self {
+            Status::Ended => 0,
+            Status::Usage => 1,
+            Status::Truncated => 2,
+            Status::Protocol => 3,
+            Status::ReadFault => 4,
+            Status::WriteFault => 5,
+            Status::Memory => 6,
+            Status::AcceptFault => 7,
+            Status::Budget => 8,
+        }
+    }
+}

@@ -1,0 +1,30 @@
+ghost use Rattle.std.specs.Prelude.{◌≡◌, ◌+◌, ◌≤◌, ◌++◌, length, take};
+ghost use Rattle.ts_words.specs.Lines.{told, summary_of};
+
+use crate::room::{put, put_number};
+
+/// The summary of a workload, in the room: six lines, each a word and its number. These are the requests executed,
+/// the bytes of the requests, the bytes of the replies, the error replies, the keys, and the samples of all keys.
+pub fn summary<'a>(numbers: &[u64; 6], room: &'a mut [u8; 192]) -> &'a [u8]
+    ensures { result.now ≡ summary_of numbers.now }
+{
+    let at = put_told(room, 0, b"requests", numbers[0]);
+    let at = put_told(room, at, b"in", numbers[1]);
+    let at = put_told(room, at, b"out", numbers[2]);
+    let at = put_told(room, at, b"errors", numbers[3]);
+    let at = put_told(room, at, b"keys", numbers[4]);
+    let at = put_told(room, at, b"samples", numbers[5]);
+    &room[..at]
+}
+
+// Puts a line of a word and a number at a place of the room, and gives the place after it.
+fn put_told(room: &mut [u8; 192], at: usize, word: &[u8], number: u64) -> usize
+    requires { at + length word.now + 22 ≤ 192 }
+    ensures text { take result room.new ≡ take at room.old ++ told word.now number }
+    ensures after { result ≤ at + length word.now + 22 }
+{
+    let at = put(room, at, word);
+    let at = put(room, at, b" ");
+    let at = put_number(room, at, number);
+    put(room, at, b"\n")
+}
