@@ -1,11 +1,15 @@
 // A yardstick for `tsd pipe`: the same work in plain Rust, without crates and without proofs.
 //
 // It reads requests from standard input, at most 4096 bytes a read, checks them as the server does, and makes one write
-// for each reply. Series stand in a BTreeMap by their keys: their samples in an ascending vector, with values in
-// millionths, and their labels in a vector. A question over many series walks all of them. It knows
+// for each reply. Series stand in a vector, and a BTreeMap has their numbers by their keys: their samples in an ascending
+// vector, with values in millionths, and their labels in a vector. A question over many series walks all of them. A rule
+// keeps a summary of its open bucket, and tells a bucket anew from the samples that stand in it. It knows
 //   TS.CREATE key
 //   TS.CREATE key LABELS label value ..
+//   TS.CREATERULE source destination AGGREGATION avg duration
+//   TS.CREATERULE source destination AGGREGATION max duration
 //   TS.ADD key time value
+//   TS.DEL key from to
 //   TS.RANGE key from to
 //   TS.RANGE key from to FILTER_BY_VALUE least greatest
 //   TS.RANGE key from to AGGREGATION avg duration
@@ -19,6 +23,7 @@
 use std::collections::BTreeMap;
 use std::fs::File;
 use std::io::{Read, Write};
+use std::mem::take;
 use std::ops::{Range, RangeInclusive};
 use std::os::fd::FromRawFd;
 use std::process::exit;
@@ -31,6 +36,7 @@ const MAX_TIME: u64 = i64::MAX as u64;
 const DURATION: u64 = 100_000_000_000_000;
 const BOUND: i128 = 1_000_000_000_000_000_000_000_000;
 const LABELS: usize = 64;
+const RULES: usize = 16;
 
 const MULTIBULK: &[u8] = b"-ERR Protocol error: invalid multibulk length\r\n";
 const BULK: &[u8] = b"-ERR Protocol error: invalid bulk length\r\n";
@@ -279,7 +285,6 @@ fn value(text: &[u8]) -> Result<i128, &'static [u8]> {
 struct Sample {
     time: u64,
     value: i128,
-    #[allow(dead_code)]
     made: u32,
 }
 
@@ -287,6 +292,12 @@ struct Sample {
 struct Series {
     samples: Vec<Sample>,
     labels: Vec<(Vec<u8>, Vec<u8>)>,
+    /// The highest time that it ever had a sample at.
+    high: Option<u64>,
+    /// How many rules were made on it.
+    born: u32,
+    rules: Vec<Rule>,
+    is_dest: bool,
 }
 
 impl Series {
@@ -299,19 +310,191 @@ impl Series {
 /// A label, and the value that is asked of it.
 type Filter<'a> = (&'a [u8], &'a [u8]);
 
-type Database = BTreeMap<Vec<u8>, Series>;
+#[derive(Default)]
+struct Database {
+    numbers: BTreeMap<Vec<u8>, usize>,
+    series: Vec<Series>,
+}
+
+impl Database {
+    fn number(&self, key: &[u8]) -> Result<usize, &'static [u8]> {
+        self.numbers.get(key).copied().ok_or(b"-ERR TSDB: the key does not exist\r\n")
+    }
+
+    fn make(&mut self, key: &[u8], series: Series) -> usize {
+        self.numbers.insert(key.to_vec(), self.series.len());
+        self.series.push(series);
+        self.series.len() - 1
+    }
+
+    /// Writes a sample, unless its time has one, and what it changes in the destinations of the series' rules.
+    fn write(&mut self, number: usize, time: u64, value: i128) -> bool {
+        let series = &mut self.series[number];
+        let sample = Sample { time, value, made: series.born };
+        if !insert(&mut series.samples, sample) {
+            return false;
+        }
+        let late = series.high >= Some(time);
+        series.high = series.high.max(Some(time));
+        let mut rules = take(&mut series.rules);
+        for rule in &mut rules {
+            if let Some(row) = rule.count(&self.series[number].samples, &sample, late) {
+                put(&mut self.series[rule.dest].samples, row);
+            }
+        }
+        self.series[number].rules = rules;
+        true
+    }
+
+    /// Removes the samples of an interval, and what they leave in the destinations. It tells how many there were.
+    fn delete(&mut self, number: usize, from: u64, to: u64) -> usize {
+        let series = &mut self.series[number];
+        let range = places(&series.samples, from, to);
+        let gone: Vec<u64> = series.samples.drain(range).map(|s| s.time).collect();
+        let mut rules = take(&mut series.rules);
+        for rule in &mut rules {
+            let (touched, rows) = rule.forget(&self.series[number].samples, &gone);
+            let shown = &mut self.series[rule.dest].samples;
+            if let [first, .., last] | [first @ last] = touched[..] {
+                let range = places(shown, first, last);
+                let stays = |s: &&Sample| touched.binary_search(&s.time).is_err();
+                let kept: Vec<Sample> = shown[range.clone()].iter().filter(stays).copied().collect();
+                shown.splice(range, kept);
+            }
+            for row in rows {
+                put(shown, row);
+            }
+        }
+        self.series[number].rules = rules;
+        gone.len()
+    }
+}
+
+#[derive(Clone, Copy)]
+enum Aggregator {
+    Avg,
+    Max,
+}
+
+/// What a rule keeps of a bucket: all that either aggregator needs.
+#[derive(Clone, Copy)]
+struct Summary {
+    sum: i128,
+    count: u64,
+    greatest: i128,
+}
+
+impl Summary {
+    const EMPTY: Summary = Summary { sum: 0, count: 0, greatest: i128::MIN };
+
+    fn push(&mut self, value: i128) {
+        self.sum += value;
+        self.count += 1;
+        self.greatest = self.greatest.max(value);
+    }
+}
+
+struct Rule {
+    dest: usize,
+    aggregator: Aggregator,
+    duration: u64,
+    made: u32,
+    open: Option<(u64, Summary)>,
+}
+
+impl Rule {
+    fn start(&self, time: u64) -> u64 {
+        time - time % self.duration
+    }
+
+    /// The summary of the bucket that starts here, over samples that were written since the rule was made.
+    fn summary(&self, samples: &[Sample], start: u64) -> Summary {
+        let mut summary = Summary::EMPTY;
+        for sample in between(samples, start, start + (self.duration - 1)) {
+            if sample.made >= self.made {
+                summary.push(sample.value);
+            }
+        }
+        summary
+    }
+
+    /// What a bucket that has samples shows.
+    fn row(&self, start: u64, summary: Summary) -> Option<Sample> {
+        let value = match self.aggregator {
+            _ if summary.count == 0 => return None,
+            Aggregator::Avg => rounded(summary.sum, summary.count),
+            Aggregator::Max => summary.greatest,
+        };
+        Some(Sample { time: start, value, made: 0 })
+    }
+
+    /// Counts a sample that was written, and tells the row of the bucket that it closes, or that it came late to.
+    fn count(&mut self, samples: &[Sample], sample: &Sample, late: bool) -> Option<Sample> {
+        let start = self.start(sample.time);
+        match self.open {
+            Some((open, _)) if start < open => return self.row(start, self.summary(samples, start)),
+            Some((open, _)) if start == open && late => {
+                self.open = Some((open, self.summary(samples, start)));
+                return None;
+            }
+            _ => {}
+        }
+        match &mut self.open {
+            Some((open, summary)) if start == *open => {
+                summary.push(sample.value);
+                None
+            }
+            _ => {
+                let mut summary = Summary::EMPTY;
+                summary.push(sample.value);
+                let (closed, told) = self.open.replace((start, summary))?;
+                self.row(closed, told)
+            }
+        }
+    }
+
+    /// Forgets samples that stood at these times: the closed buckets that had some, and what those still show. No more
+    /// than the first and the last can have samples left.
+    fn forget(&mut self, samples: &[Sample], gone: &[u64]) -> (Vec<u64>, Vec<Sample>) {
+        let mut touched: Vec<u64> = gone.iter().map(|&time| self.start(time)).collect();
+        touched.dedup();
+        let Some((open, _)) = self.open else {
+            return (Vec::new(), Vec::new());
+        };
+        if touched.binary_search(&open).is_ok() {
+            self.open = Some((open, self.summary(samples, open)));
+        }
+        touched.retain(|&start| start < open);
+        let rows = touched.iter().filter_map(|&start| self.row(start, self.summary(samples, start))).collect();
+        (touched, rows)
+    }
+}
+
+/// Where a sample of this time stands, or would stand.
+fn place(list: &[Sample], time: u64) -> usize {
+    match list.last() {
+        Some(last) if last.time >= time => list.partition_point(|s| s.time < time),
+        _ => list.len(),
+    }
+}
 
 /// Adds a sample, unless its time has one.
 fn insert(list: &mut Vec<Sample>, sample: Sample) -> bool {
-    let place = match list.last() {
-        Some(last) if last.time >= sample.time => list.partition_point(|s| s.time < sample.time),
-        _ => list.len(),
-    };
+    let place = place(list, sample.time);
     if list.get(place).is_some_and(|s| s.time == sample.time) {
         return false;
     }
     list.insert(place, sample);
     true
+}
+
+/// Adds a sample, in place of one at its time.
+fn put(list: &mut Vec<Sample>, sample: Sample) {
+    let place = place(list, sample.time);
+    match list.get_mut(place) {
+        Some(held) if held.time == sample.time => *held = sample,
+        _ => list.insert(place, sample),
+    }
 }
 
 /// Puts the digits of a number in the room, found two at a time from its end.
@@ -382,11 +565,15 @@ fn put_rows<'a>(samples: impl Iterator<Item = &'a Sample> + Clone, room: &mut Ve
     }
 }
 
-/// The samples of a list between two times, both included.
-fn between(list: &[Sample], from: u64, to: u64) -> &[Sample] {
+/// Where the samples between two times stand, both included.
+fn places(list: &[Sample], from: u64, to: u64) -> Range<usize> {
     let start = list.partition_point(|s| s.time < from);
     let end = list.partition_point(|s| s.time <= to);
-    &list[start..end.max(start)]
+    start..end.max(start)
+}
+
+fn between(list: &[Sample], from: u64, to: u64) -> &[Sample] {
+    &list[places(list, from, to)]
 }
 
 /// A quotient, rounded half away from zero.
@@ -424,11 +611,18 @@ fn bound(text: &[u8]) -> Result<u64, &'static [u8]> {
     }
 }
 
-/// How long a bucket is, after the word that tells what is asked of it.
-fn duration(told: &[u8], length: &[u8]) -> Result<u64, &'static [u8]> {
-    if !told.eq_ignore_ascii_case(b"avg") {
-        return Err(b"-ERR TSDB: unknown aggregator\r\n");
+const UNKNOWN: &[u8] = b"-ERR TSDB: unknown aggregator\r\n";
+
+fn aggregator(told: &[u8]) -> Result<Aggregator, &'static [u8]> {
+    match told {
+        _ if told.eq_ignore_ascii_case(b"avg") => Ok(Aggregator::Avg),
+        _ if told.eq_ignore_ascii_case(b"max") => Ok(Aggregator::Max),
+        _ => Err(UNKNOWN),
     }
+}
+
+/// How long a bucket is.
+fn duration(length: &[u8]) -> Result<u64, &'static [u8]> {
     match number(length) {
         Some(length @ 1..=DURATION) => Ok(length),
         _ => Err(b"-ERR TSDB: invalid bucket duration\r\n"),
@@ -453,9 +647,10 @@ impl Asked {
             [name, least, greatest] if name.as_ref().eq_ignore_ascii_case(b"FILTER_BY_VALUE") => {
                 Ok(Asked::Values(value(least.as_ref())?..=value(greatest.as_ref())?))
             }
-            [name, told, length] if name.as_ref().eq_ignore_ascii_case(b"AGGREGATION") => {
-                Ok(Asked::Means(duration(told.as_ref(), length.as_ref())?))
-            }
+            [name, told, length] if name.as_ref().eq_ignore_ascii_case(b"AGGREGATION") => match aggregator(told.as_ref())? {
+                Aggregator::Avg => Ok(Asked::Means(duration(length.as_ref())?)),
+                Aggregator::Max => Err(UNKNOWN),
+            },
             _ => Err(OPTION),
         }
     }
@@ -485,7 +680,8 @@ fn filters<W: AsRef<[u8]>>(words: &[W]) -> Result<Vec<Filter<'_>>, &'static [u8]
 
 /// The series whose labels meet all filters, in the order of their keys.
 fn select<'a>(database: &'a Database, filters: &[Filter]) -> Vec<(&'a Vec<u8>, &'a Series)> {
-    database.iter().filter(|(_, series)| series.has(filters)).collect()
+    let all = database.numbers.iter().map(|(key, &number)| (key, &database.series[number]));
+    all.filter(|(_, series)| series.has(filters)).collect()
 }
 
 /// The labels of a new series. One that is told twice keeps its first place and takes its last value.
@@ -515,13 +711,46 @@ fn create<W: AsRef<[u8]>>(words: &[W], database: &mut Database, room: &mut Vec<u
         [key, name, rest @ ..] if name.as_ref().eq_ignore_ascii_case(b"LABELS") => (key, labels(rest)?),
         _ => return Err(OPTION),
     };
-    if database.contains_key(key.as_ref()) {
+    if database.numbers.contains_key(key.as_ref()) {
         return Err(b"-ERR TSDB: the key already exists\r\n");
     }
     if labels.len() > LABELS {
         return Err(b"-ERR TSDB: too many labels\r\n");
     }
-    database.insert(key.as_ref().to_vec(), Series { samples: Vec::new(), labels });
+    database.make(key.as_ref(), Series { labels, ..Series::default() });
+    room.extend_from_slice(b"+OK\r\n");
+    Ok(())
+}
+
+/// TS.CREATERULE, after its name.
+fn create_rule<W: AsRef<[u8]>>(words: &[W], database: &mut Database, room: &mut Vec<u8>) -> Result<(), &'static [u8]> {
+    let [source, dest, name, told, length] = words else {
+        return Err(ARITY);
+    };
+    if !name.as_ref().eq_ignore_ascii_case(b"AGGREGATION") {
+        return Err(OPTION);
+    }
+    let (aggregator, duration) = (aggregator(told.as_ref())?, duration(length.as_ref())?);
+    if source.as_ref() == dest.as_ref() {
+        return Err(b"-ERR TSDB: source and destination are the same\r\n");
+    }
+    let (source, dest) = (database.number(source.as_ref())?, database.number(dest.as_ref())?);
+    if database.series[source].is_dest {
+        return Err(b"-ERR TSDB: the source is a destination\r\n");
+    }
+    if !database.series[dest].rules.is_empty() {
+        return Err(b"-ERR TSDB: the destination is a source\r\n");
+    }
+    if database.series[dest].is_dest {
+        return Err(b"-ERR TSDB: the destination has a source\r\n");
+    }
+    let series = &mut database.series[source];
+    if series.rules.len() >= RULES {
+        return Err(b"-ERR TSDB: too many rules\r\n");
+    }
+    series.born += 1;
+    series.rules.push(Rule { dest, aggregator, duration, made: series.born, open: None });
+    database.series[dest].is_dest = true;
     room.extend_from_slice(b"+OK\r\n");
     Ok(())
 }
@@ -532,18 +761,26 @@ fn add<W: AsRef<[u8]>>(words: &[W], database: &mut Database, room: &mut Vec<u8>)
         return Err(ARITY);
     };
     let time = time(at.as_ref())?;
-    let sample = Sample { time, value: value(amount.as_ref())?, made: 0 };
-    match database.get_mut(key.as_ref()) {
-        Some(series) => {
-            if !insert(&mut series.samples, sample) {
-                return Err(b"-ERR TSDB: duplicate sample\r\n");
-            }
-        }
-        None => {
-            database.insert(key.as_ref().to_vec(), Series { samples: vec![sample], labels: Vec::new() });
-        }
+    let value = value(amount.as_ref())?;
+    let number = match database.numbers.get(key.as_ref()) {
+        Some(&number) => number,
+        None => database.make(key.as_ref(), Series::default()),
+    };
+    if !database.write(number, time, value) {
+        return Err(b"-ERR TSDB: duplicate sample\r\n");
     }
     put_line(b':', time, room);
+    Ok(())
+}
+
+/// TS.DEL, after its name.
+fn delete<W: AsRef<[u8]>>(words: &[W], database: &mut Database, room: &mut Vec<u8>) -> Result<(), &'static [u8]> {
+    let [key, from, to] = words else {
+        return Err(ARITY);
+    };
+    let (from, to) = (bound(from.as_ref())?, bound(to.as_ref())?);
+    let number = database.number(key.as_ref())?;
+    put_line(b':', database.delete(number, from, to) as u64, room);
     Ok(())
 }
 
@@ -554,7 +791,7 @@ fn range<W: AsRef<[u8]>>(words: &[W], database: &Database, room: &mut Vec<u8>) -
     };
     let (from, to) = (bound(from.as_ref())?, bound(to.as_ref())?);
     let asked = Asked::read(options)?;
-    let series = database.get(key.as_ref()).ok_or(&b"-ERR TSDB: the key does not exist\r\n"[..])?;
+    let series = &database.series[database.number(key.as_ref())?];
     asked.put(between(&series.samples, from, to), room);
     Ok(())
 }
@@ -603,6 +840,8 @@ fn answer<W: AsRef<[u8]>>(words: &[W], database: &mut Database, room: &mut Vec<u
     match words {
         [name, rest @ ..] if is(name, b"TS.ADD") => add(rest, database, room),
         [name, rest @ ..] if is(name, b"TS.CREATE") => create(rest, database, room),
+        [name, rest @ ..] if is(name, b"TS.CREATERULE") => create_rule(rest, database, room),
+        [name, rest @ ..] if is(name, b"TS.DEL") => delete(rest, database, room),
         [name, rest @ ..] if is(name, b"TS.RANGE") => range(rest, database, room),
         [name, rest @ ..] if is(name, b"TS.MRANGE") => many_range(rest, database, room),
         [name, rest @ ..] if is(name, b"TS.QUERYINDEX") => query_index(rest, database, room),
@@ -625,7 +864,7 @@ fn main() {
     let slices = std::env::args().nth(1).as_deref() == Some("slices");
     let (mut input, mut out) = unsafe { (File::from_raw_fd(0), File::from_raw_fd(1)) };
     let mut reader = Reader { buf: Vec::new(), place: 0, begin: 0, at: 0, left: None, room: 0, words: Vec::new() };
-    let mut database = Database::new();
+    let mut database = Database::default();
     let mut room = Vec::with_capacity(128);
     let mut piece = [0; PIECE];
     loop {

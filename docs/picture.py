@@ -61,7 +61,7 @@ def legend():
 
 def drawn(shown):
     samples = rows_under("All samples", shown)
-    averages = rows_under("By two hours: averages", shown)
+    averages = rows_under("By two hours: the averages that the rule keeps, with those of the open bucket", shown)
     least = rows_under("By two hours: the least", shown)
     greatest = rows_under("By two hours: the greatest", shown)
     lines = [

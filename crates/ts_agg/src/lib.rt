@@ -8,7 +8,7 @@ mod running;
 
 pub use counted::Counted;
 pub use fault::AggFault;
-pub use names::{name, read_aggregator};
+pub use names::{is_name, name, named, read_aggregator};
 pub use running::Running;
 pub use ts_spec::Aggregator;
 

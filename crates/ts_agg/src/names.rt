@@ -24,14 +24,16 @@ const NAMES: [(&[u8], Option<Aggregator>); 13] = [
     (b"var.s", None),
 ];
 
-fn is_name(name: &[u8], word: &[u8]) -> bool
+/// Whether a word is this name, with letters in either case.
+#[inline]
+pub fn is_name(name: &[u8], word: &[u8]) -> bool
     ensures { result ≡ str_eq_ignore_ascii_case name.now word.now }
 {
     name.eq_ignore_ascii_case(word)
 }
 
-// What a word stands for in a table of names.
-fn named(mut table: &[(&[u8], Option<Aggregator>)], word: &[u8]) -> Option<Option<Aggregator>>
+/// What a word stands for in a table of names, the first that it is.
+pub fn named<T: Copy>(mut table: &[(&[u8], T)], word: &[u8]) -> Option<T>
     ensures { result ≡ named (map (λ row. (row.0.now, row.1)) table.entry.now) word.now }
 {
     while let [row, rest @ ..] = table {

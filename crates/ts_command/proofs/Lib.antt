@@ -1,5 +1,4 @@
 mod TableLemmas
-pub mod FaultLemmas
 pub mod OptionLemmas
 pub mod ListLemmas
 pub mod LabelLemmas

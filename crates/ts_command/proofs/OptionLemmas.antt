@@ -1,10 +1,9 @@
 -- Options: the one that a word names, its own words, and the options that follow.
 use Rattle.std.proofs.Common.{◌≡◌, ℕ, zero, suc, Bool, true, false, ◌||◌, List, [], ◌∷◌, take, drop, map, IsTrue, refl, sym, ap, ◌∙◌}
-use Rattle.std.specs.Prelude.{Result, Ok, Option, None, Some, option_map, IfSome}
+use Rattle.std.specs.Prelude.{Ok, Option, None, Some, option_map, IfSome}
 use Rattle.std.specs.Str.{str_eq_ignore_ascii_case}
 use Rattle.ts_spec.specs.Names.{Table, named}
-use Rattle.ts_spec.specs.Refusal.{Fault}
-use Rattle.ts_spec.specs.Settings.{Word, Given, Setting, nothing, and_then, new_setting, is_known, options, has_name}
+use Rattle.ts_spec.specs.Settings.{Word, Given, Setting, new_setting, is_known, options, has_name}
 use Rattle.ts_command.specs.declared.option_word.OptionWord.{OptionWord}
 use Rattle.ts_command.specs.Options.{setting_of, is_list, may_list}
 use Rattle.ts_command.proofs.TableLemmas.{named-map, each_named, named-so}
@@ -40,22 +39,22 @@ may_list-drop : (names : Option (List ℕ)) (n : ℕ) (words : List Word) → Is
 may_list-drop None n words h = refl
 may_list-drop (Some name) n words h = has_name-drop name n words h
 
--- what is given so far goes on to what all options say, and if words from here on may make a list, all may
-abbrev pub GoesOn : (known : Table Setting) → (names : Option (List ℕ)) → Given → (rest words : List Word) → Type 0
-GoesOn known names given rest words = record {
-  options : options known given 0 rest ≡ options known nothing 0 words;
+-- What is given so far goes on to what all options say, added to what was given at first, and if words from here on may make a list, all may
+abbrev pub GoesOn : (known : Table Setting) → (names : Option (List ℕ)) → (first given : Given) → (rest words : List Word) → Type 0
+GoesOn known names first given rest words = record {
+  options : options known given 0 rest ≡ options known first 0 words;
   lists : IsTrue (may_list names rest) → IsTrue (may_list names words);
 }
 
 -- it goes on after an option and its own words
-pub goes-on : (known : Table Setting) (names : Option (List ℕ)) (given more : Given) (setting : Setting) (word : Word) (after own rest words : List Word)
-    → GoesOn known names given (word ∷ after) words
+pub goes-on : (known : Table Setting) (names : Option (List ℕ)) (first given more : Given) (setting : Setting) (word : Word) (after own rest words : List Word)
+    → GoesOn known names first given (word ∷ after) words
     → new_setting given (named known word) ≡ Ok setting
     → own ≡ take (setting.size (is_known known) after) after
     → rest ≡ drop (setting.size (is_known known) after) after
     → setting.says own given ≡ Ok more
-    → GoesOn known names more rest words
-goes-on known names given more setting word after own rest words so_far chosen mine others said = record {
+    → GoesOn known names first more rest words
+goes-on known names first given more setting word after own rest words so_far chosen mine others said = record {
   options = sym (options-next known given more setting word after own rest chosen mine others said) ∙ so_far.options;
   lists = λ h. so_far.lists (may_list-drop names 1 (word ∷ after) (may_list-drop names (setting.size (is_known known) after) after (rw others at h)));
 }

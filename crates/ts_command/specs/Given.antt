@@ -1,5 +1,5 @@
 -- What options say, as the definitions have it.
-use Rattle.std.specs.Prelude.{None, option_map}
+use Rattle.std.specs.Prelude.{false, None, option_map}
 use Rattle.ts_spec.specs.Settings as spec
 use Rattle.ts_labels.specs.Show.{show_of}
 use Rattle.ts_range.specs.Query.{span_of}
@@ -22,6 +22,7 @@ given_of g = record {
   align = g.range.align;
   stamp = g.range.stamp;
   empty = g.range.empty;
+  latest = g.latest;
   show = option_map show_of g.show;
   filters = option_map (λ filters. filters.items) g.filters;
 }
@@ -43,6 +44,7 @@ range_given_of g = record {
   align = g.align;
   stamp = g.stamp;
   empty = g.empty;
+  latest = false;
   show = None;
   filters = None;
 }

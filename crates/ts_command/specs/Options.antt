@@ -8,7 +8,7 @@ use Rattle.ts_spec.specs.SeriesOptions.{series_options, alter_options, add_optio
 use Rattle.ts_spec.specs.Ranges as ranges
 use Rattle.ts_spec.specs.Ranges.{range_options}
 use Rattle.ts_spec.specs.ManySeries as many
-use Rattle.ts_spec.specs.ManySeries.{series_told, many_options}
+use Rattle.ts_spec.specs.ManySeries.{last_options, many_options}
 use Rattle.ts_command.specs.declared.option_word.OptionWord.{OptionWord}
 use Rattle.ts_command.specs.declared.option_word.OptionWord.TheVariants as code
 use Rattle.ts_command.specs.declared.option_word.OptionSet.{OptionSet}
@@ -23,6 +23,7 @@ setting_of code.DuplicatePolicy = series.duplicate_policy
 setting_of code.OnDuplicate = series.on_duplicate
 setting_of code.Timestamp = series.timestamp
 setting_of code.Labels = series.labels
+setting_of code.Latest = ranges.latest
 setting_of code.FilterByTs = ranges.filter_by_ts
 setting_of code.FilterByValue = ranges.filter_by_value
 setting_of code.Count = ranges.count
@@ -50,7 +51,7 @@ table_of set.Add = add_options
 table_of set.Incr = incr_options
 table_of set.Range = range_options
 table_of set.ManyRanges = many_options
-table_of set.ManyLast = series_told
+table_of set.ManyLast = last_options
 
 -- the name of the option with a list, in a set that has only one
 abbrev pub lister : OptionSet → Option (List ℕ)

@@ -5,7 +5,7 @@ use Rattle.ts_labels.specs.Spec.{spec_of, change_of}
 use Rattle.ts_labels.specs.Show.{show_of}
 use Rattle.ts_range.specs.Query.{query_of}
 use Rattle.ts_command.specs.declared.command.Command.{Command}
-use Rattle.ts_command.specs.declared.command.Command.TheVariants.{Create, Alter, Add, Madd, Incr, DelRange, Range, MRange, Get, MGet, QueryIndex, Ping, Echo, Quit, Drop, Exists}
+use Rattle.ts_command.specs.declared.command.Command.TheVariants.{Create, Alter, Add, Madd, Incr, DelRange, CreateRule, DeleteRule, Range, MRange, Get, MGet, QueryIndex, InfoOf, Ping, Echo, Quit, Drop, Exists}
 use Rattle.ts_command.specs.declared.command.Triple.{Triple}
 use Rattle.ts_command.specs.Faults.{said_same}
 
@@ -15,20 +15,23 @@ triple_of t = record { key = t.key; at = said_same t.at; value = said_same t.val
 abbrev pub triples_of : List Triple → List spec.Triple
 triples_of ts = map triple_of ts
 
-abbrev pub reading : Command → spec.Command
-reading (Create key s) = spec.Create key (spec_of s)
-reading (Alter key c) = spec.Alter key (change_of c)
-reading (Add key at value on s) = spec.Add key at value on (spec_of s)
-reading (Madd triples) = spec.Madd (triples_of triples.items)
-reading (Incr key change at s) = spec.Incr key change at (spec_of s)
-reading (DelRange key from to) = spec.DelRange key from to
-reading (Range key latest query) = spec.Range key latest (query_of query)
-reading (MRange latest show filters query) = spec.MRange latest (show_of show) filters.items (query_of query)
-reading (Get key latest) = spec.Get key latest
-reading (MGet latest show filters) = spec.MGet latest (show_of show) filters.items
-reading (QueryIndex filters) = spec.QueryIndex filters.items
-reading (Ping word) = spec.Ping word
-reading (Echo word) = spec.Echo word
-reading Quit = spec.Quit
-reading (Drop keys) = spec.Drop keys.items
-reading (Exists keys) = spec.Exists keys.items
+abbrev pub command_of : Command → spec.Command
+command_of (Create key s) = spec.Create key (spec_of s)
+command_of (Alter key c) = spec.Alter key (change_of c)
+command_of (Add key at value on s) = spec.Add key at value on (spec_of s)
+command_of (Madd triples) = spec.Madd (triples_of triples.items)
+command_of (Incr key change at s) = spec.Incr key change at (spec_of s)
+command_of (DelRange key from to) = spec.DelRange key from to
+command_of (CreateRule source dest agg grid) = spec.CreateRule source dest agg grid
+command_of (DeleteRule source dest) = spec.DeleteRule source dest
+command_of (Range key latest query) = spec.Range key latest (query_of query)
+command_of (MRange latest show filters query) = spec.MRange latest (show_of show) filters.items (query_of query)
+command_of (Get key latest) = spec.Get key latest
+command_of (MGet latest show filters) = spec.MGet latest (show_of show) filters.items
+command_of (QueryIndex filters) = spec.QueryIndex filters.items
+command_of (InfoOf key) = spec.InfoOf key
+command_of (Ping word) = spec.Ping word
+command_of (Echo word) = spec.Echo word
+command_of Quit = spec.Quit
+command_of (Drop keys) = spec.Drop keys.items
+command_of (Exists keys) = spec.Exists keys.items

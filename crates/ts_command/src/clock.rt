@@ -1,7 +1,7 @@
-// Which commands need a reading of the clock.
+// Which commands need a reading of the clock: it is asked once before a command, and not where none needs it.
 ghost use Rattle.std.specs.Prelude.{◌≡◌};
 ghost use Rattle.ts_spec.specs.Grammar.{is_clock, is_clock_at, any_clock, needs_clock};
-ghost use Rattle.ts_command.specs.Reading.{triple_of, triples_of, reading};
+ghost use Rattle.ts_command.specs.Reading.{triple_of, triples_of, command_of};
 
 use crate::command::{Command, Triple};
 use ts_spec::At;
@@ -10,7 +10,7 @@ impl Command {
     /// Whether the command needs a reading of the clock: where a time is `*`, or one that may be left out is
     /// left out.
     pub fn needs_clock(&self) -> bool
-        ensures { result ≡ needs_clock (reading self.now) }
+        ensures { result ≡ needs_clock (command_of self.now) }
     {
         match self {
             Command::Add { at, .. } | Command::Incr { at, .. } => is_clock(*at),

@@ -1,13 +1,15 @@
+// Commands with nothing left to read: what the server is to do, in types of its own.
 ghost use Rattle.std.specs.Result.{ForErr, ForOk};
 ghost use Rattle.ts_spec.specs.Settings.{IsTime};
 ghost use Rattle.ts_command.specs.Faults.{IsNoMemory};
 
 use crate::fault::CommandFault;
+use ts_bucket::Grid;
 use ts_labels::{Change, Filter, Show, Spec};
 use ts_range::Query;
 use ts_resp::Word;
 use ts_sample::Units;
-use ts_spec::{At, Policy};
+use ts_spec::{Aggregator, At, Policy};
 
 /// What a client asks for.
 #[derive(Debug, Drop)]
@@ -50,16 +52,29 @@ pub enum Command {
         /// In milliseconds, at most `MAX_TIME`.
         to: u64,
     },
+    /// A rule, by which the buckets of one series are told as samples of another.
+    CreateRule {
+        source: Word,
+        dest: Word,
+        /// What is told of each bucket.
+        agg: Aggregator,
+        grid: Grid,
+    },
+    /// No rule from one series to another.
+    DeleteRule {
+        source: Word,
+        dest: Word,
+    },
     /// The rows of a series that a question asks for.
     Range {
         key: Word,
-        /// Whether the bucket that is still open counts too. No option says so yet.
+        /// Whether the bucket that is still open counts too.
         latest: bool,
         query: Query,
     },
     /// The rows that a question asks for of each series that passes filters.
     MRange {
-        /// Whether the bucket that is still open counts too. No option says so yet.
+        /// Whether the bucket that is still open counts too.
         latest: bool,
         show: Show,
         filters: Vec<Filter>,
@@ -68,12 +83,12 @@ pub enum Command {
     /// The last sample of a series.
     Get {
         key: Word,
-        /// Whether the bucket that is still open counts too. No option says so yet.
+        /// Whether the bucket that is still open counts too.
         latest: bool,
     },
     /// The last sample of each series that passes filters.
     MGet {
-        /// Whether the bucket that is still open counts too. No option says so yet.
+        /// Whether the bucket that is still open counts too.
         latest: bool,
         show: Show,
         filters: Vec<Filter>,
@@ -81,6 +96,10 @@ pub enum Command {
     /// The keys of the series that pass filters.
     QueryIndex {
         filters: Vec<Filter>,
+    },
+    /// How a series is kept.
+    InfoOf {
+        key: Word,
     },
     /// A sign of life, or a word back.
     Ping {

@@ -1,3 +1,4 @@
+// The faults that words may have, each with its message, so that no caller words one of its own.
 ghost use Rattle.std.specs.Prelude.{◌≡◌};
 ghost use Rattle.ts_command.specs.Faults.{message};
 

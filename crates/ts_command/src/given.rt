@@ -1,3 +1,4 @@
+// What options have said so far: they come in any order, so they are gathered before a command is made of them.
 ghost use Rattle.std.specs.Prelude.{◌≡◌, ◌≤◌, [], unwrap_or};
 ghost use Rattle.std.specs.Option.{ForSome};
 ghost use Rattle.ts_spec.specs.Sample.{MAX_TIME};
@@ -23,6 +24,8 @@ pub(crate) struct Given {
     pub(crate) at: Option<At>,
     pub(crate) labels: Option<Labels>,
     pub(crate) range: RangeGiven,
+    // Whether open buckets are asked too.
+    pub(crate) latest: bool,
     pub(crate) show: Option<Show>,
     pub(crate) filters: Option<Vec<Filter>>,
     ghost retention_fits: { ForSome retention (λ n. n ≤ MAX_TIME) },
@@ -48,11 +51,28 @@ impl Given {
             at: None,
             labels: None,
             range: RangeGiven::nothing(),
+            latest: false,
             show: None,
             filters: None,
         }
     }
 
+    // What a new series is made with where no options are given.
+    pub(crate) fn usual_spec(alloc: Global) -> Spec
+        ensures { spec_of result ≡ spec nothing }
+    {
+        Spec {
+            options: Options {
+                retention: 0,
+                encoding: Encoding::Compressed,
+                chunk_size: USUAL_CHUNK,
+                policy: Policy::Block,
+            },
+            labels: Labels::new(alloc),
+        }
+    }
+
+    // What a new series is made with.
     pub(crate) fn spec(self, alloc: Global) -> Spec
         ensures { spec_of result ≡ spec (given_of self) }
     {
@@ -67,6 +87,7 @@ impl Given {
         }
     }
 
+    // What a series gets anew.
     pub(crate) fn change(self) -> Change
         ensures { change_of result ≡ change (given_of self) }
     {

@@ -20,17 +20,20 @@ mod range;
 mod range_given;
 mod range_options;
 mod request;
+mod rule;
 mod small;
 mod triple;
 mod verb;
+mod with_options;
 mod words;
 
 pub use command::{Command, Triple};
 pub use fault::CommandFault;
 pub use request::read;
+pub use ts_bucket::Grid;
 pub use ts_labels::{Change, Filter, Show, Spec};
 pub use ts_range::Query;
-pub use ts_spec::{At, Encoding, Options, Policy, ValueFault};
+pub use ts_spec::{Aggregator, At, Encoding, Options, Policy, ValueFault};
 
 #[cfg(test)]
 mod tests;

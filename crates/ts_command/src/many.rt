@@ -4,10 +4,11 @@ ghost use Rattle.ts_spec.specs.Grammar.{many_ranges, last_of_many, query_index};
 ghost use Rattle.ts_spec.specs.ManySeries.{selecting};
 ghost use Rattle.ts_command.specs.Answers.{HasTime};
 ghost use Rattle.ts_command.specs.Faults.{Says, SaysOr};
-ghost use Rattle.ts_command.specs.Reading.{reading};
+ghost use Rattle.ts_command.specs.Reading.{command_of};
 
 use crate::command::Command;
 use crate::fault::CommandFault;
+use crate::given::Given;
 use crate::lists::read_filters;
 use crate::option_word::OptionSet;
 use crate::options::read_options;
@@ -18,7 +19,7 @@ use ts_labels::{Filter, Show, has_positive};
 use ts_resp::Word;
 
 // Filters, of which one asks for a value.
-fn selecting(filters: Vec<Filter>) -> Result<Vec<Filter>, CommandFault>
+fn selection(filters: Vec<Filter>) -> Result<Vec<Filter>, CommandFault>
     ensures { Says (λ filters. filters.items) result (selecting filters.items) }
 {
     if has_positive(&filters) {
@@ -36,25 +37,26 @@ fn read_asked(
     to: &[u8],
     options: &[Word],
 ) -> Result<Command, CommandFault>
-    ensures command { SaysOr ⊤ reading result (many_ranges reverse (from.now ∷ to.now ∷ options.now)) }
+    ensures command { SaysOr ⊤ command_of result (many_ranges reverse (from.now ∷ to.now ∷ options.now)) }
     ensures time { IfOk result HasTime }
 {
     let first = end_word(from)?;
     let last = end_word(to)?;
-    let given = read_options(alloc, OptionSet::ManyRanges, options)?;
+    let mut given = Given::nothing();
+    read_options(alloc, OptionSet::ManyRanges, options, &mut given)?;
     let filters = given.filters.ok_or(CommandFault::BadOption)?;
     let query = given.range.query(reverse, from, to, first, last)?;
     Ok(Command::MRange {
-        latest: false,
+        latest: given.latest,
         show: given.show.unwrap_or(Show::Nothing),
-        filters: selecting(filters)?,
+        filters: selection(filters)?,
         query,
     })
 }
 
 // The words are the whole request, with its name.
 pub(crate) fn read_many_ranges(reverse: bool, words: &Vec<Word>) -> Result<Command, CommandFault>
-    ensures command { SaysOr ⊤ reading result (many_ranges reverse (drop 1 words.now.items)) }
+    ensures command { SaysOr ⊤ command_of result (many_ranges reverse (drop 1 words.now.items)) }
     ensures time { IfOk result HasTime }
 {
     let alloc = *words.allocator();
@@ -65,28 +67,29 @@ pub(crate) fn read_many_ranges(reverse: bool, words: &Vec<Word>) -> Result<Comma
 }
 
 pub(crate) fn read_last_of_many(words: &Vec<Word>) -> Result<Command, CommandFault>
-    ensures command { SaysOr ⊤ reading result (last_of_many (drop 1 words.now.items)) }
+    ensures command { SaysOr ⊤ command_of result (last_of_many (drop 1 words.now.items)) }
     ensures time { IfOk result HasTime }
 {
     let alloc = *words.allocator();
     let (_name, options) = split_own(1, words);
-    let given = read_options(alloc, OptionSet::ManyLast, options)?;
+    let mut given = Given::nothing();
+    read_options(alloc, OptionSet::ManyLast, options, &mut given)?;
     let filters = given.filters.ok_or(CommandFault::BadOption)?;
     Ok(Command::MGet {
-        latest: false,
+        latest: given.latest,
         show: given.show.unwrap_or(Show::Nothing),
-        filters: selecting(filters)?,
+        filters: selection(filters)?,
     })
 }
 
 pub(crate) fn read_query_index(words: &Vec<Word>) -> Result<Command, CommandFault>
-    ensures command { SaysOr ⊤ reading result (query_index (drop 1 words.now.items)) }
+    ensures command { SaysOr ⊤ command_of result (query_index (drop 1 words.now.items)) }
     ensures time { IfOk result HasTime }
 {
     let alloc = *words.allocator();
     let (_name, texts) = split_own(1, words);
     let filters = read_filters(alloc, texts)?;
     Ok(Command::QueryIndex {
-        filters: selecting(filters)?,
+        filters: selection(filters)?,
     })
 }

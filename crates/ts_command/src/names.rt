@@ -1,9 +1,9 @@
-// Words that are names, with letters in either case.
-ghost use Rattle.std.specs.Prelude.{◌≡◌, map, IfSome};
-ghost use Rattle.std.specs.Str.{str_eq_ignore_ascii_case};
+// The policies, encodings and places in buckets that words name, in one table each.
+ghost use Rattle.std.specs.Prelude.{◌≡◌, IfSome};
 ghost use Rattle.ts_spec.specs.Names.{named, policies, encodings, aligns, stamps};
 ghost use Rattle.ts_spec.specs.Ranges.{IsAlign};
 
+use ts_agg::named;
 use ts_bucket::Stamp;
 use ts_spec::{Align, Encoding, Policy};
 
@@ -38,25 +38,6 @@ const STAMPS: [(&[u8], Stamp); 8] = [
     (b"~", Stamp::Mid),
     (b"mid", Stamp::Mid),
 ];
-
-fn is_name(name: &[u8], word: &[u8]) -> bool
-    ensures { result ≡ str_eq_ignore_ascii_case name.now word.now }
-{
-    name.eq_ignore_ascii_case(word)
-}
-
-// What a word stands for in a table of names.
-pub(crate) fn named<T: Copy>(mut table: &[(&[u8], T)], word: &[u8]) -> Option<T>
-    ensures { result ≡ named (map (λ row. (row.0.now, row.1)) table.entry.now) word.now }
-{
-    while let [row, rest @ ..] = table {
-        if is_name(row.0, word) {
-            return Some(row.1);
-        }
-        table = rest;
-    }
-    None
-}
 
 #[tactic(auto, unfolding(ts_spec::specs::Names::policies))]
 pub(crate) fn policy_named(word: &[u8]) -> Option<Policy>

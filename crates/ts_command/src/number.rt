@@ -1,3 +1,4 @@
+// Numbers: times, durations, sizes and counts are all written in one way, and have one greatest.
 ghost use Rattle.std.specs.Prelude.{◌≡◌, ◌≤◌, IfSome};
 ghost use Rattle.ts_spec.specs.Number.{number};
 ghost use Rattle.ts_spec.specs.Sample.{MAX_TIME};

@@ -3,7 +3,7 @@ ghost use Rattle.std.specs.Prelude.{◌≡◌, option_map, IfSome, IsTrue};
 ghost use Rattle.ts_spec.specs.Names.{named};
 ghost use Rattle.ts_command.specs.Options.{setting_of, table_of, is_list, lister, is_lister};
 
-use crate::names::named;
+use ts_agg::named;
 
 // An option word.
 #[derive(Clone, Copy)]
@@ -15,6 +15,7 @@ pub(crate) enum OptionWord {
     OnDuplicate,
     Timestamp,
     Labels,
+    Latest,
     FilterByTs,
     FilterByValue,
     Count,
@@ -72,7 +73,8 @@ const INCR: [(&[u8], OptionWord); 6] = [
     (b"LABELS", OptionWord::Labels),
 ];
 
-const RANGE: [(&[u8], OptionWord); 7] = [
+const RANGE: [(&[u8], OptionWord); 8] = [
+    (b"LATEST", OptionWord::Latest),
     (b"FILTER_BY_TS", OptionWord::FilterByTs),
     (b"FILTER_BY_VALUE", OptionWord::FilterByValue),
     (b"COUNT", OptionWord::Count),
@@ -82,16 +84,18 @@ const RANGE: [(&[u8], OptionWord); 7] = [
     (b"EMPTY", OptionWord::Empty),
 ];
 
-const MANY_LAST: [(&[u8], OptionWord); 3] = [
+const MANY_LAST: [(&[u8], OptionWord); 4] = [
+    (b"LATEST", OptionWord::Latest),
     (b"WITHLABELS", OptionWord::WithLabels),
     (b"SELECTED_LABELS", OptionWord::SelectedLabels),
     (b"FILTER", OptionWord::Filter),
 ];
 
-const MANY_RANGES: [(&[u8], OptionWord); 10] = [
+const MANY_RANGES: [(&[u8], OptionWord); 11] = [
     (b"WITHLABELS", OptionWord::WithLabels),
     (b"SELECTED_LABELS", OptionWord::SelectedLabels),
     (b"FILTER", OptionWord::Filter),
+    (b"LATEST", OptionWord::Latest),
     (b"FILTER_BY_TS", OptionWord::FilterByTs),
     (b"FILTER_BY_VALUE", OptionWord::FilterByValue),
     (b"COUNT", OptionWord::Count),

@@ -1,7 +1,7 @@
 // The options of a command, in any order.
 ghost use Rattle.std.specs.Prelude.{◌≡◌, IfOk, IsTrue};
 ghost use Rattle.ts_spec.specs.Names.{named};
-ghost use Rattle.ts_spec.specs.Settings.{nothing, new_setting, options, count_own, is_known};
+ghost use Rattle.ts_spec.specs.Settings.{new_setting, options, count_own, is_known};
 ghost use Rattle.ts_command.specs.Faults.{Says, SaysOr};
 ghost use Rattle.ts_command.specs.Given.{given_of};
 ghost use Rattle.ts_command.specs.Options.{setting_of, table_of, is_list, lister, is_lister, may_list};
@@ -22,7 +22,7 @@ use ts_resp::Word;
 
 impl OptionWord {
     // Whether it stood before.
-    fn stood(self, given: &Given) -> bool
+    fn is_given(self, given: &Given) -> bool
         ensures { result ≡ (setting_of self).stood (given_of given.now) }
     {
         match self {
@@ -33,6 +33,7 @@ impl OptionWord {
             OptionWord::OnDuplicate => given.on.is_some(),
             OptionWord::Timestamp => given.at.is_some(),
             OptionWord::Labels => given.labels.is_some(),
+            OptionWord::Latest => given.latest,
             OptionWord::FilterByTs => given.range.times.is_some(),
             OptionWord::FilterByValue => given.range.values.is_some(),
             OptionWord::Count => given.range.count.is_some(),
@@ -55,7 +56,7 @@ impl OptionWord {
                 count_own(set, words)
             }
             OptionWord::FilterByValue | OptionWord::Aggregation => 2,
-            OptionWord::Empty | OptionWord::WithLabels => 0,
+            OptionWord::Latest | OptionWord::Empty | OptionWord::WithLabels => 0,
             _ => 1,
         }
     }
@@ -80,7 +81,7 @@ fn new_option(set: OptionSet, word: &[u8], given: &Given) -> Result<OptionWord, 
 {
     match set.named(word) {
         None => Err(CommandFault::BadOption),
-        Some(option) if option.stood(given) => Err(CommandFault::RepeatedOption),
+        Some(option) if option.is_given(given) => Err(CommandFault::RepeatedOption),
         Some(option) => Ok(option),
     }
 }
@@ -102,6 +103,7 @@ fn add_own(
         OptionWord::OnDuplicate => given.on = Some(policy_word(own_word(own)?)?),
         OptionWord::Timestamp => given.at = Some(at_word(own_word(own)?)?),
         OptionWord::Labels => given.labels = Some(read_labels(alloc, own)?),
+        OptionWord::Latest => given.latest = true,
         OptionWord::FilterByTs => given.range.times = Some(read_times(alloc, own_words(own)?)?),
         OptionWord::FilterByValue => add_values(own, given)?,
         OptionWord::Count => given.range.count = Some(count_word(own_word(own)?)?),
@@ -118,21 +120,21 @@ fn add_own(
     Ok(())
 }
 
-// What the options say, which these words are and no more.
+// Adds what the options say, which these words are and no more.
 pub(crate) fn read_options(
     alloc: Global,
     set: OptionSet,
     words: &[Word],
-) -> Result<Given, CommandFault>
-    ensures { SaysOr (IsTrue (may_list (lister set) words.now)) given_of result (options (table_of set) nothing 0 words.now) }
+    given: &mut Given,
+) -> Result<(), CommandFault>
+    ensures { SaysOr (IsTrue (may_list (lister set) words.now)) (λ done. given_of given.new) result (options (table_of set) (given_of given.old) 0 words.now) }
 {
-    let mut given = Given::nothing();
     let mut rest = words;
     while let Some((name, after)) = rest.split_first() {
-        let option = new_option(set, name.bytes(), &given)?;
+        let option = new_option(set, name.bytes(), given)?;
         let (own, next) = split_own(option.size(set, after), after);
-        add_own(alloc, option, own, &mut given)?;
+        add_own(alloc, option, own, given)?;
         rest = next;
     }
-    Ok(given)
+    Ok(())
 }

@@ -1,3 +1,4 @@
+// The options of a question over an interval, apart from others: one series is asked by them as many are.
 ghost use Rattle.std.specs.Prelude.{◌≡◌, ◌≤◌, All};
 ghost use Rattle.std.specs.Option.{ForSome};
 ghost use Rattle.ts_spec.specs.Ranges.{IsDuration, IsAlign};
@@ -66,7 +67,7 @@ impl RangeGiven {
     }
 
     // Where one of the buckets begins.
-    fn aligned(&self, from: u64, to: u64) -> u64
+    fn alignment(&self, from: u64, to: u64) -> u64
         requires from { from ≤ MAX_TIME }
         requires to { to ≤ MAX_TIME }
         ensures value { result ≡ aligned from to self.now.align }
@@ -87,7 +88,7 @@ impl RangeGiven {
         ensures { option_map buckets_of result ≡ buckets from to (range_given_of self.now) }
     {
         let aggregation = self.aggregation?;
-        let grid = Grid::new(self.aligned(from, to), aggregation.duration)?;
+        let grid = Grid::new(self.alignment(from, to), aggregation.duration)?;
         Some(Buckets {
             grid,
             agg: aggregation.agg,

@@ -1,16 +1,19 @@
+// The one way in: the name finds the command and the number of its words, and the command reads them.
 ghost use Rattle.std.specs.Prelude.{◌≡◌, IfOk, IfErr};
 ghost use Rattle.ts_spec.specs.Grammar.{command};
 ghost use Rattle.ts_command.specs.Answers.{HasTime, IsFaultIn};
-ghost use Rattle.ts_command.specs.Reading.{reading};
+ghost use Rattle.ts_command.specs.Reading.{command_of};
 
 use crate::command::Command;
 use crate::fault::CommandFault;
-use crate::forms::{Sign, read_add, read_alter, read_create, read_del_range, read_incr};
+use crate::forms::{Sign, read_add, read_create, read_del_range, read_incr};
 use crate::many::{read_last_of_many, read_many_ranges, read_query_index};
 use crate::range::read_range;
-use crate::small::{read_drop, read_echo, read_exists, read_get, read_ping};
+use crate::rule::{read_create_rule, read_delete_rule};
+use crate::small::{read_drop, read_echo, read_exists, read_get, read_info, read_ping};
 use crate::triple::read_madd;
 use crate::verb::Verb;
+use crate::with_options::read_alter;
 use ts_resp::Word;
 
 /// The command that the words of a request say, with the words moved into it, or the first fault in them: the
@@ -18,7 +21,7 @@ use ts_resp::Word;
 /// of FILTER_BY_TS take memory, and not before the name and the number of words were found right; want of it is
 /// told as `Memory`.
 pub fn read(words: Vec<Word>) -> Result<Command, CommandFault>
-    ensures ok { IfOk result (λ c. command words.items ≡ Ok (reading c)) }
+    ensures ok { IfOk result (λ c. command words.items ≡ Ok (command_of c)) }
     ensures time { IfOk result HasTime }
     ensures fault { IfErr result (IsFaultIn words.items) }
 {
@@ -39,6 +42,8 @@ pub fn read(words: Vec<Word>) -> Result<Command, CommandFault>
         Verb::IncrBy => read_incr(Sign::Plus, words),
         Verb::DecrBy => read_incr(Sign::Minus, words),
         Verb::DelRange => read_del_range(words),
+        Verb::CreateRule => read_create_rule(words),
+        Verb::DeleteRule => read_delete_rule(words),
         Verb::Range => read_range(false, words),
         Verb::RevRange => read_range(true, words),
         Verb::MRange => read_many_ranges(false, &words),
@@ -46,6 +51,7 @@ pub fn read(words: Vec<Word>) -> Result<Command, CommandFault>
         Verb::Get => read_get(words),
         Verb::MGet => read_last_of_many(&words),
         Verb::QueryIndex => read_query_index(&words),
+        Verb::Info => read_info(words),
         Verb::Ping => read_ping(words),
         Verb::Echo => read_echo(words),
         Verb::Quit => Ok(Command::Quit),

@@ -1,33 +1,50 @@
 // The commands whose words are keys, or are sent back. Their words are the whole request, with its name.
 ghost use Rattle.std.specs.Prelude.{◌≡◌, drop, IfOk};
 ghost use Rattle.ts_spec.specs.Command as spec;
-ghost use Rattle.ts_spec.specs.Grammar.{get_last, ping, echo};
+ghost use Rattle.ts_spec.specs.Grammar.{get_last, info, ping, echo};
 ghost use Rattle.ts_command.specs.Answers.{HasTime};
 ghost use Rattle.ts_command.specs.Faults.{Says};
-ghost use Rattle.ts_command.specs.Reading.{reading};
+ghost use Rattle.ts_command.specs.Reading.{command_of};
 
 use crate::command::Command;
 use crate::fault::CommandFault;
+use ts_agg::is_name;
 use ts_resp::Word;
 
 pub(crate) fn read_get(mut words: Vec<Word>) -> Result<Command, CommandFault>
-    ensures command { Says reading result (get_last (drop 1 words.items)) }
+    ensures command { Says command_of result (get_last (drop 1 words.items)) }
+    ensures time { IfOk result HasTime }
+{
+    let latest = match words.as_slice() {
+        [] | [_] => return Err(CommandFault::Arity),
+        [_, _] => false,
+        [_, _, word, ..] => {
+            if !is_name(b"LATEST", word.bytes()) {
+                return Err(CommandFault::BadOption);
+            }
+            true
+        }
+    };
+    Ok(Command::Get {
+        key: words.swap_remove(1),
+        latest,
+    })
+}
+
+pub(crate) fn read_info(mut words: Vec<Word>) -> Result<Command, CommandFault>
+    ensures command { Says command_of result (info (drop 1 words.items)) }
     ensures time { IfOk result HasTime }
 {
     if words.len() < 2 {
         return Err(CommandFault::Arity);
     }
-    if words.len() > 2 {
-        return Err(CommandFault::BadOption);
-    }
-    Ok(Command::Get {
+    Ok(Command::InfoOf {
         key: words.swap_remove(1),
-        latest: false,
     })
 }
 
 pub(crate) fn read_ping(mut words: Vec<Word>) -> Result<Command, CommandFault>
-    ensures command { Says reading result (ping (drop 1 words.items)) }
+    ensures command { Says command_of result (ping (drop 1 words.items)) }
     ensures time { IfOk result HasTime }
 {
     if words.len() < 2 {
@@ -39,7 +56,7 @@ pub(crate) fn read_ping(mut words: Vec<Word>) -> Result<Command, CommandFault>
 }
 
 pub(crate) fn read_echo(mut words: Vec<Word>) -> Result<Command, CommandFault>
-    ensures command { Says reading result (echo (drop 1 words.items)) }
+    ensures command { Says command_of result (echo (drop 1 words.items)) }
     ensures time { IfOk result HasTime }
 {
     if words.len() < 2 {
@@ -61,14 +78,14 @@ fn keys(mut words: Vec<Word>) -> Vec<Word>
 }
 
 pub(crate) fn read_drop(words: Vec<Word>) -> Result<Command, CommandFault>
-    ensures command { Says reading result (Ok (spec.Drop (drop 1 words.items))) }
+    ensures command { Says command_of result (Ok (spec.Drop (drop 1 words.items))) }
     ensures time { IfOk result HasTime }
 {
     Ok(Command::Drop { keys: keys(words) })
 }
 
 pub(crate) fn read_exists(words: Vec<Word>) -> Result<Command, CommandFault>
-    ensures command { Says reading result (Ok (spec.Exists (drop 1 words.items))) }
+    ensures command { Says command_of result (Ok (spec.Exists (drop 1 words.items))) }
     ensures time { IfOk result HasTime }
 {
     Ok(Command::Exists { keys: keys(words) })

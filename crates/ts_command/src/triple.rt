@@ -4,7 +4,7 @@ ghost use Rattle.std.specs.Vec.Iter.{into_iter_items};
 ghost use Rattle.ts_spec.specs.Grammar.{madd, triples};
 ghost use Rattle.ts_command.specs.Answers.{HasTime};
 ghost use Rattle.ts_command.specs.Faults.{SaysOr};
-ghost use Rattle.ts_command.specs.Reading.{reading, triple_of, triples_of};
+ghost use Rattle.ts_command.specs.Reading.{command_of, triple_of, triples_of};
 
 use crate::command::{Command, Triple};
 use crate::fault::CommandFault;
@@ -42,7 +42,7 @@ fn read_triples(alloc: Global, mut words: IntoIter<Word>) -> Result<Vec<Triple>,
 
 // The words are the whole request, with its name.
 pub(crate) fn read_madd(words: Vec<Word>) -> Result<Command, CommandFault>
-    ensures command { SaysOr ⊤ reading result (madd (drop 1 words.items)) }
+    ensures command { SaysOr ⊤ command_of result (madd (drop 1 words.items)) }
     ensures time { IfOk result HasTime }
 {
     let alloc = *words.allocator();

@@ -4,7 +4,7 @@ ghost use Rattle.ts_spec.specs.Names.{named};
 ghost use Rattle.ts_spec.specs.Grammar.{commands};
 ghost use Rattle.ts_command.specs.Forms.{form_of};
 
-use crate::names::named;
+use ts_agg::named;
 
 #[derive(Clone, Copy)]
 pub(crate) enum Verb {
@@ -15,6 +15,8 @@ pub(crate) enum Verb {
     IncrBy,
     DecrBy,
     DelRange,
+    CreateRule,
+    DeleteRule,
     Range,
     RevRange,
     MRange,
@@ -22,6 +24,7 @@ pub(crate) enum Verb {
     Get,
     MGet,
     QueryIndex,
+    Info,
     Ping,
     Echo,
     Quit,
@@ -39,8 +42,10 @@ const WRITES: [(&[u8], Verb); 6] = [
     (b"TS.DECRBY", Verb::DecrBy),
 ];
 
-const OTHERS: [(&[u8], Verb); 13] = [
+const OTHERS: [(&[u8], Verb); 16] = [
     (b"TS.DEL", Verb::DelRange),
+    (b"TS.CREATERULE", Verb::CreateRule),
+    (b"TS.DELETERULE", Verb::DeleteRule),
     (b"TS.RANGE", Verb::Range),
     (b"TS.REVRANGE", Verb::RevRange),
     (b"TS.MRANGE", Verb::MRange),
@@ -48,6 +53,7 @@ const OTHERS: [(&[u8], Verb); 13] = [
     (b"TS.GET", Verb::Get),
     (b"TS.MGET", Verb::MGet),
     (b"TS.QUERYINDEX", Verb::QueryIndex),
+    (b"TS.INFO", Verb::Info),
     (b"PING", Verb::Ping),
     (b"ECHO", Verb::Echo),
     (b"QUIT", Verb::Quit),
@@ -75,13 +81,15 @@ impl Verb {
             Verb::Madd => count >= 4 && count % 3 == 1,
             Verb::IncrBy | Verb::DecrBy => count >= 3,
             Verb::DelRange => count == 4,
+            Verb::CreateRule => matches!(count, 6 | 7),
+            Verb::DeleteRule => count == 3,
             Verb::Range | Verb::RevRange => count >= 4,
             Verb::MRange | Verb::MRevRange => count >= 5,
             Verb::Get => matches!(count, 2 | 3),
             Verb::MGet => count >= 3,
             Verb::QueryIndex => count >= 2,
             Verb::Ping => matches!(count, 1 | 2),
-            Verb::Echo => count == 2,
+            Verb::Info | Verb::Echo => count == 2,
             Verb::Quit => count >= 1,
             Verb::Drop | Verb::Exists => count >= 2,
         }

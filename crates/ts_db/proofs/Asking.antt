@@ -1,14 +1,10 @@
 -- What a question finds.
-use Rattle.std.proofs.Common.{◌≡◌, Bool, true, false, List, refl, sym, ◌∙◌, ap, subst}
+use Rattle.std.proofs.Common.{◌≡◌, refl, sym, ◌∙◌, ap, subst}
 use Rattle.std.specs.Prelude.{Option, None, Some, is_some, Result, Err}
-use Rattle.ts_spec.specs.Sample.{Point}
 use Rattle.ts_spec.specs.Key.{Key}
 use Rattle.ts_spec.specs.Keyed.{get}
 use Rattle.ts_spec.specs.Kept.{Kept}
-use Rattle.ts_spec.specs.KeptStep.{list_at}
-use Rattle.ts_spec.specs.KeptQuestions.{latest_list_at, kept_asked}
 use Rattle.ts_sample.specs.declared.id.Id.{Id}
-use Rattle.ts_series.specs.History.{list_of}
 use Rattle.ts_db.specs.declared.fault.DbFault.{DbFault}
 use Rattle.ts_db.specs.declared.fault.DbFault.TheVariants.{NoKey}
 use Rattle.ts_db.specs.declared.node.Node.{Node}
@@ -19,11 +15,6 @@ use Rattle.slab.specs.Slab as slab
 use Rattle.ts_db.proofs.Applying.{there}
 use Rattle.ts_db.proofs.Collecting.{get-ids}
 use Rattle.ts_db.proofs.Storing.{missing}
-
--- without a source the open bucket adds nothing
-pub asked-own : (s : Store) (store : IsInOrder s) (key : Key) (id : Id) (n : Node) → Holds s key id n → (latest : Bool) → kept_asked (stock_of s).keys latest key ≡ list_of n.series
-asked-own s store key id n holds true = ap (latest_list_at (stock_of s).keys key) (there s store key id n holds)
-asked-own s store key id n holds false = ap list_at (there s store key id n holds)
 
 -- a key that is missing
 pub finds-no-key : {T : Type 0} (s : Store) (store : IsInOrder s) (key : Key) (what : T → Type 0) → number_of key s.keys.entries ≡ None → Finds (get key (stock_of s).keys) what (Err NoKey)
@@ -49,7 +40,7 @@ pub finds-there : {T : Type 0} (s : Store) (store : IsInOrder s) (key : Key) (id
     → ((d : Kept) → Finds (Some d) what r) → Finds (get key (stock_of s).keys) what r
 finds-there s store key id what r is found =
     let of = store.stored key id is in
-    subst (λ (o : Option Kept). Finds o what r) (sym (there s store key id of.0 (record { number = is; node = of.1 }))) (found (kept_at of.0))
+    subst (λ (o : Option Kept). Finds o what r) (sym (there s store key id of.0 (record { number = is; node = of.1 }))) (found (kept_at s.nodes of.0))
 
 -- a key has a number exactly where something is kept of it
 pub numbered-there : (s : Store) (store : IsInOrder s) (key : Key) → is_some (number_of key s.keys.entries) ≡ is_some (get key (stock_of s).keys)

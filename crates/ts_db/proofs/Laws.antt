@@ -3,19 +3,21 @@ use Rattle.std.proofs.Common.{◌≡◌, ◌≤◌, ℕ, ℤ, Bool, true, false,
 use Rattle.std.specs.Prelude.{⊤, Option, option_map, is_some, if◌then◌else◌, Result}
 use Rattle.ts_spec.specs.declared.limits.Limits.{Limits}
 use Rattle.ts_spec.specs.declared.series.Policy.{Policy}
+use Rattle.ts_spec.specs.declared.bucket.Aggregator.{Aggregator}
 use Rattle.ts_spec.specs.Sample.{Point}
+use Rattle.ts_spec.specs.Bucket.{Grid}
 use Rattle.ts_spec.specs.Key.{Key}
 use Rattle.ts_spec.specs.Keyed.{get}
 use Rattle.ts_spec.specs.State.{State}
-use Rattle.ts_spec.specs.Command.{Spec, Change, Create, Alter}
+use Rattle.ts_spec.specs.Command.{Spec, Change, Create, Alter, CreateRule, DeleteRule}
 use Rattle.ts_spec.specs.Rules.{dropped}
-use Rattle.ts_spec.specs.Response.{Done, Count}
-use Rattle.ts_spec.specs.Step.{create, alter_at, add_at, put_at, incr_at, delete_at}
-use Rattle.ts_spec.specs.Questions.{asked}
+use Rattle.ts_spec.specs.Response.{Response, Done, Count}
+use Rattle.ts_spec.specs.Step.{create, alter_at, add_at, put_at, incr_at, delete_at, create_rule, delete_rule_at}
+use Rattle.ts_spec.specs.Questions.{asked, info_response}
 use Rattle.ts_spec.specs.Kept.{Kept, Keeping, kept, kept_record}
 use Rattle.ts_spec.specs.State.{link_to}
-use Rattle.ts_spec.specs.KeptStep.{kept_create, kept_alter_at, kept_add_at, kept_put_at, kept_incr_at, kept_delete_at}
-use Rattle.ts_spec.specs.KeptQuestions.{kept_asked}
+use Rattle.ts_spec.specs.KeptStep.{kept_create, kept_alter_at, kept_add_at, kept_put_at, kept_incr_at, kept_delete_at, kept_create_rule, kept_delete_rule_at}
+use Rattle.ts_spec.specs.KeptQuestions.{kept_asked, kept_info_response}
 use Rattle.ts_spec.specs.Keeping.{keep_dropped}
 use Rattle.ts_spec.specs.Stands.{StandsFor}
 use Rattle.ts_spec.proofs.KeptSteps.{kept-step}
@@ -24,11 +26,11 @@ use Rattle.ts_spec.proofs.DeleteStep.{delete-step}
 use Rattle.ts_spec.proofs.KeptEnds.{kept-dropped}
 use Rattle.ts_spec.proofs.KeysGo.{valid-dropped}
 use Rattle.ts_spec.proofs.KeptMaps.{get-kept, some-kept}
-use Rattle.ts_spec.proofs.KeptAsked.{asked-kept}
+use Rattle.ts_spec.proofs.KeptAsked.{asked-kept, info-kept}
 use Rattle.ts_db.specs.declared.fault.DbFault.{DbFault}
 use Rattle.ts_db.specs.Held.{Held, Stock, Stands, Leads, AnswersDone, AnswersNumber, Drops, Finds}
 use Rattle.ts_db.specs.Answering.{KeptDone, KeptNumber}
-use Rattle.ts_db.proofs.Refusing.{create-refuses, alter-refuses, add-refuses, put-refuses, incr-refuses, delete-refuses}
+use Rattle.ts_db.proofs.Refusing.{create-refuses, alter-refuses, add-refuses, put-refuses, incr-refuses, delete-refuses, create_rule-refuses, delete_rule-refuses}
 use Rattle.ts_db.proofs.Lifting.{at-limits, lifted, finds-state}
 
 module _ (old new : Stock) (room : 1 ≤ old.limits.samples) where
@@ -61,6 +63,16 @@ module _ (old new : Stock) (room : 1 ≤ old.limits.samples) where
       → AnswersNumber old (λ h. delete_at h.limits h.state key from to (get key h.state)) r new
   delete-law key from to = lifted old new (λ h. delete_at h.limits h.state key from to (get key h.state)) (kept_delete_at old.limits old.keys key from to (get key old.keys))
       (λ m st. record { is_step = delete-step old.limits old.keys m key from to st; refuses = delete-refuses old.limits m key from to (get key m) }) (λ x. Count x)
+
+  pub create_rule-law : (source dest : Key) (agg : Aggregator) (grid : Grid) (r : Result (Unit {0}) DbFault) → KeptDone old (kept_create_rule old.limits old.keys source dest agg grid) r new
+      → AnswersDone old (λ h. create_rule h.limits h.state source dest agg grid) r new
+  create_rule-law source dest agg grid = lifted old new (λ h. create_rule h.limits h.state source dest agg grid) (kept_create_rule old.limits old.keys source dest agg grid)
+      (λ m st. record { is_step = kept-step old.limits m old.keys 0 (CreateRule source dest agg grid) room st; refuses = create_rule-refuses old.limits m source dest agg grid }) (λ x. Done)
+
+  pub delete_rule-law : (source dest : Key) (r : Result (Unit {0}) DbFault) → KeptDone old (kept_delete_rule_at old.keys source dest (get source old.keys)) r new
+      → AnswersDone old (λ h. delete_rule_at h.state source dest (get source h.state)) r new
+  delete_rule-law source dest = lifted old new (λ h. delete_rule_at h.state source dest (get source h.state)) (kept_delete_rule_at old.keys source dest (get source old.keys))
+      (λ m st. record { is_step = kept-step old.limits m old.keys 0 (DeleteRule source dest) room st; refuses = delete_rule-refuses m source dest (get source m) }) (λ x. Done)
 
 -- a key is there exactly where it is in each state that is stood for
 pub there-law : (stock : Stock) (key : Key) (was : Bool) → was ≡ is_some (get key stock.keys) → (from : Held) → Stands stock from → was ≡ is_some (get key from.state)
@@ -95,3 +107,12 @@ asked-law {T} stock key latest what r found from st =
     (subst (λ (ps : List Point). Finds (option_map (kept_record (link_to from.state key)) (get key from.state)) (what ps) r) (asked-kept from.state latest key)
     (subst (λ (o : Option Kept). Finds o (what (kept_asked (kept from.state) latest key)) r) (get-kept from.state key)
     (subst (λ (m : Keeping). Finds (get key m) (what (kept_asked m latest key)) r) st.state.kept found)))
+
+-- What is told of a key of each state that is stood for is what is told of what is kept of it.
+pub told-law : {T : Type 0} (stock : Stock) (key : Key) (what : Response → T → Type 0) (r : Result T DbFault) → Finds (get key stock.keys) (what (kept_info_response (get key stock.keys))) r
+    → (from : Held) → Stands stock from → Finds (get key from.state) (what (info_response from.state key (get key from.state))) r
+told-law {T} stock key what r found from st =
+    finds-state (kept_record (link_to from.state key)) (get key from.state) (what (info_response from.state key (get key from.state))) r
+    (subst (λ (said : Response). Finds (option_map (kept_record (link_to from.state key)) (get key from.state)) (what said) r) (info-kept from.state key)
+    (subst (λ (o : Option Kept). Finds o (what (kept_info_response (get key (kept from.state)))) r) (get-kept from.state key)
+    (subst (λ (m : Keeping). Finds (get key m) (what (kept_info_response (get key m))) r) st.state.kept found)))

@@ -46,7 +46,7 @@ module _ (old new : Stock) (step : Held → Outcome) (kept_step : KeptOutcome)
   -- the answers of each state
   pub lifted : {T : Type 0} (response : T → Response) (r : Result T DbFault) → KeptAnswers response old kept_step r new → Answers response old step r new
   lifted response (Ok x) a = done (response x) a
-  lifted response (Err fault) a = (refusal (refusal_of fault) a.0, a.1)
+  lifted response (Err fault) a = (refusal (refusal_of old.ids fault) a.0, a.1)
 
 -- where there was a state that was stood for there is one after that
 pub leads-on : {T : Type 0} (response : T → Response) (old new : Stock) (step : Held → Outcome) (r : Result T DbFault) → Answers response old step r new → Leads old (λ held. ⊤) → Leads new (λ held. ⊤)

@@ -7,14 +7,16 @@ use Rattle.ts_spec.specs.declared.series.Policy.{Policy}
 use Rattle.ts_spec.specs.declared.series.Merge.{Merge}
 use Rattle.ts_spec.specs.declared.series.Merge.TheVariants.{By}
 use Rattle.ts_spec.specs.Sample.{last_of}
-use Rattle.ts_spec.specs.Key.{Key}
+use Rattle.ts_spec.specs.declared.bucket.Aggregator.{Aggregator}
+use Rattle.ts_spec.specs.Bucket.{Grid}
+use Rattle.ts_spec.specs.Key.{Key, same}
 use Rattle.ts_spec.specs.Keyed.{get, count_keys}
-use Rattle.ts_spec.specs.State.{Record, State, edge}
+use Rattle.ts_spec.specs.State.{Record, State, edge, link_to, rule_to}
 use Rattle.ts_spec.specs.Refusal.{Refusal, DestinationFull}
 use Rattle.ts_spec.specs.Response.{Response, Done, Count, Refused}
 use Rattle.ts_spec.specs.Command.{Spec, Change}
 use Rattle.ts_spec.specs.Rules.{shown, Merged, Refuse, Keep, To, merge, within_bound}
-use Rattle.ts_spec.specs.Step.{Outcome, refused, create, created, alter_at, is_longer, value_at, write, write_merged, within_destinations, first_full, unless_full, rules_at, add_at, put_at, incr_at, is_before_last, changed_value, meets_expired, delete_at}
+use Rattle.ts_spec.specs.Step.{Outcome, refused, create, created, alter_at, is_longer, value_at, write, write_merged, within_destinations, first_full, unless_full, rules_at, add_at, put_at, incr_at, is_before_last, changed_value, meets_expired, delete_at, has_rules, create_rule, create_rule_at, delete_rule_at}
 
 abbrev pub Refuses : State → Outcome → Type 0
 Refuses m o = (r : Refusal) → o.response ≡ Refused r → o ≡ refused m r
@@ -76,3 +78,20 @@ delete-refuses limits m key from to None = refusal m _
 delete-refuses limits m key from to (Some d) =
     choice m (nat_lt to from) _ _ (counts m m 0)
     (choice m (meets_expired from (edge d) d.rules) _ _ (refusal m _) (destinations limits m key _ (counts m _ _)))
+
+rule-refuses : (limits : Limits) (m : State) (source dest : Key) (agg : Aggregator) (grid : Grid) (o p : Option Record) → Refuses m (create_rule_at limits m source dest agg grid o p)
+rule-refuses limits m source dest agg grid None p = refusal m _
+rule-refuses limits m source dest agg grid (Some s) None = refusal m _
+rule-refuses limits m source dest agg grid (Some s) (Some d) =
+    choice m (is_some (link_to m source)) _ _ (refusal m _)
+    (choice m (has_rules d.rules) _ _ (refusal m _)
+    (choice m (is_some (link_to m dest)) _ _ (refusal m _)
+    (choice m (nat_le limits.born s.born) _ _ (refusal m _)
+    (choice m (nat_le limits.rules (length s.rules)) _ _ (refusal m _) (ends m _)))))
+
+pub create_rule-refuses : (limits : Limits) (m : State) (source dest : Key) (agg : Aggregator) (grid : Grid) → Refuses m (create_rule limits m source dest agg grid)
+create_rule-refuses limits m source dest agg grid = choice m (same source dest) _ _ (refusal m _) (rule-refuses limits m source dest agg grid (get source m) (get dest m))
+
+pub delete_rule-refuses : (m : State) (source dest : Key) (o : Option Record) → Refuses m (delete_rule_at m source dest o)
+delete_rule-refuses m source dest None = refusal m _
+delete_rule-refuses m source dest (Some d) = choice m (is_some (rule_to dest d.rules)) _ _ (ends m _) (refusal m _)

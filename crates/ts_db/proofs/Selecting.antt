@@ -1,5 +1,5 @@
 -- The keys that filters select, walked in the order of their bytes.
-use Rattle.std.proofs.Common.{◌≡◌, ℕ, ◌<◌, Bool, true, false, ◌⊎◌, inl, inr, List, [], ◌∷◌, ◌++◌, append_assoc, append-nil, refl, sym, ap, subst, ◌∙◌, arith, eqb-true, eq-eqb, le-ltb, lt-ltb, ne_eqb}
+use Rattle.std.proofs.Common.{◌≡◌, ◌<◌, Bool, true, false, ◌⊎◌, inl, inr, List, [], ◌∷◌, ◌++◌, append_assoc, append-nil, refl, sym, ap, subst, ◌∙◌, arith, eq-eqb, le-ltb, lt-ltb, ne_eqb}
 use Rattle.std.proofs.lemmas.Bool.{cases_order, false≢true, and_parts}
 use Rattle.std.specs.Cmp.Derive.{both_true}
 use Rattle.std.specs.Cmp.Lexicographic.{slice_cmp}
@@ -71,9 +71,9 @@ below-listing nodes k (e ∷ es) h = go (kept_in nodes e.1) (below-listing nodes
 listing-entries : (nodes : Nodes) (es : Numbers) → IsStrictlySortedBy (slice_cmp nat_cmp) (keys_of es) → HaveNodes nodes es → (collected nodes es).entries ≡ listing nodes es
 unfolding IsStrictlySortedBy
 listing-entries nodes [] sorted there = refl
-listing-entries nodes (e ∷ es) sorted there = go (kept_in nodes e.1) (ap (option_map kept_at) there.0.1) (listing-entries nodes es sorted.1 there.1)
+listing-entries nodes (e ∷ es) sorted there = go (kept_in nodes e.1) (ap (option_map (kept_at nodes)) there.0.1) (listing-entries nodes es sorted.1 there.1)
   where
-    go : (o : Option Kept) → o ≡ Some (kept_at there.0.0) → (collected nodes es).entries ≡ listing nodes es
+    go : (o : Option Kept) → o ≡ Some (kept_at nodes there.0.0) → (collected nodes es).entries ≡ listing nodes es
         → (with_found e.0 o (collected nodes es)).entries ≡ onto e.0 o (listing nodes es)
     go None is rest = absurd (cc is)
     go (Some d) is rest = ap (put_in e.0 d) rest ∙ front e.0 d (listing nodes es) (below-listing nodes e.0 es sorted.0)
@@ -117,7 +117,7 @@ chosen-selected nodes ids fs es sorted there found =
 pub chosen-next : (nodes : Nodes) (fs : List Filter) (k : Key) (id : Id) (n : Node) (es : Numbers) → slab.get nodes id.0 ≡ Some n
     → chosen nodes fs ((k, id) ∷ es) ≡ (if all_hold fs n.labels then id ∷ chosen nodes fs es else chosen nodes fs es)
 chosen-next nodes fs k id n es at =
-    ap (λ (o : Option Node). if passes fs (option_map kept_at o) then id ∷ chosen nodes fs es else chosen nodes fs es) at
+    ap (λ (o : Option Node). if passes fs (option_map (kept_at nodes) o) then id ∷ chosen nodes fs es else chosen nodes fs es) at
 
 -- of the numbers that a map tells each is found, and has a node
 pub all-found : (ids : Keyed Id) (all es : Numbers) → ((key : Key) → get key ids ≡ number_of key all) → All (λ e. number_of e.0 all ≡ Some e.1) es → AreFound ids es

@@ -1,11 +1,13 @@
 -- How a write to a series answers, by what it comes to.
-use Rattle.std.proofs.Common.{◌≡◌, ◌≤◌, ℕ, ℤ, Bool, true, false, [], length, refl, sym, ◌∙◌, ap, subst, le-ltb, lt-ltb}
-use Rattle.std.specs.Prelude.{nat_lt, if◌then◌else◌, Option, None, Some, Ok, Err}
+use Rattle.std.proofs.Common.{◌≡◌, ◌≤◌, ℕ, ℤ, Bool, true, false, map, length, refl, sym, ◌∙◌, ap, subst, le-ltb, lt-ltb}
+use Rattle.std.specs.Prelude.{nat_lt, if◌then◌else◌, Vec, Option, None, Some, option_map, Ok, Err}
+use Rattle.std.specs.declared.alloc.Global.{Global}
 use Rattle.ts_spec.specs.declared.series.Merge.{Merge}
 use Rattle.ts_spec.specs.declared.series.Merge.TheVariants.{Set}
 use Rattle.ts_spec.specs.Refusal as refusal
 use Rattle.ts_spec.specs.Refusal.{Refusal}
-use Rattle.ts_spec.specs.Key.{Key, same}
+use Rattle.ts_spec.specs.Sample.{Point, first_of}
+use Rattle.ts_spec.specs.Key.{Key}
 use Rattle.ts_spec.specs.Keyed.{get, with_key}
 use Rattle.ts_spec.specs.Kept.{Kept, Keeping}
 use Rattle.ts_spec.specs.Mending.{kept_with}
@@ -13,88 +15,135 @@ use Rattle.ts_spec.specs.Rules.{Merged, Refuse, Keep, To, merge, raised}
 use Rattle.ts_spec.specs.State.{edge_of}
 use Rattle.ts_spec.specs.Response.{Count}
 use Rattle.ts_spec.specs.Step.{value_at}
-use Rattle.ts_spec.specs.KeptStep.{kept_refused, list_at, kept_rules_at, kept_first_full, kept_unless_full, kept_within_destinations, kept_within_samples, kept_write_merged, kept_write}
-use Rattle.ts_spec.proofs.Keys.{same-refl, same-true}
-use Rattle.ts_spec.proofs.Maps.{get-with, maps-same}
+use Rattle.ts_spec.specs.KeptStep.{KeptOutcome, kept_refused, list_at, kept_unless_full, kept_within_destinations, kept_within_samples, kept_write_merged, kept_write}
+use Rattle.ts_spec.proofs.Tidy.{some-same}
 use Rattle.ts_sample.specs.declared.id.Id.{Id}
 use Rattle.ts_series.specs.History.{History, list_of, low, IsKept}
 use Rattle.ts_series.specs.Plan.{Plan, after}
-use Rattle.ts_series.specs.Put.{Answers, Writes, IsFullFault, met, sample_of, is_nothing, refusal_of as put_refusal}
+use Rattle.ts_series.specs.Put.{Answers, Writes, IsWrite, IsFullFault, met, sample_of, list_after, refusal_of as put_refusal}
 use Rattle.ts_series.specs.declared.plan.PutFault.{PutFault}
 use Rattle.ts_series.specs.declared.plan.PutFault.TheVariants.{TooOld, Duplicate, OutOfRange, Full, Memory}
 use Rattle.ts_series.proofs.Counting.{length-after}
+use Rattle.ts_rules.specs.declared.rule.Rule.{Rule}
+use Rattle.ts_db.specs.declared.fault.DbFault.{DbFault}
 use Rattle.ts_db.specs.declared.node.Node.{Node}
 use Rattle.ts_db.specs.declared.store.Store.{Store}
+use Rattle.ts_db.specs.declared.work.Work.TheVariants.{Write}
+use Rattle.ts_db.specs.Faults.{refusal_of}
+use Rattle.ts_db.specs.Feeding.{Rows, Gone, keep_fed}
 use Rattle.ts_db.specs.Held.{Stock}
-use Rattle.ts_db.specs.Store.{kept_of, kept_at, stock_of, IsNode, IsInOrder, Holds}
-use Rattle.ts_db.specs.Answering.{IsKeptAnswer, kept_after}
+use Rattle.ts_db.specs.Planning.{changed_by, gone_by, rows_by_work, AreChanged, first_full, IsUnplanned}
+use Rattle.ts_db.specs.Store.{kept_of, rules_by, key_in, kept_by, kept_at, stock_of, IsNode, IsDb, Holds}
+use Rattle.ts_db.specs.Answering.{node_after, IsKeptAnswer}
 use Rattle.ts_db.proofs.Applying.{there}
-use Rattle.ts_db.proofs.OneKey.{written-alone}
+use Rattle.ts_db.proofs.Fed.{written-fed}
+use Rattle.ts_db.proofs.Fitting.{keys_fed, own-fed, destinations-tested}
+use Rattle.ts_db.proofs.Known.{links}
+use Rattle.ts_db.proofs.Unplanned.{destination-refused}
+use Rattle.ts_db.proofs.Working.{changed-rules}
 
--- keys of which one already has this
-pub unchanged : (m : Keeping) (key : Key) (d : Kept) → get key m ≡ Some d → with_key key d m ≡ m
-unchanged m key d is = maps-same _ _ (λ q. get-with q key d m ∙ pick q (same key q) refl)
-  where
-    pick : (q : Key) (b : Bool) → same key q ≡ b → (if b then Some d else get q m) ≡ get q m
-    pick q true x = sym is ∙ ap (λ k. get k m) (same-true key q x)
-    pick q false x = refl
+-- what a plan writes where it writes this sample
+pub record IsWritten (limit : ℕ) (what : Merged) (t : ℕ) (h : History) (p : Point) (plan : Plan) : Type 0 where
+  pub value : ℤ
+  pub sets : what ≡ To value
+  pub sample : p ≡ sample_of t value h
+  pub writes : IsWrite limit (sample_of t value h) h (Ok plan)
 
--- a plan that changes nothing
-nothing-after : (n : Node) → IsKept n.series → kept_after is_nothing None n ≡ kept_at n
-nothing-after n k = λ i. record { options = n.series.options; labels = n.labels; list = k.past_edge i; high = n.series.high; born = n.series.born; rules = []; source = None }
-
--- a plan that writes a sample
-writes-after : (n : Node) (plan : Plan) (t : ℕ) (v : ℤ) → Writes (sample_of t v n.series) plan → kept_after plan None n ≡ kept_with t v (kept_at n)
-writes-after n plan t v w = λ i. kept_of n.labels (after (record { cut = w.cut i; removed = 0; wrote = w.wrote i; place = plan.place; options = w.options i; room = None }) n.series)
+-- a plan that writes a sample, to a source whose rules change with it
+writes-after : (names : Id → Key) (n : Node) (plan : Plan) (rules : Vec Rule Global) (t : ℕ) (v : ℤ) → Writes (sample_of t v n.series) plan
+    → AreChanged (changed_by (Write (sample_of t v n.series)) n.series) n.rules.items rules.items → kept_by names (node_after plan None (Some rules) n) ≡ kept_with t v (kept_by names n)
+writes-after names n plan rules t v w changed =
+    let same : rules_by names rules.items ≡ map (changed_by (Write (sample_of t v n.series)) n.series) (rules_by names n.rules.items) =
+    changed-rules names (changed_by (Write (sample_of t v n.series)) n.series) n.rules.items rules.items changed in
+    λ i. record (kept_of n.labels (after (record { cut = w.cut i; removed = 0; wrote = w.wrote i; place = plan.place; options = w.options i; room = None }) n.series)) { rules = same i; source = option_map names n.source }
 
 -- a planned write leaves the list within the limit
-pub within-planned : (n : Node) (plan : Plan) (what : Merged) (limit t : ℕ) → IsKept n.series → Answers what limit t n.series (Ok plan) → length (list_of n.series) ≤ limit
-    → length (list_of (after plan n.series)) ≤ limit
-within-planned n plan (Refuse r) limit t kept a le = absurd a
-within-planned n plan Keep limit t kept a le =
-    subst (λ (d : Kept). length d.list ≤ limit) (sym (ap (λ (p : Plan). kept_after p None n) a ∙ nothing-after n kept)) le
-within-planned n plan (To v) limit t kept a le =
-    subst (λ (d : Kept). length d.list ≤ limit) (sym (writes-after n plan t v a.0))
-    (length-after limit (edge_of n.series.options.retention (raised t n.series.high)) (sample_of t v n.series) n.series.samples kept.ascending a.1 le)
+pub within-planned : (h : History) (plan : Plan) (limit t : ℕ) (v : ℤ) → IsKept h → IsWrite limit (sample_of t v h) h (Ok plan) → length (list_of h) ≤ limit → length (list_of (after plan h)) ≤ limit
+within-planned h plan limit t v kept a le =
+    let same : list_of (after plan h) ≡ list_after (sample_of t v h) h =
+    λ i. list_of (after (record { cut = a.0.cut i; removed = 0; wrote = a.0.wrote i; place = None; options = a.0.options i; room = None }) h) in
+    subst (λ ps. length ps ≤ limit) (sym same) (length-after limit (edge_of h.options.retention (raised t h.high)) (sample_of t v h) h.samples kept.ascending a.1 le)
 
-module _ (s : Store) (store : IsInOrder s) (key : Key) (id : Id) (n : Node) (holds : Holds s key id n) where
-  keys : Keeping
-  keys = (stock_of s).keys
+-- what a plan writes is the sample of a write, where it writes one
+pub written-sample : (plan : Plan) (what : Merged) (limit t : ℕ) (h : History) (p : Point) → Answers what limit t h (Ok plan) → Some p ≡ first_of plan.wrote → IsWritten limit what t h p plan
+written-sample plan (Refuse r) limit t h p a is = absurd a
+written-sample plan Keep limit t h p a is = let none : Some p ≡ None = is ∙ ap (λ (x : Plan). first_of x.wrote) a in absurd (cc none)
+written-sample plan (To v) limit t h p a is = record {
+  value = v;
+  sets = refl;
+  sample = some-same p (sample_of t v h) (is ∙ ap first_of a.0.wrote);
+  writes = a;
+}
 
-  fits : IsNode s.limits n
-  fits = store.each id.0 n holds.node
+-- and else nothing is written
+pub written-nothing : (plan : Plan) (what : Merged) (limit t : ℕ) (h : History) → Answers what limit t h (Ok plan) → None ≡ first_of plan.wrote → what ≡ Keep
+written-nothing plan (Refuse r) limit t h a is = absurd a
+written-nothing plan Keep limit t h a is = refl
+written-nothing plan (To v) limit t h a is = absurd (cc (is, ap first_of a.0.wrote))
 
-  -- a write of a value, by how many samples the key has then
-  write-to : (t : ℕ) (v : ℤ) → kept_write_merged s.limits (stock_of s).keys key t (To v) ≡ (if nat_lt s.limits.samples (length (kept_with t v (kept_at n)).list)
-      then kept_refused (stock_of s).keys refusal.SamplesFull else record { keys = with_key key (kept_with t v (kept_at n)) (stock_of s).keys; response = Count t })
+module _ (s : Store) (db : IsDb s) (key : Key) (id : Id) (n : Node) (holds : Holds s key id n) where
+  abbrev rows : ℕ → ℤ → Rows
+  rows t v = rows_by_work (Write (sample_of t v n.series)) n.series
+
+  abbrev gone : ℕ → ℤ → Gone
+  gone t v = gone_by (Write (sample_of t v n.series)) n.series
+
+  abbrev after_keys : ℕ → ℤ → Keeping
+  after_keys t v = keys_fed s db.store key id n holds (links s db key id n holds) (rows t v) (gone t v) (kept_with t v (kept_at s.nodes n))
+
+  -- the first destination that would show too many samples
+  abbrev pub full_by : ℕ → ℤ → Option Id
+  full_by t v = first_full s.limits.samples s.nodes (rows t v) (gone t v) n.rules.items
+
+  -- a write of a value, by how many samples the key and the destinations of its rules have then
+  write-to : (t : ℕ) (v : ℤ) → kept_write_merged s.limits (stock_of s).keys key t (To v) ≡ (if nat_lt s.limits.samples (length (kept_with t v (kept_at s.nodes n)).list)
+      then kept_refused (stock_of s).keys refusal.SamplesFull
+      else kept_unless_full (stock_of s).keys (option_map (key_in s.nodes) (full_by t v)) (record { keys = after_keys t v; response = Count t }))
   write-to t v =
-      let new : Keeping = with_key key (kept_with t v (kept_at n)) (stock_of s).keys in
-      let is : get key (stock_of s).keys ≡ Some (kept_at n) = there s store key id n holds in
-      let found : get key new ≡ Some (kept_with t v (kept_at n)) =
-      get-with key key (kept_with t v (kept_at n)) (stock_of s).keys ∙ ap (λ b. if b then Some (kept_with t v (kept_at n)) else get key (stock_of s).keys) (same-refl key) in
-      ap (λ (q : Keeping). kept_within_samples s.limits (stock_of s).keys key (record { keys = q; response = Count t })) (written-alone (stock_of s).keys key (kept_at n) is refl t v)
-      ∙ ap (λ (o : Option Kept). if nat_lt s.limits.samples (length (list_at o)) then kept_refused (stock_of s).keys refusal.SamplesFull else kept_within_destinations s.limits (stock_of s).keys key (record { keys = new; response = Count t })) found
-      ∙ ap (λ (o : Option Kept). if nat_lt s.limits.samples (length (kept_with t v (kept_at n)).list) then kept_refused (stock_of s).keys refusal.SamplesFull
-      else kept_unless_full (stock_of s).keys (kept_first_full s.limits.samples new (kept_rules_at o)) (record { keys = new; response = Count t })) is
+      let is : get key (stock_of s).keys ≡ Some (kept_at s.nodes n) = there s db.store key id n holds in
+      let own : get key (after_keys t v) ≡ Some (kept_with t v (kept_at s.nodes n)) =
+      own-fed s db.store key id n holds (links s db key id n holds) (rows t v) (gone t v) (kept_with t v (kept_at s.nodes n)) in
+      let done : KeptOutcome = record { keys = after_keys t v; response = Count t } in
+      ap (λ (q : Keeping). kept_within_samples s.limits (stock_of s).keys key (record { keys = q; response = Count t }))
+      (written-fed (stock_of s).keys key (kept_at s.nodes n) is (links s db key id n holds) t v)
+      ∙ ap (λ (o : Option Kept). if nat_lt s.limits.samples (length (list_at o)) then kept_refused (stock_of s).keys refusal.SamplesFull else kept_within_destinations s.limits (stock_of s).keys key done) own
+      ∙ ap (λ (o : KeptOutcome). if nat_lt s.limits.samples (length (kept_with t v (kept_at s.nodes n)).list) then kept_refused (stock_of s).keys refusal.SamplesFull else o)
+      (destinations-tested s db.store key id n holds (links s db key id n holds) (rows t v) (gone t v) (kept_with t v (kept_at s.nodes n)) done)
 
-  -- a write that was planned
-  pub planned-answers : (plan : Plan) (what : Merged) (t : ℕ) (new : Stock) → Answers what s.limits.samples t n.series (Ok plan)
-      → length (list_of (after plan n.series)) ≤ s.limits.samples → new ≡ record (stock_of s) { keys = with_key key (kept_after plan None n) (stock_of s).keys }
-      → kept_write_merged s.limits (stock_of s).keys key t what ≡ record { keys = new.keys; response = Count t }
-  planned-answers plan (Refuse r) t new a within is = absurd a
-  planned-answers plan Keep t new a within is =
-      ap (λ (m : Keeping). record { keys = m; response = Count t })
-      (sym (ap (λ (x : Stock). x.keys) is ∙ ap (λ (d : Kept). with_key key d (stock_of s).keys) (ap (λ (p : Plan). kept_after p None n) a ∙ nothing-after n fits.kept)
-      ∙ unchanged (stock_of s).keys key (kept_at n) (there s store key id n holds)))
-  planned-answers plan (To v) t new a within is =
-      let short : length (kept_with t v (kept_at n)).list ≤ s.limits.samples = subst (λ (d : Kept). length d.list ≤ s.limits.samples) (writes-after n plan t v a.0) within in
+  -- where the key itself has room
+  write-fits : (t : ℕ) (v : ℤ) → length (list_after (sample_of t v n.series) n.series) ≤ s.limits.samples
+      → kept_write_merged s.limits (stock_of s).keys key t (To v) ≡ kept_unless_full (stock_of s).keys (option_map (key_in s.nodes) (full_by t v)) (record { keys = after_keys t v; response = Count t })
+  write-fits t v short =
       write-to t v
-      ∙ ap (λ b. if b then kept_refused (stock_of s).keys refusal.SamplesFull else record { keys = with_key key (kept_with t v (kept_at n)) (stock_of s).keys; response = Count t })
-      (le-ltb s.limits.samples (length (kept_with t v (kept_at n)).list) short)
-      ∙ ap (λ (m : Keeping). record { keys = m; response = Count t })
-      (sym (ap (λ (x : Stock). x.keys) is ∙ ap (λ (d : Kept). with_key key d (stock_of s).keys) (writes-after n plan t v a.0)))
+      ∙ ap (λ b. if b then kept_refused (stock_of s).keys refusal.SamplesFull
+      else kept_unless_full (stock_of s).keys (option_map (key_in s.nodes) (full_by t v)) (record { keys = after_keys t v; response = Count t }))
+      (le-ltb s.limits.samples (length (list_after (sample_of t v n.series) n.series)) short)
 
-  -- a write that was not
+  fits : (plan : Plan) (t : ℕ) (v : ℤ) → IsWrite s.limits.samples (sample_of t v n.series) n.series (Ok plan) → length (list_after (sample_of t v n.series) n.series) ≤ s.limits.samples
+  fits plan t v a =
+      let node : IsNode s.limits n = db.store.each id.0 n holds.node in
+      length-after s.limits.samples (edge_of n.series.options.retention (raised t n.series.high)) (sample_of t v n.series) n.series.samples node.kept.ascending a.1 node.within
+
+  -- a write that was planned, for the key and for the destinations of its rules
+  pub planned-answers : (plan : Plan) (rules : Vec Rule Global) (t : ℕ) (v : ℤ) (new : Stock) → IsWrite s.limits.samples (sample_of t v n.series) n.series (Ok plan)
+      → AreChanged (changed_by (Write (sample_of t v n.series)) n.series) n.rules.items rules.items → full_by t v ≡ None
+      → new ≡ record (stock_of s) { keys = keep_fed (rows t v) (gone t v) (rules_by (key_in s.nodes) n.rules.items) (with_key key (kept_at s.nodes (node_after plan None (Some rules) n)) (stock_of s).keys) }
+      → kept_write_merged s.limits (stock_of s).keys key t (To v) ≡ record { keys = new.keys; response = Count t }
+  planned-answers plan rules t v new a changed room is =
+      write-fits t v (fits plan t v a)
+      ∙ ap (λ (o : Option Id). kept_unless_full (stock_of s).keys (option_map (key_in s.nodes) o) (record { keys = after_keys t v; response = Count t })) room
+      ∙ ap (λ (m : Keeping). record { keys = m; response = Count t })
+      (sym (ap (λ (x : Stock). x.keys) is
+      ∙ ap (λ (d : Kept). keep_fed (rows t v) (gone t v) (rules_by (key_in s.nodes) n.rules.items) (with_key key d (stock_of s).keys)) (writes-after (key_in s.nodes) n plan rules t v a.0 changed)))
+
+  -- one that a destination refuses
+  pub unplanned-answers : (plan : Plan) (fault : DbFault) (t : ℕ) (v : ℤ) → IsWrite s.limits.samples (sample_of t v n.series) n.series (Ok plan) → IsUnplanned (full_by t v) fault
+      → IsKeptAnswer (refusal_of (stock_of s).ids fault) (stock_of s).keys (kept_write_merged s.limits (stock_of s).keys key t (To v))
+  unplanned-answers plan fault t v a x =
+      subst (IsKeptAnswer (refusal_of (stock_of s).ids fault) (stock_of s).keys) (sym (write-fits t v (fits plan t v a)))
+      (destination-refused s db.store n.rules.items (rows t v) (gone t v) (db.store.live id.0 n holds.node).rules fault (record { keys = after_keys t v; response = Count t }) x)
+
+  -- a write that was not planned
   pub refused-answers : (fault : PutFault) (o : Option Refusal) (what : Merged) (t : ℕ) → o ≡ put_refusal fault → Answers what s.limits.samples t n.series (Err fault)
       → IsKeptAnswer o (stock_of s).keys (kept_write_merged s.limits (stock_of s).keys key t what)
   refused-answers fault o (Refuse r) t is a = subst (λ (x : Option Refusal). IsKeptAnswer x (stock_of s).keys (kept_refused (stock_of s).keys r)) (sym (is ∙ a)) refl
@@ -108,12 +157,13 @@ module _ (s : Store) (store : IsInOrder s) (key : Key) (id : Id) (n : Node) (hol
       full OutOfRange x = absurd x
       full Full x =
           write-to t v
-          ∙ ap (λ b. if b then kept_refused (stock_of s).keys refusal.SamplesFull else record { keys = with_key key (kept_with t v (kept_at n)) (stock_of s).keys; response = Count t })
-          (lt-ltb s.limits.samples (length (kept_with t v (kept_at n)).list) x.longer)
+          ∙ ap (λ b. if b then kept_refused (stock_of s).keys refusal.SamplesFull
+          else kept_unless_full (stock_of s).keys (option_map (key_in s.nodes) (full_by t v)) (record { keys = after_keys t v; response = Count t }))
+          (lt-ltb s.limits.samples (length (list_after (sample_of t v n.series) n.series)) x.longer)
       full (Memory e) x = tt
 
 -- what a write comes to, by what is kept and by the series
-pub write-met : (m : Keeping) (s : Store) (key : Key) (n : Node) (how : Merge) (t : ℕ) (v : ℤ) → kept_write s.limits m key (kept_at n) how t v ≡ kept_write_merged s.limits m key t (met how t v n.series)
+pub write-met : (m : Keeping) (s : Store) (key : Key) (n : Node) (how : Merge) (t : ℕ) (v : ℤ) → kept_write s.limits m key (kept_at s.nodes n) how t v ≡ kept_write_merged s.limits m key t (met how t v n.series)
 write-met m s key n how t v = go (nat_lt t (low n.series))
   where
     go : (b : Bool) → (if b then kept_refused m refusal.TooOld else kept_write_merged s.limits m key t (merge how (value_at t (list_of n.series)) v))

@@ -1,22 +1,25 @@
 -- How the calls of a store answer: by the functions of what is kept.
-use Rattle.std.specs.Prelude.{◌≡◌, ◌≤◌, ℕ, ⊤, List, length, Option, None, Some, Result, Ok, Err}
+use Rattle.std.specs.Prelude.{◌≡◌, ◌≢◌, ◌≤◌, ℕ, ⊤, List, length, Vec, Option, None, Some, Result, Ok, Err}
 use Rattle.std.specs.Option.{unwrap_or}
+use Rattle.std.specs.declared.alloc.Global.{Global}
+use Rattle.slab.specs.Slab as slab
 use Rattle.ts_spec.specs.Refusal.{Refusal}
 use Rattle.ts_spec.specs.Response.{Response, Done, Count}
 use Rattle.ts_spec.specs.Key.{Key}
 use Rattle.ts_spec.specs.Keyed.{with_key}
 use Rattle.ts_spec.specs.State.{Label}
-use Rattle.ts_spec.specs.Kept.{Kept, Keeping}
+use Rattle.ts_spec.specs.Kept.{Keeping}
 use Rattle.ts_spec.specs.KeptStep.{KeptOutcome, kept_refused}
 use Rattle.ts_sample.specs.declared.id.Id.{Id}
 use Rattle.ts_series.specs.History.{list_of}
 use Rattle.ts_series.specs.Plan.{Plan, after, IsFor}
+use Rattle.ts_rules.specs.declared.rule.Rule.{Rule}
 use Rattle.ts_db.specs.declared.fault.DbFault.{DbFault}
 use Rattle.ts_db.specs.declared.node.Node.{Node}
 use Rattle.ts_db.specs.declared.store.Store.{Store}
 use Rattle.ts_db.specs.Faults.{refusal_of}
 use Rattle.ts_db.specs.Held.{Stock}
-use Rattle.ts_db.specs.Store.{kept_of, stock_of, Holds}
+use Rattle.ts_db.specs.Store.{key_in, kept_at, stock_of, AreLive, HaveGrids, Holds}
 
 -- a refusal is the step's answer; want of memory is free
 abbrev pub IsKeptAnswer : Option Refusal → Keeping → KeptOutcome → Type 0
@@ -27,25 +30,34 @@ IsKeptAnswer (Some refusal) m step = step ≡ kept_refused m refusal
 -- nothing has changed.
 abbrev pub KeptAnswers : {T : Type 0} → (T → Response) → (old : Stock) → KeptOutcome → Result T DbFault → (new : Stock) → Type 0
 KeptAnswers response old step (Ok x) new = (step ≡ record { keys = new.keys; response = response x }) × (new.limits ≡ old.limits)
-KeptAnswers response old step (Err fault) new = IsKeptAnswer (refusal_of fault) old.keys step × (new ≡ old)
+KeptAnswers response old step (Err fault) new = IsKeptAnswer (refusal_of old.ids fault) old.keys step × (new ≡ old)
 
--- a node after a plan of its series, with these labels, where they are given
-abbrev pub kept_after : Plan → Option (List Label) → Node → Kept
-kept_after plan labels n = kept_of (unwrap_or labels n.labels) (after plan n.series)
+-- a node after a plan of its series, with these labels and these rules, where they are given
+abbrev pub node_after : Plan → Option (List Label) → Option (Vec Rule Global) → Node → Node
+node_after plan labels rules n = record n { series = after plan n.series; labels = unwrap_or labels n.labels; rules = unwrap_or rules n.rules }
 
--- A plan was made for the series of a number, and leaves it within the limits, as these labels are.
-pub record IsPlanned (s : Store) (id : Id) (plan : Plan) (labels : Option (List Label)) : Type 0 where
+-- A plan was made for the series of a number, and leaves it within the limits, as these labels are. The rules lead to series.
+pub record IsReady (s : Store) (id : Id) (plan : Plan) (labels : Option (List Label)) (rules : Option (Vec Rule Global)) : Type 0 where
   pub key : Key
   pub node : Node
   pub holds : Holds s key id node
   pub ready : IsFor plan node.series
   pub within : length (list_of (after plan node.series)) ≤ s.limits.samples
   pub few : length (unwrap_or labels node.labels) ≤ s.limits.labels
+  pub live : AreLive s.nodes (unwrap_or rules node.rules).items
+  pub grids : HaveGrids (unwrap_or rules node.rules).items
 
 -- what is kept of the key of a number is that after the plan, and all else is as it was
-abbrev pub IsApplied : (old : Store) → Id → Plan → Option (List Label) → (new : Store) → Type 0
-IsApplied old id plan labels new =
-    (key : Key) (n : Node) → Holds old key id n → stock_of new ≡ record (stock_of old) { keys = with_key key (kept_after plan labels n) (stock_of old).keys }
+abbrev pub IsApplied : (old : Store) → Id → Plan → Option (List Label) → Option (Vec Rule Global) → (new : Store) → Type 0
+IsApplied old id plan labels rules new =
+    (key : Key) (n : Node) → Holds old key id n → stock_of new ≡ record (stock_of old) { keys = with_key key (kept_at old.nodes (node_after plan labels rules n)) (stock_of old).keys }
+
+-- the other nodes stay, and all keys
+pub record IsElsewhere (old new : Store) (id : Id) : Type 0 where
+  pub limits : new.limits ≡ old.limits
+  pub entries : new.keys.entries ≡ old.keys.entries
+  pub others : (i : ℕ) → i ≢ id.0 → slab.get new.nodes i ≡ slab.get old.nodes i
+  pub names : (i : Id) → key_in new.nodes i ≡ key_in old.nodes i
 
 -- a call that answers nothing, and one that answers a time, or how many
 abbrev pub KeptDone : (old : Stock) → KeptOutcome → Result (Unit {0}) DbFault → (new : Stock) → Type 0

@@ -1,28 +1,56 @@
 -- What the faults of the database stand for.
-use Rattle.std.specs.Prelude.{◌≡◌, true, ⊤, Option, None, Some}
+use Rattle.std.specs.Prelude.{◌≡◌, ℕ, Bool, true, false, ◌==◌, if◌then◌else◌, ⊤, List, [], ◌∷◌, Option, None, Some}
+use Rattle.ts_spec.specs.Key.{Key}
+use Rattle.ts_spec.specs.Keyed.{Entry, Keyed}
 use Rattle.ts_spec.specs.Refusal as refusal
 use Rattle.ts_spec.specs.Refusal.{Refusal}
 use Rattle.ts_sample.specs.declared.id.Id.{Id}
 use Rattle.ts_db.specs.declared.fault.DbFault.{DbFault}
-use Rattle.ts_db.specs.declared.fault.DbFault.TheVariants.{KeyExists, NoKey, KeysFull, LabelsFull, TooOld, Duplicate, OutOfRange, BeforeLast, SamplesFull, Memory}
+use Rattle.ts_db.specs.declared.fault.DbFault.TheVariants.{KeyExists, NoKey, KeysFull, LabelsFull, TooOld, Duplicate, OutOfRange, BeforeLast, SamplesFull, DeleteBeyondRetention, SameKey, SourceIsDest, DestIsSource, DestHasSource, RulesSpent, RulesFull, NoRule, Memory}
 
--- the refusal that a fault stands for; want of memory is none
-abbrev pub refusal_of : DbFault → Option Refusal
-refusal_of KeyExists = Some refusal.KeyExists
-refusal_of NoKey = Some refusal.NoKey
-refusal_of KeysFull = Some refusal.KeysFull
-refusal_of LabelsFull = Some refusal.LabelsFull
-refusal_of TooOld = Some refusal.TooOld
-refusal_of Duplicate = Some refusal.Duplicate
-refusal_of OutOfRange = Some refusal.OutOfRange
-refusal_of BeforeLast = Some refusal.BeforeLast
-refusal_of (SamplesFull id written) = Some refusal.SamplesFull
-refusal_of (Memory e) = None
+-- the key that has a number, among keys with their numbers
+abbrev pub key_among : ℕ → List (Entry Id) → Key
+key_among number [] = []
+key_among number (e ∷ es) = if e.value.0 == number then e.key else key_among number es
+
+abbrev pub key_with : Keyed Id → Id → Key
+key_with ids id = key_among id.0 ids.entries
+
+-- the refusal where samples would be too many: those of the key to be written, or those of a destination
+abbrev pub full_refusal : (written : Bool) → Key → Refusal
+full_refusal true key = refusal.SamplesFull
+full_refusal false key = refusal.DestinationFull key
+
+-- the refusal that a fault stands for, by the numbers of keys; want of memory is none
+abbrev pub refusal_of : Keyed Id → DbFault → Option Refusal
+refusal_of ids KeyExists = Some refusal.KeyExists
+refusal_of ids NoKey = Some refusal.NoKey
+refusal_of ids KeysFull = Some refusal.KeysFull
+refusal_of ids LabelsFull = Some refusal.LabelsFull
+refusal_of ids TooOld = Some refusal.TooOld
+refusal_of ids Duplicate = Some refusal.Duplicate
+refusal_of ids OutOfRange = Some refusal.OutOfRange
+refusal_of ids BeforeLast = Some refusal.BeforeLast
+refusal_of ids (SamplesFull id written) = Some (full_refusal written (key_with ids id))
+refusal_of ids DeleteBeyondRetention = Some refusal.DeleteBeyondRetention
+refusal_of ids SameKey = Some refusal.SameKey
+refusal_of ids SourceIsDest = Some refusal.SourceIsDest
+refusal_of ids DestIsSource = Some refusal.DestIsSource
+refusal_of ids DestHasSource = Some refusal.DestHasSource
+refusal_of ids RulesSpent = Some refusal.RulesSpent
+refusal_of ids RulesFull = Some refusal.RulesFull
+refusal_of ids NoRule = Some refusal.NoRule
+refusal_of ids (Memory e) = None
 
 -- where the samples of a series are full, it is the one of this number, and the one to be written
 abbrev pub IsFaultAt : Id → DbFault → Type 0
 IsFaultAt id (SamplesFull full written) = (written ≡ true) × (full ≡ id)
 IsFaultAt id other = ⊤
+
+-- a refusal, and not want of memory
+abbrev pub IsRefusal : DbFault → Type 0
+IsRefusal (Memory e) = ⊥
+IsRefusal other = ⊤
 
 -- want of memory
 abbrev pub IsMemory : DbFault → Type 0

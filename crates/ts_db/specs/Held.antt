@@ -1,10 +1,10 @@
 -- What contracts see of a database, the states that it stands for, and how its answers follow from those of the definitions.
-use Rattle.std.specs.Prelude.{◌≡◌, ◌≤◌, ℕ, Bool, true, ⊤, if◌then◌else◌, List, [], ◌∷◌, Option, None, Some, is_some, Result, Ok, Err}
+use Rattle.std.specs.Prelude.{◌≡◌, ◌≤◌, ℕ, Bool, true, false, ⊤, if◌then◌else◌, List, [], ◌∷◌, Option, None, Some, is_some, Result, Ok, Err}
 use Rattle.ts_spec.specs.Sample.{Point, MAX_TIME, last_of, later_or}
 use Rattle.ts_spec.specs.declared.limits.Limits.{Limits}
 use Rattle.ts_spec.specs.Key.{Key}
 use Rattle.ts_spec.specs.Keyed.{Keyed, get}
-use Rattle.ts_spec.specs.Refusal.{Refusal, NoKey}
+use Rattle.ts_spec.specs.Refusal.{Refusal}
 use Rattle.ts_spec.specs.State.{State}
 use Rattle.ts_spec.specs.Rules.{dropped}
 use Rattle.ts_spec.specs.Step.{Outcome, refused}
@@ -13,8 +13,8 @@ use Rattle.ts_spec.specs.Kept.{Keeping}
 use Rattle.ts_spec.specs.Stands.{StandsFor}
 use Rattle.ts_sample.specs.declared.id.Id.{Id}
 use Rattle.ts_db.specs.declared.fault.DbFault.{DbFault}
-use Rattle.ts_db.specs.declared.fault.DbFault.TheVariants.{SamplesFull}
-use Rattle.ts_db.specs.Faults.{refusal_of}
+use Rattle.ts_db.specs.declared.fault.DbFault.TheVariants.{NoKey, SamplesFull}
+use Rattle.ts_db.specs.Faults.{refusal_of, IsMemory}
 
 -- the limits of a database, and its state
 pub record Held : Type 0 where
@@ -56,7 +56,7 @@ pub record IsDone (response : Response) (limits : Limits) (step : Outcome) (new 
 -- step's refusal or want of memory, and nothing has changed.
 abbrev pub Answers : {T : Type 0} → (T → Response) → (old : Stock) → (Held → Outcome) → Result T DbFault → (new : Stock) → Type 0
 Answers response old step (Ok x) new = (from : Held) → Stands old from → IsDone (response x) from.limits (step from) new
-Answers response old step (Err fault) new = ((from : Held) → Stands old from → IsAnswer (refusal_of fault) from.state (step from)) × (new ≡ old)
+Answers response old step (Err fault) new = ((from : Held) → Stands old from → IsAnswer (refusal_of old.ids fault) from.state (step from)) × (new ≡ old)
 
 -- a call that answers nothing, and one that answers a time, or how many
 abbrev pub AnswersDone : (old : Stock) → (Held → Outcome) → Result (Unit {0}) DbFault → (new : Stock) → Type 0
@@ -65,9 +65,19 @@ AnswersDone old step result new = Answers (λ x. Done) old step result new
 abbrev pub AnswersNumber : (old : Stock) → (Held → Outcome) → Result ℕ DbFault → (new : Stock) → Type 0
 AnswersNumber old step result new = Answers (λ t. Count t) old step result new
 
--- where the samples of a series are full, it is that of the key to be written
+-- The number is that of a key.
+pub record IsLive (ids : Keyed Id) (id : Id) : Type 0 where
+  pub key : Key
+  pub is : get key ids ≡ Some id
+
+-- samples would be too many of the key to be written, which has this number, or of a destination, which is a key
+abbrev pub IsFullAt : Keyed Id → Key → Id → (written : Bool) → Type 0
+IsFullAt ids key id true = get key ids ≡ Some id
+IsFullAt ids key id false = IsLive ids id
+
+-- where the samples of a series are full, its number is told
 abbrev pub IsOwn : Stock → Key → DbFault → Type 0
-IsOwn stock key (SamplesFull id written) = (written ≡ true) × (get key stock.ids ≡ Some id)
+IsOwn stock key (SamplesFull id written) = IsFullAt stock.ids key id written
 IsOwn stock key other = ⊤
 
 -- whether a key was there; it is gone then
@@ -78,9 +88,9 @@ pub record Drops (key : Key) (was : Bool) (from : Held) (new : Stock) : Type 0 w
 -- A question about what a key has is refused where it has nothing; else such an answer is given, or there is no memory.
 abbrev pub Finds : {X T : Type 0} → Option X → (T → Type 0) → Result T DbFault → Type 0
 Finds None what (Ok x) = ⊥
-Finds None what (Err fault) = refusal_of fault ≡ Some NoKey
+Finds None what (Err fault) = fault ≡ NoKey
 Finds (Some d) what (Ok x) = what x
-Finds (Some d) what (Err fault) = refusal_of fault ≡ None
+Finds (Some d) what (Err fault) = IsMemory fault
 
 -- the times of the first and of the last sample, if there are any
 abbrev pub ends_of : List Point → Option (ℕ × ℕ)
@@ -90,11 +100,6 @@ ends_of (p ∷ ps) = Some (p.time, (later_or p (last_of ps)).time)
 -- both are times
 abbrev pub AreTimes : ℕ × ℕ → Type 0
 AreTimes ends = (ends.0 ≤ MAX_TIME) × (ends.1 ≤ MAX_TIME)
-
--- The number is that of a key.
-pub record IsLive (ids : Keyed Id) (id : Id) : Type 0 where
-  pub key : Key
-  pub is : get key ids ≡ Some id
 
 -- these are the numbers of the keys, in their order
 abbrev pub AreNumbersOf : Keyed Id → List Key → List Id → Type 0

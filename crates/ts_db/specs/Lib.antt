@@ -1,5 +1,11 @@
 pub mod Answering
 pub mod Faults
+pub mod Feeding
 pub mod Held
+pub mod Information
+pub mod Latest
+pub mod Linking
+pub mod Links
+pub mod Planning
 pub mod Store
 pub mod Writes

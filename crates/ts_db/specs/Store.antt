@@ -1,5 +1,5 @@
 -- How a database keeps its series: by their numbers, which stand under the keys.
-use Rattle.std.specs.Prelude.{◌≡◌, ◌≤◌, ℕ, Bool, ⊤, List, [], ◌∷◌, length, Option, None, Some, option_map}
+use Rattle.std.specs.Prelude.{◌≡◌, ◌≤◌, ℕ, Bool, ⊤, List, [], ◌∷◌, length, map, Option, None, Some, option_map}
 use Rattle.std.specs.Cmp.Lexicographic.{slice_cmp}
 use Rattle.std.specs.Ordering.{nat_cmp}
 use Rattle.std.specs.BTreeMap.{is_at}
@@ -10,9 +10,12 @@ use Rattle.ts_spec.specs.Sample.{MAX_TIME}
 use Rattle.ts_spec.specs.Key.{Key}
 use Rattle.ts_spec.specs.Keyed.{Keyed, none, with_key, without_key, count_keys}
 use Rattle.ts_spec.specs.State.{Label}
-use Rattle.ts_spec.specs.Kept.{Kept, Keeping}
+use Rattle.ts_spec.specs.Kept.{KeptRule, Kept, Keeping}
 use Rattle.ts_sample.specs.declared.id.Id.{Id}
+use Rattle.ts_bucket.specs.Grid.{IsGrid}
 use Rattle.ts_series.specs.History.{History, list_of, IsKept}
+use Rattle.ts_rules.specs.declared.rule.Rule.{Rule}
+use Rattle.ts_rules.specs.Rules.{kept_as}
 use Rattle.ts_db.specs.declared.node.Node.{Node}
 use Rattle.ts_db.specs.declared.store.Store.{Store}
 use Rattle.ts_db.specs.Held.{Stock, Leads}
@@ -21,8 +24,13 @@ use Rattle.ts_db.specs.Held.{Stock, Leads}
 abbrev pub kept_of : List Label → History → Kept
 kept_of labels h = record { options = h.options; labels = labels; list = list_of h; high = h.high; born = h.born; rules = []; source = None }
 
-abbrev pub kept_at : Node → Kept
-kept_at n = kept_of n.labels n.series
+-- what is kept of rules, by the keys of their destinations
+abbrev pub rules_by : (Id → Key) → List Rule → List KeptRule
+rules_by names rs = map (λ r. kept_as (names r.dest) r) rs
+
+-- what is kept of a node, by the keys of numbers
+abbrev pub kept_by : (Id → Key) → Node → Kept
+kept_by names n = record (kept_of n.labels n.series) { rules = rules_by names n.rules.items; source = option_map names n.source }
 
 -- the series by their numbers, and the numbers by their keys
 abbrev pub Nodes : Type 0
@@ -31,9 +39,21 @@ Nodes = slab.Slab Node
 abbrev pub Numbers : Type 0
 Numbers = List (Key × Id)
 
+-- the key of a node, if there is one
+abbrev pub key_at : Option Node → Key
+key_at None = []
+key_at (Some n) = n.key
+
+-- the key of a number
+abbrev pub key_in : Nodes → Id → Key
+key_in nodes id = key_at (slab.get nodes id.0)
+
+abbrev pub kept_at : Nodes → Node → Kept
+kept_at nodes n = kept_by (key_in nodes) n
+
 -- what is kept of a number
 abbrev pub kept_in : Nodes → Id → Option Kept
-kept_in nodes id = option_map kept_at (slab.get nodes id.0)
+kept_in nodes id = option_map (kept_at nodes) (slab.get nodes id.0)
 
 abbrev pub with_found : {X : Type 0} → Key → Option X → Keyed X → Keyed X
 with_found k None m = without_key k m
@@ -61,17 +81,46 @@ has_key k = is_at (slice_cmp nat_cmp k)
 abbrev pub number_of : Key → Numbers → Option Id
 number_of k es = lookup (has_key k) es
 
+-- a number has a node
+pub record IsLive (nodes : Nodes) (id : Id) : Type 0 where
+  pub node : Node
+  pub there : slab.get nodes id.0 ≡ Some node
+
+-- so have the destinations of these rules
+abbrev pub AreLive : Nodes → List Rule → Type 0
+AreLive nodes [] = ⊤
+AreLive nodes (r ∷ rs) = IsLive nodes r.dest × AreLive nodes rs
+
+-- and so has a source, if there is one
+abbrev pub IsLiveSource : Nodes → Option Id → Type 0
+IsLiveSource nodes None = ⊤
+IsLiveSource nodes (Some id) = IsLive nodes id
+
+-- The numbers that a node is linked to are those of nodes.
+pub record HasLiveLinks (nodes : Nodes) (n : Node) : Type 0 where
+  pub rules : AreLive nodes n.rules.items
+  pub source : IsLiveSource nodes n.source
+
+-- the buckets of these rules are as a grid's may be
+abbrev pub HaveGrids : List Rule → Type 0
+HaveGrids [] = ⊤
+HaveGrids (r ∷ rs) = IsGrid r.grid × HaveGrids rs
+
 -- A series is in order, and it and its labels are within the limits.
 pub record IsNode (limits : Limits) (n : Node) : Type 0 where
   pub kept : IsKept n.series
   pub within : length (list_of n.series) ≤ limits.samples
   pub born : n.series.born ≤ limits.born
   pub labels : length n.labels ≤ limits.labels
+  pub grids : HaveGrids n.rules.items
 
--- Each key has a series of its own, which tells the key, and no other series is kept. Each is in order and within the limits, as the keys are.
+-- Each key has a series of its own, which tells the key, and no other series is kept. Links lead to series. Each is in order and within the
+-- limits, as the keys are.
 pub record IsStore (limits : Limits) (nodes : Nodes) (es : Numbers) : Type 0 where
   pub stored : (k : Key) (id : Id) → number_of k es ≡ Some id → (n : Node) × (slab.get nodes id.0 ≡ Some n)
   pub named : (k : Key) (id : Id) (n : Node) → number_of k es ≡ Some id → slab.get nodes id.0 ≡ Some n → n.key ≡ k
+  pub owned : (i : ℕ) (n : Node) → slab.get nodes i ≡ Some n → number_of n.key es ≡ Some (record { 0 = i })
+  pub live : (i : ℕ) (n : Node) → slab.get nodes i ≡ Some n → HasLiveLinks nodes n
   pub each : (i : ℕ) (n : Node) → slab.get nodes i ≡ Some n → IsNode limits n
   pub counted : count_keys (collected nodes es) ≡ length es
   -- the slab holds as many series as there are keys, so none that has no key

@@ -42,7 +42,7 @@ impl Store {
             .alter(change.retention, change.chunk_size, change.policy, steps)
         {
             Ok(plan) => {
-                self.apply(id, plan, change.labels);
+                self.apply(id, plan, change.labels, None);
                 Ok(())
             }
             Err(fault) => Err(DbFault::Memory(fault)),

@@ -1,14 +1,15 @@
-ghost use Rattle.std.specs.Prelude.{◌≡◌, nat_lt, Some, IfOk, IfErr};
+ghost use Rattle.std.specs.Prelude.{◌≡◌, nat_lt, IfOk, IfErr};
 ghost use Rattle.std.specs.Option.{ForSome};
 ghost use Rattle.ts_spec.specs.Keyed.{get};
-ghost use Rattle.ts_spec.specs.Questions.{asked};
-ghost use Rattle.ts_spec.specs.Refusal.{NoKey};
+ghost use Rattle.ts_spec.specs.Questions.{asked, info_response};
+ghost use Rattle.ts_spec.specs.Response.{Told};
 ghost use Rattle.ts_spec.specs.Sample.{IsAscending, at_times, between, last_of};
-ghost use Rattle.ts_db.specs.Faults.{refusal_of};
 ghost use Rattle.ts_db.specs.Held.{Held, Stands, Finds, AreTimes, ends_of};
+ghost use Rattle.ts_db.specs.Information.{info_of};
 
 use crate::db::Db;
 use crate::fault::DbFault;
+use crate::info::Info;
 use std::sync::ledger::Ledger;
 use ts_resp::Word;
 use ts_sample::{Sample, Steps};
@@ -23,7 +24,7 @@ impl Db {
         steps: &mut Steps<L>,
     ) -> Result<Option<Sample>, DbFault>
         ensures last { (held : Held) → Stands self.now held → Finds (get key.now held.state) (λ last. last ≡ last_of (asked held.state latest key.now)) result }
-        ensures refused { IfErr result (λ fault. refusal_of fault ≡ Some NoKey) }
+        ensures refused { IfErr result (λ fault. fault ≡ DbFault.NoKey) }
         ensures steps { steps.new ≡ steps.old }
     {
         self.store.last(key, latest, steps)
@@ -57,7 +58,7 @@ impl Db {
         steps: &mut Steps<L>,
     ) -> Result<Option<Sample>, DbFault>
         ensures before { (held : Held) → Stands self.now held → Finds (get key.now held.state) (λ before. before ≡ last_of (at_times (λ u. nat_lt u t) (asked held.state latest key.now))) result }
-        ensures refused { IfErr result (λ fault. refusal_of fault ≡ Some NoKey) }
+        ensures refused { IfErr result (λ fault. fault ≡ DbFault.NoKey) }
         ensures steps { steps.new ≡ steps.old }
     {
         self.store.last_before(key, t, latest, steps)
@@ -73,9 +74,17 @@ impl Db {
     ) -> Result<Option<(u64, u64)>, DbFault>
         ensures ends { (held : Held) → Stands self.now held → Finds (get key.now held.state) (λ ends. ends ≡ ends_of (asked held.state latest key.now)) result }
         ensures bounded { IfOk result (λ ends. ForSome ends AreTimes) }
-        ensures refused { IfErr result (λ fault. refusal_of fault ≡ Some NoKey) }
+        ensures refused { IfErr result (λ fault. fault ≡ DbFault.NoKey) }
         ensures steps { steps.new ≡ steps.old }
     {
         self.store.ends(key, latest, steps)
+    }
+
+    /// What TS.INFO tells of a key. It is refused for a missing key, and for want of memory.
+    pub fn info<L: Ledger>(&self, key: &Word, steps: &mut Steps<L>) -> Result<Info, DbFault>
+        ensures info { (held : Held) → Stands self.now held → Finds (get key.now held.state) (λ info. Told (info_of info) ≡ info_response held.state key.now (get key.now held.state)) result }
+        ensures steps { steps.new ≡ steps.old }
+    {
+        self.store.info(key, steps)
     }
 }

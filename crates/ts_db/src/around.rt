@@ -2,9 +2,7 @@ ghost use Rattle.std.specs.Prelude.{◌≡◌, nat_lt, Some, IfOk, IfErr};
 ghost use Rattle.std.specs.Option.{ForSome};
 ghost use Rattle.ts_spec.specs.Keyed.{get};
 ghost use Rattle.ts_spec.specs.KeptQuestions.{kept_asked};
-ghost use Rattle.ts_spec.specs.Refusal.{NoKey};
 ghost use Rattle.ts_spec.specs.Sample.{at_times, last_of};
-ghost use Rattle.ts_db.specs.Faults.{refusal_of};
 ghost use Rattle.ts_db.specs.Store.{stock_of, IsInOrder};
 ghost use Rattle.ts_db.specs.Held.{Finds, AreTimes, ends_of};
 
@@ -26,7 +24,7 @@ impl Store {
     ) -> Result<Option<Sample>, DbFault>
         requires { IsInOrder self.now }
         ensures before { Finds (get key.now (stock_of self.now).keys) (λ before. before ≡ last_of (at_times (λ u. nat_lt u t) (kept_asked (stock_of self.now).keys latest key.now))) result }
-        ensures refused { IfErr result (λ fault. refusal_of fault ≡ Some NoKey) }
+        ensures refused { IfErr result (λ fault. fault ≡ DbFault.NoKey) }
         ensures steps { steps.new ≡ steps.old }
     {
         let Some(id) = self.keys.get(key).copied() else {
@@ -46,7 +44,7 @@ impl Store {
         requires { IsInOrder self.now }
         ensures ends { Finds (get key.now (stock_of self.now).keys) (λ ends. ends ≡ ends_of (kept_asked (stock_of self.now).keys latest key.now)) result }
         ensures bounded { IfOk result (λ ends. ForSome ends AreTimes) }
-        ensures refused { IfErr result (λ fault. refusal_of fault ≡ Some NoKey) }
+        ensures refused { IfErr result (λ fault. fault ≡ DbFault.NoKey) }
         ensures steps { steps.new ≡ steps.old }
     {
         let Some(id) = self.keys.get(key).copied() else {

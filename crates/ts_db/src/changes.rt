@@ -1,17 +1,19 @@
 ghost use Rattle.std.specs.Prelude.{◌≡◌, ◌≤◌, is_some, IfOk, IfErr};
 ghost use Rattle.ts_spec.specs.Sample.{MAX_TIME};
 ghost use Rattle.ts_spec.specs.Keyed.{get};
-ghost use Rattle.ts_spec.specs.Step.{create, alter_at, add_at, put_at, incr_at, delete_at};
+ghost use Rattle.ts_spec.specs.Step.{create, alter_at, add_at, put_at, incr_at, delete_at, create_rule, delete_rule_at};
 ghost use Rattle.ts_labels.specs.Spec.{spec_of, change_of};
+ghost use Rattle.ts_db.specs.Faults.{IsRefusal};
 ghost use Rattle.ts_db.specs.Held.{Held, Stands, AnswersDone, AnswersNumber, IsOwn, Drops};
 
 use crate::db::Db;
 use crate::fault::DbFault;
 use std::sync::ledger::Ledger;
+use ts_bucket::Grid;
 use ts_labels::{Change, Spec};
 use ts_resp::Word;
 use ts_sample::{Steps, Units};
-use ts_spec::Policy;
+use ts_spec::{Aggregator, Policy};
 
 impl Db {
     /// Makes a series without samples under a new key.
@@ -106,6 +108,7 @@ impl Db {
         to: u64,
         steps: &mut Steps<L>,
     ) -> Result<u64, DbFault>
+        requires time { from ≤ MAX_TIME }
         ensures deleted { AnswersNumber self.old (λ h. delete_at h.limits h.state key.now from to (get key.now h.state)) result self.new }
         ensures bounded { IfOk result (λ n. n ≤ MAX_TIME) }
         ensures limits { self.new.limits ≡ self.old.limits }
@@ -115,7 +118,32 @@ impl Db {
         self.store.delete_range(key, from, to, steps)
     }
 
-    /// Takes a key away, with its series, without memory. Answers whether it was there.
+    /// Makes a rule from one key, its source, to another, its destination: each bucket of the grid gives the
+    /// destination one sample, told by this aggregator, once the bucket is closed.
+    pub fn create_rule(
+        &mut self,
+        source: &Word,
+        dest: &Word,
+        agg: Aggregator,
+        grid: Grid,
+    ) -> Result<(), DbFault>
+        ensures ruled { AnswersDone self.old (λ h. create_rule h.limits h.state source.now dest.now agg grid) result self.new }
+        ensures limits { self.new.limits ≡ self.old.limits }
+    {
+        self.store.create_rule(source, dest, agg, grid)
+    }
+
+    /// Ends the rule from one key to another, without memory. What the destination shows stays.
+    pub fn delete_rule(&mut self, source: &Word, dest: &Word) -> Result<(), DbFault>
+        ensures ended { AnswersDone self.old (λ h. delete_rule_at h.state source.now dest.now (get source.now h.state)) result self.new }
+        ensures limits { self.new.limits ≡ self.old.limits }
+        ensures refused { IfErr result IsRefusal }
+    {
+        self.store.delete_rule(source, dest)
+    }
+
+    /// Takes a key away, with its series, and ends the rules from it and to it, without memory. Answers whether it
+    /// was there.
     pub fn drop_key(&mut self, key: &Word) -> bool
         ensures there { result ≡ is_some (get key.now self.old.keys) }
         ensures dropped { (from : Held) → Stands self.old from → Drops key.now result from self.new }

@@ -74,6 +74,8 @@ impl Store {
             key: name,
             series,
             labels,
+            rules: Vec::new(self.alloc),
+            source: None,
         });
         Ok(())
     }

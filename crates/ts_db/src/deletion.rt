@@ -1,16 +1,23 @@
-ghost use Rattle.std.specs.Prelude.{◌≡◌, ◌≤◌, IfOk, IfErr};
+ghost use Rattle.std.specs.Prelude.{◌≡◌, ◌≤◌, [], length, Some, IfOk, IfErr};
+ghost use Rattle.ts_spec.specs.Key.{Key};
 ghost use Rattle.ts_spec.specs.Keyed.{get};
-ghost use Rattle.ts_spec.specs.Sample.{MAX_TIME};
-ghost use Rattle.ts_spec.specs.KeptStep.{kept_delete_at};
+ghost use Rattle.ts_spec.specs.Mending.{keep_deleted};
+ghost use Rattle.ts_spec.specs.Response.{Count};
+ghost use Rattle.ts_spec.specs.Sample.{MAX_TIME, between};
+ghost use Rattle.ts_spec.specs.KeptStep.{kept_delete_at, kept_meets_expired, kept_within_destinations};
+ghost use Rattle.ts_series.specs.History.{list_of};
+ghost use Rattle.ts_db.specs.declared.node.Node.{Node as TheNode};
 ghost use Rattle.ts_db.specs.Held.{IsOwn};
-ghost use Rattle.ts_db.specs.Store.{stock_of, IsInOrder};
+ghost use Rattle.ts_db.specs.Store.{rules_by, stock_of, number_of, IsInOrder, IsDb, IsThere, Holds};
 ghost use Rattle.ts_db.specs.Answering.{KeptNumber};
 
 use crate::fault::DbFault;
 use crate::store::Store;
+use crate::work::Work;
 use std::sync::ledger::Ledger;
 use ts_resp::Word;
-use ts_sample::Steps;
+use ts_rules::Rule;
+use ts_sample::{Id, Steps};
 
 impl Store {
     // Takes the samples between two times, in milliseconds, both included, out of the series of a key. Answers
@@ -22,7 +29,8 @@ impl Store {
         to: u64,
         steps: &mut Steps<L>,
     ) -> Result<u64, DbFault>
-        requires { IsInOrder self.old }
+        requires time { from ≤ MAX_TIME }
+        requires db { IsDb self.old }
         ensures deleted { KeptNumber (stock_of self.old) (kept_delete_at self.old.limits (stock_of self.old).keys key.now from to (get key.now (stock_of self.old).keys)) result (stock_of self.new) }
         ensures bounded { IfOk result (λ n. n ≤ MAX_TIME) }
         ensures own { IfErr result (IsOwn (stock_of self.old) key.now) }
@@ -38,13 +46,59 @@ impl Store {
         let Some(node) = self.nodes.get(id.0) else {
             unreachable!();
         };
-        match node.series.cut(from, to, steps) {
-            Ok(plan) => {
-                let removed = plan.removed();
-                self.apply(id, plan, None);
-                Ok(removed)
-            }
-            Err(fault) => Err(DbFault::Memory(fault)),
+        if meet_expired(&node.rules, from, node.series.edge()) {
+            return Err(DbFault::DeleteBeyondRetention);
+        }
+        self.delete(id, from, to, steps)
+    }
+
+    // Takes an interval out of the series of a number, and has the destinations of its rules mended. Answers how many
+    // samples were in it.
+    fn delete<L: Ledger>(
+        &mut self,
+        id: Id,
+        from: u64,
+        to: u64,
+        steps: &mut Steps<L>,
+    ) -> Result<u64, DbFault>
+        requires db { IsDb self.old }
+        requires there { IsThere self.old id }
+        ensures deleted { (key : Key) (n : TheNode) → Holds self.old key id n → KeptNumber (stock_of self.old)
+            (kept_within_destinations self.old.limits (stock_of self.old).keys key (record { keys = keep_deleted key from to (stock_of self.old).keys; response = Count (length (between from to (list_of n.series))) }))
+            result (stock_of self.new) }
+        ensures bounded { IfOk result (λ n. n ≤ MAX_TIME) }
+        ensures own { (key : Key) → number_of key self.old.keys.entries ≡ Some id → IfErr result (IsOwn (stock_of self.old) key) }
+        ensures store { IsInOrder self.new }
+        ensures steps { steps.new ≡ steps.old }
+    {
+        let Some(node) = self.nodes.get(id.0) else {
+            unreachable!();
+        };
+        let plan = match node.series.cut(from, to, steps) {
+            Ok(plan) => plan,
+            Err(fault) => return Err(DbFault::Memory(fault)),
+        };
+        let removed = plan.removed();
+        let work = Work::Delete(from, to);
+        let planned = match self.plan_rules(&node.rules, &node.series, &work, steps) {
+            Ok(planned) => planned,
+            Err(fault) => return Err(fault),
+        };
+        self.apply(id, plan, None, Some(planned.rules));
+        self.feed(planned.plans);
+        Ok(removed)
+    }
+}
+
+// Whether the bucket of a time, by one of these rules, begins before this edge of their source.
+fn meet_expired(rules: &[Rule], from: u64, edge: u64) -> bool
+    requires { from ≤ MAX_TIME }
+    ensures { result ≡ kept_meets_expired from edge (rules_by (λ id. []) rules.now) }
+{
+    for rule in rules {
+        if rule.grid.start_of(from) < edge {
+            return true;
         }
     }
+    false
 }

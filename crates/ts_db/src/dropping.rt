@@ -1,24 +1,77 @@
-ghost use Rattle.std.specs.Prelude.{◌≡◌, is_some, if◌then◌else◌};
-ghost use Rattle.ts_spec.specs.Keyed.{get};
+// How keys go, and with them the rules from them and to them.
+ghost use Rattle.std.specs.Prelude.{◌≡◌, None, is_some, if◌then◌else◌, option_map};
+ghost use Rattle.ts_spec.specs.Key.{Key};
+ghost use Rattle.ts_spec.specs.Keyed.{get, without_key};
 ghost use Rattle.ts_spec.specs.Keeping.{keep_dropped};
-ghost use Rattle.ts_db.specs.Store.{stock_of, IsInOrder};
+ghost use Rattle.ts_db.specs.declared.node.Node.{Node as TheNode};
+ghost use Rattle.ts_db.specs.Linking.{keep_unled, AreFreeOf, IsAlone, KeepsNames};
+ghost use Rattle.ts_db.specs.Store.{key_in, stock_of, number_of, IsInOrder, IsDb, IsLive, IsLiveSource, IsThere, Holds};
 
 use crate::store::Store;
 use ts_resp::Word;
+use ts_sample::Id;
 
 impl Store {
-    // Takes a key away, with its series, without memory. Answers whether it was there.
+    // Takes a key away, with its series, and ends the rules from it and to it, without memory. Answers whether it
+    // was there.
     pub(crate) fn drop_key(&mut self, key: &Word) -> bool
-        requires { IsInOrder self.old }
+        requires { IsDb self.old }
         ensures there { result ≡ is_some (get key.now (stock_of self.old).keys) }
         ensures keys { (stock_of self.new).keys ≡ (if is_some (get key.now (stock_of self.old).keys) then keep_dropped key.now (stock_of self.old).keys else (stock_of self.old).keys) }
         ensures limits { self.new.limits ≡ self.old.limits }
         ensures store { IsInOrder self.new }
     {
-        let Some(id) = self.keys.remove(key) else {
+        let Some(id) = self.keys.get(key).copied() else {
             return false;
         };
-        self.nodes.remove(id.0);
+        self.end_rules(id);
+        self.remove_key(key);
         true
+    }
+
+    // Ends each rule from a series and the one to it.
+    fn end_rules(&mut self, id: Id)
+        requires db { IsDb self.old }
+        requires there { IsThere self.old id }
+        ensures store { IsInOrder self.new }
+        ensures alone { (key : Key) (n : TheNode) → Holds self.old key id n → IsAlone self.old self.new key }
+    {
+        let Some(node) = self.nodes.get(id.0) else {
+            unreachable!();
+        };
+        let source = node.source;
+        let rules = self.take_rules(id);
+        self.end_source(source, id);
+        self.free(rules);
+    }
+
+    // Ends the rule to a series, from this source, if there is one.
+    fn end_source(&mut self, source: Option<Id>, id: Id)
+        requires store { IsInOrder self.old }
+        requires live { IsLive self.old.nodes id }
+        requires source { IsLiveSource self.old.nodes source }
+        ensures store { IsInOrder self.new }
+        ensures ended { stock_of self.new ≡ record (stock_of self.old) { keys = keep_unled (option_map (key_in self.old.nodes) source) (key_in self.old.nodes id) (stock_of self.old).keys } }
+        ensures names { KeepsNames self.old self.new }
+    {
+        match source {
+            Some(source) => self.remove_rule(source, id),
+            None => {}
+        }
+    }
+
+    // Takes a key away, with its series, to which no other is linked.
+    fn remove_key(&mut self, key: &Word)
+        requires store { IsInOrder self.old }
+        requires there { number_of key.now self.old.keys.entries ≡ None → ⊥ }
+        requires free { AreFreeOf key.now (stock_of self.old).keys }
+        ensures keys { (stock_of self.new).keys ≡ without_key key.now (stock_of self.old).keys }
+        ensures limits { self.new.limits ≡ self.old.limits }
+        ensures store { IsInOrder self.new }
+    {
+        let Some(id) = self.keys.remove(key) else {
+            unreachable!();
+        };
+        self.nodes.remove(id.0);
     }
 }

@@ -1,4 +1,6 @@
 ghost use Rattle.std.specs.Prelude.{◌≡◌};
+ghost use Rattle.ts_spec.specs.Keyed.{Keyed};
+ghost use Rattle.ts_sample.specs.declared.id.Id.{Id as TheId};
 ghost use Rattle.ts_series.specs.Put.{refusal_of as put_refusal};
 ghost use Rattle.ts_db.specs.Faults.{refusal_of, IsFaultAt};
 
@@ -38,6 +40,30 @@ pub enum DbFault {
     /// else a destination.
     #[error("too many samples")]
     SamplesFull { id: Id, written: bool },
+    /// The interval of a deletion meets a bucket of a rule whose samples have expired in part.
+    #[error("the interval meets an expired bucket")]
+    DeleteBeyondRetention,
+    /// The source of a rule and its destination are one key.
+    #[error("the source and the destination are the same")]
+    SameKey,
+    /// The source of a rule is a destination already.
+    #[error("the source is a destination")]
+    SourceIsDest,
+    /// The destination of a rule is a source already.
+    #[error("the destination is a source")]
+    DestIsSource,
+    /// The destination of a rule has a source already.
+    #[error("the destination has a source")]
+    DestHasSource,
+    /// As many rules were made on the source in its life as may be.
+    #[error("too many rules made")]
+    RulesSpent,
+    /// The source has as many rules as it may have.
+    #[error("too many rules")]
+    RulesFull,
+    /// There is no such rule.
+    #[error("no such rule")]
+    NoRule,
     /// There was no memory.
     #[error(transparent)]
     Memory(AllocError),
@@ -45,7 +71,7 @@ pub enum DbFault {
 
 // The same fault of the series with this number.
 pub(crate) fn fault_at(id: Id, fault: PutFault) -> DbFault
-    ensures refusal { refusal_of result ≡ put_refusal fault }
+    ensures refusal { (ids : Keyed TheId) → refusal_of ids result ≡ put_refusal fault }
     ensures own { IsFaultAt id result }
 {
     match fault {

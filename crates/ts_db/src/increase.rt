@@ -7,7 +7,7 @@ ghost use Rattle.ts_spec.specs.KeptStep.{kept_incr_at};
 ghost use Rattle.ts_labels.specs.Spec.{spec_of};
 ghost use Rattle.ts_series.specs.History.{list_of};
 ghost use Rattle.ts_db.specs.Held.{IsOwn};
-ghost use Rattle.ts_db.specs.Store.{stock_of, IsInOrder};
+ghost use Rattle.ts_db.specs.Store.{stock_of, IsInOrder, IsDb};
 ghost use Rattle.ts_db.specs.Answering.{KeptNumber};
 ghost use Rattle.ts_db.specs.Writes.{IsChanged};
 
@@ -32,7 +32,7 @@ impl Store {
         steps: &mut Steps<L>,
     ) -> Result<u64, DbFault>
         requires time { time ≤ MAX_TIME }
-        requires store { IsInOrder self.old }
+        requires db { IsDb self.old }
         ensures changed { KeptNumber (stock_of self.old) (kept_incr_at self.old.limits (stock_of self.old).keys key change time (spec_of spec) (get key (stock_of self.old).keys)) result (stock_of self.new) }
         ensures bounded { IfOk result (λ t. t ≤ MAX_TIME) }
         ensures own { IfErr result (IsOwn (stock_of self.old) key) }

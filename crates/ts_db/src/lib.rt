@@ -2,6 +2,7 @@
 #![tactic(auto)]
 
 mod alter;
+mod among;
 mod answers;
 mod around;
 mod changes;
@@ -10,17 +11,27 @@ mod db;
 mod deletion;
 mod dropping;
 mod fault;
+mod feeding;
 mod increase;
+mod info;
+mod information;
+mod latest;
+mod linked;
+mod linking;
 mod members;
 mod node;
 mod numbered;
+mod planning;
 mod questions;
+mod ruling;
 mod selection;
 mod store;
+mod work;
 mod write;
 
 pub use db::Db;
 pub use fault::DbFault;
+pub use info::{Info, RuleInfo};
 pub use ts_labels::{Change, Spec};
 pub use ts_sample::Id;
 pub use ts_spec::Limits;

@@ -4,25 +4,32 @@ ghost use Rattle.ts_spec.specs.Step.{is_longer};
 
 use ts_labels::Labels;
 use ts_resp::Word;
+use ts_rules::Rule;
+use ts_sample::Id;
 use ts_series::Series;
 
-// A key, and what is kept under it: a series and its labels.
+// A key, and what is kept under it: a series, its labels, its rules in the order of their making, and the number of
+// the series whose rule leads to it.
 #[derive(Drop)]
 pub(crate) struct Node {
     pub(crate) key: Word,
     pub(crate) series: Series,
     pub(crate) labels: Labels,
+    pub(crate) rules: Vec<Rule>,
+    pub(crate) source: Option<Id>,
 }
 
 impl Node {
-    // Puts these labels in place of its own, where they are given.
-    pub(crate) fn relabel(&mut self, labels: Option<Labels>)
-        ensures { self.new ≡ record self.old { labels = unwrap_or labels self.old.labels } }
+    // Puts these labels and these rules in place of its own, where they are given.
+    pub(crate) fn change(&mut self, labels: Option<Labels>, rules: Option<Vec<Rule>>)
+        ensures { self.new ≡ record self.old { labels = unwrap_or labels self.old.labels; rules = unwrap_or rules self.old.rules } }
     {
-        let Some(labels) = labels else {
-            return;
-        };
-        self.labels = labels;
+        if let Some(labels) = labels {
+            self.labels = labels;
+        }
+        if let Some(rules) = rules {
+            self.rules = rules;
+        }
     }
 }
 

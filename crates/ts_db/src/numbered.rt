@@ -1,14 +1,16 @@
 // What is kept under the number of a key.
-ghost use Rattle.std.specs.Prelude.{◌≡◌, nat_lt, Some, IfOk};
+ghost use Rattle.std.specs.Prelude.{◌≡◌, ◌≤◌, nat_lt, length, Some, IfOk};
 ghost use Rattle.std.specs.Option.{ForSome};
 ghost use Rattle.ts_spec.specs.Key.{Key};
 ghost use Rattle.ts_spec.specs.Keyed.{get};
 ghost use Rattle.ts_spec.specs.KeptQuestions.{kept_asked, kept_labels_at};
-ghost use Rattle.ts_spec.specs.Sample.{IsAscending, at_times, between, last_of};
+ghost use Rattle.ts_spec.specs.Sample.{MAX_TIME, IsAscending, at_times, between, last_of, put_all};
 ghost use Rattle.ts_series.specs.History.{list_of, IsKept};
+ghost use Rattle.ts_rules.specs.Rules.{one_of};
 ghost use Rattle.ts_db.specs.Store.{stock_of, IsInOrder, Holds};
 ghost use Rattle.ts_db.specs.Held.{IsLive, AreTimes, ends_of};
 
+use crate::among::{first_with, gather_with, last_with, row_before, row_within};
 use crate::node::Node;
 use crate::store::Store;
 use std::alloc::{AllocError, Global};
@@ -20,11 +22,12 @@ use ts_series::Series;
 
 impl Store {
     // The node of a number.
-    fn node(&self, id: Id) -> &Node
+    pub(crate) fn node(&self, id: Id) -> &Node
         requires store { IsInOrder self.now }
         requires live { IsLive (stock_of self.now).ids id }
         ensures holds { (key : Key) → get key (stock_of self.now).ids ≡ Some id → Holds self.now key id result.now }
         ensures kept { IsKept result.now.series }
+        ensures few { length (list_of result.now.series) ≤ MAX_TIME }
     {
         let Some(node) = self.nodes.get(id.0) else {
             unreachable!();
@@ -62,7 +65,8 @@ impl Store {
         ensures last { (key : Key) → get key (stock_of self.now).ids ≡ Some id → result ≡ last_of (kept_asked (stock_of self.now).keys latest key) }
         ensures steps { steps.new ≡ steps.old }
     {
-        self.node(id).series.last()
+        let node = self.node(id);
+        last_with(self.asked_row(id, node, latest), node.series.last())
     }
 
     // The samples between two times, in milliseconds, both included, in their order; with `latest` also that of an
@@ -83,7 +87,11 @@ impl Store {
         ensures within { IfOk result (λ samples. between from to samples.items ≡ samples.items) }
         ensures steps { steps.new ≡ steps.old }
     {
-        gather(self.alloc, &self.node(id).series, from, to, steps)
+        let node = self.node(id);
+        match row_within(from, to, self.asked_row(id, node, latest)) {
+            None => gather(self.alloc, &node.series, from, to, steps),
+            Some(row) => gather_with(self.alloc, &node.series, from, to, &row, steps),
+        }
     }
 
     // The last sample before a time, in milliseconds, if there is one; with `latest` that of an open bucket counts
@@ -101,8 +109,9 @@ impl Store {
             → result ≡ last_of (at_times (λ u. nat_lt u t) (kept_asked (stock_of self.now).keys latest key)) }
         ensures steps { steps.new ≡ steps.old }
     {
-        let sample = self.node(id).series.before(t, steps);
-        sample
+        let node = self.node(id);
+        let row = row_before(t, self.asked_row(id, node, latest));
+        last_with(row, node.series.before(t, steps))
     }
 
     // The times of the first and of the last sample, in milliseconds, if there are any; with `latest` that of an open
@@ -119,7 +128,8 @@ impl Store {
         ensures bounded { ForSome result AreTimes }
         ensures steps { steps.new ≡ steps.old }
     {
-        ends(&self.node(id).series, steps)
+        let node = self.node(id);
+        ends(&node.series, self.asked_row(id, node, latest), steps)
     }
 }
 
@@ -142,13 +152,14 @@ fn gather<L: Ledger>(
     Ok(gathered.into_samples())
 }
 
-// The times of the first and of the last sample of a series.
-fn ends<L: Ledger>(series: &Series, steps: &mut Steps<L>) -> Option<(u64, u64)>
-    ensures ends { result ≡ ends_of (list_of series.now) }
+// The times of the first and of the last sample of a series with a row.
+fn ends<L: Ledger>(series: &Series, row: Option<Sample>, steps: &mut Steps<L>) -> Option<(u64, u64)>
+    requires { IsKept series.now }
+    ensures ends { result ≡ ends_of (put_all (one_of row) (list_of series.now)) }
     ensures bounded { ForSome result AreTimes }
     ensures steps { steps.new ≡ steps.old }
 {
-    let first = series.first(steps)?;
-    let last = series.last()?;
-    Some((first.time, last.time))
+    let first = first_with(row, series.first(steps));
+    let last = last_with(row, series.last());
+    Some((first?.time, last?.time))
 }

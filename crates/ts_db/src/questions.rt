@@ -1,9 +1,7 @@
 ghost use Rattle.std.specs.Prelude.{◌≡◌, Some, IfOk, IfErr};
 ghost use Rattle.ts_spec.specs.Keyed.{get};
 ghost use Rattle.ts_spec.specs.KeptQuestions.{kept_asked};
-ghost use Rattle.ts_spec.specs.Refusal.{NoKey};
 ghost use Rattle.ts_spec.specs.Sample.{IsAscending, between, last_of};
-ghost use Rattle.ts_db.specs.Faults.{refusal_of};
 ghost use Rattle.ts_db.specs.Store.{stock_of, IsInOrder};
 ghost use Rattle.ts_db.specs.Held.{Finds};
 
@@ -24,7 +22,7 @@ impl Store {
     ) -> Result<Option<Sample>, DbFault>
         requires { IsInOrder self.now }
         ensures last { Finds (get key.now (stock_of self.now).keys) (λ last. last ≡ last_of (kept_asked (stock_of self.now).keys latest key.now)) result }
-        ensures refused { IfErr result (λ fault. refusal_of fault ≡ Some NoKey) }
+        ensures refused { IfErr result (λ fault. fault ≡ DbFault.NoKey) }
         ensures steps { steps.new ≡ steps.old }
     {
         let Some(id) = self.keys.get(key).copied() else {

@@ -1,7 +1,7 @@
 ghost use Rattle.std.specs.Prelude.{◌≡◌, nat_lt, nat_le, length, is_some};
 ghost use Rattle.ts_spec.specs.Keyed.{get, count_keys};
 ghost use Rattle.ts_db.specs.Store.{stock_of, IsInOrder};
-ghost use Rattle.ts_db.specs.Answering.{IsPlanned, IsApplied};
+ghost use Rattle.ts_db.specs.Answering.{IsReady, IsApplied, IsElsewhere};
 
 use crate::node::Node;
 use slab::Slab;
@@ -9,6 +9,7 @@ use std::alloc::Global;
 use std::collections::BTreeMap;
 use ts_labels::Labels;
 use ts_resp::Word;
+use ts_rules::Rule;
 use ts_sample::Id;
 use ts_series::SeriesPlan;
 use ts_spec::Limits;
@@ -23,19 +24,26 @@ pub(crate) struct Store {
 }
 
 impl Store {
-    // Does what was planned for the series of a number, and puts these labels in place of its own, where they
-    // are given. It can't fail, and takes no memory.
-    pub(crate) fn apply(&mut self, id: Id, plan: SeriesPlan, labels: Option<Labels>)
+    // Does what was planned for the series of a number, and puts these labels and these rules in place of its
+    // own, where they are given. It can't fail, and takes no memory.
+    pub(crate) fn apply(
+        &mut self,
+        id: Id,
+        plan: SeriesPlan,
+        labels: Option<Labels>,
+        rules: Option<Vec<Rule>>,
+    )
         requires store { IsInOrder self.old }
-        requires planned { IsPlanned self.old id plan labels }
+        requires ready { IsReady self.old id plan labels rules }
         ensures store { IsInOrder self.new }
-        ensures applied { IsApplied self.old id plan labels self.new }
+        ensures applied { IsApplied self.old id plan labels rules self.new }
+        ensures elsewhere { IsElsewhere self.old self.new id }
     {
         let Some(node) = self.nodes.get_mut(id.0) else {
             unreachable!();
         };
         node.series.commit(plan);
-        node.relabel(labels);
+        node.change(labels, rules);
     }
 
     // Whether the key is there.

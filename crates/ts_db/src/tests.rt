@@ -2,6 +2,7 @@
 mod call;
 mod came;
 mod labelled;
+mod ruled;
 
 ghost use Rattle.std.specs.Prelude.{◌≡◌, ◌<◌};
 
@@ -9,6 +10,7 @@ use crate::db::Db;
 use crate::tests::call::{Call, run, word};
 use crate::tests::came::Came;
 use crate::tests::labelled::Labelled;
+use crate::tests::ruled::Ruled;
 use std::alloc::{AllocError, Global};
 use std::marker::Brand;
 use std::sync::ledger::{Blank, Ledger};
@@ -103,6 +105,7 @@ fn keys_come_and_go(rt: HostRuntime) -> Result<(), Fail> {
 fn samples_are_asked_for_and_deleted(rt: HostRuntime) -> Result<(), Fail> {
     let calls = [
         (Call::Samples(b'a', 0, 9, false), Came::NoKey),
+        (Call::Info(b'a'), Came::NoKey),
         (Call::Add(b'a', 2, 5, None), Came::Number(2)),
         (Call::Put(b'a', 3, 9), Came::Number(3)),
         (Call::Put(b'a', 1, 1), Came::Number(1)),
@@ -110,6 +113,7 @@ fn samples_are_asked_for_and_deleted(rt: HostRuntime) -> Result<(), Fail> {
             Call::Samples(b'a', 0, MAX_TIME, false),
             Came::Samples(3, Some((1, 1)), Some((3, 9))),
         ),
+        (Call::Info(b'a'), Came::Told(3, 1, 3)),
         (
             Call::Samples(b'a', 2, 3, true),
             Came::Samples(2, Some((2, 5)), Some((3, 9))),
@@ -154,6 +158,40 @@ fn labels_are_limited_and_replaced(rt: HostRuntime) -> Result<(), Fail> {
         (Call::LabelsOf(b'c'), Came::Labels(1, Some(b'c'))),
         (Call::With(Labelled::Create(b'z', 2)), Came::LabelsFull),
         (Call::With(Labelled::Create(b'z', 1)), Came::KeysFull),
+    ];
+    assert_eq!(rt; wrong::<Brand>(rt.alloc(), Blank::new(1), &calls)?, None);
+    Ok(())
+}
+
+#[test]
+fn rules_come_and_go(rt: HostRuntime) -> Result<(), Fail> {
+    let calls = [
+        (Call::Create(b'a', 0), Came::Done),
+        (Call::Create(b'c', 0), Came::Done),
+        (Call::Rule(Ruled::Make(b'a', b'a')), Came::SameKey),
+        (Call::Rule(Ruled::Make(b'z', b'a')), Came::NoKey),
+        (Call::Rule(Ruled::Make(b'a', b'z')), Came::NoKey),
+        (Call::Rule(Ruled::Make(b'a', b'c')), Came::Done),
+        (Call::Rule(Ruled::Make(b'c', b'a')), Came::SourceIsDest),
+        (Call::Rule(Ruled::Make(b'a', b'c')), Came::DestHasSource),
+        (Call::Put(b'a', 1, 4), Came::Number(1)),
+        (Call::Put(b'a', 2, 5), Came::Number(2)),
+        (Call::Last(b'c', false), Came::Last(None)),
+        (Call::Put(b'a', 12, 9), Came::Number(12)),
+        (Call::Last(b'c', false), Came::Last(Some((0, 5)))),
+        (Call::Rule(Ruled::End(b'z', b'c')), Came::NoKey),
+        (Call::Rule(Ruled::End(b'a', b'z')), Came::NoRule),
+        (Call::Rule(Ruled::End(b'c', b'a')), Came::NoRule),
+        (Call::Rule(Ruled::End(b'a', b'c')), Came::Done),
+        (Call::Rule(Ruled::End(b'a', b'c')), Came::NoRule),
+        (Call::Last(b'c', false), Came::Last(Some((0, 5)))),
+        (Call::Rule(Ruled::Make(b'c', b'a')), Came::Done),
+        (Call::Drop(b'a'), Came::Gone(true)),
+        (Call::Create(b'a', 0), Came::Done),
+        (Call::Rule(Ruled::Make(b'a', b'c')), Came::Done),
+        (Call::Drop(b'a'), Came::Gone(true)),
+        (Call::Create(b'a', 0), Came::Done),
+        (Call::Rule(Ruled::Make(b'c', b'a')), Came::Done),
     ];
     assert_eq!(rt; wrong::<Brand>(rt.alloc(), Blank::new(1), &calls)?, None);
     Ok(())

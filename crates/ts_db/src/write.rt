@@ -7,11 +7,12 @@ ghost use Rattle.ts_labels.specs.Spec.{spec_of};
 ghost use Rattle.ts_series.specs.Put.{met};
 ghost use Rattle.ts_db.specs.declared.node.Node.{Node as TheNode};
 ghost use Rattle.ts_db.specs.Held.{IsOwn};
-ghost use Rattle.ts_db.specs.Store.{stock_of, number_of, IsInOrder, IsThere, Holds};
+ghost use Rattle.ts_db.specs.Store.{stock_of, number_of, IsInOrder, IsDb, IsThere, Holds};
 ghost use Rattle.ts_db.specs.Answering.{KeptNumber};
 
 use crate::fault::{DbFault, fault_at};
 use crate::store::Store;
+use crate::work::Work;
 use std::sync::ledger::Ledger;
 use ts_labels::Spec;
 use ts_resp::Word;
@@ -31,7 +32,7 @@ impl Store {
         steps: &mut Steps<L>,
     ) -> Result<u64, DbFault>
         requires time { time ≤ MAX_TIME }
-        requires store { IsInOrder self.old }
+        requires db { IsDb self.old }
         ensures added { KeptNumber (stock_of self.old) (kept_add_at self.old.limits (stock_of self.old).keys key time value on (spec_of spec) (get key (stock_of self.old).keys)) result (stock_of self.new) }
         ensures bounded { IfOk result (λ t. t ≤ MAX_TIME) }
         ensures own { IfErr result (IsOwn (stock_of self.old) key) }
@@ -57,7 +58,7 @@ impl Store {
         steps: &mut Steps<L>,
     ) -> Result<u64, DbFault>
         requires time { time ≤ MAX_TIME }
-        requires store { IsInOrder self.old }
+        requires db { IsDb self.old }
         ensures put { KeptNumber (stock_of self.old) (kept_put_at self.old.limits (stock_of self.old).keys key.now time value (get key.now (stock_of self.old).keys)) result (stock_of self.new) }
         ensures bounded { IfOk result (λ t. t ≤ MAX_TIME) }
         ensures own { IfErr result (IsOwn (stock_of self.old) key.now) }
@@ -74,7 +75,7 @@ impl Store {
         self.write(id, how, time, value, steps)
     }
 
-    // Writes to the series of a number. Answers the time.
+    // Writes to the series of a number, and has the destinations of its rules mended. Answers the time.
     pub(crate) fn write<L: Ledger>(
         &mut self,
         id: Id,
@@ -84,7 +85,7 @@ impl Store {
         steps: &mut Steps<L>,
     ) -> Result<u64, DbFault>
         requires time { time ≤ MAX_TIME }
-        requires store { IsInOrder self.old }
+        requires db { IsDb self.old }
         requires there { IsThere self.old id }
         ensures written { (key : Key) (n : TheNode) → Holds self.old key id n → KeptNumber (stock_of self.old) (kept_write_merged self.old.limits (stock_of self.old).keys key time (met how time value n.series)) result (stock_of self.new) }
         ensures time { IfOk result (λ t. t ≡ time) }
@@ -95,15 +96,21 @@ impl Store {
         let Some(node) = self.nodes.get(id.0) else {
             unreachable!();
         };
-        match node
-            .series
-            .put(time, value, how, self.limits.samples, steps)
-        {
-            Ok(plan) => {
-                self.apply(id, plan, None);
-                Ok(time)
-            }
-            Err(fault) => Err(fault_at(id, fault)),
-        }
+        let limit = self.limits.samples;
+        let plan = match node.series.put(time, value, how, limit, steps) {
+            Ok(plan) => plan,
+            Err(fault) => return Err(fault_at(id, fault)),
+        };
+        let Some(wrote) = plan.wrote() else {
+            return Ok(time);
+        };
+        let work = Work::Write(wrote);
+        let planned = match self.plan_rules(&node.rules, &node.series, &work, steps) {
+            Ok(planned) => planned,
+            Err(fault) => return Err(fault),
+        };
+        self.apply(id, plan, None, Some(planned.rules));
+        self.feed(planned.plans);
+        Ok(time)
     }
 }

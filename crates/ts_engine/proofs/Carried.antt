@@ -1,16 +1,20 @@
 -- What is so for each state that a database stands for.
-use Rattle.std.proofs.Common.{◌≡◌, refl, sym, ◌∙◌, ap, inl, inr, subst}
-use Rattle.std.specs.Prelude.{Option, None, Some, Result, Ok, Err}
+use Rattle.std.proofs.Common.{◌≡◌, true, refl, sym, ◌∙◌, ap, inl, inr, subst}
+use Rattle.std.proofs.lemmas.Bool.{false≢true}
+use Rattle.std.specs.Prelude.{Option, None, Some, is_some, Result, Ok, Err, IfErr}
 use Rattle.ts_spec.specs.Replies.{reply_to}
 use Rattle.ts_spec.specs.Response.{Response}
 use Rattle.ts_spec.specs.Refusal.{Refusal}
 use Rattle.ts_spec.specs.Step.{Outcome}
 use Rattle.ts_spec.specs.Text.{Reply, Error}
-use Rattle.ts_db.specs.Faults.{refusal_of}
+use Rattle.ts_sample.specs.declared.id.Id.{Id}
+use Rattle.ts_spec.specs.Keyed.{Keyed}
+use Rattle.ts_db.specs.Faults.{refusal_of, IsRefusal}
 use Rattle.ts_db.specs.Held.{Held, Stock, Stands, Leads, Carries, Answers, IsAnswer}
 use Rattle.ts_db.specs.declared.fault.DbFault.{DbFault}
 use Rattle.ts_engine.specs.Answering.{message_of, reply_of_result}
-use Rattle.ts_engine.specs.Turn.{StepOrMemory}
+use Rattle.ts_engine.specs.Turn.{IsStep, StepOrMemory}
+use Rattle.ts_engine.proofs.Refusals.{is_refused}
 
 -- nothing has changed
 pub carries_none : (stock : Stock) (P : Held → Held → Type 0) → ((from : Held) → Stands stock from → P from from) → Carries stock stock P
@@ -43,16 +47,42 @@ refused_or_memory (Some r) from step is = inl (record {
 
 -- a command of one series is answered as its step
 pub answered : {T : Type 0} (response : T → Response) (old new : Stock) (step : Held → Outcome) (result : Result T DbFault) (reply : Reply)
-    → reply ≡ reply_of_result response result → Answers response old step result new → Carries old new (λ from to. StepOrMemory (step from) from reply to)
+    → ((ids : Keyed Id) → reply ≡ reply_of_result ids response result) → Answers response old step result new → Carries old new (λ from to. StepOrMemory (step from) from reply to)
 answered response old new step (Ok x) reply is answers = λ from stands.
     let a = answers from stands in
     record {
       to = record { limits = from.limits; state = (step from).state };
-      done = inl (record { says = is ∙ ap reply_to (sym a.says); state = refl; limits = refl });
+      done = inl (record { says = is old.ids ∙ ap reply_to (sym a.says); state = refl; limits = refl });
       stands = a.stands;
     }
 answered response old new step (Err fault) reply is answers = λ from stands. record {
   to = from;
-  done = subst (λ (r : Reply). StepOrMemory (step from) from r from) (sym is) (refused_or_memory (refusal_of fault) from (step from) (answers.0 from stands));
+  done = subst (λ (r : Reply). StepOrMemory (step from) from r from) (sym (is old.ids)) (refused_or_memory (refusal_of old.ids fault) from (step from) (answers.0 from stands));
+  stands = subst (λ (s : Stock). Stands s from) (sym answers.1) stands;
+}
+
+-- a refusal of the step is replied
+refused_surely : (o : Option Refusal) (from : Held) (step : Outcome) (reply : Reply) → is_some o ≡ true → reply ≡ Error (message_of o) → IsAnswer o from.state step → IsStep step from reply from
+refused_surely None from step reply some is answer = absurd (false≢true some)
+refused_surely (Some r) from step reply some is answer = record {
+  says = is ∙ ap (λ (s : Outcome). reply_to s.response) (sym answer);
+  state = ap (λ (s : Outcome). s.state) (sym answer);
+  limits = refl;
+}
+
+-- a command that takes no memory is answered as its step
+pub answered_surely : {T : Type 0} (response : T → Response) (old new : Stock) (step : Held → Outcome) (result : Result T DbFault) (reply : Reply)
+    → ((ids : Keyed Id) → reply ≡ reply_of_result ids response result) → IfErr result IsRefusal → Answers response old step result new
+    → Carries old new (λ from to. IsStep (step from) from reply to)
+answered_surely response old new step (Ok x) reply is sure answers = λ from stands.
+    let a = answers from stands in
+    record {
+      to = record { limits = from.limits; state = (step from).state };
+      done = record { says = is old.ids ∙ ap reply_to (sym a.says); state = refl; limits = refl };
+      stands = a.stands;
+    }
+answered_surely response old new step (Err fault) reply is sure answers = λ from stands. record {
+  to = from;
+  done = refused_surely (refusal_of old.ids fault) from (step from) reply (is_refused old.ids fault sure) (is old.ids) (answers.0 from stands);
   stands = subst (λ (s : Stock). Stands s from) (sym answers.1) stands;
 }

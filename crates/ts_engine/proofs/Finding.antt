@@ -11,7 +11,7 @@ use Rattle.ts_spec.specs.Answer.{answer}
 use Rattle.ts_spec.specs.Command as query
 use Rattle.ts_spec.specs.Questions.{asked, rows_response, range_response}
 use Rattle.ts_engine.specs.Answering.{IsTold}
-use Rattle.ts_spec.specs.Rules.{open_of, opened, shown_by, shown_at, latest_at, told}
+use Rattle.ts_spec.specs.Rules.{open_of, opened, shown_by, shown_at, latest_at, closed_rows}
 use Rattle.ts_spec.specs.Sample.{Point, IsAscending, is_within, between, first_of, last_of, later_or}
 use Rattle.ts_spec.specs.State.{Rule, Record, State, rule_into, edge}
 use Rattle.ts_spec.specs.Valid.{IsValid}
@@ -72,7 +72,7 @@ asked_around q asked ps g rows grid around = record { rows = sym rows; around = 
 -- what a key shows is ascending
 shows_ascending : (d : Record) → IsAscending d.plain → (r : Option Rule) → IsAscending (shown_by r d)
 shows_ascending d rises None = rises
-shows_ascending d rises (Some r) = ascending-times _ _ (ascending-put_all (told r d.born) d.plain rises)
+shows_ascending d rises (Some r) = ascending-times _ _ (ascending-put_all (closed_rows r d.born) d.plain rises)
 
 pub asked_ascending : (limits : Limits) (m : State) (with_open : Bool) (k : Key) → IsValid limits m → IsAscending (asked m with_open k)
 asked_ascending limits m true k valid = go (get k m) refl (rule_into m k)
@@ -123,4 +123,4 @@ finds_none (Some d) what here = absurd (false≢true here)
 
 pub finds_memory : {T : Type 0} (o : Option Record) (what : T → Type 0) (e : AllocError) → true ≡ is_some o → Finds o what (Err (Memory e))
 finds_memory None what e here = absurd (false≢true (sym here))
-finds_memory (Some d) what e here = refl
+finds_memory (Some d) what e here = tt

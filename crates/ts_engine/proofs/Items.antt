@@ -5,7 +5,7 @@ use Rattle.std.specs.Fmt.{decimal}
 use Rattle.ts_spec.specs.Command.{Triple}
 use Rattle.ts_spec.specs.Replies.{listed, array}
 use Rattle.ts_spec.specs.State.{State}
-use Rattle.ts_spec.specs.Text.{Reply, text, texts, line, count_of}
+use Rattle.ts_spec.specs.Text.{Reply, text, texts, line_text, count_of}
 use Rattle.ts_spec.specs.declared.limits.Limits.{Limits}
 use Rattle.ts_command.specs.declared.command.Triple.{Triple as Given}
 use Rattle.ts_command.specs.Reading.{triple_of, triples_of}
@@ -26,15 +26,15 @@ length-triples triples = length-map triples triple_of
 pub record SoFar (reading : ℕ) (all rest : List Triple) (old now : Held) (written : List ℕ) : Type 0 where
   pub items : List Reply
   pub goes_on : (others : List Reply) (to : State) → AreTold old.limits reading rest now.state others to → AreTold old.limits reading all old.state (items ++ others) to
-  pub bytes : written ≡ line 42 (decimal (length all)) ++ texts (listed items)
+  pub bytes : written ≡ line_text 42 (decimal (length all)) ++ texts (listed items)
   pub count : length items + length rest ≡ length all
   pub limits : now.limits ≡ old.limits
 
-so_far_none : (reading : ℕ) (all : List Triple) (old : Held) (written : List ℕ) → written ≡ line 42 (decimal (length all)) → SoFar reading all all old old written
+so_far_none : (reading : ℕ) (all : List Triple) (old : Held) (written : List ℕ) → written ≡ line_text 42 (decimal (length all)) → SoFar reading all all old old written
 so_far_none reading all old written is = record {
   items = [];
   goes_on = λ others to told. told;
-  bytes = is ∙ sym (append-nil (line 42 (decimal (length all))));
+  bytes = is ∙ sym (append-nil (line_text 42 (decimal (length all))));
   count = omega arith;
   limits = refl;
 }
@@ -59,8 +59,8 @@ so_far_more reading all rest triple old mid new item before after so_far told li
         after = rest_told;
       }));
   bytes = is ∙ ap (λ (l : List ℕ). l ++ text item) so_far.bytes
-      ∙ append_assoc (line 42 (decimal (length all))) (texts (listed so_far.items)) (text item)
-      ∙ ap (λ (l : List ℕ). line 42 (decimal (length all)) ++ l)
+      ∙ append_assoc (line_text 42 (decimal (length all))) (texts (listed so_far.items)) (text item)
+      ∙ ap (λ (l : List ℕ). line_text 42 (decimal (length all)) ++ l)
       (ap (λ (l : List ℕ). texts (listed so_far.items) ++ l) (sym (append-nil (text item))) ∙ sym (texts-append so_far.items (item ∷ [])));
   count = omega (arith, so_far.count, length-append so_far.items (item ∷ []));
   limits = limits ∙ so_far.limits;
@@ -74,7 +74,7 @@ count-listed (r ∷ items) = omega (arith, count-listed items)
 pub record EachSoFar (reading : ℕ) (all rest : List Triple) (first now : Stock) (written : List ℕ) : Type 0 where
   pub each : Carries first now (λ from to. SoFar reading all rest from to written)
 
-pub each_none : (reading : ℕ) (all rest : List Triple) (stock : Stock) (written : List ℕ) → rest ≡ all → written ≡ line 42 (decimal (length all)) → EachSoFar reading all rest stock stock written
+pub each_none : (reading : ℕ) (all rest : List Triple) (stock : Stock) (written : List ℕ) → rest ≡ all → written ≡ line_text 42 (decimal (length all)) → EachSoFar reading all rest stock stock written
 each_none reading all rest stock written same is = record {
   each = carries_none stock (λ from to. SoFar reading all rest from to written)
       (λ from stands. subst (λ (l : List Triple). SoFar reading all l from from written) (sym same) (so_far_none reading all from written is));
@@ -95,7 +95,7 @@ all_told reading all old new written so_far =
     let size : length all ≡ count_of (listed so_far.items) = omega (arith, so_far.count, count-listed so_far.items) in
     record {
       reply = array so_far.items;
-      its_text = so_far.bytes ∙ ap (λ n. line 42 (decimal n) ++ texts (listed so_far.items)) size;
+      its_text = so_far.bytes ∙ ap (λ n. line_text 42 (decimal n) ++ texts (listed so_far.items)) size;
       all = record {
         items = so_far.items;
         told = subst (λ (l : List Reply). AreTold old.limits reading all old.state l new.state) (append-nil so_far.items) (so_far.goes_on [] new.state (refl, refl));

@@ -6,6 +6,7 @@ pub mod Faulted
 pub mod Finding
 pub mod Fronts
 pub mod Headlines
+pub mod InfoTexts
 pub mod Items
 pub mod Lists
 pub mod ManyTexts
@@ -15,6 +16,7 @@ pub mod OneStep
 pub mod Pipes
 pub mod Places
 pub mod Quits
+pub mod Refusals
 pub mod RowTexts
 pub mod Sessions
 pub mod Short

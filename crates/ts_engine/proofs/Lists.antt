@@ -7,7 +7,7 @@ use Rattle.ts_spec.specs.Names.{Table, named}
 use Rattle.ts_spec.specs.Settings.{Word, and_then, end_word, at_word, value_word, options, nothing}
 use Rattle.ts_spec.specs.SeriesOptions.{series_options, alter_options, add_options, incr_options}
 use Rattle.ts_spec.specs.Ranges.{range_options, query}
-use Rattle.ts_spec.specs.ManySeries.{filters_of, series_told, many_options, wanted, selecting}
+use Rattle.ts_spec.specs.ManySeries.{filters_of, last_options, many_options, wanted, selecting}
 use Rattle.ts_spec.specs.Command.{Command}
 use Rattle.ts_spec.specs.Refusal.{Fault, Arity}
 use Rattle.ts_spec.specs.Run.{says_quit, is_quit}
@@ -86,7 +86,7 @@ ranged_many reverse (from ∷ to ∷ words) =
     next (query reverse from to first last given) _ (λ q. next (selecting filters) _ (λ chosen. refl))))))
 
 last_ones : (own : List Word) → says_quit (last_of_many own) ≡ false
-last_ones words = next (options series_told nothing 0 words) _ (λ given. next (wanted given) _ (λ filters. next (selecting filters) _ (λ chosen. refl)))
+last_ones words = next (options last_options nothing 0 words) _ (λ given. next (wanted given) _ (λ filters. next (selecting filters) _ (λ chosen. refl)))
 
 indexed : (own : List Word) → says_quit (query_index own) ≡ false
 indexed words = next (filters_of words) _ (λ filters. next (selecting filters) _ (λ chosen. refl))
@@ -108,14 +108,20 @@ all_no_quit = (
             (
               single _ _,
               (
-                others _ _ _ (ranged false),
+                single _ _,
                 (
-                  others _ _ _ (ranged true),
+                  single _ _,
                   (
-                    others _ _ _ (ranged_many false),
+                    others _ _ _ (ranged false),
                     (
-                      others _ _ _ (ranged_many true),
-                      (single _ _, (others _ _ _ last_ones, (others _ _ _ indexed, (single _ _, (single _ _, (single _ _, (single _ _, (single _ _, tt)))))))),
+                      others _ _ _ (ranged true),
+                      (
+                        others _ _ _ (ranged_many false),
+                        (
+                          others _ _ _ (ranged_many true),
+                          (single _ _, (others _ _ _ last_ones, (others _ _ _ indexed, (single _ _, (single _ _, (single _ _, (single _ _, (single _ _, (single _ _, tt))))))))),
+                        ),
+                      ),
                     ),
                   ),
                 ),

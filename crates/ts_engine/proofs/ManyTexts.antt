@@ -5,8 +5,8 @@ use Rattle.std.specs.Fmt.{decimal}
 use Rattle.std.specs.Prelude.{Option, None, Some}
 use Rattle.ts_spec.specs.Key.{Key}
 use Rattle.ts_spec.specs.Keyed.{Keyed, get}
-use Rattle.ts_spec.specs.Replies.{array, listed}
-use Rattle.ts_spec.specs.Text.{Reply, line, text, texts}
+use Rattle.ts_spec.specs.Replies.{listed}
+use Rattle.ts_spec.specs.Text.{Reply, line_text, text, texts}
 use Rattle.ts_sample.specs.declared.id.Id.{Id}
 use Rattle.ts_db.specs.Held.{IsLive, AreNumbersOf}
 use Rattle.ts_engine.specs.Members.{replies_then, replies_of, IsAdded, AreAdded}
@@ -96,7 +96,7 @@ module _ (reply : Key → Option Reply) (ids : Keyed Id) (keys : List Key) where
       pick (k ∷ ks) are all = all ∙ ap (λ (o : Option Reply). onto_all so_far.done (replies_then o (replies_of reply ks))) (none k are.0)
 
   -- all were
-  pub all-told : (ns rest : List Id) (before start now : List ℕ) → AreNumbersOf ids keys ns → rest ≡ [] → start ≡ before ++ line 42 (decimal (length ns)) → SoFar reply ids keys rest start now
+  pub all-told : (ns rest : List Id) (before start now : List ℕ) → AreNumbersOf ids keys ns → rest ≡ [] → start ≡ before ++ line_text 42 (decimal (length ns)) → SoFar reply ids keys rest start now
       → AreAdded (replies_of reply keys) before now
   all-told ns rest before start now are none begun so_far = pick so_far.left (subst (AreNumbersOf ids so_far.left) none so_far.numbers) so_far.all so_far.count
     where
@@ -106,5 +106,5 @@ module _ (reply : Key → Option Reply) (ids : Keyed Id) (keys : List Key) where
       pick [] are2 all count =
           let size : length ns ≡ length so_far.done = omega (arith, numbers-length ids keys ns are, count) in
           subst (λ (o : Option (List Reply)). AreAdded o before now) (sym (all ∙ ap (λ (l : List Reply). Some l) (append-nil so_far.done)))
-          (so_far.bytes ∙ ap (λ (l : List ℕ). l ++ texts (listed so_far.done)) begun ∙ append_assoc before (line 42 (decimal (length ns))) (texts (listed so_far.done))
-          ∙ ap (λ n. before ++ (line 42 (decimal n) ++ texts (listed so_far.done))) (size ∙ sym (count-listed so_far.done)))
+          (so_far.bytes ∙ ap (λ (l : List ℕ). l ++ texts (listed so_far.done)) begun ∙ append_assoc before (line_text 42 (decimal (length ns))) (texts (listed so_far.done))
+          ∙ ap (λ n. before ++ (line_text 42 (decimal n) ++ texts (listed so_far.done))) (size ∙ sym (count-listed so_far.done)))

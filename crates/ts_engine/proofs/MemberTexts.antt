@@ -1,5 +1,5 @@
 -- One member that is written.
-use Rattle.std.proofs.Common.{◌≡◌, Bool, ℕ, List, ◌++◌, map, sym, ap, subst, ◌∙◌}
+use Rattle.std.proofs.Common.{◌≡◌, Bool, ℕ, List, ◌++◌, sym, ap, subst, ◌∙◌}
 use Rattle.std.specs.Prelude.{Option, None, Some, option_map, Result, Ok, Err, OnOk}
 use Rattle.std.specs.declared.alloc.AllocError.{AllocError}
 use Rattle.ts_spec.specs.declared.limits.Limits.{Limits}
@@ -13,11 +13,11 @@ use Rattle.ts_spec.specs.Questions.{labels_shown}
 use Rattle.ts_spec.specs.Replies.{member_reply}
 use Rattle.ts_spec.specs.Response.{Member}
 use Rattle.ts_spec.specs.State.{Label}
-use Rattle.ts_spec.specs.Text.{Reply, text}
+use Rattle.ts_spec.specs.Text.{text}
 use Rattle.ts_labels.specs.declared.show.Show.{Show}
 use Rattle.ts_labels.specs.Show.{show_of}
 use Rattle.ts_range.specs.declared.fault.RangeFault.{RangeFault}
-use Rattle.ts_multi.specs.Members.{told}
+use Rattle.ts_multi.specs.Members.{member_with}
 use Rattle.ts_engine.specs.Members.{in_memory, rows_at, IsAdded}
 
 -- what follows where a call that may only find no memory is done
@@ -27,7 +27,7 @@ in-memory-done (Err fault) x P Q is more h = subst (λ (y : Result (Unit {0}) Ra
 
 -- the member that a key and labels make is that of what is kept
 pub member-told : (m : Keeping) (show : Show) (key k : Key) (labels : List Label) (rows : List Row) → k ≡ key → labels ≡ kept_labels_at (get key m)
-    → told show k labels rows ≡ kept_member m (show_of show) key rows
+    → member_with show k labels rows ≡ kept_member m (show_of show) key rows
 member-told m show key k labels rows name own = λ i. record { key = name i; labels = labels_shown (show_of show) (own i); rows = rows }
 
 module _ (limits : Limits) (m : Keeping) (latest : Bool) (show : command.Show) (q : command.Query) (key : Key) where

@@ -8,17 +8,19 @@ use Rattle.ts_spec.specs.Refusal.{Fault, Refusal}
 use Rattle.ts_spec.specs.declared.value.ValueFault.TheVariants as value
 use Rattle.ts_spec.specs.Replies.{number, fault_reply, memory_reply}
 use Rattle.ts_spec.specs.Sample.{MAX_TIME}
-use Rattle.ts_spec.specs.Text.{CRLF, Error, line}
+use Rattle.ts_spec.specs.Text.{CRLF, Error, line_text}
+use Rattle.ts_sample.specs.declared.id.Id.{Id}
+use Rattle.ts_spec.specs.Keyed.{Keyed}
 use Rattle.ts_db.specs.Faults.{refusal_of}
 use Rattle.ts_db.specs.declared.fault.DbFault.{DbFault}
-use Rattle.ts_engine.specs.Answering.{message_of, number_reply, IsShort}
+use Rattle.ts_engine.specs.Answering.{message_of, reply_of_done, reply_of_number, IsShort}
 
 -- a number of 64 bits has at most 20 digits
 pub short_number : (n : ℕ) → n < 2 ^ 64 → IsShort (number n)
 short_number n within = omega (arith, length-append (decimal n) CRLF, length-decimal-le 20 n (omega arith) (omega arith) within)
 
 -- nor has what stands before an array more
-pub short_head : (n : ℕ) → n < 2 ^ 64 → length (line 42 (decimal n)) ≤ 64
+pub short_head : (n : ℕ) → n < 2 ^ 64 → length (line_text 42 (decimal n)) ≤ 64
 short_head n within = omega (arith, length-append (decimal n) CRLF, length-decimal-le 20 n (omega arith) (omega arith) within)
 
 pub short_fault : (fault : Fault) → IsShort (fault_reply fault)
@@ -63,10 +65,15 @@ short_refusal refusal.EmptyRows = omega arith
 pub short_memory : IsShort memory_reply
 short_memory = omega arith
 
-short_error : (o : Option Refusal) → IsShort (Error (message_of o))
+pub short_error : (o : Option Refusal) → IsShort (Error (message_of o))
 short_error None = short_memory
 short_error (Some r) = short_refusal r
 
-pub short_outcome : (outcome : Result ℕ DbFault) → IfOk outcome (λ t. t ≤ MAX_TIME) → IsShort (number_reply outcome)
-short_outcome (Ok time) bounded = short_number time (omega (arith, bounded))
-short_outcome (Err fault) bounded = short_error (refusal_of fault)
+-- what the database answers, by any numbers of keys
+pub short_done : (ids : Keyed Id) (outcome : Result (Unit {0}) DbFault) → IsShort (reply_of_done ids outcome)
+short_done ids (Ok x) = omega arith
+short_done ids (Err fault) = short_error (refusal_of ids fault)
+
+pub short_number_reply : (ids : Keyed Id) (outcome : Result ℕ DbFault) → IfOk outcome (λ t. t ≤ MAX_TIME) → IsShort (reply_of_number ids outcome)
+short_number_reply ids (Ok time) bounded = short_number time (omega (arith, bounded))
+short_number_reply ids (Err fault) bounded = short_error (refusal_of ids fault)

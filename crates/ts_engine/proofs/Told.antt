@@ -11,10 +11,12 @@ use Rattle.ts_spec.specs.declared.command.At.{At}
 use Rattle.ts_command.specs.Faults.{IsNoMemory, fault_of, message}
 use Rattle.ts_command.specs.declared.fault.CommandFault.{CommandFault}
 use Rattle.ts_command.specs.declared.fault.CommandFault.TheVariants as code
+use Rattle.ts_sample.specs.declared.id.Id.{Id}
+use Rattle.ts_spec.specs.Keyed.{Keyed}
 use Rattle.ts_db.specs.Faults.{refusal_of}
 use Rattle.ts_db.specs.Held.{Held, Stock, Stands, Carries, AnswersNumber, IsAnswer}
 use Rattle.ts_db.specs.declared.fault.DbFault.{DbFault}
-use Rattle.ts_engine.specs.Answering.{message_of, number_reply}
+use Rattle.ts_engine.specs.Answering.{message_of, reply_of_number}
 use Rattle.ts_engine.specs.Turn.{IsTold, IsItem, is_well_formed}
 use Rattle.ts_engine.proofs.Carried.{carries_none}
 
@@ -75,7 +77,7 @@ module _ (reading : ℕ) (triple : Triple) (time : At) (value : ℤ) (at_is : tr
   lost None from item answer is = inr (record { well_formed = well_formed; told = is; same = refl })
   lost (Some r) from item answer is = inl (subst (λ (s : Outcome). IsItem s item from.state) (sym answer ∙ as_step from) (record { told = ap (λ (r : Reply). r ∷ []) (sym is); state = refl }))
 
-  pub told_put : (old new : Stock) (result : Result ℕ DbFault) (item : Reply) → item ≡ number_reply result → AnswersNumber old the_step result new
+  pub told_put : (old new : Stock) (result : Result ℕ DbFault) (item : Reply) → ((ids : Keyed Id) → item ≡ reply_of_number ids result) → AnswersNumber old the_step result new
       → Carries old new (λ from to. Tells reading triple item from to)
   told_put old new (Ok t) item is answers = λ from stands.
       let a = answers from stands in
@@ -83,13 +85,13 @@ module _ (reading : ℕ) (triple : Triple) (time : At) (value : ℤ) (at_is : tr
         to = record { limits = from.limits; state = (the_step from).state };
         done = (
           inl (subst (λ (s : Outcome). IsItem s item (the_step from).state) (as_step from)
-              (record { told = ap (λ r. map item_reply (item_of r)) a.says ∙ ap (λ (r : Reply). r ∷ []) (sym is); state = refl })),
+              (record { told = ap (λ r. map item_reply (item_of r)) a.says ∙ ap (λ (r : Reply). r ∷ []) (sym (is old.ids)); state = refl })),
           refl,
         );
         stands = a.stands;
       }
   told_put old new (Err fault) item is answers = λ from stands. record {
     to = from;
-    done = (lost (refusal_of fault) from item (answers.0 from stands) is, refl);
+    done = (lost (refusal_of old.ids fault) from item (answers.0 from stands) (is old.ids), refl);
     stands = subst (λ (s : Stock). Stands s from) (sym answers.1) stands;
   }

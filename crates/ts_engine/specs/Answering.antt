@@ -1,10 +1,12 @@
 -- The replies to what the database answers.
 use Rattle.std.specs.Prelude.{◌≡◌, ◌⊎◌, ◌≤◌, ℕ, length, List, Option, None, Some, Result, Ok, Err}
+use Rattle.ts_spec.specs.Keyed.{Keyed}
 use Rattle.ts_spec.specs.Messages.{refusal_message, memory_message}
 use Rattle.ts_spec.specs.Refusal.{Refusal}
 use Rattle.ts_spec.specs.Replies.{reply_to, memory_reply}
 use Rattle.ts_spec.specs.Response.{Response, Done, Count}
 use Rattle.ts_spec.specs.Text.{Reply, Error, text}
+use Rattle.ts_sample.specs.declared.id.Id.{Id}
 use Rattle.ts_db.specs.Faults.{refusal_of}
 use Rattle.ts_db.specs.declared.fault.DbFault.{DbFault}
 
@@ -13,16 +15,17 @@ abbrev pub message_of : Option Refusal → List ℕ
 message_of None = memory_message
 message_of (Some refusal) = refusal_message refusal
 
-abbrev pub reply_of_result : {T : Type 0} → (T → Response) → Result T DbFault → Reply
-reply_of_result response (Ok x) = reply_to (response x)
-reply_of_result response (Err fault) = Error (message_of (refusal_of fault))
+-- the reply to what the database answers, by the numbers of its keys
+abbrev pub reply_of_result : {T : Type 0} → Keyed Id → (T → Response) → Result T DbFault → Reply
+reply_of_result ids response (Ok x) = reply_to (response x)
+reply_of_result ids response (Err fault) = Error (message_of (refusal_of ids fault))
 
 -- where the database answers nothing but that it is done, and where it answers a time or how many
-abbrev pub done_reply : Result (Unit {0}) DbFault → Reply
-done_reply result = reply_of_result (λ x. Done) result
+abbrev pub reply_of_done : Keyed Id → Result (Unit {0}) DbFault → Reply
+reply_of_done ids result = reply_of_result ids (λ x. Done) result
 
-abbrev pub number_reply : Result ℕ DbFault → Reply
-number_reply result = reply_of_result (λ t. Count t) result
+abbrev pub reply_of_number : Keyed Id → Result ℕ DbFault → Reply
+reply_of_number ids result = reply_of_result ids (λ t. Count t) result
 
 -- the text of a response was written, or that of want of memory
 abbrev pub IsTold : Response → List ℕ → Type 0

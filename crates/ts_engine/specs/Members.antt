@@ -5,7 +5,7 @@ use Rattle.ts_spec.specs.declared.limits.Limits.{Limits}
 use Rattle.ts_spec.specs.Key.{Key}
 use Rattle.ts_spec.specs.Command.{Show, Query}
 use Rattle.ts_spec.specs.Filter.{Filter, selection}
-use Rattle.ts_spec.specs.Answer.{Row, answer}
+use Rattle.ts_spec.specs.Answer.{answer}
 use Rattle.ts_spec.specs.Response.{Response, Keys, LastRows}
 use Rattle.ts_spec.specs.Replies.{member_reply, last_member_reply, array}
 use Rattle.ts_spec.specs.Text.{Reply, Bulk, text}

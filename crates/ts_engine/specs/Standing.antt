@@ -8,8 +8,8 @@ use Rattle.ts_engine.specs.declared.session.Session.{Session as Kept}
 use Rattle.ts_db.specs.Held.{Held}
 use Rattle.ts_engine.specs.Session.{Spot}
 
-abbrev pub reading : Kept → Reading
-reading s = s.reader
+abbrev pub reader_of : Kept → Reading
+reader_of s = s.reader
 
 abbrev pub executed_by : Kept → ℕ
 executed_by s = s.executed

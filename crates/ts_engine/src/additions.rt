@@ -7,12 +7,13 @@ ghost use Rattle.ts_engine.specs.Answering.{IsShort};
 ghost use Rattle.ts_engine.specs.Turn.{IsTold, Executes, WritesAll};
 ghost use Rattle.ts_spec.specs.Command.{Madd};
 
-use crate::answers::{at_time, refusal, time_at};
-use crate::room::{put_no_memory, reserve_items};
+use crate::answers::{fault_reply, number_reply};
+use crate::changes::time_at;
+use crate::room::put_no_memory;
 use std::sync::ledger::Ledger;
 use ts_command::Triple;
 use ts_db::Db;
-use ts_resp::{Out, Reply, begin_array, put};
+use ts_resp::{Out, Reply, begin_array, put, reserve_items};
 use ts_sample::Steps;
 
 /// Writes the reply to TS.MADD: takes the room for it, and then executes the triples one after another.
@@ -63,10 +64,10 @@ fn add_one<L: Ledger>(db: &mut Db, triple: Triple, reading: u64, steps: &mut Ste
 {
     let at = match triple.at {
         Ok(at) => at,
-        Err(fault) => return refusal(fault),
+        Err(fault) => return fault_reply(fault),
     };
     match triple.value {
-        Ok(value) => at_time(db.put(&triple.key, time_at(at, reading), value, steps)),
-        Err(fault) => refusal(fault),
+        Ok(value) => number_reply(db.put(&triple.key, time_at(at, reading), value, steps)),
+        Err(fault) => fault_reply(fault),
     }
 }

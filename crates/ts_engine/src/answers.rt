@@ -1,107 +1,29 @@
-// The replies to commands of one series.
+// The replies to what the database answers, and to faults.
 ghost use Rattle.std.specs.Prelude.{◌≡◌, ◌≤◌, pos, IfOk};
-ghost use Rattle.ts_spec.specs.Keyed.{get};
-ghost use Rattle.ts_spec.specs.Sample.{MAX_TIME};
-ghost use Rattle.ts_spec.specs.Settings.{IsTime};
-ghost use Rattle.ts_spec.specs.Step.{time_of, create, alter_at, add_at, incr_at, delete_at};
-ghost use Rattle.ts_labels.specs.Spec.{spec_of, change_of};
+ghost use Rattle.ts_spec.specs.Keyed.{Keyed};
 ghost use Rattle.ts_spec.specs.Refusal.{EmptyRows};
-ghost use Rattle.ts_spec.specs.Replies.{number as shown, reply_to, refusal_reply};
+ghost use Rattle.ts_spec.specs.Replies.{number as shown, reply_to, refusal_reply as shown_refusal};
 ghost use Rattle.ts_spec.specs.Response.{Done};
+ghost use Rattle.ts_spec.specs.Sample.{MAX_TIME};
 ghost use Rattle.ts_spec.specs.Text.{Error};
+ghost use Rattle.ts_sample.specs.declared.id.Id.{Id};
 ghost use Rattle.ts_resp.specs.Replies.{reply_of};
 ghost use Rattle.ts_command.specs.Faults.{message as told_fault};
 ghost use Rattle.ts_db.specs.Faults.{refusal_of};
-ghost use Rattle.ts_db.specs.Held.{Carries};
-ghost use Rattle.ts_engine.specs.Answering.{message_of, done_reply, number_reply, IsShort};
-ghost use Rattle.ts_engine.specs.Turn.{StepOrMemory};
+ghost use Rattle.ts_engine.specs.Answering.{message_of, reply_of_done, reply_of_number, IsShort};
 
-use std::sync::ledger::Ledger;
 use ts_command::CommandFault;
-use ts_db::{Change, Db, DbFault, Spec};
-use ts_resp::{Reply, Word};
-use ts_sample::{MAX_TIME, Steps, Units};
-use ts_spec::{At, Policy};
+use ts_db::DbFault;
+use ts_resp::Reply;
+use ts_sample::MAX_TIME;
 
-/// The reply to TS.CREATE.
-pub(crate) fn create(db: &mut Db, key: Word, spec: Spec) -> Reply
-    ensures answer { Carries db.old db.new (λ from to. StepOrMemory (create from.limits from.state key (spec_of spec)) from (reply_of result) to) }
-    ensures short { IsShort (reply_of result) }
-{
-    done(db.create(key, spec))
-}
-
-/// The reply to TS.ALTER.
-pub(crate) fn alter<L: Ledger>(
-    db: &mut Db,
-    key: &Word,
-    change: Change,
-    steps: &mut Steps<L>,
-) -> Reply
-    ensures answer { Carries db.old db.new (λ from to. StepOrMemory (alter_at from.limits from.state key.now (change_of change) (get key.now from.state))
-        from (reply_of result) to) }
-    ensures short { IsShort (reply_of result) }
-{
-    done(db.alter(key, change, steps))
-}
-
-/// The reply to TS.ADD.
-pub(crate) fn add<L: Ledger>(
-    db: &mut Db,
-    key: Word,
-    time: u64,
-    value: Units,
-    on: Option<Policy>,
-    spec: Spec,
-    steps: &mut Steps<L>,
-) -> Reply
-    requires { time ≤ MAX_TIME }
-    ensures answer { Carries db.old db.new (λ from to. StepOrMemory (add_at from.limits from.state key time value on (spec_of spec) (get key from.state))
-        from (reply_of result) to) }
-    ensures short { IsShort (reply_of result) }
-{
-    at_time(db.add(key, time, value, on, spec, steps))
-}
-
-/// The reply to TS.INCRBY and TS.DECRBY.
-pub(crate) fn incr<L: Ledger>(
-    db: &mut Db,
-    key: Word,
-    change: Units,
-    time: u64,
-    spec: Spec,
-    steps: &mut Steps<L>,
-) -> Reply
-    requires { time ≤ MAX_TIME }
-    ensures answer { Carries db.old db.new (λ from to. StepOrMemory (incr_at from.limits from.state key change time (spec_of spec) (get key from.state))
-        from (reply_of result) to) }
-    ensures short { IsShort (reply_of result) }
-{
-    at_time(db.incr(key, change, time, spec, steps))
-}
-
-/// The reply to TS.DEL: how many samples were taken away.
-pub(crate) fn delete<L: Ledger>(
-    db: &mut Db,
-    key: &Word,
-    from: u64,
-    to: u64,
-    steps: &mut Steps<L>,
-) -> Reply
-    ensures answer { Carries db.old db.new (λ h h'. StepOrMemory (delete_at h.limits h.state key.now from to (get key.now h.state))
-        h (reply_of result) h') }
-    ensures short { IsShort (reply_of result) }
-{
-    at_time(db.delete_range(key, from, to, steps))
-}
-
-// The reply to a command that only gets done.
-fn done(outcome: Result<(), DbFault>) -> Reply
-    ensures { reply_of result ≡ done_reply outcome }
+/// The reply to a command that only gets done.
+pub(crate) fn done_reply(outcome: Result<(), DbFault>) -> Reply
+    ensures { (ids : Keyed Id) → reply_of result ≡ reply_of_done ids outcome }
 {
     match outcome {
         Ok(()) => ok(),
-        Err(fault) => Reply::Error(message(fault)),
+        Err(fault) => refusal_reply(fault),
     }
 }
 
@@ -112,26 +34,14 @@ pub(crate) fn ok() -> Reply
     Reply::Simple("OK")
 }
 
-/// The reply to a command that answers a time.
-pub(crate) fn at_time(outcome: Result<u64, DbFault>) -> Reply
+/// The reply to a command that answers a time, or how many.
+pub(crate) fn number_reply(outcome: Result<u64, DbFault>) -> Reply
     requires { IfOk outcome (λ t. t ≤ MAX_TIME) }
-    ensures { reply_of result ≡ number_reply outcome }
+    ensures { (ids : Keyed Id) → reply_of result ≡ reply_of_number ids outcome }
 {
     match outcome {
-        Ok(time) => number(time),
-        Err(fault) => Reply::Error(message(fault)),
-    }
-}
-
-/// The time of a sample: the reading, which counts as at most `MAX_TIME`, where it is the clock's.
-pub(crate) fn time_at(at: At, reading: u64) -> u64
-    requires { IsTime at }
-    ensures time { result ≡ time_of reading at }
-    ensures bound { result ≤ MAX_TIME }
-{
-    match at {
-        At::Clock => reading.min(MAX_TIME),
-        At::Time(time) => time,
+        Ok(answer) => number(answer),
+        Err(fault) => refusal_reply(fault),
     }
 }
 
@@ -152,7 +62,7 @@ fn signed(number: u64) -> i64
 }
 
 /// The error reply to a fault in the words.
-pub(crate) fn refusal(fault: CommandFault) -> Reply
+pub(crate) fn fault_reply(fault: CommandFault) -> Reply
     ensures { reply_of result ≡ Error (told_fault fault) }
 {
     Reply::Error(fault.message())
@@ -160,14 +70,29 @@ pub(crate) fn refusal(fault: CommandFault) -> Reply
 
 /// The reply where the rows of a question are too many.
 pub(crate) fn too_many_rows() -> Reply
-    ensures { reply_of result ≡ refusal_reply EmptyRows }
+    ensures { reply_of result ≡ shown_refusal EmptyRows }
 {
     Reply::Error("ERR TSDB: too many empty buckets")
 }
 
-/// The words of the error reply to a command that the database refuses.
-pub(crate) fn message(fault: DbFault) -> &'static str
-    ensures { result.now ≡ message_of (refusal_of fault) }
+/// The error reply to a command that the database refuses, or for which there is no memory. It names no key.
+pub(crate) fn refusal_reply(fault: DbFault) -> Reply
+    ensures told { (ids : Keyed Id) → reply_of result ≡ Error (message_of (refusal_of ids fault)) }
+    ensures short { IsShort (reply_of result) }
+{
+    error(message(fault))
+}
+
+// An error of these words.
+fn error(words: &'static str) -> Reply
+    ensures { reply_of result ≡ Error words.now }
+{
+    Reply::Error(words)
+}
+
+// What is said of a fault.
+fn message(fault: DbFault) -> &'static str
+    ensures { (ids : Keyed Id) → result.now ≡ message_of (refusal_of ids fault) }
 {
     match fault {
         DbFault::NoKey => "ERR TSDB: the key does not exist",
@@ -178,7 +103,17 @@ pub(crate) fn message(fault: DbFault) -> &'static str
         DbFault::Duplicate => "ERR TSDB: duplicate sample",
         DbFault::OutOfRange => "ERR TSDB: result out of range",
         DbFault::BeforeLast => "ERR TSDB: timestamp is before the last sample",
-        DbFault::SamplesFull { .. } => "ERR TSDB: too many samples",
+        DbFault::SamplesFull { written: true, .. } => "ERR TSDB: too many samples",
+        DbFault::SamplesFull { written: false, .. } =>
+            "ERR TSDB: too many samples in a destination",
+        DbFault::DeleteBeyondRetention => "ERR TSDB: the interval meets an expired bucket",
+        DbFault::SameKey => "ERR TSDB: source and destination are the same",
+        DbFault::SourceIsDest => "ERR TSDB: the source is a destination",
+        DbFault::DestIsSource => "ERR TSDB: the destination is a source",
+        DbFault::DestHasSource => "ERR TSDB: the destination has a source",
+        DbFault::RulesSpent => "ERR TSDB: too many rules made",
+        DbFault::RulesFull => "ERR TSDB: too many rules",
+        DbFault::NoRule => "ERR TSDB: the rule does not exist",
         DbFault::Memory(_) => "OOM out of memory",
     }
 }

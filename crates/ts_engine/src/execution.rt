@@ -1,14 +1,19 @@
+// What each command does, and the text of its reply.
 ghost use Rattle.std.specs.Prelude.{◌≡◌, ◌+◌, ◌≤◌, length};
 ghost use Rattle.ts_command.specs.Answers.{HasTime};
-ghost use Rattle.ts_command.specs.Reading.{reading as command_of};
+ghost use Rattle.ts_command.specs.Reading.{command_of};
 ghost use Rattle.ts_db.specs.Held.{Carries};
 ghost use Rattle.ts_engine.specs.Turn.{Executes};
 
 use crate::additions::put_items;
-use crate::answers::{add, alter, create, delete, incr, ok, time_at};
+use crate::answers::ok;
+use crate::changes::{add, alter, create, delete, incr, time_at};
+use crate::echoes::{put_pong, put_word};
+use crate::info::put_info;
 use crate::keys::{count_keys, drop_keys};
 use crate::members::put_members;
-use crate::questions::{put_get, put_pong, put_range, put_word};
+use crate::questions::{put_get, put_range};
+use crate::rules::{create_rule, delete_rule};
 use crate::wanted::Wanted;
 use std::sync::ledger::Ledger;
 use ts_command::Command;
@@ -57,6 +62,13 @@ pub fn execute<L: Ledger>(
             out,
         ),
         Command::DelRange { key, from, to } => put(&delete(db, &key, from, to, steps), out),
+        Command::CreateRule {
+            source,
+            dest,
+            agg,
+            grid,
+        } => put(&create_rule(db, &source, &dest, agg, grid), out),
+        Command::DeleteRule { source, dest } => put(&delete_rule(db, &source, &dest), out),
         Command::Range { key, latest, query } => put_range(db, &key, latest, &query, out, steps),
         Command::MRange {
             latest,
@@ -78,6 +90,7 @@ pub fn execute<L: Ledger>(
             filters,
         } => put_members(db, &filters, &Wanted::Last { latest, show }, out, steps),
         Command::QueryIndex { filters } => put_members(db, &filters, &Wanted::Key, out, steps),
+        Command::InfoOf { key } => put_info(db, &key, out, steps),
         Command::Ping { word } => put_pong(word, out),
         Command::Echo { word } => put_word(word, out),
         Command::Quit => put(&ok(), out),

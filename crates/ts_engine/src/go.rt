@@ -1,3 +1,4 @@
+// How a session goes on.
 ghost use Rattle.std.specs.Prelude.{◌≡◌};
 ghost use Rattle.ts_engine.specs.Going.{end_of};
 

@@ -3,17 +3,22 @@
 
 mod additions;
 mod answers;
+mod changes;
+mod echoes;
 mod execution;
 mod found;
 mod go;
+mod info;
 mod keys;
 mod laws;
 mod member;
 mod members;
+mod names;
 mod piped;
 mod questions;
 mod room;
 mod rows;
+mod rules;
 mod running;
 mod session;
 mod status;

@@ -1,7 +1,8 @@
+// What answers a whole input.
 ghost use Rattle.std.specs.Prelude.{◌≡◌, ◌+◌, ◌<◌, ◌≤◌, ◌^◌, length, None, Some};
 ghost use Rattle.ts_resp.specs.Reading.{fed, unfinished};
 ghost use Rattle.ts_db.specs.Held.{Carries};
-ghost use Rattle.ts_engine.specs.Standing.{spot, reading, ended_of, HasAnswered};
+ghost use Rattle.ts_engine.specs.Standing.{spot, reader_of, ended_of, HasAnswered};
 ghost use Rattle.ts_engine.specs.Piping.{Piped, Pumped, HasCauses, HasCausesOr};
 ghost use Rattle.ts_engine.specs.Ending.{end_at, end_by};
 
@@ -112,14 +113,14 @@ fn pump<S: Source, K: Sink, C: Clock>(
 ) -> Step
     requires ended { ended_of session.old ≡ None }
     requires current { HasAnswered session.old }
-    requires within { fed (reading session.old) + length buffer.old < 2 ^ 64 }
+    requires within { fed (reader_of session.old) + length buffer.old < 2 ^ 64 }
     requires room { 0 < length buffer.old }
     ensures pumped { Carries db.old db.new (λ from to. Pumped result (S.left input.old) (S.left input.new)
         (spot session.old from (C.readings clock.old)) (spot session.new to (C.readings clock.new)) (K.has out.old) (K.has out.new)) }
     ensures current { result.end ≡ None → HasAnswered session.new }
     ensures causes { HasCausesOr result.end (S.faults input.old) (S.faults input.new) (K.faults out.old) (K.faults out.new) }
     ensures ended { result.end ≡ None → ended_of session.new ≡ None }
-    ensures fed { result.end ≡ None → fed (reading session.new) ≡ fed (reading session.old) + result.taken }
+    ensures fed { result.end ≡ None → fed (reader_of session.new) ≡ fed (reader_of session.old) + result.taken }
     ensures within { result.taken ≤ length buffer.old }
     ensures some { result.end ≡ None → 0 < result.taken }
     ensures unspent { result.end ≡ Some End.Budget → ⊥ }
@@ -145,7 +146,7 @@ fn pump<S: Source, K: Sink, C: Clock>(
 
 // How the stream ends where the input does.
 fn end_of_input(session: &Session) -> End
-    ensures { result ≡ end_at (unfinished (reading session.now)) }
+    ensures { result ≡ end_at (unfinished (reader_of session.now)) }
 {
     match session.place() {
         None => End::Ended,

@@ -1,25 +1,22 @@
-// Questions about one series, and words that are sent back.
-ghost use Rattle.std.specs.Prelude.{◌≡◌, ◌+◌, ◌≤◌, List, [], length, None, IfNone};
+// The questions about the samples of one series.
+ghost use Rattle.std.specs.Prelude.{◌≡◌, ◌+◌, ◌≤◌, List, [], length};
 ghost use Rattle.ts_spec.specs.Answer as spec;
 ghost use Rattle.ts_spec.specs.Keyed.{get};
-ghost use Rattle.ts_spec.specs.Questions.{range_response, rows_response, last_response, ping_response};
+ghost use Rattle.ts_spec.specs.Questions.{range_response, rows_response, last_response};
 ghost use Rattle.ts_spec.specs.Sample.{Point, IsAscending, between};
-ghost use Rattle.ts_spec.specs.Response.{Word as WordBack};
-ghost use Rattle.ts_spec.specs.Replies.{reply_to};
-ghost use Rattle.ts_spec.specs.Text.{text};
 ghost use Rattle.ts_range.specs.Query.{query_of};
 ghost use Rattle.ts_range.specs.Walk.{IsAskedOf};
 ghost use Rattle.ts_db.specs.Held.{Held, Stands};
 ghost use Rattle.ts_engine.specs.Answering.{IsTold};
 
-use crate::answers::{message, too_many_rows};
+use crate::answers::{refusal_reply, too_many_rows};
 use crate::found::find_asked;
 use crate::room::put_no_memory;
 use crate::rows::{put_last, put_rows};
 use std::sync::ledger::Ledger;
 use ts_db::Db;
 use ts_range::{Asked, Query, RangeFault, answer};
-use ts_resp::{Out, Reply, Word, encode, put};
+use ts_resp::{Out, Word, put};
 use ts_sample::Steps;
 
 /// Writes the reply to TS.RANGE and TS.REVRANGE.
@@ -39,7 +36,7 @@ pub(crate) fn put_range<L: Ledger>(
 {
     match find_asked(db, key, latest, query, steps) {
         Ok(asked) => put_answer(query, &asked, db.limits().empty_rows, out),
-        Err(fault) => put(&Reply::Error(message(fault)), out),
+        Err(fault) => put(&refusal_reply(fault), out),
     }
 }
 
@@ -76,33 +73,6 @@ pub(crate) fn put_get<L: Ledger>(
 {
     match db.last(key, latest, steps) {
         Ok(last) => put_last(last, out),
-        Err(fault) => put(&Reply::Error(message(fault)), out),
-    }
-}
-
-/// Writes the reply to PING: a sign of life, or the word back.
-pub(crate) fn put_pong(word: Option<Word>, out: &mut Out)
-    requires empty { out.old.bytes ≡ [] }
-    requires room { 128 ≤ out.old.spare }
-    ensures pong { IfNone word (out.new.bytes ≡ text (reply_to (ping_response None))) }
-    ensures told { IsTold (ping_response word) out.new.bytes }
-    ensures room { 128 ≤ length out.new.bytes + out.new.spare }
-{
-    match word {
-        None => put(&Reply::Simple("PONG"), out),
-        Some(word) => put_word(word, out),
-    }
-}
-
-/// Writes a word back, or says that there is no memory.
-pub(crate) fn put_word(word: Word, out: &mut Out)
-    requires empty { out.old.bytes ≡ [] }
-    requires room { 128 ≤ out.old.spare }
-    ensures told { IsTold (WordBack word) out.new.bytes }
-    ensures room { 128 ≤ length out.new.bytes + out.new.spare }
-{
-    match encode(&Reply::Bulk(word), out) {
-        Ok(()) => {}
-        Err(_) => put_no_memory(out),
+        Err(fault) => put(&refusal_reply(fault), out),
     }
 }

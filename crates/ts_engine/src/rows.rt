@@ -7,9 +7,9 @@ ghost use Rattle.ts_spec.specs.Replies.{reply_to};
 ghost use Rattle.ts_engine.specs.Answering.{IsTold};
 ghost use Rattle.ts_spec.specs.Text.{text};
 
-use crate::room::{put_no_memory, reserve_items};
+use crate::room::put_no_memory;
 use ts_range::Row;
-use ts_resp::{Out, begin_array, put_pair};
+use ts_resp::{Out, begin_array, put_pair, reserve_items};
 use ts_sample::{Cell, Sample};
 
 /// Writes the rows, one after another into room that is taken for all of them, or says that there is no memory.

@@ -1,3 +1,4 @@
+// The top call: the words of the command line, and what they ask for.
 ghost use Rattle.std.specs.Prelude.{◌≡◌, ◌⊎◌, ◌≤◌, ◌<◌, ◌↔◌, ℕ, false, List, length, take, None, Some, IsTrue, codes};
 ghost use Rattle.std.specs.String.{string_bytes};
 ghost use Rattle.ts_io.specs.Causes.{Rose};

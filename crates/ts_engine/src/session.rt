@@ -1,3 +1,4 @@
+// The requests of one stream.
 ghost use Rattle.std.specs.Prelude.{◌≡◌, ◌+◌, ◌<◌, ◌≤◌, ◌^◌, [], length, None, Some, IfOk, IfNone, IfSome};
 ghost use Rattle.ts_engine.specs.Going.{end_of};
 
@@ -26,7 +27,7 @@ impl Session {
     ghost use Rattle.ts_resp.specs.Reading.{fed, unfinished};
     ghost use Rattle.ts_db.specs.Held.{Carries};
     ghost use Rattle.ts_engine.specs.Session.{GoesOn, Answers, Replied, Refused, WroteOrFault};
-    ghost use Rattle.ts_engine.specs.Standing.{spot, reading, executed_by, ended_of, Begins, HasAnswered};
+    ghost use Rattle.ts_engine.specs.Standing.{spot, reader_of, executed_by, ended_of, Begins, HasAnswered};
 
     /// A session to which no byte came.
     pub fn new(alloc: Global, limits: WireLimits) -> Result<Session, AllocError>
@@ -53,7 +54,7 @@ impl Session {
         clock: &mut C,
         out: &mut K,
     ) -> Go
-        requires { fed (reading self.old) + length bytes.now < 2 ^ 64 }
+        requires { fed (reader_of self.old) + length bytes.now < 2 ^ 64 }
         ensures goes { IfNone (ended_of self.old) (Carries db.old db.new (λ from to. Answers result
             (spot self.old from (C.readings clock.old)) (spot self.new to (C.readings clock.new))
             (K.has out.old) (K.has out.new) bytes.now)) }
@@ -61,7 +62,7 @@ impl Session {
         ensures again { IfSome (ended_of self.old) (λ go. (result ≡ go)
             × (self.new ≡ self.old) × (db.new ≡ db.old) × (clock.new ≡ clock.old) × (out.new ≡ out.old)) }
         ensures ended { IfNone (ended_of self.old) (ended_of self.new ≡ end_of result) }
-        ensures fed { ended_of self.new ≡ None → fed (reading self.new) ≡ fed (reading self.old) + length bytes.now }
+        ensures fed { ended_of self.new ≡ None → fed (reader_of self.new) ≡ fed (reader_of self.old) + length bytes.now }
         ensures cause { IfNone (ended_of self.old) (WroteOrFault (K.faults out.old) (K.faults out.new) (Some result)) }
     {
         if let Some(go) = self.ended {
@@ -81,7 +82,7 @@ impl Session {
 
     /// Where an unfinished request begins, counted in bytes from the start of the stream, or `None` between requests.
     pub fn place(&self) -> Option<u64>
-        ensures { result ≡ unfinished (reading self.now) }
+        ensures { result ≡ unfinished (reader_of self.now) }
     {
         self.reader.place()
     }
@@ -95,7 +96,7 @@ impl Session {
         out: &mut K,
         blank: Blank,
     ) -> Go
-        requires within { fed (reading self.old) + length bytes.now < 2 ^ 64 }
+        requires within { fed (reader_of self.old) + length bytes.now < 2 ^ 64 }
         requires name { blank.name ≡ L.name }
         requires parts { blank.parts ≡ L.parts }
         requires some { 0 < blank.parts }
@@ -103,7 +104,7 @@ impl Session {
             (spot self.old from (C.readings clock.old)) (spot self.new to (C.readings clock.new))
             (K.has out.old) (K.has out.new) bytes.now) }
         ensures current { result ≡ Go.More → HasAnswered self.new }
-        ensures fed { result ≡ Go.More → fed (reading self.new) ≡ fed (reading self.old) + length bytes.now }
+        ensures fed { result ≡ Go.More → fed (reader_of self.new) ≡ fed (reader_of self.old) + length bytes.now }
         ensures cause { WroteOrFault (K.faults out.old) (K.faults out.new) (Some result) }
     {
         let mut steps = Steps::<L>::new(blank);
@@ -125,7 +126,7 @@ impl Session {
             (spot self.old from (C.readings clock.old)) (spot self.new to (C.readings clock.new))
             (K.has out.old) (K.has out.new) []) }
         ensures current { result ≡ Go.More → HasAnswered self.new }
-        ensures fed { fed (reading self.new) ≡ fed (reading self.old) }
+        ensures fed { fed (reader_of self.new) ≡ fed (reader_of self.old) }
         ensures cause { WroteOrFault (K.faults out.old) (K.faults out.new) (Some result) }
     {
         loop {
@@ -145,10 +146,10 @@ impl Session {
     ) -> Option<Go>
         ensures goes { Carries db.old db.new (λ from to. GoesOn result
             (spot self.old from (C.readings clock.old)) (spot self.new to (C.readings clock.new)) (K.has out.old) (K.has out.new)) }
-        ensures onward { result ≡ None → (reading self.old).begin < (reading self.new).begin }
+        ensures onward { result ≡ None → (reader_of self.old).begin < (reader_of self.new).begin }
         ensures current { result ≡ Some Go.More → HasAnswered self.new }
-        ensures fed { fed (reading self.new) ≡ fed (reading self.old) }
-        ensures within { (reading self.new).begin ≤ fed (reading self.new) }
+        ensures fed { fed (reader_of self.new) ≡ fed (reader_of self.old) }
+        ensures within { (reader_of self.new).begin ≤ fed (reader_of self.new) }
         ensures cause { WroteOrFault (K.faults out.old) (K.faults out.new) result }
     {
         match self.reader.next() {
@@ -168,11 +169,11 @@ impl Session {
         out: &mut K,
         steps: &mut Steps<L>,
     ) -> Option<Go>
-        requires counted { executed_by self.old < (reading self.old).begin }
-        requires bounded { (reading self.old).begin < 2 ^ 64 }
+        requires counted { executed_by self.old < (reader_of self.old).begin }
+        requires bounded { (reader_of self.old).begin < 2 ^ 64 }
         ensures replied { Carries db.old db.new (λ from to. Replied result words.items
             (spot self.old from (C.readings clock.old)) (spot self.new to (C.readings clock.new)) (K.has out.old) (K.has out.new)) }
-        ensures reader { reading self.new ≡ reading self.old }
+        ensures reader { reader_of self.new ≡ reader_of self.old }
         ensures ends { result ≡ Some Go.More → ⊥ }
         ensures cause { WroteOrFault (K.faults out.old) (K.faults out.new) result }
     {
@@ -189,7 +190,7 @@ impl Session {
     fn refuse<K: Sink>(&mut self, fault: Protocol, out: &mut K) -> Go
         ensures refused { Refused result fault (K.has out.old) (K.has out.new) }
         ensures ends { result ≡ Go.More → ⊥ }
-        ensures reader { reading self.new ≡ reading self.old }
+        ensures reader { reader_of self.new ≡ reader_of self.old }
         ensures executed { executed_by self.new ≡ executed_by self.old }
         ensures cause { WroteOrFault (K.faults out.old) (K.faults out.new) (Some result) }
     {

@@ -1,3 +1,4 @@
+// How a run of the program ends, and how it says so.
 ghost use Rattle.std.specs.Prelude.{◌≡◌, OnOk, OnErr};
 ghost use Rattle.ts_io.specs.Causes.{HasCause};
 ghost use Rattle.ts_io.specs.Sinks.{Grows, GrowsByFront};

@@ -1,11 +1,12 @@
+// The turn of one request.
 ghost use Rattle.std.specs.Prelude.{◌≡◌, ◌+◌, ◌≤◌, length, Ok};
 ghost use Rattle.ts_spec.specs.Run.{is_quit, says_quit};
 ghost use Rattle.ts_spec.specs.Grammar.{needs_clock};
-ghost use Rattle.ts_command.specs.Reading.{reading as command_of};
+ghost use Rattle.ts_command.specs.Reading.{command_of};
 ghost use Rattle.ts_db.specs.Held.{Carries};
 ghost use Rattle.ts_engine.specs.Turn.{turn, IsReading, left_by};
 
-use crate::answers::refusal;
+use crate::answers::fault_reply;
 use crate::execution::execute;
 use std::sync::ledger::Ledger;
 use ts_command::{Command, read};
@@ -37,7 +38,7 @@ pub(crate) fn take_turn<C: Clock, L: Ledger>(
         }
         Err(fault) => {
             room.clear();
-            put(&refusal(fault), room);
+            put(&fault_reply(fault), room);
             false
         }
     }

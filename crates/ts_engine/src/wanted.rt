@@ -1,3 +1,4 @@
+// What is told of each of many series.
 use ts_labels::Show;
 use ts_range::Query;
 

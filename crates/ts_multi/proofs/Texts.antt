@@ -4,10 +4,10 @@ use Rattle.std.proofs.lemmas.List.{length-map}
 use Rattle.std.proofs.lemmas.Fmt.{length-decimal-le}
 use Rattle.std.specs.Fmt.{decimal}
 use Rattle.ts_spec.specs.Replies.{array, listed}
-use Rattle.ts_spec.specs.Text.{Reply, CRLF, count_of, line, text, texts}
+use Rattle.ts_spec.specs.Text.{Reply, CRLF, count_of, line_text, text, texts}
 
 -- what stands before an array is short
-pub short-head : (n : ℕ) → n < 2 ^ 64 → length (line 42 (decimal n)) ≤ 64
+pub short-head : (n : ℕ) → n < 2 ^ 64 → length (line_text 42 (decimal n)) ≤ 64
 short-head n within = omega (arith, length-append (decimal n) CRLF, length-decimal-le 20 n (omega arith) (omega arith) within)
 
 pub count-listed : (items : List Reply) → count_of (listed items) ≡ length items
@@ -19,8 +19,8 @@ abbrev pub item_texts : {X : Type 0} → (X → Reply) → List X → List ℕ
 item_texts shown xs = texts (listed (map shown xs))
 
 -- the line of their number, and these, are the text of their array
-pub array-text : {X : Type 0} (shown : X → Reply) (xs : List X) → line 42 (decimal (length xs)) ++ item_texts shown xs ≡ text (array (map shown xs))
-array-text shown xs = ap (λ (k : ℕ). line 42 (decimal k) ++ item_texts shown xs) (sym (length-map xs shown) ∙ sym (count-listed (map shown xs)))
+pub array-text : {X : Type 0} (shown : X → Reply) (xs : List X) → line_text 42 (decimal (length xs)) ++ item_texts shown xs ≡ text (array (map shown xs))
+array-text shown xs = ap (λ (k : ℕ). line_text 42 (decimal k) ++ item_texts shown xs) (sym (length-map xs shown) ∙ sym (count-listed (map shown xs)))
 
 -- the texts of the items that are left, after those that were written, are those of all behind what was there at the start
 abbrev pub GoesOn : {X : Type 0} → (X → Reply) → (start now : List ℕ) → (rest all : List X) → Type 0
@@ -35,13 +35,13 @@ goes-on {X = X} shown start now next x rest more all so_far here is =
 
 -- where none is left, and the line of their number was there at the start, that is the text of all
 pub whole : {X : Type 0} (shown : X → Reply) (before start now : List ℕ) (n : ℕ) (rest all : List X)
-    → GoesOn shown start now rest all → rest ≡ [] → start ≡ before ++ line 42 (decimal n) → n ≡ length all
+    → GoesOn shown start now rest all → rest ≡ [] → start ≡ before ++ line_text 42 (decimal n) → n ≡ length all
     → now ≡ before ++ text (array (map shown all))
 whole {X = X} shown before start now n rest all so_far none begun count =
     sym (append-nil now) ∙ ap (λ (l : List X). now ++ item_texts shown l) (sym none) ∙ so_far
     ∙ ap (λ (l : List ℕ). l ++ item_texts shown all) begun
-    ∙ append_assoc before (line 42 (decimal n)) (item_texts shown all)
-    ∙ ap (λ (k : ℕ). before ++ (line 42 (decimal k) ++ item_texts shown all)) count
+    ∙ append_assoc before (line_text 42 (decimal n)) (item_texts shown all)
+    ∙ ap (λ (k : ℕ). before ++ (line_text 42 (decimal k) ++ item_texts shown all)) count
     ∙ ap (λ (l : List ℕ). before ++ l) (array-text shown all)
 
 -- two parts behind what was there, and three

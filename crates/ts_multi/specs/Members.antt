@@ -14,12 +14,12 @@ abbrev pub valued : List ℕ → Option (List ℕ) → spec.ShownLabel
 valued name value = record { name = name; value = value }
 
 -- a member with this key, those of its labels that are asked for, and these rows
-abbrev pub told : Show → (key : List ℕ) → List Label → List Row → spec.Member
-told show key labels rows = record { key = key; labels = labels_shown (show_of show) labels; rows = rows }
+abbrev pub member_with : Show → (key : List ℕ) → List Label → List Row → spec.Member
+member_with show key labels rows = record { key = key; labels = labels_shown (show_of show) labels; rows = rows }
 
 -- a member with the labels that are asked for
 abbrev pub member_of : Show → Member → spec.Member
-member_of show m = told show m.key m.labels (map row_of m.rows.items)
+member_of show m = member_with show m.key m.labels (map row_of m.rows.items)
 
 -- the members, in their order
 abbrev pub members_of : Show → List Member → List spec.Member

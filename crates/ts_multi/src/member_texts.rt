@@ -4,7 +4,7 @@ ghost use Rattle.ts_spec.specs.Replies as spec;
 ghost use Rattle.ts_spec.specs.Text.{text};
 ghost use Rattle.ts_range.specs.Query.{row_of};
 ghost use Rattle.ts_spec.specs.Questions.{row_list};
-ghost use Rattle.ts_multi.specs.Members.{told};
+ghost use Rattle.ts_multi.specs.Members.{member_with};
 
 use crate::label_texts::encode_labels;
 use crate::row_texts::{encode_row, encode_rows};
@@ -22,7 +22,7 @@ pub fn encode_member(
     rows: &[Row],
     out: &mut Out,
 ) -> Result<(), AllocError>
-    ensures ok { OnOk result (out.new.bytes ≡ out.old.bytes ++ text (spec.member_reply (told show.now key.now labels.now (map row_of rows.now)))) }
+    ensures ok { OnOk result (out.new.bytes ≡ out.old.bytes ++ text (spec.member_reply (member_with show.now key.now labels.now (map row_of rows.now)))) }
     ensures room { length out.old.bytes + out.old.spare ≤ length out.new.bytes + out.new.spare }
 {
     encode_count(3, out)?;
@@ -40,7 +40,7 @@ pub fn encode_last_member(
     last: Option<Row>,
     out: &mut Out,
 ) -> Result<(), AllocError>
-    ensures ok { OnOk result (out.new.bytes ≡ out.old.bytes ++ text (spec.last_member_reply (told show.now key.now labels.now (row_list (option_map row_of last))))) }
+    ensures ok { OnOk result (out.new.bytes ≡ out.old.bytes ++ text (spec.last_member_reply (member_with show.now key.now labels.now (row_list (option_map row_of last))))) }
     ensures room { length out.old.bytes + out.old.spare ≤ length out.new.bytes + out.new.spare }
 {
     encode_count(3, out)?;

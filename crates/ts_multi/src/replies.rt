@@ -1,6 +1,6 @@
 // The replies to questions over many series.
 ghost use Rattle.std.specs.Prelude.{◌≡◌, All, map, IfOk};
-ghost use Rattle.ts_spec.specs.Replies.{array as array_of, member_reply as told, last_member_reply as last_told};
+ghost use Rattle.ts_spec.specs.Replies.{array as array_of, member_reply as shown_member, last_member_reply as shown_last};
 ghost use Rattle.ts_resp.specs.Replies.{reply_of};
 ghost use Rattle.ts_multi.specs.Members.{members_of, HasAtMostOneRow};
 
@@ -15,7 +15,7 @@ use ts_resp::Reply;
 /// it was asked for and the series lacks it; a row is an array of its time and its value.
 pub fn multi(alloc: Global, members: &[Member], show: &Show) -> Result<Reply, AllocError>
     ensures { IfOk result (λ reply. reply_of reply
-        ≡ array_of (map told (members_of show.now members.now))) }
+        ≡ array_of (map shown_member (members_of show.now members.now))) }
 {
     let mut replies = Vec::with_capacity(alloc, members.len())?;
     for member in members {
@@ -29,7 +29,7 @@ pub fn multi(alloc: Global, members: &[Member], show: &Show) -> Result<Reply, Al
 pub fn multi_last(alloc: Global, members: &[Member], show: &Show) -> Result<Reply, AllocError>
     requires { All HasAtMostOneRow members.now }
     ensures { IfOk result (λ reply. reply_of reply
-        ≡ array_of (map last_told (members_of show.now members.now))) }
+        ≡ array_of (map shown_last (members_of show.now members.now))) }
 {
     let mut replies = Vec::with_capacity(alloc, members.len())?;
     for member in members {

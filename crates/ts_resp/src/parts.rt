@@ -1,7 +1,7 @@
 // Parts of a reply, written one after another, each into room that is reserved for it.
 ghost use Rattle.std.specs.Prelude.{◌≡◌, ◌+◌, ◌*◌, ◌^◌, ◌<◌, ◌≤◌, ◌++◌, length, OnOk, OnErr};
 ghost use Rattle.std.specs.Fmt.{decimal};
-ghost use Rattle.ts_spec.specs.Text.{Bulk, text, line};
+ghost use Rattle.ts_spec.specs.Text.{Bulk, text, line_text};
 
 use crate::Out;
 use crate::pair::PAIR;
@@ -41,7 +41,7 @@ pub fn encode_bulk(bytes: &[u8], out: &mut Out) -> Result<(), AllocError>
 /// Reserves room for what stands before the texts of so many replies in the text of their array, and writes it. After
 /// an Err the bytes are as before.
 pub fn encode_count(count: usize, out: &mut Out) -> Result<(), AllocError>
-    ensures ok { OnOk result (out.new.bytes ≡ out.old.bytes ++ line 42 (decimal count)) }
+    ensures ok { OnOk result (out.new.bytes ≡ out.old.bytes ++ line_text 42 (decimal count)) }
     ensures err { OnErr result (out.new.bytes ≡ out.old.bytes) }
     ensures room { length out.old.bytes + out.old.spare ≤ length out.new.bytes + out.new.spare }
 {

@@ -2,7 +2,7 @@
 ghost use Rattle.std.specs.Prelude.{◌≡◌, ◌+◌, ◌^◌, ◌<◌, ◌≤◌, ◌++◌, length, OnOk, OnErr};
 ghost use Rattle.std.specs.Option.{SomeIff};
 ghost use Rattle.std.specs.Fmt.{decimal};
-ghost use Rattle.ts_spec.specs.Text.{Bulk, Array, text, line, shown_cell};
+ghost use Rattle.ts_spec.specs.Text.{Bulk, Array, text, line_text, shown_cell};
 ghost use Rattle.ts_resp.specs.Replies.{reply_of, all_of, value_of};
 
 use crate::{Out, Word};
@@ -136,9 +136,9 @@ pub fn encode(reply: &Reply, out: &mut Out) -> Result<(), AllocError>
 }
 
 pub(crate) fn put_line(first: u8, others: &[u8], out: &mut Out)
-    requires { length (line first others.now) ≤ out.old.spare }
-    ensures bytes { out.new.bytes ≡ out.old.bytes ++ line first others.now }
-    ensures room { out.new.spare + length (line first others.now) ≡ out.old.spare }
+    requires { length (line_text first others.now) ≤ out.old.spare }
+    ensures bytes { out.new.bytes ≡ out.old.bytes ++ line_text first others.now }
+    ensures room { out.new.spare + length (line_text first others.now) ≡ out.old.spare }
 {
     out.add(&[first]);
     out.add(others);
@@ -146,9 +146,9 @@ pub(crate) fn put_line(first: u8, others: &[u8], out: &mut Out)
 }
 
 fn put_count(first: u8, count: usize, out: &mut Out)
-    requires { length (line first (decimal count)) ≤ out.old.spare }
-    ensures bytes { out.new.bytes ≡ out.old.bytes ++ line first (decimal count) }
-    ensures room { out.new.spare + length (line first (decimal count)) ≡ out.old.spare }
+    requires { length (line_text first (decimal count)) ≤ out.old.spare }
+    ensures bytes { out.new.bytes ≡ out.old.bytes ++ line_text first (decimal count) }
+    ensures room { out.new.spare + length (line_text first (decimal count)) ≡ out.old.spare }
 {
     let mut buffer = Buffer::new();
     put_line(first, buffer.format(count).as_bytes(), out);
@@ -157,9 +157,9 @@ fn put_count(first: u8, count: usize, out: &mut Out)
 /// Writes what stands before the texts of so many replies in the text of their array, into room that was reserved
 /// for it. Takes no memory.
 pub fn begin_array(count: usize, out: &mut Out)
-    requires { length (line 42 (decimal count)) ≤ out.old.spare }
-    ensures bytes { out.new.bytes ≡ out.old.bytes ++ line 42 (decimal count) }
-    ensures room { out.new.spare + length (line 42 (decimal count)) ≡ out.old.spare }
+    requires { length (line_text 42 (decimal count)) ≤ out.old.spare }
+    ensures bytes { out.new.bytes ≡ out.old.bytes ++ line_text 42 (decimal count) }
+    ensures room { out.new.spare + length (line_text 42 (decimal count)) ≡ out.old.spare }
 {
     put_count(b'*', count, out);
 }

@@ -7,12 +7,20 @@ use ts_engine::{Limits, top};
 use ts_io::{MemClock, MemListener, MemSink, MemSource};
 
 mod buckets;
+mod day;
+mod destinations;
 mod devices;
+mod edges;
+mod full;
 mod many;
 mod questions;
+mod rollups;
+mod rules;
 mod series;
 mod sessions;
+mod sixteen;
 mod talk;
+mod told;
 mod wire;
 mod words;
 
@@ -27,6 +35,9 @@ struct Row<'a> {
     keys: u32,
     labels: u32,
     samples: u32,
+    /// How many rules a series may have, and how many it may have had in its life.
+    rules: u32,
+    born: u32,
     /// How many rows an answer with empty buckets may have.
     empty_rows: u32,
     /// What the clock shows, reading by reading, in milliseconds.
@@ -47,6 +58,8 @@ const PLAIN: Row<'static> = Row {
     keys: 65_536,
     labels: 64,
     samples: 16_777_216,
+    rules: 16,
+    born: u32::MAX,
     empty_rows: 1_000_000,
     readings: &[],
     failing_read: 0,
@@ -83,6 +96,8 @@ fn run(rt: &impl Abort, alloc: Global, row: &Row, piece: usize) -> Result<(), Fa
         keys: row.keys.max(1),
         labels: row.labels.max(1),
         samples: row.samples.max(1),
+        rules: row.rules.max(1),
+        born: row.born.max(1),
         empty_rows: row.empty_rows.max(1),
         ..Limits::usual()
     };

@@ -6,3 +6,4 @@ pub mod Putting
 pub mod Latest
 pub mod Mending
 pub mod Writing
+pub mod NearEnd

@@ -6,6 +6,7 @@ mod alter;
 mod cut;
 mod edge;
 mod edit;
+mod late;
 mod line;
 mod mend;
 mod merged;
@@ -19,6 +20,8 @@ pub use plan::{PutFault, SeriesPlan};
 pub use series::Series;
 pub use ts_spec::{Encoding, Merge, Options, Policy};
 
+#[cfg(test)]
+mod late_tests;
 #[cfg(test)]
 mod mend_tests;
 #[cfg(test)]

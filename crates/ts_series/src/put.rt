@@ -7,11 +7,12 @@ ghost use Rattle.ts_series.specs.Put.{met, Answers, IsWrite, list_after, rewrite
 
 use crate::edge::{edge_at, expired, raise};
 use crate::edit::{Edit, Place};
+use crate::late::find_late;
 use crate::merged::merged;
 use crate::plan::{PutFault, SeriesPlan};
 use crate::series::Series;
 use std::sync::ledger::Ledger;
-use ts_sample::{Sample, Steps, Units, find};
+use ts_sample::{Sample, Steps, Units};
 use ts_spec::Merge;
 
 impl Series {
@@ -34,7 +35,7 @@ impl Series {
             return Err(PutFault::TooOld);
         }
         let list = self.line.as_slice();
-        match find(list, time) {
+        match find_late(list, time) {
             Ok(place) => {
                 let there = list[place];
                 let wrote = merged(how, there.value, value)?;

@@ -7,7 +7,7 @@ use Rattle.ts_spec.specs.Sample.{Point, IsAscending, at, at_times, put_all}
 use Rattle.ts_spec.specs.Key.{Key}
 use Rattle.ts_spec.specs.Keyed.{get}
 use Rattle.ts_spec.specs.State.{Rule, Record, State, Link, rule_to, link_to, rule_into, edge}
-use Rattle.ts_spec.specs.Rules.{is_told, bucket_sample, told, told_by, tidied_by, edge_at, expired, expired_in, expire_record, shown, shown_by, ends_into, ended_in, ended}
+use Rattle.ts_spec.specs.Rules.{is_told, bucket_sample, closed_rows, told_by, tidied_by, edge_at, expired, expired_in, expire_record, shown, shown_by, ends_into, ended_in, ended}
 use Rattle.ts_spec.specs.Valid.{Every, EachRule, IsCountable, IsSoundRule, IsOwn, IsSound, IsSoleLink, IsWithin, IsValid}
 use Rattle.ts_spec.proofs.Maps.{get-each, count-each}
 use Rattle.ts_spec.proofs.Links.{Found, link-found}
@@ -178,7 +178,7 @@ module _ (limits : Limits) (m : State) (ends : Key → Key → Bool) (v : IsVali
       ∙ tidy-unlinked (ended_in ends m k d)
       (subst (λ (ps : List Point). at_times (nat_le (edge d)) ps ≡ ps) (ap (λ (b : Bool). if b then shown_by (rule_into m k) d else d.plain) (sym (ap (ends_into ends k) y ∙ e)))
       (subst (λ (o : Option Link). at_times (nat_le (edge d)) (shown_by (option_map (λ (q : Link). q.rule) o) d) ≡ shown_by (option_map (λ (q : Link). q.rule) o) d) (sym y)
-      (times-within (nat_le (edge d)) (nat_le (edge d)) (put_all (told l.rule d.born) d.plain) (λ t z. z))))
+      (times-within (nat_le (edge d)) (nat_le (edge d)) (put_all (closed_rows l.rule d.born) d.plain) (λ t z. z))))
   tidy-ended k d x (Left l y e) =
       let whole : ended_in ends m k d ≡ record d { rules = filter (λ r. not (ends k r.dest)) d.rules } =
       (let plain : (ended_in ends m k d).plain ≡ d.plain = plain-left k d (ap (ends_into ends k) y ∙ e) in λ i. record (ended_in ends m k d) { plain = plain i }) in

@@ -9,7 +9,7 @@ use Rattle.ts_spec.specs.State.{Rule, Record, State, Link, rule_to, link_to, rul
 use Rattle.ts_spec.specs.Rules.{shown, shown_at}
 use Rattle.ts_spec.specs.Response.{Response}
 use Rattle.ts_spec.specs.Refusal.{Refusal}
-use Rattle.ts_spec.specs.Step.{Outcome, refused, told, shows_more, first_full, rules_at, unless_full, within_destinations, meets_expired, has_rules}
+use Rattle.ts_spec.specs.Step.{Outcome, refused, answer_only, shows_more, first_full, rules_at, unless_full, within_destinations, meets_expired, has_rules}
 use Rattle.ts_spec.specs.Valid.{IsValid}
 use Rattle.ts_spec.specs.Kept.{Kept, Keeping, kept_rule, kept_record, kept}
 use Rattle.ts_spec.specs.Mending.{kept_rule_to}
@@ -123,7 +123,7 @@ pub record Agrees (done : Outcome) (kept_done : KeptOutcome) : Type 0 where
 pub agreed : (limits : Limits) (done : Outcome) (kept_done : KeptOutcome) → IsValid limits done.state → Agrees done kept_done → IsStepOf limits done kept_done
 agreed limits done kept_done v a = record { response = a.response; stands = record { valid = v; kept = a.keys } }
 
-pub agrees-told : (m : State) (keys : Keeping) (r q : Response) → keys ≡ kept m → r ≡ q → Agrees (told m r) (kept_told keys q)
+pub agrees-told : (m : State) (keys : Keeping) (r q : Response) → keys ≡ kept m → r ≡ q → Agrees (answer_only m r) (kept_told keys q)
 agrees-told m keys r q e x = record { response = x; keys = e }
 
 pub agrees-refused : (m : State) (keys : Keeping) (refusal : Refusal) → keys ≡ kept m → Agrees (refused m refusal) (kept_refused keys refusal)

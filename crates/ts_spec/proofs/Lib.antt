@@ -71,3 +71,4 @@ pub mod Spans
 pub mod BucketRoom
 pub mod KeptLists
 pub mod BucketSpan
+pub mod WordsOfRules

@@ -9,7 +9,7 @@ use Rattle.ts_spec.specs.Messages.{memory_message}
 use Rattle.ts_spec.specs.Answer.{Row}
 use Rattle.ts_spec.specs.Response as response
 use Rattle.ts_spec.specs.Response.{Item, Wrote, IsWrong, IsRefused, ShownLabel, Member, RuleInfo, Info, Response}
-use Rattle.ts_spec.specs.Text.{Reply, Simple, Error, Int, Value, Bulk, Nil, Array, Replies, Empty, CRLF, line, IsOneLine, IsPlain, ArePlain, count_of, text, texts, fault_words}
+use Rattle.ts_spec.specs.Text.{Reply, Simple, Error, Int, Value, Bulk, Nil, Array, Replies, Empty, CRLF, line_text, IsOneLine, IsPlain, ArePlain, count_of, text, texts, fault_words}
 use Rattle.ts_spec.specs.Text as replies
 use Rattle.ts_spec.specs.Replies.{listed, array, fault_reply, memory_reply, item_reply, row_reply, first_row_reply, last_row_reply, bulk_or_nil, shown_label_reply, member_reply, last_member_reply, label_reply, rule_reply, info_reply, reply_to, IsItemReply}
 use Rattle.ts_spec.proofs.OwnWords.{one_line, fault-line, refusal-line, aggregator-line, encoding-line, policy-line, kind-line}
@@ -47,10 +47,10 @@ mutual
   plain-lines (Error words) h n = h
   plain-lines (Int number) h n = tt
   plain-lines (Value cell) h n = tt
-  plain-lines (Bulk bytes) h n = omega (arith, length-append (line 36 (decimal (length bytes)) ++ bytes) CRLF, length-append (line 36 (decimal (length bytes))) bytes)
+  plain-lines (Bulk bytes) h n = omega (arith, length-append (line_text 36 (decimal (length bytes)) ++ bytes) CRLF, length-append (line_text 36 (decimal (length bytes))) bytes)
   plain-lines Nil h n = tt
   plain-lines (Array rs) h n =
-      let whole : length (text (Array rs)) ≡ length (line 42 (decimal (count_of rs))) + length (texts rs) = length-append (line 42 (decimal (count_of rs))) (texts rs) in
+      let whole : length (text (Array rs)) ≡ length (line_text 42 (decimal (count_of rs))) + length (texts rs) = length-append (line_text 42 (decimal (count_of rs))) (texts rs) in
       let few : count_of rs ≤ length (texts rs) = count-texts rs in
       (omega arith, all-plain rs h (omega arith))
 

@@ -5,7 +5,7 @@ use Rattle.std.proofs.lemmas.Bool.{false≢true}
 use Rattle.ts_spec.specs.Sample.{Point, IsAscending, at, put_all}
 use Rattle.ts_spec.specs.Bucket.{Grid, start, members, starts, with_start}
 use Rattle.ts_spec.specs.State.{Rule, Record, edge}
-use Rattle.ts_spec.specs.Rules.{is_closed, has_any, is_told, bucket_sample, told, shown_by}
+use Rattle.ts_spec.specs.Rules.{is_closed, has_any, is_told, bucket_sample, closed_rows, shown_by}
 use Rattle.ts_spec.proofs.Samples.{at-times, at-put_all, ascending-put_all, ascending-times}
 
 -- whether a number is in a list
@@ -65,7 +65,7 @@ at-samples r born t (b ∷ bs) = go (b == t) refl (at-samples r born t bs)
     go false e ih = ih
 
 -- a closed bucket with counted samples tells one sample, at its start
-pub at-told : (r : Rule) (born t : ℕ) → at t (told r born) ≡ (if is_told r t then Some (bucket_sample r born t) else None)
+pub at-told : (r : Rule) (born t : ℕ) → at t (closed_rows r born) ≡ (if is_told r t then Some (bucket_sample r born t) else None)
 at-told r born t =
     at-samples r born t (filter (is_closed r) (starts r.grid r.seen)) ∙ ap (λ (x : Bool). if x then Some (bucket_sample r born t) else None) (has-told r t)
 
@@ -73,10 +73,10 @@ at-told r born t =
 pub at-shown : (r : Rule) (d : Record) (t : ℕ) → at t (shown_by (Some r) d) ≡
     (if nat_le (edge d) t then option_or (if is_told r t then Some (bucket_sample r d.born t) else None) (at t d.plain) else None)
 at-shown r d t =
-    at-times t (nat_le (edge d)) (put_all (told r d.born) d.plain)
+    at-times t (nat_le (edge d)) (put_all (closed_rows r d.born) d.plain)
     ∙ ap (λ (x : Option Point). if nat_le (edge d) t then x else None)
-    (at-put_all t (told r d.born) d.plain ∙ ap (λ (x : Option Point). option_or x (at t d.plain)) (at-told r d.born t))
+    (at-put_all t (closed_rows r d.born) d.plain ∙ ap (λ (x : Option Point). option_or x (at t d.plain)) (at-told r d.born t))
 
 pub ascending-shown : (o : Option Rule) (d : Record) → IsAscending d.plain → IsAscending (shown_by o d)
 ascending-shown None d h = h
-ascending-shown (Some r) d h = ascending-times (nat_le (edge d)) (put_all (told r d.born) d.plain) (ascending-put_all (told r d.born) d.plain h)
+ascending-shown (Some r) d h = ascending-times (nat_le (edge d)) (put_all (closed_rows r d.born) d.plain) (ascending-put_all (closed_rows r d.born) d.plain h)

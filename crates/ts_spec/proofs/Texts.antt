@@ -3,7 +3,7 @@ use Rattle.std.proofs.Common.{◌≡◌, ◌≢◌, ℕ, ◌^◌, ◌<◌, List,
 use Rattle.std.specs.Fmt.{decimal, signed_decimal}
 use Rattle.std.proofs.lemmas.Bool.{eqb-false}
 use Rattle.std.proofs.lemmas.Fmt.{decimal_injective}
-use Rattle.ts_spec.specs.Text.{shown_cell, Reply, Simple, Error, Int, Value, Bulk, Nil, Array, Replies, Empty, Item, CRLF, IsOneLine, IsPlain, ArePlain, count_of, line, text, texts}
+use Rattle.ts_spec.specs.Text.{shown_cell, Reply, Simple, Error, Int, Value, Bulk, Nil, Array, Replies, Empty, Item, CRLF, IsOneLine, IsPlain, ArePlain, count_of, line_text, text, texts}
 use Rattle.ts_spec.specs.Replies.{listed, array}
 use Rattle.ts_spec.proofs.OneLine.{AreDigits, AreDigits-decimal, IsOneLine-digits, IsOneLine-signed, IsOneLine-shown_cell}
 
@@ -58,10 +58,10 @@ body_of (Bulk bytes) = bytes ++ CRLF
 body_of (Array replies) = texts replies
 body_of _ = []
 
-split : (first : ℕ) (words body more : List ℕ) → line first words ++ body ++ more ≡ first ∷ (words ++ 13 ∷ 10 ∷ (body ++ more))
-split first words body more = append_assoc (line first words) body more ∙ append_assoc (first ∷ words) CRLF (body ++ more)
+split : (first : ℕ) (words body more : List ℕ) → line_text first words ++ body ++ more ≡ first ∷ (words ++ 13 ∷ 10 ∷ (body ++ more))
+split first words body more = append_assoc (line_text first words) body more ∙ append_assoc (first ∷ words) CRLF (body ++ more)
 
-bare : (first : ℕ) (words more : List ℕ) → line first words ++ more ≡ first ∷ (words ++ 13 ∷ 10 ∷ more)
+bare : (first : ℕ) (words more : List ℕ) → line_text first words ++ more ≡ first ∷ (words ++ 13 ∷ 10 ∷ more)
 bare first words more = append_assoc (first ∷ words) CRLF more
 
 text-split : (reply : Reply) (more : List ℕ) → text reply ++ more ≡ first_of reply ∷ (line_of reply ++ 13 ∷ 10 ∷ (body_of reply ++ more))
@@ -69,7 +69,7 @@ text-split (Simple words) more = bare 43 words more
 text-split (Error words) more = bare 45 words more
 text-split (Int number) more = bare 58 (signed_decimal number) more
 text-split (Value cell) more = bare 43 (shown_cell cell) more
-text-split (Bulk bytes) more = ap (λ text. text ++ more) (append_assoc (line 36 (decimal (length bytes))) bytes CRLF) ∙ split 36 (decimal (length bytes)) (bytes ++ CRLF) more
+text-split (Bulk bytes) more = ap (λ text. text ++ more) (append_assoc (line_text 36 (decimal (length bytes))) bytes CRLF) ∙ split 36 (decimal (length bytes)) (bytes ++ CRLF) more
 text-split Nil more = bare 36 (codes "-1") more
 text-split (Array replies) more = split 42 (decimal (count_of replies)) (texts replies) more
 

@@ -6,7 +6,7 @@ use Rattle.ts_spec.specs.Command.{Create, MRange, MGet, QueryIndex, All, Selecte
 use Rattle.ts_spec.specs.Filter.{Among, NotAmong, Absent}
 use Rattle.ts_spec.specs.FilterText.{filter_of}
 use Rattle.ts_spec.specs.Grammar.{commands, command}
-use Rattle.ts_spec.specs.ManySeries.{filter_word, series_told, many_options}
+use Rattle.ts_spec.specs.ManySeries.{filter_word, series_told, last_options, many_options}
 use Rattle.ts_spec.specs.Ranges.{range_options, count_word}
 use Rattle.ts_spec.specs.Refusal.{BadOption, RepeatedOption, BadLabels, BadFilter, NoPositiveFilter}
 use Rattle.ts_spec.specs.SeriesOptions.{series_options, alter_options, retention_word}
@@ -44,11 +44,11 @@ unfolding commands end_word time_word many_options series_told range_options fil
 ranges = refl
 
 pub the_last_ones : command (codes "ts.mget" ∷ codes "WITHLABELS" ∷ codes "FILTER" ∷ codes "a=x" ∷ []) ≡ Ok (MGet false All (Among (codes "a") (codes "x" ∷ []) ∷ []))
-unfolding commands series_told filter_word filter_of
+unfolding commands last_options series_told filter_word filter_of
 the_last_ones = refl
 
 pub no_filter : command (codes "TS.MGET" ∷ codes "WITHLABELS" ∷ codes "SELECTED_LABELS" ∷ []) ≡ Err RepeatedOption
-unfolding commands series_told
+unfolding commands last_options series_told
 no_filter = refl
 
 pub filters_are_needed : command (codes "TS.MRANGE" ∷ codes "-" ∷ codes "+" ∷ codes "COUNT" ∷ codes "3" ∷ []) ≡ Err BadOption

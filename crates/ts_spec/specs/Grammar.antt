@@ -1,14 +1,15 @@
 -- The commands: which words they have, and what the words say.
 use Rattle.std.specs.Prelude.{ℕ, suc, ◌%◌, ℤ, neg_ℤ, Bool, true, false, ◌&&◌, ◌==◌, nat_le, if◌then◌else◌, List, [], ◌∷◌, length, drop, codes, Option, None, Some, unwrap_or, Result, Ok, Err}
+use Rattle.std.specs.Str.{str_eq_ignore_ascii_case}
 use Rattle.ts_spec.specs.declared.command.At.{At}
 use Rattle.ts_spec.specs.declared.command.At.TheVariants.{Clock, Time}
 use Rattle.ts_spec.specs.Wire.{Request}
 use Rattle.ts_spec.specs.Names.{Table, named}
-use Rattle.ts_spec.specs.Settings.{Word, and_then, at_word, end_word, value_word, nothing, options}
+use Rattle.ts_spec.specs.Settings.{Word, and_then, at_word, end_word, time_word, value_word, nothing, options}
 use Rattle.ts_spec.specs.SeriesOptions.{series_options, alter_options, add_options, incr_options, has_labels, spec, change}
-use Rattle.ts_spec.specs.Ranges.{range_options, has_list, query}
-use Rattle.ts_spec.specs.ManySeries.{filters_of, series_told, many_options, wanted, selecting, labels_asked}
-use Rattle.ts_spec.specs.Command.{Triple, Command, Create, Alter, Add, Madd, Incr, DelRange, Range, MRange, Get, MGet, QueryIndex, Ping, Echo, Quit, Drop, Exists}
+use Rattle.ts_spec.specs.Ranges.{aggregator_word, duration_word, range_options, has_list, query}
+use Rattle.ts_spec.specs.ManySeries.{filters_of, last_options, many_options, wanted, selecting, labels_asked}
+use Rattle.ts_spec.specs.Command.{Triple, Command, Create, Alter, Add, Madd, Incr, DelRange, CreateRule, DeleteRule, Range, MRange, Get, MGet, QueryIndex, InfoOf, Ping, Echo, Quit, Drop, Exists}
 use Rattle.ts_spec.specs.Refusal.{Fault, UnknownCommand, Arity, BadOption}
 
 -- ---- the words after a command's name
@@ -55,7 +56,7 @@ abbrev pub range : (reverse : Bool) → List Word → Result Command Fault
 range reverse (key ∷ from ∷ to ∷ words) =
     and_then (end_word from) (λ first. and_then (end_word to) (λ last.
     and_then (options range_options nothing 0 words) (λ given.
-    and_then (query reverse from to first last given) (λ q. Ok (Range key false q)))))
+    and_then (query reverse from to first last given) (λ q. Ok (Range key given.latest q)))))
 range reverse _ = Err Arity
 
 -- `from to`, both ends included, and options, filters among them
@@ -65,25 +66,59 @@ many_ranges reverse (from ∷ to ∷ words) =
     and_then (options many_options nothing 0 words) (λ given.
     and_then (wanted given) (λ filters.
     and_then (query reverse from to first last given) (λ q.
-    and_then (selecting filters) (λ chosen. Ok (MRange false (labels_asked given) chosen q)))))))
+    and_then (selecting filters) (λ chosen. Ok (MRange given.latest (labels_asked given) chosen q)))))))
 many_ranges reverse _ = Err Arity
 
 -- options, filters among them
 abbrev pub last_of_many : List Word → Result Command Fault
 last_of_many words =
-    and_then (options series_told nothing 0 words) (λ given.
+    and_then (options last_options nothing 0 words) (λ given.
     and_then (wanted given) (λ filters.
-    and_then (selecting filters) (λ chosen. Ok (MGet false (labels_asked given) chosen))))
+    and_then (selecting filters) (λ chosen. Ok (MGet given.latest (labels_asked given) chosen))))
 
 -- filters
 abbrev pub query_index : List Word → Result Command Fault
 query_index words = and_then (filters_of words) (λ filters. and_then (selecting filters) (λ chosen. Ok (QueryIndex chosen)))
 
--- `key`; no option is known
+-- whether a word is this name, with its letters in either case
+abbrev pub is_latest : Word → Bool
+is_latest word = str_eq_ignore_ascii_case (codes "LATEST") word
+
+abbrev pub is_aggregation : Word → Bool
+is_aggregation word = str_eq_ignore_ascii_case (codes "AGGREGATION") word
+
+-- `key`, and whether its open bucket is asked too
 abbrev pub get_last : List Word → Result Command Fault
 get_last [] = Err Arity
 get_last (key ∷ []) = Ok (Get key false)
-get_last (key ∷ word ∷ words) = Err BadOption
+get_last (key ∷ word ∷ words) = if is_latest word then Ok (Get key true) else Err BadOption
+
+-- where one of the buckets of a rule begins: at time 0 where nothing is said
+abbrev pub rule_align : List Word → Result ℕ Fault
+rule_align [] = Ok 0
+rule_align (word ∷ words) = time_word word
+
+-- what is told of each bucket, how long it is, and where one begins
+abbrev pub rule_buckets : (source dest : Word) → List Word → Result Command Fault
+rule_buckets source dest (name ∷ length ∷ words) =
+    and_then (aggregator_word name) (λ agg. and_then (duration_word length) (λ n. and_then (rule_align words) (λ t.
+    Ok (CreateRule source dest agg (record { align = t; duration = n })))))
+rule_buckets source dest _ = Err Arity
+
+-- `source dest AGGREGATION`, and the buckets
+abbrev pub create_rule : List Word → Result Command Fault
+create_rule (source ∷ dest ∷ option ∷ words) = if is_aggregation option then rule_buckets source dest words else Err BadOption
+create_rule _ = Err Arity
+
+-- `source dest`
+abbrev pub delete_rule : List Word → Result Command Fault
+delete_rule (source ∷ dest ∷ words) = Ok (DeleteRule source dest)
+delete_rule _ = Err Arity
+
+-- `key`
+abbrev pub info : List Word → Result Command Fault
+info [] = Err Arity
+info (key ∷ words) = Ok (InfoOf key)
 
 -- nothing, or a word to send back
 abbrev pub ping : List Word → Result Command Fault
@@ -127,6 +162,8 @@ commands =
     ∷ (codes "TS.INCRBY", option_form has_labels 2 (nat_le 3) (incr (λ v. v)))
     ∷ (codes "TS.DECRBY", option_form has_labels 2 (nat_le 3) (incr neg_ℤ))
     ∷ (codes "TS.DEL", form (λ n. n == 4) del_range)
+    ∷ (codes "TS.CREATERULE", form (λ n. nat_le 6 n && nat_le n 7) create_rule)
+    ∷ (codes "TS.DELETERULE", form (λ n. n == 3) delete_rule)
     ∷ (codes "TS.RANGE", option_form has_list 3 (nat_le 4) (range false))
     ∷ (codes "TS.REVRANGE", option_form has_list 3 (nat_le 4) (range true))
     ∷ (codes "TS.MRANGE", list_form (nat_le 5) (many_ranges false))
@@ -134,6 +171,7 @@ commands =
     ∷ (codes "TS.GET", form (λ n. nat_le 2 n && nat_le n 3) get_last)
     ∷ (codes "TS.MGET", list_form (nat_le 3) last_of_many)
     ∷ (codes "TS.QUERYINDEX", list_form (nat_le 2) query_index)
+    ∷ (codes "TS.INFO", form (λ n. n == 2) info)
     ∷ (codes "PING", form (λ n. nat_le 1 n && nat_le n 2) ping)
     ∷ (codes "ECHO", form (λ n. n == 2) echo)
     ∷ (codes "QUIT", form (nat_le 1) (λ words. Ok Quit))

@@ -12,7 +12,7 @@ use Rattle.ts_spec.specs.Rules.{settled, without_rule, dropped}
 use Rattle.ts_spec.specs.Refusal.{NoKey, KeyExists, KeysFull, LabelsFull, SameKey, SourceIsDest, DestIsSource, DestHasSource, RulesSpent, RulesFull, NoRule}
 use Rattle.ts_spec.specs.Command.{Spec, Change}
 use Rattle.ts_spec.specs.Response.{Response, Done, Count}
-use Rattle.ts_spec.specs.Outcome.{refused, told, Outcome}
+use Rattle.ts_spec.specs.Outcome.{refused, answer_only, Outcome}
 
 -- ---- TS.CREATE and TS.ALTER
 
@@ -100,7 +100,7 @@ delete_rule_at m source dest (Some d) =
 
 -- DEL: the keys go one after another, and those that were there are counted
 abbrev pub drop_keys : State → (so_far : ℕ) → List Key → Outcome
-drop_keys m so_far [] = told m (Count so_far)
+drop_keys m so_far [] = answer_only m (Count so_far)
 drop_keys m so_far (k ∷ ks) =
     let there : Bool = is_some (get k m) in
     drop_keys (if there then dropped k m else m) (if there then so_far + 1 else so_far) ks

@@ -7,7 +7,7 @@ use Rattle.ts_spec.specs.Command.{Show, Nothing, All, Selected}
 use Rattle.ts_spec.specs.Refusal.{Fault, BadOption, BadLabels, BadFilter, NoPositiveFilter}
 use Rattle.ts_spec.specs.Settings.{Word, and_then, Given, Setting, no_words, some_words}
 use Rattle.ts_spec.specs.SeriesOptions.{is_empty}
-use Rattle.ts_spec.specs.Ranges.{range_options}
+use Rattle.ts_spec.specs.Ranges.{latest, range_options}
 
 -- ---- words
 
@@ -48,6 +48,10 @@ series_told =
     ∷ (codes "SELECTED_LABELS", selected_labels)
     ∷ (codes "FILTER", filter)
     ∷ []
+
+-- those of a question about the last samples of many series
+unfoldable pub last_options : Table Setting
+last_options = (codes "LATEST", latest) ∷ series_told
 
 -- those of a question over the intervals of many series
 unfoldable pub many_options : Table Setting

@@ -17,8 +17,8 @@ abbrev pub refused : State → Refusal → Outcome
 refused m refusal = record { state = m; response = Refused refusal }
 
 -- a question leaves the state as it is
-abbrev pub told : State → Response → Outcome
-told m response = record { state = m; response = response }
+abbrev pub answer_only : State → Response → Outcome
+answer_only m response = record { state = m; response = response }
 
 -- the time that a command means: a reading past the greatest time counts as that
 abbrev pub time_of : (reading : ℕ) → At → ℕ

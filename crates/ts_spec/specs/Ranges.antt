@@ -85,9 +85,14 @@ bucket_timestamp = one_word (λ given. is_some given.stamp) (λ word given. and_
 abbrev pub empty : Setting
 empty = no_words (λ given. given.empty) (λ given. record given { empty = true })
 
+-- open buckets are asked too
+abbrev pub latest : Setting
+latest = no_words (λ given. given.latest) (λ given. record given { latest = true })
+
 unfoldable pub range_options : Table Setting
 range_options =
-    (codes "FILTER_BY_TS", filter_by_ts)
+    (codes "LATEST", latest)
+    ∷ (codes "FILTER_BY_TS", filter_by_ts)
     ∷ (codes "FILTER_BY_VALUE", filter_by_value)
     ∷ (codes "COUNT", count)
     ∷ (codes "AGGREGATION", aggregation)

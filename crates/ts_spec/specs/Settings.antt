@@ -76,6 +76,8 @@ pub record Given : Type 0 where
   pub align : Option Align
   pub stamp : Option Stamp
   pub empty : Bool
+  -- whether open buckets are asked too
+  pub latest : Bool
   -- of an answer over many series, the labels that it shows, and which series it tells
   pub show : Option Show
   pub filters : Option (List Filter)
@@ -96,6 +98,7 @@ nothing = record {
   align = None;
   stamp = None;
   empty = false;
+  latest = false;
   show = None;
   filters = None;
 }

@@ -40,15 +40,15 @@ abbrev pub bucket_sample : Rule → (born : ℕ) → ℕ → Point
 bucket_sample r born b = record { time = b; value = aggregate r.agg (members r.grid b r.seen); made = born }
 
 -- the samples of the closed buckets
-abbrev pub told : Rule → (born : ℕ) → List Point
-told r born = map (bucket_sample r born) (filter (is_closed r) (starts r.grid r.seen))
+abbrev pub closed_rows : Rule → (born : ℕ) → List Point
+closed_rows r born = map (bucket_sample r born) (filter (is_closed r) (starts r.grid r.seen))
 
 -- ---- what a key shows
 
 -- its own samples, and where a rule leads to it those of the rule's closed buckets, which hide its own at their times, from its edge on
 abbrev pub shown_by : Option Rule → Record → List Point
 shown_by None d = d.plain
-shown_by (Some r) d = at_times (nat_le (edge d)) (put_all (told r d.born) d.plain)
+shown_by (Some r) d = at_times (nat_le (edge d)) (put_all (closed_rows r d.born) d.plain)
 
 -- the sample of the open bucket, where it has counted samples and starts at or past the edge
 abbrev pub opened : Rule → (edge born : ℕ) → Option ℕ → List Point

@@ -9,7 +9,7 @@ use Rattle.ts_spec.specs.Filter.{selection}
 use Rattle.ts_spec.specs.Command.{Command, Create, Alter, Add, Madd, Incr, DelRange, CreateRule, DeleteRule, Range, MRange, Get, MGet, QueryIndex, InfoOf, Ping, Echo, Quit, Drop, Exists}
 use Rattle.ts_spec.specs.Response.{Done, Count, LastRows, Keys, Word}
 pub use Rattle.ts_spec.specs.Making.{fresh, created, create, altered, is_longer, alter_at, with_rule, has_rules, ruled, create_rule_at, create_rule, delete_rule_at, drop_keys, count_there}
-pub use Rattle.ts_spec.specs.Outcome.{refused, told, time_of, Outcome}
+pub use Rattle.ts_spec.specs.Outcome.{refused, answer_only, time_of, Outcome}
 pub use Rattle.ts_spec.specs.Questions.{asked, rows_response, range_response, shown_label, picked_label, labels_shown, labels_at, member, member_then, members_of, members_response, last_row, row_list, last_response, last_member, rule_info, time_or_0, info_of, info_response, ping_response}
 pub use Rattle.ts_spec.specs.Writing.{shows_more, first_full, rules_at, unless_full, within_destinations, within_samples, write_merged, value_at, write, create_with, add_at, put_at, triple_step, item_of, madd, is_before_last, changed_value, incr_by, incr_at, meets_expired, delete_at}
 
@@ -23,14 +23,14 @@ step limits m reading (Incr key change at spec) = incr_at limits m key change (t
 step limits m reading (DelRange key from to) = delete_at limits m key from to (get key m)
 step limits m reading (CreateRule source dest agg grid) = create_rule limits m source dest agg grid
 step limits m reading (DeleteRule source dest) = delete_rule_at m source dest (get source m)
-step limits m reading (Range key with_open q) = told m (range_response limits m key with_open q (get key m))
-step limits m reading (MRange with_open show filters q) = told m (members_response (members_of limits m with_open show q (selection m filters)))
-step limits m reading (Get key with_open) = told m (last_response m key with_open (get key m))
-step limits m reading (MGet with_open show filters) = told m (LastRows (map (last_member m with_open show) (selection m filters)))
-step limits m reading (QueryIndex filters) = told m (Keys (selection m filters))
-step limits m reading (InfoOf key) = told m (info_response m key (get key m))
-step limits m reading (Ping word) = told m (ping_response word)
-step limits m reading (Echo word) = told m (Word word)
-step limits m reading Quit = told m Done
+step limits m reading (Range key with_open q) = answer_only m (range_response limits m key with_open q (get key m))
+step limits m reading (MRange with_open show filters q) = answer_only m (members_response (members_of limits m with_open show q (selection m filters)))
+step limits m reading (Get key with_open) = answer_only m (last_response m key with_open (get key m))
+step limits m reading (MGet with_open show filters) = answer_only m (LastRows (map (last_member m with_open show) (selection m filters)))
+step limits m reading (QueryIndex filters) = answer_only m (Keys (selection m filters))
+step limits m reading (InfoOf key) = answer_only m (info_response m key (get key m))
+step limits m reading (Ping word) = answer_only m (ping_response word)
+step limits m reading (Echo word) = answer_only m (Word word)
+step limits m reading Quit = answer_only m Done
 step limits m reading (Drop keys) = drop_keys m 0 keys
-step limits m reading (Exists keys) = told m (Count (count_there m keys))
+step limits m reading (Exists keys) = answer_only m (Count (count_there m keys))

@@ -30,8 +30,8 @@ abbrev pub CRLF : List ℕ
 CRLF = 13 ∷ 10 ∷ []
 
 -- a line that a byte begins
-abbrev pub line : ℕ → List ℕ → List ℕ
-line first text = first ∷ text ++ CRLF
+abbrev pub line_text : ℕ → List ℕ → List ℕ
+line_text first text = first ∷ text ++ CRLF
 
 -- a value's text, and `NaN` where there is none
 abbrev pub shown_cell : Option ℤ → List ℕ
@@ -41,13 +41,13 @@ shown_cell (Some millionths) = shown_value millionths
 -- the text of a reply: `+`, `-`, `:`, `$` or `*`, and the rest by its kind
 abbrev mutual
   pub text : Reply → List ℕ
-  text (Simple words) = line 43 words
-  text (Error words) = line 45 words
-  text (Int number) = line 58 (signed_decimal number)
-  text (Value cell) = line 43 (shown_cell cell)
-  text (Bulk bytes) = line 36 (decimal (length bytes)) ++ bytes ++ CRLF
-  text Nil = line 36 (codes "-1")
-  text (Array replies) = line 42 (decimal (count_of replies)) ++ texts replies
+  text (Simple words) = line_text 43 words
+  text (Error words) = line_text 45 words
+  text (Int number) = line_text 58 (signed_decimal number)
+  text (Value cell) = line_text 43 (shown_cell cell)
+  text (Bulk bytes) = line_text 36 (decimal (length bytes)) ++ bytes ++ CRLF
+  text Nil = line_text 36 (codes "-1")
+  text (Array replies) = line_text 42 (decimal (count_of replies)) ++ texts replies
 
   -- the texts of replies, one after another
   pub texts : Replies → List ℕ

@@ -15,7 +15,7 @@ use Rattle.ts_spec.specs.Refusal.{Fault, NoKey, TooOld, BeforeLast, SamplesFull,
 use Rattle.ts_spec.specs.declared.command.At.{At}
 use Rattle.ts_spec.specs.Command.{Spec, Triple}
 use Rattle.ts_spec.specs.Response.{Item, Wrote, IsWrong, IsRefused, Response, Count, Refused, Items}
-use Rattle.ts_spec.specs.Outcome.{refused, told, time_of, Outcome}
+use Rattle.ts_spec.specs.Outcome.{refused, answer_only, time_of, Outcome}
 use Rattle.ts_spec.specs.Making.{fresh, created}
 
 -- ---- a write
@@ -51,7 +51,7 @@ within_samples limits m key done =
 -- what a write comes to, as the value meets the one at its time
 abbrev pub write_merged : Limits → State → Key → ℕ → Merged → Outcome
 write_merged limits m key t (Refuse refusal) = refused m refusal
-write_merged limits m key t Keep = told m (Count t)
+write_merged limits m key t Keep = answer_only m (Count t)
 write_merged limits m key t (To v) = within_samples limits m key (record { state = written key t v m; response = Count t })
 
 -- the value at a time
@@ -82,8 +82,8 @@ put_at limits m key t v (Some d) = write limits m key d (By d.options.policy) t 
 
 -- a triple, unless its time or its value is none
 abbrev pub triple_step : Limits → State → (reading : ℕ) → Key → Result At Fault → Result ℤ Fault → Outcome
-triple_step limits m reading key (Err fault) value = told m (Items (IsWrong fault ∷ []))
-triple_step limits m reading key (Ok at) (Err fault) = told m (Items (IsWrong fault ∷ []))
+triple_step limits m reading key (Err fault) value = answer_only m (Items (IsWrong fault ∷ []))
+triple_step limits m reading key (Ok at) (Err fault) = answer_only m (Items (IsWrong fault ∷ []))
 triple_step limits m reading key (Ok at) (Ok v) = put_at limits m key (time_of reading at) v (get key m)
 
 -- what is told of a triple
@@ -95,7 +95,7 @@ item_of other = []
 
 -- the triples one after another, with the same reading
 abbrev pub madd : Limits → State → (reading : ℕ) → (so_far : List Item) → List Triple → Outcome
-madd limits m reading so_far [] = told m (Items so_far)
+madd limits m reading so_far [] = answer_only m (Items so_far)
 madd limits m reading so_far (x ∷ xs) =
     let done : Outcome = triple_step limits m reading x.key x.at x.value in
     madd limits done.state reading (so_far ++ item_of done.response) xs
@@ -134,6 +134,6 @@ meets_expired from low (r ∷ rs) = nat_lt (start r.grid from) low || meets_expi
 abbrev pub delete_at : Limits → State → Key → (from to : ℕ) → Option Record → Outcome
 delete_at limits m key from to None = refused m NoKey
 delete_at limits m key from to (Some d) =
-    if nat_lt to from then told m (Count 0)
+    if nat_lt to from then answer_only m (Count 0)
     else (if meets_expired from (edge d) d.rules then refused m DeleteBeyondRetention
     else within_destinations limits m key (record { state = deleted key from to m; response = Count (length (between from to (shown m key))) }))

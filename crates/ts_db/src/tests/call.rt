@@ -3,8 +3,9 @@ ghost use Rattle.std.specs.Prelude.{◌≤◌};
 ghost use Rattle.ts_spec.specs.Sample.{MAX_TIME};
 
 use crate::db::Db;
-use crate::tests::came::{Came, done, last, number, samples};
+use crate::tests::came::{Came, done, last, number, samples, told};
 use crate::tests::labelled::{Labelled, labels_of, run_labelled};
+use crate::tests::ruled::{Ruled, run_ruled};
 use std::alloc::{AllocError, Global};
 use std::sync::ledger::Ledger;
 use ts_labels::{Change, Labels, Spec};
@@ -25,7 +26,9 @@ pub(crate) enum Call {
     Samples(u8, u64, u64, bool),
     Delete(u8, u64, u64),
     With(Labelled),
+    Rule(Ruled),
     LabelsOf(u8),
+    Info(u8),
 }
 
 pub(crate) fn spec(retention: u64, labels: Labels) -> Spec
@@ -82,11 +85,12 @@ pub(crate) fn run<L: Ledger>(
             Ok(number(db.incr(word(alloc, key)?, units(change), at, spec, steps)))
         }
         Call::Drop(key) => Ok(Came::Gone(db.drop_key(&word(alloc, key)?))),
-        Call::Delete(key, from, to) => {
+        Call::Delete(key, from, to) if from <= 1000 => {
             let key = word(alloc, key)?;
             Ok(number(db.delete_range(&key, from, to, steps)))
         }
         Call::With(call) => run_labelled(alloc, db, call, steps),
+        Call::Rule(call) => run_ruled(alloc, db, call),
         other => ask(alloc, db, other, steps),
     }
 }
@@ -105,6 +109,7 @@ fn ask<L: Ledger>(
             Ok(samples(db.samples(&key, from, to, latest, steps)))
         }
         Call::LabelsOf(key) => labels_of(alloc, db, key),
+        Call::Info(key) => Ok(told(db.info(&word(alloc, key)?, steps))),
         _ => Ok(Came::Memory),
     }
 }

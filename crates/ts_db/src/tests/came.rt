@@ -1,5 +1,6 @@
 // What the calls of a database come to.
 use crate::fault::DbFault;
+use crate::info::Info;
 use ts_sample::Sample;
 
 // What a call came to.
@@ -13,6 +14,8 @@ pub(crate) enum Came {
     Samples(usize, Option<(u64, i128)>, Option<(u64, i128)>),
     // How many labels, and the first byte of the value of the first one.
     Labels(usize, Option<u8>),
+    // How many samples, and the times of the first and of the last one.
+    Told(u64, u64, u64),
     KeyExists,
     NoKey,
     KeysFull,
@@ -22,6 +25,14 @@ pub(crate) enum Came {
     OutOfRange,
     BeforeLast,
     SamplesFull(usize, bool),
+    DeleteBeyondRetention,
+    SameKey,
+    SourceIsDest,
+    DestIsSource,
+    DestHasSource,
+    RulesSpent,
+    RulesFull,
+    NoRule,
     Memory,
 }
 
@@ -36,6 +47,14 @@ pub(crate) fn fault(fault: DbFault) -> Came {
         DbFault::OutOfRange => Came::OutOfRange,
         DbFault::BeforeLast => Came::BeforeLast,
         DbFault::SamplesFull { id, written } => Came::SamplesFull(id.0, written),
+        DbFault::DeleteBeyondRetention => Came::DeleteBeyondRetention,
+        DbFault::SameKey => Came::SameKey,
+        DbFault::SourceIsDest => Came::SourceIsDest,
+        DbFault::DestIsSource => Came::DestIsSource,
+        DbFault::DestHasSource => Came::DestHasSource,
+        DbFault::RulesSpent => Came::RulesSpent,
+        DbFault::RulesFull => Came::RulesFull,
+        DbFault::NoRule => Came::NoRule,
         DbFault::Memory(_) => Came::Memory,
     }
 }
@@ -64,6 +83,13 @@ pub(crate) fn last(answer: Result<Option<Sample>, DbFault>) -> Came {
 pub(crate) fn samples(answer: Result<Vec<Sample>, DbFault>) -> Came {
     match answer {
         Ok(list) => Came::Samples(list.len(), list.first().map(parts), list.last().map(parts)),
+        Err(why) => fault(why),
+    }
+}
+
+pub(crate) fn told(answer: Result<Info, DbFault>) -> Came {
+    match answer {
+        Ok(info) => Came::Told(info.total, info.first, info.last),
         Err(why) => fault(why),
     }
 }

@@ -6,7 +6,7 @@ use std::test::Fail;
 
 /// A command with its words apart by spaces, and the reply to it: its lines, without the end of the last one, or
 /// `[1:2, 3:4]` for rows, each with a time and a value.
-type Line<'a> = (&'a str, &'a str);
+pub(super) type Line<'a> = (&'a str, &'a str);
 
 /// Appends a mark, a number and the end of the line.
 fn push_header(mark: u8, number: usize, bytes: &mut Vec<u8>) -> Result<(), AllocError> {

@@ -7,7 +7,7 @@ pub loop-name-preserved : goal.loop-name-preserved
 loop-name-preserved c =
     let own = c.split_own.result.0.now in
     let rest = c.split_own.result.1.now in
-    goes-on (table_of c.args.set) (lister c.args.set) (given_of c.loop-name.given) (given_of c.add_own.new.given)
+    goes-on (table_of c.args.set) (lister c.args.set) (given_of c.args.given.now) (given_of c.loop-name.given) (given_of c.add_own.new.given)
     (setting_of c.in_ok-option.option) c.in-Some.name.now c.in-Some.after.now own rest c.args.words.now
     (rw c.in-Some.ensures.cases.0 at c.loop-name.invariant)
     (rw c.bytes.ensures at c.in_ok-option.ensures.option)

@@ -1,7 +1,7 @@
 use Rattle.std.proofs.Common.{◌≡◌, ◌≤◌, ◌∙◌, ◌++◌, ℕ, List, [], length, sym, ap, arith, rules}
 use Rattle.std.specs.Fmt.{decimal}
 use Rattle.std.specs.Vec.Iter.{into_iter_items}
-use Rattle.ts_spec.specs.Text.{line}
+use Rattle.ts_spec.specs.Text.{line_text}
 use Rattle.ts_command.specs.Reading.{triple_of, triples_of}
 use Rattle.ts_resp.specs.Replies.{reply_of}
 use Rattle.ts_engine.proofs.Items.{each_none, adding_more, each_told, length-triples, no_items}
@@ -10,7 +10,7 @@ use Rattle.ts_engine.proofs.additions.add_all.Goals as goal
 
 pub begin_array-requires : goal.begin_array-requires
 begin_array-requires g c =
-    let short : length (line 42 (decimal c.len.result)) ≤ 64 = short_head c.len.result c.len.type_inv in
+    let short : length (line_text 42 (decimal c.len.result)) ≤ 64 = short_head c.len.result c.len.type_inv in
     omega arith
 
 pub loop-triple-init : goal.loop-triple-init
@@ -18,12 +18,12 @@ loop-triple-init g c =
     let triples = triples_of c.args.triples.items in
     let gives : into_iter_items c.into_iter-triple-iterator.result ≡ c.args.triples.items = search rules in
     let count : c.len.result ≡ length triples = c.len.ensures ∙ c.args.triples.ok.0 ∙ sym (length-triples c.args.triples.items) in
-    let head : c.begin_array.new.out.bytes ≡ line 42 (decimal c.len.result) =
-    c.begin_array.ensures.bytes ∙ ap (λ (l : List ℕ). l ++ line 42 (decimal c.len.result)) c.requires.empty in
-    let short : length (line 42 (decimal c.len.result)) ≤ 64 = short_head c.len.result c.len.type_inv in
+    let head : c.begin_array.new.out.bytes ≡ line_text 42 (decimal c.len.result) =
+    c.begin_array.ensures.bytes ∙ ap (λ (l : List ℕ). l ++ line_text 42 (decimal c.len.result)) c.requires.empty in
+    let short : length (line_text 42 (decimal c.len.result)) ≤ 64 = short_head c.len.result c.len.type_inv in
     record {
       so_far = each_none c.args.reading triples (triples_of (into_iter_items c.into_iter-triple-iterator.result)) c.args.db.now c.begin_array.new.out.bytes (ap triples_of gives)
-          (head ∙ ap (λ (n : ℕ). line 42 (decimal n)) count);
+          (head ∙ ap (λ (n : ℕ). line_text 42 (decimal n)) count);
       items = omega (arith, ap length gives, length-triples (into_iter_items c.into_iter-triple-iterator.result), c.begin_array.ensures.room, c.requires.items, short);
       room = omega (arith, ap length head, c.begin_array.ensures.room, c.requires.room);
     }

@@ -8,13 +8,13 @@ use Rattle.ts_engine.specs.declared.wanted.Wanted.TheVariants.{Last, Rows}
 use Rattle.ts_engine.specs.declared.wanted.Wanted.TheVariants as wanted
 use Rattle.ts_range.specs.Query.{query_of}
 use Rattle.ts_resp.specs.Replies.{reply_of}
-use Rattle.ts_spec.specs.Command.{Create, Alter, Add, Incr, DelRange, Range, MRange, Get, MGet, QueryIndex, Echo, Quit, Drop, Exists}
+use Rattle.ts_spec.specs.Command.{Create, Alter, Add, Incr, DelRange, CreateRule, DeleteRule, Range, MRange, Get, MGet, QueryIndex, InfoOf, Echo, Quit, Drop, Exists}
 use Rattle.ts_spec.specs.Keyed.{get}
-use Rattle.ts_spec.specs.Questions.{range_response, last_response}
+use Rattle.ts_spec.specs.Questions.{range_response, last_response, info_response}
 use Rattle.ts_spec.specs.Key.{Key}
 use Rattle.ts_spec.specs.Replies.{number}
 use Rattle.ts_spec.specs.Response.{Word}
-use Rattle.ts_spec.specs.Step.{time_of, create, alter_at, add_at, incr_at, delete_at, drop_keys, count_there}
+use Rattle.ts_spec.specs.Step.{time_of, create, alter_at, add_at, incr_at, delete_at, create_rule, drop_keys, count_there}
 use Rattle.ts_db.specs.Held.{Held, Stands, Carries}
 use Rattle.ts_engine.specs.Turn.{IsStep, StepOrMemory}
 use Rattle.ts_engine.proofs.Executed.{alone, step_executes, sure_executes, told_executes, asks_execute, pings_execute}
@@ -53,6 +53,17 @@ returns-in-DelRange-clause-executes g c =
     rw c.in-DelRange.is (step_executes c.args.reading (DelRange c.in-DelRange.key c.in-DelRange.from c.in-DelRange.to) (λ (h : Held). delete_at h.limits h.state c.in-DelRange.key c.in-DelRange.from c.in-DelRange.to (get c.in-DelRange.key h.state)) c.args.db.now c.delete.new.db (reply_of c.delete.result)
     c.put-in-DelRange.new.out.bytes refl (λ from to is. is) c.delete.ensures.answer (alone (reply_of c.delete.result) c.clear.new.self.bytes c.put-in-DelRange.new.out.bytes c.put-in-DelRange.ensures.bytes c.clear.ensures.empty))
 
+pub returns-in-CreateRule-clause-executes : goal.returns-in-CreateRule-clause-executes
+returns-in-CreateRule-clause-executes g c =
+    rw c.in-CreateRule.is (step_executes c.args.reading (CreateRule c.in-CreateRule.source c.in-CreateRule.dest c.in-CreateRule.agg c.in-CreateRule.grid)
+    (λ (h : Held). create_rule h.limits h.state c.in-CreateRule.source c.in-CreateRule.dest c.in-CreateRule.agg c.in-CreateRule.grid) c.args.db.now c.create_rule.new.db (reply_of c.create_rule.result)
+    c.put-in-CreateRule.new.out.bytes refl (λ from to is. is) c.create_rule.ensures.answer (alone (reply_of c.create_rule.result) c.clear.new.self.bytes c.put-in-CreateRule.new.out.bytes c.put-in-CreateRule.ensures.bytes c.clear.ensures.empty))
+
+pub returns-in-DeleteRule-clause-executes : goal.returns-in-DeleteRule-clause-executes
+returns-in-DeleteRule-clause-executes g c =
+    rw c.in-DeleteRule.is (sure_executes c.args.reading (DeleteRule c.in-DeleteRule.source c.in-DeleteRule.dest) c.args.db.now c.delete_rule.new.db (reply_of c.delete_rule.result) c.put-in-DeleteRule.new.out.bytes
+    c.delete_rule.ensures.answer (alone (reply_of c.delete_rule.result) c.clear.new.self.bytes c.put-in-DeleteRule.new.out.bytes c.put-in-DeleteRule.ensures.bytes c.clear.ensures.empty))
+
 pub returns-in-Range-clause-executes : goal.returns-in-Range-clause-executes
 returns-in-Range-clause-executes g c =
     rw c.in-Range.is (asks_execute c.args.reading (Range c.in-Range.key c.in-Range.latest (query_of c.in-Range.query)) c.args.db.now c.put_range.new.out.bytes
@@ -83,6 +94,11 @@ pub returns-in-Get-clause-executes : goal.returns-in-Get-clause-executes
 returns-in-Get-clause-executes g c =
     rw c.in-Get.is (asks_execute c.args.reading (Get c.in-Get.key c.in-Get.latest) c.args.db.now c.put_get.new.out.bytes
     (λ (h : Held). last_response h.state c.in-Get.key c.in-Get.latest (get c.in-Get.key h.state)) refl (λ from. record { says = refl; state = refl; limits = refl }) c.put_get.ensures.told)
+
+pub returns-in-InfoOf-clause-executes : goal.returns-in-InfoOf-clause-executes
+returns-in-InfoOf-clause-executes g c =
+    rw c.in-InfoOf.is (asks_execute c.args.reading (InfoOf c.in-InfoOf.key) c.args.db.now c.put_info.new.out.bytes
+    (λ (h : Held). info_response h.state c.in-InfoOf.key (get c.in-InfoOf.key h.state)) refl (λ from. record { says = refl; state = refl; limits = refl }) c.put_info.ensures.told)
 
 pub returns-in-Ping-clause-executes : goal.returns-in-Ping-clause-executes
 returns-in-Ping-clause-executes g c =

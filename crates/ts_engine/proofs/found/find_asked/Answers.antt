@@ -1,9 +1,8 @@
-use Rattle.std.proofs.Common.{◌≡◌, List, sym, ap, subst, ◌∙◌}
-use Rattle.std.specs.Prelude.{is_some, Option}
+use Rattle.std.proofs.Common.{List, sym, ap, subst, ◌∙◌}
+use Rattle.std.specs.Prelude.{is_some}
 use Rattle.ts_spec.specs.Keyed.{get}
 use Rattle.ts_spec.specs.Questions.{asked as shown}
 use Rattle.ts_spec.specs.Sample.{Point}
-use Rattle.ts_sample.specs.declared.id.Id.{Id}
 use Rattle.ts_range.specs.Walk.{IsAskedOf}
 use Rattle.ts_range.specs.declared.row.Asked.{Asked}
 use Rattle.ts_db.proofs.Laws.{there-law}

@@ -1,5 +1,5 @@
-use Rattle.std.proofs.Common.{◌≡◌, ◌++◌, ◌∙◌, List, map, sym, ap, subst}
-use Rattle.std.specs.Prelude.{Some, None}
+use Rattle.std.proofs.Common.{◌≡◌, ◌++◌, ◌∙◌, map, sym, ap}
+use Rattle.std.specs.Prelude.{Some}
 use Rattle.std.proofs.lemmas.Result.{err_from_is_err_and}
 use Rattle.ts_spec.specs.declared.limits.Limits.{Limits}
 use Rattle.ts_spec.specs.Answer.{answer}
@@ -10,7 +10,7 @@ use Rattle.ts_spec.specs.Replies.{member_reply}
 use Rattle.ts_spec.specs.Text.{text}
 use Rattle.ts_labels.specs.Show.{show_of}
 use Rattle.ts_range.specs.Query.{query_of, row_of}
-use Rattle.ts_multi.specs.Members.{told}
+use Rattle.ts_multi.specs.Members.{member_with}
 use Rattle.ts_engine.specs.Members.{rows_at, IsAdded}
 use Rattle.ts_engine.proofs.Finding.{kept_ascending}
 use Rattle.ts_engine.proofs.MemberTexts.{in-memory-done, member-told, rows-added, rows-none}
@@ -28,12 +28,12 @@ pub returns-clause-added : goal.returns-clause-added
 returns-clause-added g c =
     let m = c.args.db.now.keys in
     in-memory-done c.encode_member.result c.in_memory.result
-    (c.encode_member.new.out.bytes ≡ c.args.out.now.bytes ++ text (member_reply (told c.args.show.now c.key_of.result.now c.labels_of.result.now (map row_of c.deref.result.now))))
+    (c.encode_member.new.out.bytes ≡ c.args.out.now.bytes ++ text (member_reply (member_with c.args.show.now c.key_of.result.now c.labels_of.result.now (map row_of c.deref.result.now))))
     ((key : Key) → get key c.args.db.now.ids ≡ Some c.args.id → IsAdded (rows_at c.args.db.now.limits m c.args.latest (show_of c.args.show.now) (query_of c.args.query.now) key) c.args.out.now.bytes c.encode_member.new.out.bytes)
     c.in_memory.ensures
     (λ written key at.
     rows-added c.args.db.now.limits m c.args.latest (show_of c.args.show.now) (query_of c.args.query.now) key (map row_of c.in_ok-rows.rows.items)
-    (told c.args.show.now c.key_of.result.now c.labels_of.result.now (map row_of c.deref.result.now)) c.args.out.now.bytes c.encode_member.new.out.bytes
+    (member_with c.args.show.now c.key_of.result.now c.labels_of.result.now (map row_of c.deref.result.now)) c.args.out.now.bytes c.encode_member.new.out.bytes
     (ap (λ (l : Limits). answer l.empty_rows (query_of c.args.query.now) (kept_asked m c.args.latest key)) (sym c.limits.ensures)
     ∙ c.in_ok-rows.ensures.limit (kept_asked m c.args.latest key) (kept_ascending c.args.db.now c.known.ensures.stands c.args.latest key) (c.in-Ok.ensures.asked key at))
     (member-told m c.args.show.now key c.key_of.result.now c.labels_of.result.now (map row_of c.deref.result.now) (c.key_of.ensures key at) (c.labels_of.ensures key at)

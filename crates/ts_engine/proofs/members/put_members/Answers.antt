@@ -1,9 +1,8 @@
-use Rattle.std.proofs.Common.{◌≡◌, ◌++◌, List, sym, ap, subst, ◌∙◌}
+use Rattle.std.proofs.Common.{sym, ap, subst, ◌∙◌}
 use Rattle.ts_resp.specs.Replies.{reply_of}
 use Rattle.ts_spec.specs.KeptQuestions.{kept_selection}
 use Rattle.ts_spec.specs.Text.{text}
-use Rattle.ts_sample.specs.declared.id.Id.{Id}
-use Rattle.ts_db.specs.Held.{IsLive, AreNumbersOf}
+use Rattle.ts_db.specs.Held.{AreNumbersOf}
 use Rattle.ts_engine.proofs.Executed.{alone}
 use Rattle.ts_engine.proofs.ManyTexts.{numbers-live}
 use Rattle.ts_engine.proofs.ManyTold.{many-told, many-refused}

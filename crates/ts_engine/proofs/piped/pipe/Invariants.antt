@@ -1,7 +1,7 @@
 use Rattle.std.proofs.Common.{◌-◌, ◌≡◌, ◌≤◌, None}
 use Rattle.ts_resp.specs.Reading.{fed}
 use Rattle.ts_db.specs.Held.{Carries}
-use Rattle.ts_engine.specs.Standing.{spot, reading, ended_of, HasAnswered}
+use Rattle.ts_engine.specs.Standing.{spot, reader_of, ended_of, HasAnswered}
 use Rattle.ts_engine.proofs.Pipes.{SoFar}
 use Rattle.ts_engine.proofs.piped.pipe.Given as goal
 
@@ -13,7 +13,7 @@ invariant-loop-taken g l = record {
       (g.K.Sink.has l.initial.out) (g.K.Sink.has l.out));
   current : HasAnswered l.session;
   goes_on : ended_of l.session ≡ None;
-  fed : fed (reading l.session) ≡ l.taken;
+  fed : fed (reader_of l.session) ≡ l.taken;
   within : l.taken ≤ l.budget;
   reads : g.S.Source.faults l.initial.input ≤ g.S.Source.faults l.input;
   writes : g.K.Sink.faults l.initial.out ≤ g.K.Sink.faults l.out;

@@ -2,7 +2,7 @@ use Rattle.std.proofs.Common.{ℕ, ◌++◌, List, drop, length, map, refl, sym,
 use Rattle.std.proofs.lemmas.List.{length-map}
 use Rattle.std.proofs.Math.ListN.{drop_of_length-le}
 use Rattle.std.specs.Fmt.{decimal}
-use Rattle.ts_spec.specs.Text.{line}
+use Rattle.ts_spec.specs.Text.{line_text}
 use Rattle.ts_range.specs.Query.{row_of}
 use Rattle.ts_spec.specs.Replies.{row_reply}
 use Rattle.ts_multi.proofs.Texts.{short-head, whole}
@@ -24,5 +24,5 @@ returns-clause-ok c =
     (map row_of (drop c.loop-row.row-index c.args.rows.now)) (map row_of c.args.rows.now)
     c.loop-row.invariant.texts
     (ap (map row_of) (drop_of_length-le c.args.rows.now c.loop-row-test.false))
-    (c.begin_array.ensures.bytes ∙ ap (λ (l : List ℕ). l ++ line 42 (decimal (length c.args.rows.now))) c.reserve_items.ensures.bytes)
+    (c.begin_array.ensures.bytes ∙ ap (λ (l : List ℕ). l ++ line_text 42 (decimal (length c.args.rows.now))) c.reserve_items.ensures.bytes)
     (sym (length-map c.args.rows.now row_of))

@@ -15,20 +15,24 @@ use Rattle.ts_db.proofs.Writing.{write-met}
 use Rattle.ts_db.proofs.store.Store.add.Goals as goal
 
 pub begin-requires-clause-absent : goal.begin-requires-clause-absent
-begin-requires-clause-absent g c = missing c.args.self.now.limits c.args.self.now.nodes c.args.self.now.keys.entries c.requires.store c.args.key (sym (c.in_default.ensures ∙ c.get.ensures.value))
+begin-requires-clause-absent g c = missing c.args.self.now.limits c.args.self.now.nodes c.args.self.now.keys.entries c.requires.db.store c.args.key (sym (c.in_default.ensures ∙ c.get.ensures.value))
 
 pub returns-in_default-clause-added : goal.returns-in_default-clause-added
 returns-in_default-clause-added g c =
     subst (λ (o : Option Kept). KeptNumber (stock_of c.args.self.now) (kept_add_at c.args.self.now.limits (stock_of c.args.self.now).keys c.args.key c.args.time c.args.value c.args.on (spec_of c.args.spec) o) c.begin.result (stock_of c.begin.new.self))
-    (sym (missing c.args.self.now.limits c.args.self.now.nodes c.args.self.now.keys.entries c.requires.store c.args.key (sym (c.in_default.ensures ∙ c.get.ensures.value)))) c.begin.ensures.begun
+    (sym (missing c.args.self.now.limits c.args.self.now.nodes c.args.self.now.keys.entries c.requires.db.store c.args.key (sym (c.in_default.ensures ∙ c.get.ensures.value)))) c.begin.ensures.begun
 
 pub returns-clause-added : goal.returns-clause-added
 returns-clause-added g c =
     let holds : Holds c.args.self.now c.args.key c.in-Some.id c.in-Some-get.node.now = record { number = sym (c.in-Some.ensures ∙ c.get.ensures.value); node = sym c.in-Some-get.ensures } in
     subst (λ (o : Option Kept). KeptNumber (stock_of c.args.self.now) (kept_add_at c.args.self.now.limits (stock_of c.args.self.now).keys c.args.key c.args.time c.args.value c.args.on (spec_of c.args.spec) o) c.write.result (stock_of c.write.new.self))
-    (sym (there c.args.self.now c.requires.store c.args.key c.in-Some.id c.in-Some-get.node.now holds))
-    (subst (λ (p : Policy). KeptNumber (stock_of c.args.self.now) (kept_write c.args.self.now.limits (stock_of c.args.self.now).keys c.args.key (kept_at c.in-Some-get.node.now) (By p) c.args.time c.args.value) c.write.result (stock_of c.write.new.self))
+    (sym (there c.args.self.now c.requires.db.store c.args.key c.in-Some.id c.in-Some-get.node.now holds))
+    (subst (λ (p : Policy). KeptNumber (stock_of c.args.self.now) (kept_write c.args.self.now.limits (stock_of c.args.self.now).keys c.args.key (kept_at c.args.self.now.nodes c.in-Some-get.node.now) (By p) c.args.time c.args.value) c.write.result (stock_of c.write.new.self))
     (c.unwrap_or.ensures ∙ ap (λ (o : Options). unwrap_or c.args.on o.policy) c.options.ensures)
     (subst (λ (step : KeptOutcome). KeptNumber (stock_of c.args.self.now) step c.write.result (stock_of c.write.new.self))
     (sym (write-met (stock_of c.args.self.now).keys c.args.self.now c.args.key c.in-Some-get.node.now (By c.unwrap_or.result) c.args.time c.args.value))
     (c.write.ensures.written c.args.key c.in-Some-get.node.now holds)))
+
+pub write-requires-clause-there : goal.write-requires-clause-there
+write-requires-clause-there g c =
+    record { key = c.args.key; node = c.in-Some-get.node.now; holds = record { number = sym (c.in-Some.ensures ∙ c.get.ensures.value); node = sym c.in-Some-get.ensures } }

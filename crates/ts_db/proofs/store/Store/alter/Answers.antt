@@ -18,8 +18,8 @@ returns-then-are_too_many-clause-altered g c =
     let holds : Holds c.args.self.now c.args.key.now c.in-Some.id c.in-Some-get.node.now = record { number = sym (c.in-Some.ensures ∙ c.get.ensures.value); node = sym c.in-Some-get.ensures } in
     (alter-longer c.args.self.now c.requires c.args.key.now c.in-Some.id c.in-Some-get.node.now holds (change_of c.args.change) (sym c.are_too_many.ensures ∙ c.if-are_too_many.true), refl)
 
-pub apply-requires-clause-planned : goal.apply-requires-clause-planned
-apply-requires-clause-planned g c =
+pub apply-requires-clause-ready : goal.apply-requires-clause-ready
+apply-requires-clause-ready g c =
     let fits : IsNode c.args.self.now.limits c.in-Some-get.node.now = c.requires.each c.in-Some.id.0 c.in-Some-get.node.now (sym c.in-Some-get.ensures) in
     record {
       key = c.args.key.now;
@@ -28,6 +28,8 @@ apply-requires-clause-planned g c =
       ready = c.in-Ok.ensures.planned;
       within = altered-within c.in-Some-get.node.now c.in-Ok.plan (change_of c.args.change) c.args.self.now.limits.samples c.in-Ok.ensures.options fits.within;
       few = few-altered c.args.self.now.limits.labels c.args.change.labels c.in-Some-get.node.now.labels (sym c.are_too_many.ensures ∙ c.if-are_too_many.false) fits.labels;
+      live = (c.requires.live c.in-Some.id.0 c.in-Some-get.node.now (sym c.in-Some-get.ensures)).rules;
+      grids = fits.grids;
     }
 
 pub returns-in-Ok-clause-altered : goal.returns-in-Ok-clause-altered

@@ -1,6 +1,5 @@
-use Rattle.std.proofs.Common.{◌≡◌, ℕ, List, sym, ◌∙◌}
+use Rattle.std.proofs.Common.{◌≡◌, ℕ, sym, ◌∙◌}
 use Rattle.std.specs.Prelude.{Option, Ok}
-use Rattle.ts_spec.specs.Sample.{Point}
 use Rattle.ts_spec.specs.KeptQuestions.{kept_asked}
 use Rattle.ts_db.specs.Held.{ends_of}
 use Rattle.ts_db.specs.Store.{stock_of}

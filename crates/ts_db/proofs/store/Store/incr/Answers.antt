@@ -11,33 +11,37 @@ use Rattle.ts_db.proofs.Increasing.{incr-before, incr-old, incr-out, incr-write}
 use Rattle.ts_db.proofs.store.Store.incr.Goals as goal
 
 pub begin-requires-clause-absent : goal.begin-requires-clause-absent
-begin-requires-clause-absent g c = missing c.args.self.now.limits c.args.self.now.nodes c.args.self.now.keys.entries c.requires.store c.args.key (sym (c.in_default.ensures ∙ c.get.ensures.value))
+begin-requires-clause-absent g c = missing c.args.self.now.limits c.args.self.now.nodes c.args.self.now.keys.entries c.requires.db.store c.args.key (sym (c.in_default.ensures ∙ c.get.ensures.value))
 
 pub returns-in_default-clause-changed : goal.returns-in_default-clause-changed
 returns-in_default-clause-changed g c =
     subst (λ (o : Option Kept). KeptNumber (stock_of c.args.self.now) (kept_incr_at c.args.self.now.limits (stock_of c.args.self.now).keys c.args.key c.args.change c.args.time (spec_of c.args.spec) o) c.begin.result (stock_of c.begin.new.self))
-    (sym (missing c.args.self.now.limits c.args.self.now.nodes c.args.self.now.keys.entries c.requires.store c.args.key (sym (c.in_default.ensures ∙ c.get.ensures.value)))) c.begin.ensures.begun
+    (sym (missing c.args.self.now.limits c.args.self.now.nodes c.args.self.now.keys.entries c.requires.db.store c.args.key (sym (c.in_default.ensures ∙ c.get.ensures.value)))) c.begin.ensures.begun
 
 pub returns-then-is_before-clause-changed : goal.returns-then-is_before-clause-changed
 returns-then-is_before-clause-changed g c =
     let holds : Holds c.args.self.now c.args.key c.in-Some.id c.in-Some-get.node.now = record { number = sym (c.in-Some.ensures ∙ c.get.ensures.value); node = sym c.in-Some-get.ensures } in
-    (incr-before c.args.self.now c.requires.store c.args.key c.in-Some.id c.in-Some-get.node.now holds c.args.change c.args.time (spec_of c.args.spec) (sym c.is_before.ensures ∙ c.if-is_before.true), refl)
+    (incr-before c.args.self.now c.requires.db.store c.args.key c.in-Some.id c.in-Some-get.node.now holds c.args.change c.args.time (spec_of c.args.spec) (sym c.is_before.ensures ∙ c.if-is_before.true), refl)
 
 pub returns-then-time-edge-clause-changed : goal.returns-then-time-edge-clause-changed
 returns-then-time-edge-clause-changed g c =
     let holds : Holds c.args.self.now c.args.key c.in-Some.id c.in-Some-get.node.now = record { number = sym (c.in-Some.ensures ∙ c.get.ensures.value); node = sym c.in-Some-get.ensures } in
-    (incr-old c.args.self.now c.requires.store c.args.key c.in-Some.id c.in-Some-get.node.now holds c.args.change c.args.time (spec_of c.args.spec) (sym c.is_before.ensures ∙ c.if-is_before.false) (ap (nat_lt c.args.time) (sym c.edge.ensures) ∙ lt-ltb c.args.time c.edge.result c.if-time-edge.true), refl)
+    (incr-old c.args.self.now c.requires.db.store c.args.key c.in-Some.id c.in-Some-get.node.now holds c.args.change c.args.time (spec_of c.args.spec) (sym c.is_before.ensures ∙ c.if-is_before.false) (ap (nat_lt c.args.time) (sym c.edge.ensures) ∙ lt-ltb c.args.time c.edge.result c.if-time-edge.true), refl)
 
 pub returns-in-Some-changed-clause-changed : goal.returns-in-Some-changed-clause-changed
 returns-in-Some-changed-clause-changed g c =
     let holds : Holds c.args.self.now c.args.key c.in-Some.id c.in-Some-get.node.now = record { number = sym (c.in-Some.ensures ∙ c.get.ensures.value); node = sym c.in-Some-get.ensures } in
     let late : nat_lt c.args.time (low c.in-Some-get.node.now.series) ≡ false = ap (nat_lt c.args.time) (sym c.edge.ensures) ∙ le-ltb c.args.time c.edge.result c.if-time-edge.false in
     subst (λ (step : KeptOutcome). KeptNumber (stock_of c.args.self.now) step c.write.result (stock_of c.write.new.self))
-    (sym (incr-write c.args.self.now c.requires.store c.args.key c.in-Some.id c.in-Some-get.node.now holds c.args.change c.args.time (spec_of c.args.spec) c.in-Some-changed.value (sym c.is_before.ensures ∙ c.if-is_before.false) late c.in-Some-changed.ensures))
+    (sym (incr-write c.args.self.now c.requires.db.store c.args.key c.in-Some.id c.in-Some-get.node.now holds c.args.change c.args.time (spec_of c.args.spec) c.in-Some-changed.value (sym c.is_before.ensures ∙ c.if-is_before.false) late c.in-Some-changed.ensures))
     (c.write.ensures.written c.args.key c.in-Some-get.node.now holds)
 
 pub returns-clause-changed : goal.returns-clause-changed
 returns-clause-changed g c =
     let holds : Holds c.args.self.now c.args.key c.in-Some.id c.in-Some-get.node.now = record { number = sym (c.in-Some.ensures ∙ c.get.ensures.value); node = sym c.in-Some-get.ensures } in
     let late : nat_lt c.args.time (low c.in-Some-get.node.now.series) ≡ false = ap (nat_lt c.args.time) (sym c.edge.ensures) ∙ le-ltb c.args.time c.edge.result c.if-time-edge.false in
-    (incr-out c.args.self.now c.requires.store c.args.key c.in-Some.id c.in-Some-get.node.now holds c.args.change c.args.time (spec_of c.args.spec) (sym c.is_before.ensures ∙ c.if-is_before.false) late c.in-None.ensures, refl)
+    (incr-out c.args.self.now c.requires.db.store c.args.key c.in-Some.id c.in-Some-get.node.now holds c.args.change c.args.time (spec_of c.args.spec) (sym c.is_before.ensures ∙ c.if-is_before.false) late c.in-None.ensures, refl)
+
+pub write-requires-clause-there : goal.write-requires-clause-there
+write-requires-clause-there g c =
+    record { key = c.args.key; node = c.in-Some-get.node.now; holds = record { number = sym (c.in-Some.ensures ∙ c.get.ensures.value); node = sym c.in-Some-get.ensures } }

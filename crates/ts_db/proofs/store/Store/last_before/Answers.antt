@@ -1,9 +1,7 @@
-use Rattle.std.proofs.Common.{◌≡◌, ℕ, List, Vec, Global, refl, sym, ◌∙◌}
-use Rattle.std.specs.Prelude.{nat_lt, Option, Ok, Err}
-use Rattle.ts_spec.specs.Sample.{Point, at_times, between, last_of}
+use Rattle.std.proofs.Common.{◌≡◌, sym, ◌∙◌}
+use Rattle.std.specs.Prelude.{nat_lt, Option, Ok}
+use Rattle.ts_spec.specs.Sample.{Point, at_times, last_of}
 use Rattle.ts_spec.specs.KeptQuestions.{kept_asked}
-use Rattle.ts_db.specs.declared.fault.DbFault.TheVariants.{Memory}
-use Rattle.ts_db.specs.Held.{ends_of}
 use Rattle.ts_db.specs.Store.{stock_of}
 use Rattle.ts_db.proofs.Collecting.{get-ids}
 use Rattle.ts_db.proofs.Asking.{finds-no-key, finds-there, live-of}

@@ -1,4 +1,4 @@
-use Rattle.std.proofs.Common.{sym, ◌∙◌}
+use Rattle.std.proofs.Common.{sym}
 use Rattle.ts_db.proofs.Asking.{numbered-holds, node-live}
 use Rattle.ts_db.proofs.store.Store.node.Goals as goal
 

@@ -13,7 +13,7 @@ use Rattle.ts_db.proofs.store.Store.put.Goals as goal
 
 pub returns-in_default-clause-put : goal.returns-in_default-clause-put
 returns-in_default-clause-put g c = (
-  ap (kept_put_at c.args.self.now.limits (stock_of c.args.self.now).keys c.args.key.now c.args.time c.args.value) (missing c.args.self.now.limits c.args.self.now.nodes c.args.self.now.keys.entries c.requires.store c.args.key.now (sym (c.in_default.ensures ∙ c.get.ensures.value))),
+  ap (kept_put_at c.args.self.now.limits (stock_of c.args.self.now).keys c.args.key.now c.args.time c.args.value) (missing c.args.self.now.limits c.args.self.now.nodes c.args.self.now.keys.entries c.requires.db.store c.args.key.now (sym (c.in_default.ensures ∙ c.get.ensures.value))),
   refl,
 )
 
@@ -21,9 +21,13 @@ pub returns-clause-put : goal.returns-clause-put
 returns-clause-put g c =
     let holds : Holds c.args.self.now c.args.key.now c.in-Some.id c.in-Some-get.node.now = record { number = sym (c.in-Some.ensures ∙ c.get.ensures.value); node = sym c.in-Some-get.ensures } in
     subst (λ (o : Option Kept). KeptNumber (stock_of c.args.self.now) (kept_put_at c.args.self.now.limits (stock_of c.args.self.now).keys c.args.key.now c.args.time c.args.value o) c.write.result (stock_of c.write.new.self))
-    (sym (there c.args.self.now c.requires.store c.args.key.now c.in-Some.id c.in-Some-get.node.now holds))
-    (subst (λ (o : Options). KeptNumber (stock_of c.args.self.now) (kept_write c.args.self.now.limits (stock_of c.args.self.now).keys c.args.key.now (kept_at c.in-Some-get.node.now) (By o.policy) c.args.time c.args.value) c.write.result (stock_of c.write.new.self))
+    (sym (there c.args.self.now c.requires.db.store c.args.key.now c.in-Some.id c.in-Some-get.node.now holds))
+    (subst (λ (o : Options). KeptNumber (stock_of c.args.self.now) (kept_write c.args.self.now.limits (stock_of c.args.self.now).keys c.args.key.now (kept_at c.args.self.now.nodes c.in-Some-get.node.now) (By o.policy) c.args.time c.args.value) c.write.result (stock_of c.write.new.self))
     c.options.ensures
     (subst (λ (step : KeptOutcome). KeptNumber (stock_of c.args.self.now) step c.write.result (stock_of c.write.new.self))
     (sym (write-met (stock_of c.args.self.now).keys c.args.self.now c.args.key.now c.in-Some-get.node.now (By c.options.result.policy) c.args.time c.args.value))
     (c.write.ensures.written c.args.key.now c.in-Some-get.node.now holds)))
+
+pub write-requires-clause-there : goal.write-requires-clause-there
+write-requires-clause-there g c =
+    record { key = c.args.key.now; node = c.in-Some-get.node.now; holds = record { number = sym (c.in-Some.ensures ∙ c.get.ensures.value); node = sym c.in-Some-get.ensures } }

@@ -1,9 +1,8 @@
-use Rattle.std.proofs.Common.{◌≡◌, ℕ, List, Vec, Global, refl, sym, ◌∙◌}
-use Rattle.std.specs.Prelude.{nat_lt, Option, Ok, Err}
-use Rattle.ts_spec.specs.Sample.{Point, at_times, between, last_of}
+use Rattle.std.proofs.Common.{◌≡◌, Vec, Global, sym, ◌∙◌}
+use Rattle.std.specs.Prelude.{Ok, Err}
+use Rattle.ts_spec.specs.Sample.{Point, between}
 use Rattle.ts_spec.specs.KeptQuestions.{kept_asked}
 use Rattle.ts_db.specs.declared.fault.DbFault.TheVariants.{Memory}
-use Rattle.ts_db.specs.Held.{ends_of}
 use Rattle.ts_db.specs.Store.{stock_of}
 use Rattle.ts_db.proofs.Collecting.{get-ids}
 use Rattle.ts_db.proofs.Asking.{finds-no-key, finds-there, live-of}
@@ -24,4 +23,4 @@ returns-in-Ok-clause-samples g c =
 
 pub returns-in-Err-clause-samples : goal.returns-in-Err-clause-samples
 returns-in-Err-clause-samples g c =
-    finds-there {T = Vec Point Global} c.args.self.now c.requires c.args.key.now c.in-Some.id (λ samples. samples.items ≡ between c.args.from c.args.to (kept_asked (stock_of c.args.self.now).keys c.args.latest c.args.key.now)) (Err (Memory c.in-Err.fault)) (sym (c.in-Some.ensures ∙ c.get.ensures.value)) (λ d. refl)
+    finds-there {T = Vec Point Global} c.args.self.now c.requires c.args.key.now c.in-Some.id (λ samples. samples.items ≡ between c.args.from c.args.to (kept_asked (stock_of c.args.self.now).keys c.args.latest c.args.key.now)) (Err (Memory c.in-Err.fault)) (sym (c.in-Some.ensures ∙ c.get.ensures.value)) (λ d. tt)

@@ -1,19 +1,41 @@
-use Rattle.std.proofs.Common.{◌≡◌, List, Vec, Global, sym, ap, ◌∙◌}
-use Rattle.std.specs.Prelude.{Result, Ok, Err, Some, IfOk}
-use Rattle.std.specs.declared.alloc.AllocError.{AllocError}
-use Rattle.ts_spec.specs.Key.{Key}
-use Rattle.ts_spec.specs.Keyed.{get}
-use Rattle.ts_spec.specs.KeptQuestions.{kept_asked}
-use Rattle.ts_spec.specs.Sample.{Point, between}
+use Rattle.std.proofs.Common.{◌≡◌, ℕ, List, sym, ap, ◌∙◌, subst}
+use Rattle.std.specs.Prelude.{Option, Some}
+use Rattle.std.proofs.lemmas.Result.{IfOk-weaker}
+use Rattle.ts_spec.specs.Sample.{Point, IsAscending, between, is_within, put, put_all}
+use Rattle.ts_spec.proofs.Samples.{ascending-times, ascending-put_all}
+use Rattle.ts_spec.proofs.Settles.{times-within}
 use Rattle.ts_series.specs.History.{list_of}
-use Rattle.ts_db.specs.Store.{stock_of}
-use Rattle.ts_db.proofs.Asking.{asked-own}
+use Rattle.ts_rules.specs.Rules.{one_of}
+use Rattle.ts_db.proofs.Rows.{within-put}
 use Rattle.ts_db.proofs.store.Store.samples_of.Goals as goal
 
-pub returns-clause-samples : goal.returns-clause-samples
-returns-clause-samples g c = go c.gather.result c.gather.ensures.gathered
-  where
-    go : (r : Result (Vec Point Global) AllocError) → IfOk r (λ samples. samples.items ≡ between c.args.from c.args.to (list_of c.node.result.now.series))
-        → IfOk r (λ samples. (key : Key) → get key (stock_of c.args.self.now).ids ≡ Some c.args.id → samples.items ≡ between c.args.from c.args.to (kept_asked (stock_of c.args.self.now).keys c.args.latest key))
-    go (Ok samples) h = λ key is. h ∙ ap (between c.args.from c.args.to) (sym (asked-own c.args.self.now c.requires.store key c.args.id c.node.result.now (c.node.ensures.holds key is) c.args.latest))
-    go (Err e) h = tt
+-- the samples of an interval with a row among them are those of the list with the row asked
+with-row : (from to : ℕ) (asked inside : Option Point) (row : Point) (ps : List Point) → IsAscending ps → one_of inside ≡ between from to (one_of asked) → inside ≡ Some row
+    → put row (between from to ps) ≡ between from to (put_all (one_of asked) ps)
+with-row from to asked inside row ps up is there =
+    ap (λ (o : Option Point). put_all (one_of o) (between from to ps)) (sym there) ∙ within-put from to asked inside ps up is
+
+pub returns-in-None-clause-samples : goal.returns-in-None-clause-samples
+returns-in-None-clause-samples g c = IfOk-weaker c.gather.result _ _ (λ samples is. λ key at.
+    is ∙ ap (λ (o : Option Point). put_all (one_of o) (between c.args.from c.args.to (list_of c.node-node.result.now.series))) (sym c.in-None.is)
+    ∙ within-put c.args.from c.args.to c.asked_row.result c.row_within.result (list_of c.node-node.result.now.series) c.node-node.ensures.kept.ascending c.row_within.ensures
+    ∙ ap (between c.args.from c.args.to) (sym (c.asked_row.ensures key c.node-node.result.now (c.node-node.ensures.holds key at)))) c.gather.ensures.gathered
+
+pub returns-in-Some-clause-samples : goal.returns-in-Some-clause-samples
+returns-in-Some-clause-samples g c = IfOk-weaker c.gather_with.result _ _ (λ samples is. λ key at.
+    is ∙ with-row c.args.from c.args.to c.asked_row.result c.row_within.result c.in-Some.row (list_of c.node-node.result.now.series) c.node-node.ensures.kept.ascending c.row_within.ensures c.in-Some.is
+    ∙ ap (between c.args.from c.args.to) (sym (c.asked_row.ensures key c.node-node.result.now (c.node-node.ensures.holds key at)))) c.gather_with.ensures.gathered
+
+pub returns-in-Some-clause-ascending : goal.returns-in-Some-clause-ascending
+returns-in-Some-clause-ascending g c =
+    let list : List Point = put_all (one_of c.asked_row.result) (list_of c.node-node.result.now.series) in
+    IfOk-weaker c.gather_with.result _ _ (λ samples is. subst IsAscending
+    (sym (is ∙ with-row c.args.from c.args.to c.asked_row.result c.row_within.result c.in-Some.row (list_of c.node-node.result.now.series) c.node-node.ensures.kept.ascending c.row_within.ensures c.in-Some.is))
+    (ascending-times (is_within c.args.from c.args.to) list (ascending-put_all (one_of c.asked_row.result) (list_of c.node-node.result.now.series) c.node-node.ensures.kept.ascending))) c.gather_with.ensures.gathered
+
+pub returns-in-Some-clause-within : goal.returns-in-Some-clause-within
+returns-in-Some-clause-within g c =
+    let list : List Point = put_all (one_of c.asked_row.result) (list_of c.node-node.result.now.series) in
+    IfOk-weaker c.gather_with.result _ _ (λ samples is.
+    let same = is ∙ with-row c.args.from c.args.to c.asked_row.result c.row_within.result c.in-Some.row (list_of c.node-node.result.now.series) c.node-node.ensures.kept.ascending c.row_within.ensures c.in-Some.is in
+    ap (between c.args.from c.args.to) same ∙ times-within (is_within c.args.from c.args.to) (is_within c.args.from c.args.to) list (λ t x. x) ∙ sym same) c.gather_with.ensures.gathered

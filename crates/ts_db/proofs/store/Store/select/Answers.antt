@@ -1,8 +1,8 @@
-use Rattle.std.proofs.Common.{◌≡◌, ◌++◌, List, [], ◌∷◌, refl, sym, ap, subst, ◌∙◌}
+use Rattle.std.proofs.Common.{◌≡◌, ◌++◌, List, refl, sym, ap, subst, ◌∙◌}
 use Rattle.ts_spec.specs.KeptQuestions.{kept_selection}
 use Rattle.ts_sample.specs.declared.id.Id.{Id}
 use Rattle.ts_db.specs.Held.{AreNumbersOf}
-use Rattle.ts_db.specs.Store.{stock_of, ids_of, Numbers}
+use Rattle.ts_db.specs.Store.{stock_of, ids_of}
 use Rattle.ts_db.proofs.Collecting.{get-ids}
 use Rattle.ts_db.proofs.Selecting.{chosen, HaveNodes, chosen-selected, all-found, all-there, walk-takes, walk-skips, walk-ends, there-next}
 use Rattle.ts_db.proofs.store.Store.select.Goals as goal

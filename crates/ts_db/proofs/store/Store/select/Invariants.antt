@@ -1,5 +1,4 @@
 use Rattle.std.proofs.Common.{◌≡◌, ◌++◌}
-use Rattle.ts_db.specs.Store.{stock_of}
 use Rattle.ts_db.proofs.Selecting.{chosen, HaveNodes}
 use Rattle.ts_db.proofs.store.Store.select.Given as goal
 

@@ -1,46 +1,106 @@
 use Rattle.std.proofs.Common.{◌≡◌, refl, sym, ◌∙◌, ap, subst}
-use Rattle.std.specs.Prelude.{Ok, Err}
+use Rattle.std.specs.Prelude.{None, Some, Ok, Err}
+use Rattle.ts_spec.specs.Sample.{Point}
+use Rattle.ts_spec.specs.Response.{Count}
+use Rattle.ts_spec.specs.KeptStep.{kept_write_merged}
+use Rattle.ts_spec.specs.Rules.{Merged}
 use Rattle.ts_spec.proofs.Tidy.{some-same}
-use Rattle.ts_series.specs.Put.{Answers, met}
+use Rattle.ts_series.specs.Put.{Answers, met, sample_of}
 use Rattle.ts_db.specs.declared.node.Node.{Node}
+use Rattle.ts_db.specs.declared.work.Work.TheVariants.{Write}
 use Rattle.ts_db.specs.Faults.{refusal_of}
 use Rattle.ts_db.specs.Held.{Stock}
-use Rattle.ts_db.specs.Store.{stock_of, IsNode}
+use Rattle.ts_db.specs.Planning.{changed_by, gone_by, rows_by_work, AllTake}
+use Rattle.ts_db.specs.Store.{kept_at, stock_of, IsNode}
+use Rattle.ts_db.specs.Answering.{node_after, IsKeptAnswer}
+use Rattle.ts_db.proofs.Known.{takes, distinct, links}
 use Rattle.ts_db.proofs.Owning.{own-fault}
-use Rattle.ts_db.proofs.Writing.{within-planned, planned-answers, refused-answers}
+use Rattle.ts_db.proofs.Unplanned.{destination-own}
+use Rattle.ts_db.proofs.Working.{ArePlanned, planned-for, unplanned-for, changed-live, changed-grids, is-feed, still-fed, worked}
+use Rattle.ts_db.proofs.Writing.{IsWritten, within-planned, written-sample, planned-answers, unplanned-answers, refused-answers}
 use Rattle.ts_db.proofs.store.Store.write.Goals as goal
-
-pub apply-requires-clause-planned : goal.apply-requires-clause-planned
-apply-requires-clause-planned g c =
-    let fits : IsNode c.args.self.now.limits c.in-Some.node.now = c.requires.store.each c.args.id.0 c.in-Some.node.now (sym c.in-Some.ensures) in
-    record {
-      key = c.requires.there.key;
-      node = c.in-Some.node.now;
-      holds = record { number = c.requires.there.holds.number; node = sym c.in-Some.ensures };
-      ready = c.in-Ok.ensures.planned;
-      within = within-planned c.in-Some.node.now c.in-Ok.plan (met c.args.how c.args.time c.args.value c.in-Some.node.now.series) c.args.self.now.limits.samples c.args.time fits.kept c.in-Ok.ensures.answer fits.within;
-      few = fits.labels;
-    }
-
-pub returns-in-Ok-clause-written : goal.returns-in-Ok-clause-written
-returns-in-Ok-clause-written g c key n holds =
-    let it : c.in-Some.node.now ≡ n = some-same c.in-Some.node.now n (c.in-Some.ensures ∙ holds.node) in
-    let fits : IsNode c.args.self.now.limits n = c.requires.store.each c.args.id.0 n holds.node in
-    let answer : Answers (met c.args.how c.args.time c.args.value n.series) c.args.self.now.limits.samples c.args.time n.series (Ok c.in-Ok.plan) =
-    subst (λ (x : Node). Answers (met c.args.how c.args.time c.args.value x.series) c.args.self.now.limits.samples c.args.time x.series (Ok c.in-Ok.plan)) it c.in-Ok.ensures.answer in (
-      planned-answers c.args.self.now c.requires.store key c.args.id n holds c.in-Ok.plan (met c.args.how c.args.time c.args.value n.series) c.args.time (stock_of c.apply.new.self)
-          answer (within-planned n c.in-Ok.plan (met c.args.how c.args.time c.args.value n.series) c.args.self.now.limits.samples c.args.time fits.kept answer fits.within)
-          (c.apply.ensures.applied key n holds),
-      ap (λ (x : Stock). x.limits) (c.apply.ensures.applied key n holds),
-    )
 
 pub returns-in-Err-clause-written : goal.returns-in-Err-clause-written
 returns-in-Err-clause-written g c key n holds =
     let it : c.in-Some.node.now ≡ n = some-same c.in-Some.node.now n (c.in-Some.ensures ∙ holds.node) in (
-      refused-answers c.args.self.now c.requires.store key c.args.id n holds c.in-Err.fault (refusal_of c.fault_at.result) (met c.args.how c.args.time c.args.value n.series) c.args.time c.fault_at.ensures.refusal
+      refused-answers c.args.self.now c.requires.db key c.args.id n holds c.in-Err.fault (refusal_of (stock_of c.args.self.now).ids c.fault_at.result) (met c.args.how c.args.time c.args.value n.series) c.args.time (c.fault_at.ensures.refusal (stock_of c.args.self.now).ids)
           (subst (λ (x : Node). Answers (met c.args.how c.args.time c.args.value x.series) c.args.self.now.limits.samples c.args.time x.series (Err c.in-Err.fault)) it c.in-Err.ensures.answer),
       refl,
     )
 
 pub returns-in-Err-clause-own : goal.returns-in-Err-clause-own
 returns-in-Err-clause-own g c key is = own-fault c.args.self.now key c.args.id c.fault_at.result is c.fault_at.ensures.own
+
+pub plan_rules-requires-clause-room : goal.plan_rules-requires-clause-room
+plan_rules-requires-clause-room g c =
+    subst (AllTake (Write c.in-Some-wrote.wrote) c.in-Some.node.now.series) (sym c.deref.ensures.value)
+    (takes c.args.self.now c.requires.db c.requires.there.key c.args.id c.in-Some.node.now (record { number = c.requires.there.holds.number; node = sym c.in-Some.ensures }) c.in-Some-wrote.wrote)
+
+pub returns-in-Err-plan_rules-clause-written : goal.returns-in-Err-plan_rules-clause-written
+returns-in-Err-plan_rules-clause-written g c key n holds =
+    let it : c.in-Some.node.now ≡ n = some-same c.in-Some.node.now n (c.in-Some.ensures ∙ holds.node) in
+    let p : IsWritten c.args.self.now.limits.samples (met c.args.how c.args.time c.args.value n.series) c.args.time n.series c.in-Some-wrote.wrote c.in-Ok.plan =
+    written-sample c.in-Ok.plan (met c.args.how c.args.time c.args.value n.series) c.args.self.now.limits.samples c.args.time n.series c.in-Some-wrote.wrote
+    (subst (λ (x : Node). Answers (met c.args.how c.args.time c.args.value x.series) c.args.self.now.limits.samples c.args.time x.series (Ok c.in-Ok.plan)) it c.in-Ok.ensures.answer) c.in-Some-wrote.ensures in (
+      subst (λ (what : Merged). IsKeptAnswer (refusal_of (stock_of c.args.self.now).ids c.in-Err-plan_rules.fault) (stock_of c.args.self.now).keys (kept_write_merged c.args.self.now.limits (stock_of c.args.self.now).keys key c.args.time what)) (sym p.sets)
+          (unplanned-answers c.args.self.now c.requires.db key c.args.id n holds c.in-Ok.plan c.in-Err-plan_rules.fault c.args.time p.value p.writes
+          (unplanned-for c.args.self.now (Write c.in-Some-wrote.wrote) (Write (sample_of c.args.time p.value n.series)) c.in-Some.node.now n c.deref.result.now c.in-Err-plan_rules.fault (ap (λ (q : Point). Write q) p.sample) it c.deref.ensures.value c.in-Err-plan_rules.ensures.refused)),
+      refl,
+    )
+
+pub returns-in-Err-plan_rules-clause-own : goal.returns-in-Err-plan_rules-clause-own
+returns-in-Err-plan_rules-clause-own g c key is =
+    let node : Node = c.in-Some.node.now in
+    destination-own c.args.self.now c.requires.db.store node.rules.items (rows_by_work (Write c.in-Some-wrote.wrote) node.series) (gone_by (Write c.in-Some-wrote.wrote) node.series)
+    (c.requires.db.store.live c.args.id.0 node (sym c.in-Some.ensures)).rules key c.in-Err-plan_rules.fault
+    (unplanned-for c.args.self.now (Write c.in-Some-wrote.wrote) (Write c.in-Some-wrote.wrote) node node c.deref.result.now c.in-Err-plan_rules.fault refl refl c.deref.ensures.value c.in-Err-plan_rules.ensures.refused)
+
+pub apply-requires-clause-ready : goal.apply-requires-clause-ready
+apply-requires-clause-ready g c =
+    let node : Node = c.in-Some.node.now in
+    let fits : IsNode c.args.self.now.limits node = c.requires.db.store.each c.args.id.0 node (sym c.in-Some.ensures) in
+    let p : IsWritten c.args.self.now.limits.samples (met c.args.how c.args.time c.args.value node.series) c.args.time node.series c.in-Some-wrote.wrote c.in-Ok.plan =
+    written-sample c.in-Ok.plan (met c.args.how c.args.time c.args.value node.series) c.args.self.now.limits.samples c.args.time node.series c.in-Some-wrote.wrote c.in-Ok.ensures.answer c.in-Some-wrote.ensures in
+    let planned : ArePlanned c.args.self.now (Write c.in-Some-wrote.wrote) node.series node.rules.items c.in-Ok-plan_rules.planned.rules.items c.in-Ok-plan_rules.planned.plans.items =
+    planned-for c.args.self.now (Write c.in-Some-wrote.wrote) (Write c.in-Some-wrote.wrote) node node c.deref.result.now c.in-Ok-plan_rules.planned.rules.items c.in-Ok-plan_rules.planned.plans.items refl refl c.deref.ensures.value
+    (record { changed = c.in-Ok-plan_rules.ensures.rules; fed = c.in-Ok-plan_rules.ensures.fed; fit = c.in-Ok-plan_rules.ensures.fit }) in
+    record {
+      key = c.requires.there.key;
+      node = node;
+      holds = record { number = c.requires.there.holds.number; node = sym c.in-Some.ensures };
+      ready = c.in-Ok.ensures.planned;
+      within = within-planned node.series c.in-Ok.plan c.args.self.now.limits.samples c.args.time p.value fits.kept p.writes fits.within;
+      few = fits.labels;
+      live = changed-live c.args.self.now (changed_by (Write c.in-Some-wrote.wrote) node.series) node.rules.items c.in-Ok-plan_rules.planned.rules.items planned.changed
+          (c.requires.db.store.live c.args.id.0 node (sym c.in-Some.ensures)).rules;
+      grids = changed-grids (Write c.in-Some-wrote.wrote) node.series node.rules.items c.in-Ok-plan_rules.planned.rules.items planned.changed fits.grids;
+    }
+
+pub feed-requires-clause-planned : goal.feed-requires-clause-planned
+feed-requires-clause-planned g c =
+    let node : Node = c.in-Some.node.now in
+    let planned : ArePlanned c.args.self.now (Write c.in-Some-wrote.wrote) node.series node.rules.items c.in-Ok-plan_rules.planned.rules.items c.in-Ok-plan_rules.planned.plans.items =
+    planned-for c.args.self.now (Write c.in-Some-wrote.wrote) (Write c.in-Some-wrote.wrote) node node c.deref.result.now c.in-Ok-plan_rules.planned.rules.items c.in-Ok-plan_rules.planned.plans.items refl refl c.deref.ensures.value
+    (record { changed = c.in-Ok-plan_rules.ensures.rules; fed = c.in-Ok-plan_rules.ensures.fed; fit = c.in-Ok-plan_rules.ensures.fit }) in
+    is-feed c.args.self.now c.requires.db c.requires.there.key c.args.id node (record { number = c.requires.there.holds.number; node = sym c.in-Some.ensures }) c.apply.new.self c.apply.ensures.elsewhere
+    (rows_by_work (Write c.in-Some-wrote.wrote) node.series) (gone_by (Write c.in-Some-wrote.wrote) node.series) c.in-Ok-plan_rules.planned.plans.items planned.fed
+
+pub returns-clause-written : goal.returns-clause-written
+returns-clause-written g c key n holds =
+    let it : c.in-Some.node.now ≡ n = some-same c.in-Some.node.now n (c.in-Some.ensures ∙ holds.node) in
+    let p : IsWritten c.args.self.now.limits.samples (met c.args.how c.args.time c.args.value n.series) c.args.time n.series c.in-Some-wrote.wrote c.in-Ok.plan =
+    written-sample c.in-Ok.plan (met c.args.how c.args.time c.args.value n.series) c.args.self.now.limits.samples c.args.time n.series c.in-Some-wrote.wrote
+    (subst (λ (x : Node). Answers (met c.args.how c.args.time c.args.value x.series) c.args.self.now.limits.samples c.args.time x.series (Ok c.in-Ok.plan)) it c.in-Ok.ensures.answer) c.in-Some-wrote.ensures in
+    let work = Write (sample_of c.args.time p.value n.series) in
+    let planned : ArePlanned c.args.self.now work n.series n.rules.items c.in-Ok-plan_rules.planned.rules.items c.in-Ok-plan_rules.planned.plans.items =
+    planned-for c.args.self.now (Write c.in-Some-wrote.wrote) work c.in-Some.node.now n c.deref.result.now c.in-Ok-plan_rules.planned.rules.items c.in-Ok-plan_rules.planned.plans.items (ap (λ (q : Point). Write q) p.sample) it c.deref.ensures.value
+    (record { changed = c.in-Ok-plan_rules.ensures.rules; fed = c.in-Ok-plan_rules.ensures.fed; fit = c.in-Ok-plan_rules.ensures.fit }) in
+    let done = worked c.args.self.now c.requires.db key c.args.id n holds c.apply.new.self c.apply.ensures.elsewhere (rows_by_work work n.series) (gone_by work n.series)
+    (kept_at c.args.self.now.nodes (node_after c.in-Ok.plan None (Some c.in-Ok-plan_rules.planned.rules) n)) (stock_of c.feed.new.self) (c.apply.ensures.applied key n holds)
+    (c.feed.ensures.fed (rows_by_work work n.series) (gone_by work n.series) n.rules.items
+    (still-fed c.args.self.now c.requires.db key c.args.id n holds c.apply.new.self c.apply.ensures.elsewhere (rows_by_work work n.series) (gone_by work n.series) c.in-Ok-plan_rules.planned.plans.items planned.fed)
+    (distinct c.args.self.now n.rules.items (links c.args.self.now c.requires.db key c.args.id n holds).apart)) in (
+      subst (λ (what : Merged). kept_write_merged c.args.self.now.limits (stock_of c.args.self.now).keys key c.args.time what ≡ record { keys = (stock_of c.feed.new.self).keys; response = Count c.args.time }) (sym p.sets)
+          (planned-answers c.args.self.now c.requires.db key c.args.id n holds c.in-Ok.plan c.in-Ok-plan_rules.planned.rules c.args.time p.value (stock_of c.feed.new.self) p.writes planned.changed planned.fit done),
+      ap (λ (x : Stock). x.limits) done,
+    )

@@ -2,7 +2,7 @@ use Rattle.std.proofs.Common.{◌≡◌, ◌-◌, ◌≤◌, []}
 use Rattle.ts_resp.specs.Reading.{fed}
 use Rattle.ts_db.specs.Held.{Carries}
 use Rattle.ts_engine.specs.Session.{Went}
-use Rattle.ts_engine.specs.Standing.{spot, reading}
+use Rattle.ts_engine.specs.Standing.{spot, reader_of}
 use Rattle.ts_engine.proofs.session.Session.answer_all.Given as goal
 
 -- what was done so far, and that no byte came
@@ -10,9 +10,9 @@ abbrev pub invariant-loop-go : goal.invariant-loop-go
 invariant-loop-go g l = record {
   went : Carries l.initial.db l.db (λ from to. Went (spot l.initial.self from (g.C.Clock.readings l.initial.clock)) (spot l.self to (g.C.Clock.readings l.clock))
       (g.K.Sink.has l.initial.out) (g.K.Sink.has l.out) [] []);
-  fed : fed (reading l.self) ≡ fed (reading l.initial.self);
+  fed : fed (reader_of l.self) ≡ fed (reader_of l.initial.self);
   later : g.K.Sink.faults l.initial.out ≤ g.K.Sink.faults l.out;
 }
 
 abbrev pub decreases-loop-go : goal.decreases-loop-go
-decreases-loop-go g l = fed (reading l.self) - (reading l.self).begin
+decreases-loop-go g l = fed (reader_of l.self) - (reader_of l.self).begin

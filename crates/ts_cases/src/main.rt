@@ -1,0 +1,49 @@
+//! Rows that try `ts_command`: each line of the input is a request, its words between single blanks, and is answered
+//! by a line with the message of the first fault in it, or with `ok` and what the command says. The rows stand here
+//! because tests are proved as code is, and lines of a file are not.
+#![tactic(auto)]
+
+mod questions;
+mod series;
+mod summary;
+mod texts;
+
+use std::alloc::{AllocError, Global};
+use std::io;
+use ts_command::{Command, CommandFault, read};
+use ts_resp::Word;
+
+fn main(rt: HostRuntime) -> io::Result<()> {
+    for line in rt.lines(rt.alloc()) {
+        let answer = answer(rt.alloc(), line?.as_str())?;
+        println!(rt; "{answer}")?;
+    }
+    Ok(())
+}
+
+// What a line is answered by.
+fn answer(alloc: Global, line: &str) -> Result<String, AllocError> {
+    match read(words(alloc, line)?) {
+        Ok(command) => line_of(alloc, &command),
+        Err(CommandFault::Memory(error)) => Err(error),
+        Err(fault) => String::from_str(alloc, fault.message()),
+    }
+}
+
+// The words of a line. Two blanks in a row, or one at its end, have an empty word between them.
+fn words(alloc: Global, line: &str) -> Result<Vec<Word>, AllocError> {
+    let mut words = Vec::new(alloc);
+    for word in line.split(' ') {
+        words.push(Word::from_slice(alloc, word.as_bytes())?)?;
+    }
+    Ok(words)
+}
+
+// The line of a command: what it says, and whether it needs the clock.
+fn line_of(alloc: Global, command: &Command) -> Result<String, AllocError> {
+    let summary = summary::summary(alloc, command)?;
+    if command.needs_clock() {
+        return format!(in alloc; "ok at the clock: {summary}");
+    }
+    format!(in alloc; "ok {summary}")
+}

@@ -1,0 +1,39 @@
+// Questions, in a few words.
+use crate::texts::{filters, labels_to_show, text};
+use std::alloc::{AllocError, Global};
+use ts_command::{Filter, Query, Show};
+use ts_resp::Word;
+
+// Whether the bucket that is still open counts too.
+fn latest_word(latest: bool) -> &'static str {
+    if latest { "latest " } else { "" }
+}
+
+// TS.RANGE and TS.REVRANGE.
+pub(crate) fn range(
+    alloc: Global,
+    key: &Word,
+    latest: bool,
+    query: &Query,
+) -> Result<String, AllocError> {
+    let (key, latest) = (text(key), latest_word(latest));
+    format!(in alloc; "range {latest}{key} {query:?}")
+}
+
+// TS.GET.
+pub(crate) fn last(alloc: Global, key: &Word, latest: bool) -> Result<String, AllocError> {
+    let (key, latest) = (text(key), latest_word(latest));
+    format!(in alloc; "last {latest}{key}")
+}
+
+// The series that filters choose, and what an answer shows of them.
+pub(crate) fn selection(
+    alloc: Global,
+    latest: bool,
+    show: &Show,
+    chosen: &[Filter],
+) -> Result<String, AllocError> {
+    let latest = latest_word(latest);
+    let (labels, filters) = (labels_to_show(alloc, show)?, filters(alloc, chosen)?);
+    format!(in alloc; "{latest}{labels} {filters}")
+}

@@ -1,0 +1,38 @@
+// What series and samples are to be, in a few words.
+use crate::texts::{labels, text};
+use std::alloc::{AllocError, Global};
+use ts_command::{Change, Spec, Triple};
+
+// What a new series is made with.
+pub(crate) fn spec_text(alloc: Global, spec: &Spec) -> Result<String, AllocError> {
+    let options = spec.options;
+    let labels = labels(alloc, &spec.labels)?;
+    format!(in alloc; "{options:?} {labels}")
+}
+
+// What a series gets anew.
+pub(crate) fn change_text(alloc: Global, change: &Change) -> Result<String, AllocError> {
+    let (retention, chunk_size, policy) = (change.retention, change.chunk_size, change.policy);
+    let labels = match &change.labels {
+        Some(given) => labels(alloc, given)?,
+        None => String::from_str(alloc, "no labels")?,
+    };
+    format!(in alloc;
+        "retention {retention:?} chunk_size {chunk_size:?} policy {policy:?} {labels}"
+    )
+}
+
+// The samples of TS.MADD.
+pub(crate) fn samples(alloc: Global, triples: &[Triple]) -> Result<String, AllocError> {
+    let mut list = String::new(alloc);
+    for triple in triples {
+        let one = sample(alloc, triple)?;
+        list.push_str(one.as_str())?;
+    }
+    Ok(list)
+}
+
+fn sample(alloc: Global, triple: &Triple) -> Result<String, AllocError> {
+    let (key, at, value) = (text(&triple.key), triple.at, triple.value);
+    format!(in alloc; " ({key} {at:?} {value:?})")
+}

@@ -1,0 +1,77 @@
+// The commands that make and end rules. Their words are the whole request, with its name, and are taken one by one.
+ghost use Rattle.std.specs.Prelude.{◌≡◌, ◌∷◌, [], drop, IfOk, IfErr};
+ghost use Rattle.std.specs.Vec.Iter.{into_iter_items};
+ghost use Rattle.ts_spec.specs.Grammar.{create_rule, delete_rule, rule_buckets};
+ghost use Rattle.ts_command.specs.Answers.{HasTime};
+ghost use Rattle.ts_command.specs.Faults.{Says};
+ghost use Rattle.ts_command.specs.Reading.{command_of};
+ghost use Rattle.ts_command.specs.declared.fault.CommandFault.TheVariants.{Arity};
+
+use crate::bucket_words::{aggregator_word, duration_word};
+use crate::command::Command;
+use crate::fault::CommandFault;
+use crate::words::time_word;
+use std::vec::IntoIter;
+use ts_agg::is_name;
+use ts_bucket::Grid;
+use ts_resp::Word;
+
+// A word that has to be there.
+fn next_word(words: &mut IntoIter<Word>) -> Result<Word, CommandFault>
+    ensures ok { IfOk result (λ word. into_iter_items words.old ≡ word ∷ into_iter_items words.new) }
+    ensures fault { IfErr result (λ fault. (fault ≡ Arity) × (into_iter_items words.old ≡ [])) }
+{
+    words.next().ok_or(CommandFault::Arity)
+}
+
+// The rule of two series: what is told of each bucket, how long it is, and where one begins, which may be left out.
+fn read_buckets(
+    source: Word,
+    dest: Word,
+    mut words: IntoIter<Word>,
+) -> Result<Command, CommandFault>
+    ensures command { Says command_of result (rule_buckets source dest (into_iter_items words)) }
+    ensures time { IfOk result HasTime }
+{
+    let name = next_word(&mut words)?;
+    let length = next_word(&mut words)?;
+    let agg = aggregator_word(name.bytes())?;
+    let duration = duration_word(length.bytes())?;
+    let align = match words.next() {
+        None => 0,
+        Some(word) => time_word(word.bytes())?,
+    };
+    let grid = Grid::new(align, duration).ok_or(CommandFault::BadDuration)?;
+    Ok(Command::CreateRule {
+        source,
+        dest,
+        agg,
+        grid,
+    })
+}
+
+pub(crate) fn read_create_rule(words: Vec<Word>) -> Result<Command, CommandFault>
+    ensures command { Says command_of result (create_rule (drop 1 words.items)) }
+    ensures time { IfOk result HasTime }
+{
+    let mut words = words.into_iter();
+    let _name = words.next();
+    let source = next_word(&mut words)?;
+    let dest = next_word(&mut words)?;
+    let option = next_word(&mut words)?;
+    if !is_name(b"AGGREGATION", option.bytes()) {
+        return Err(CommandFault::BadOption);
+    }
+    read_buckets(source, dest, words)
+}
+
+pub(crate) fn read_delete_rule(words: Vec<Word>) -> Result<Command, CommandFault>
+    ensures command { Says command_of result (delete_rule (drop 1 words.items)) }
+    ensures time { IfOk result HasTime }
+{
+    let mut words = words.into_iter();
+    let _name = words.next();
+    let source = next_word(&mut words)?;
+    let dest = next_word(&mut words)?;
+    Ok(Command::DeleteRule { source, dest })
+}

@@ -1,0 +1,94 @@
+// The commands that change one series, with options. Their words are the whole request, with its name; they are read
+// where they stand, and the key is taken out of them at the end. What options say is large, and is kept out of callers.
+ghost use Rattle.std.specs.Prelude.{drop, IfOk, IsTrue};
+ghost use Rattle.ts_spec.specs.Grammar.{create, alter, add, incr};
+ghost use Rattle.ts_spec.specs.SeriesOptions.{has_labels};
+ghost use Rattle.ts_command.specs.Answers.{HasTime};
+ghost use Rattle.ts_command.specs.Faults.{SaysOr};
+ghost use Rattle.ts_command.specs.Forms.{signed_by};
+ghost use Rattle.ts_command.specs.Reading.{command_of};
+
+use crate::command::Command;
+use crate::fault::CommandFault;
+use crate::forms::Sign;
+use crate::given::Given;
+use crate::option_word::OptionSet;
+use crate::options::read_options;
+use crate::words::{at_word, value_word};
+use ts_resp::Word;
+use ts_spec::At;
+
+#[inline(never)]
+pub(crate) fn create_with_options(mut words: Vec<Word>) -> Result<Command, CommandFault>
+    ensures command { SaysOr (IsTrue (has_labels (drop 1 (drop 1 words.items)))) command_of result (create (drop 1 words.items)) }
+    ensures time { IfOk result HasTime }
+{
+    let alloc = *words.allocator();
+    let [_, _, options @ ..] = words.as_slice() else {
+        return Err(CommandFault::Arity);
+    };
+    let mut given = Given::nothing();
+    read_options(alloc, OptionSet::Create, options, &mut given)?;
+    Ok(Command::Create {
+        key: words.swap_remove(1),
+        spec: given.spec(alloc),
+    })
+}
+
+pub(crate) fn read_alter(mut words: Vec<Word>) -> Result<Command, CommandFault>
+    ensures command { SaysOr (IsTrue (has_labels (drop 1 (drop 1 words.items)))) command_of result (alter (drop 1 words.items)) }
+    ensures time { IfOk result HasTime }
+{
+    let alloc = *words.allocator();
+    let [_, _, options @ ..] = words.as_slice() else {
+        return Err(CommandFault::Arity);
+    };
+    let mut given = Given::nothing();
+    read_options(alloc, OptionSet::Alter, options, &mut given)?;
+    Ok(Command::Alter {
+        key: words.swap_remove(1),
+        change: given.change(),
+    })
+}
+
+#[inline(never)]
+pub(crate) fn add_with_options(mut words: Vec<Word>) -> Result<Command, CommandFault>
+    ensures command { SaysOr (IsTrue (has_labels (drop 3 (drop 1 words.items)))) command_of result (add (drop 1 words.items)) }
+    ensures time { IfOk result HasTime }
+{
+    let alloc = *words.allocator();
+    let [_, _, time, value, options @ ..] = words.as_slice() else {
+        return Err(CommandFault::Arity);
+    };
+    let at = at_word(time.bytes())?;
+    let value = value_word(value.bytes())?;
+    let mut given = Given::nothing();
+    read_options(alloc, OptionSet::Add, options, &mut given)?;
+    Ok(Command::Add {
+        key: words.swap_remove(1),
+        at,
+        value,
+        on: given.on,
+        spec: given.spec(alloc),
+    })
+}
+
+#[inline(never)]
+pub(crate) fn incr_with_options(sign: Sign, mut words: Vec<Word>) -> Result<Command, CommandFault>
+    ensures command { SaysOr (IsTrue (has_labels (drop 2 (drop 1 words.items)))) command_of result (incr (signed_by sign) (drop 1 words.items)) }
+    ensures time { IfOk result HasTime }
+{
+    let alloc = *words.allocator();
+    let [_, _, value, options @ ..] = words.as_slice() else {
+        return Err(CommandFault::Arity);
+    };
+    let value = value_word(value.bytes())?;
+    let mut given = Given::nothing();
+    read_options(alloc, OptionSet::Incr, options, &mut given)?;
+    Ok(Command::Incr {
+        key: words.swap_remove(1),
+        change: sign.of(value),
+        at: given.at.unwrap_or(At::Clock),
+        spec: given.spec(alloc),
+    })
+}

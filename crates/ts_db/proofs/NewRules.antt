@@ -1,0 +1,122 @@
+-- A rule is made: what the step over what is kept comes to.
+use Rattle.std.proofs.Common.{◌≡◌, suc, Bool, true, false, List, [], ◌∷◌, length, refl, sym, ◌∙◌, ap}
+use Rattle.std.specs.Prelude.{nat_le, nat_eq, if◌then◌else◌, Option, None, Some, is_some, option_map}
+use Rattle.std.specs.Cmp.Lexicographic.{pointwise}
+use Rattle.std.proofs.lemmas.Map.Text.{is_eq-slice_cmp}
+use Rattle.ts_spec.specs.declared.limits.Limits.{Limits}
+use Rattle.ts_spec.specs.declared.bucket.Aggregator.{Aggregator}
+use Rattle.ts_spec.specs.Bucket.{Grid}
+use Rattle.ts_spec.specs.Key.{Key, same}
+use Rattle.ts_spec.specs.Keyed.{get}
+use Rattle.ts_spec.specs.Refusal.{Refusal, NoKey, SameKey, SourceIsDest, DestIsSource, DestHasSource, RulesSpent, RulesFull}
+use Rattle.ts_spec.specs.Response.{Done}
+use Rattle.ts_spec.specs.Kept.{Kept, Keeping}
+use Rattle.ts_spec.specs.Keeping.{keep_changed, keep_ruled, kept_with_rule}
+use Rattle.ts_spec.specs.KeptStep.{KeptOutcome, kept_refused, any_rules, kept_create_rule, kept_create_rule_at}
+use Rattle.ts_sample.specs.declared.id.Id.{Id}
+use Rattle.ts_rules.specs.declared.rule.Rule.{Rule}
+use Rattle.ts_db.specs.declared.fault.DbFault.{DbFault}
+use Rattle.ts_db.specs.declared.node.Node.{Node}
+use Rattle.ts_db.specs.declared.store.Store.{Store}
+use Rattle.ts_db.specs.Answering.{IsKeptAnswer, IsElsewhere}
+use Rattle.ts_db.specs.Faults.{refusal_of}
+use Rattle.ts_db.specs.Held.{Stock}
+use Rattle.ts_db.specs.Linking.{kept_sourced, any_rule, barred_by, IsKeptBy, IsReason}
+use Rattle.ts_db.specs.Store.{rules_by, key_in, kept_by, kept_at, stock_of, IsInOrder, Holds}
+use Rattle.ts_db.proofs.Applying.{there}
+use Rattle.ts_db.proofs.Collecting.{same-at}
+use Rattle.ts_db.proofs.Known.{named}
+
+-- keys that are told apart by their bytes
+pub keys-apart : (j k : Key) (b : Bool) → b ≡ pointwise nat_eq j k → b ≡ false → same j k ≡ false
+keys-apart j k b is apart = same-at j k ∙ is_eq-slice_cmp j k ∙ sym is ∙ apart
+
+some-mapped : {X Y : Type 0} (f : X → Y) (o : Option X) → is_some (option_map f o) ≡ is_some o
+some-mapped f None = refl
+some-mapped f (Some x) = refl
+
+any-by : (names : Id → Key) (rs : List Rule) → any_rules (rules_by names rs) ≡ any_rule rs
+any-by names [] = refl
+any-by names (r ∷ rs) = refl
+
+many-by : (names : Id → Key) (rs : List Rule) → length (rules_by names rs) ≡ length rs
+many-by names [] = refl
+many-by names (r ∷ rs) = ap suc (many-by names rs)
+
+-- a refusal, or else what is done
+abbrev unless_barred : Keeping → Option Refusal → KeptOutcome → KeptOutcome
+unless_barred m None done = done
+unless_barred m (Some refusal) done = kept_refused m refusal
+
+tests : (m : Keeping) (done : KeptOutcome) (a b c d e : Bool)
+    → (if a then kept_refused m SourceIsDest else (if b then kept_refused m DestIsSource else (if c then kept_refused m DestHasSource else (if d then kept_refused m RulesSpent else (if e then kept_refused m RulesFull else done)))))
+    ≡ unless_barred m (if a then Some SourceIsDest else (if b then Some DestIsSource else (if c then Some DestHasSource else (if d then Some RulesSpent else (if e then Some RulesFull else None))))) done
+tests m done true b c d e = refl
+tests m done false true c d e = refl
+tests m done false false true d e = refl
+tests m done false false false true e = refl
+tests m done false false false false true = refl
+tests m done false false false false false = refl
+
+module _ (limits : Limits) (m : Keeping) (source dest : Key) (agg : Aggregator) (grid : Grid) where
+  abbrev done : KeptOutcome
+  done = record { keys = keep_ruled source dest agg grid m; response = Done }
+
+  -- the step of two nodes
+  pub rule-barred : (names : Id → Key) (n d : Node) → kept_create_rule_at limits m source dest agg grid (Some (kept_by names n)) (Some (kept_by names d)) ≡ unless_barred m (barred_by limits n d) done
+  rule-barred names n d =
+      tests m done (is_some (option_map names n.source)) (any_rules (rules_by names d.rules.items)) (is_some (option_map names d.source)) (nat_le limits.born n.series.born) (nat_le limits.rules (length (rules_by names n.rules.items)))
+      ∙ ap (λ b. unless_barred m (if b then Some SourceIsDest else (if any_rules (rules_by names d.rules.items) then Some DestIsSource else (if is_some (option_map names d.source) then Some DestHasSource
+      else (if nat_le limits.born n.series.born then Some RulesSpent else (if nat_le limits.rules (length (rules_by names n.rules.items)) then Some RulesFull else None))))) done) (some-mapped names n.source)
+      ∙ ap (λ b. unless_barred m (if is_some n.source then Some SourceIsDest else (if b then Some DestIsSource else (if is_some (option_map names d.source) then Some DestHasSource
+      else (if nat_le limits.born n.series.born then Some RulesSpent else (if nat_le limits.rules (length (rules_by names n.rules.items)) then Some RulesFull else None))))) done) (any-by names d.rules.items)
+      ∙ ap (λ b. unless_barred m (if is_some n.source then Some SourceIsDest else (if any_rule d.rules.items then Some DestIsSource else (if b then Some DestHasSource
+      else (if nat_le limits.born n.series.born then Some RulesSpent else (if nat_le limits.rules (length (rules_by names n.rules.items)) then Some RulesFull else None))))) done) (some-mapped names d.source)
+      ∙ ap (λ k. unless_barred m (if is_some n.source then Some SourceIsDest else (if any_rule d.rules.items then Some DestIsSource else (if is_some d.source then Some DestHasSource
+      else (if nat_le limits.born n.series.born then Some RulesSpent else (if nat_le limits.rules k then Some RulesFull else None))))) done) (many-by names n.rules.items)
+
+  -- a key that is missing
+  pub no-source : same source dest ≡ false → get source m ≡ None → kept_create_rule limits m source dest agg grid ≡ kept_refused m NoKey
+  no-source apart none =
+      ap (λ b. if b then kept_refused m SameKey else kept_create_rule_at limits m source dest agg grid (get source m) (get dest m)) apart
+      ∙ ap (λ (o : Option Kept). kept_create_rule_at limits m source dest agg grid o (get dest m)) none
+
+  pub no-dest : (d : Kept) → same source dest ≡ false → get source m ≡ Some d → get dest m ≡ None → kept_create_rule limits m source dest agg grid ≡ kept_refused m NoKey
+  no-dest d apart is none =
+      ap (λ b. if b then kept_refused m SameKey else kept_create_rule_at limits m source dest agg grid (get source m) (get dest m)) apart
+      ∙ ap (λ (o : Option Kept). kept_create_rule_at limits m source dest agg grid o (get dest m)) is
+      ∙ ap (λ (o : Option Kept). kept_create_rule_at limits m source dest agg grid (Some d) o) none
+
+module _ (s : Store) (store : IsInOrder s) (source dest : Key) (from to : Id) (n d : Node) (holds : Holds s source from n) (other : Holds s dest to d) (apart : same source dest ≡ false) (agg : Aggregator) (grid : Grid) where
+  -- the step, by the nodes of both keys
+  step-by : kept_create_rule s.limits (stock_of s).keys source dest agg grid
+      ≡ unless_barred (stock_of s).keys (barred_by s.limits n d) (record { keys = keep_ruled source dest agg grid (stock_of s).keys; response = Done })
+  step-by =
+      ap (λ b. if b then kept_refused (stock_of s).keys SameKey else kept_create_rule_at s.limits (stock_of s).keys source dest agg grid (get source (stock_of s).keys) (get dest (stock_of s).keys)) apart
+      ∙ ap (λ (o : Option Kept). kept_create_rule_at s.limits (stock_of s).keys source dest agg grid o (get dest (stock_of s).keys)) (there s store source from n holds)
+      ∙ ap (λ (o : Option Kept). kept_create_rule_at s.limits (stock_of s).keys source dest agg grid (Some (kept_at s.nodes n)) o) (there s store dest to d other)
+      ∙ rule-barred s.limits (stock_of s).keys source dest agg grid (key_in s.nodes) n d
+
+  -- where there is a reason against it
+  pub barred-answer : (fault : DbFault) → IsReason s.limits n d (Some fault) → IsKeptAnswer (refusal_of (stock_of s).ids fault) (stock_of s).keys (kept_create_rule s.limits (stock_of s).keys source dest agg grid)
+  barred-answer fault reason = go (refusal_of (stock_of s).ids fault) (reason (stock_of s).ids)
+    where
+      go : (o : Option Refusal) → o ≡ barred_by s.limits n d → IsKeptAnswer o (stock_of s).keys (kept_create_rule s.limits (stock_of s).keys source dest agg grid)
+      go None e = tt
+      go (Some refusal) e = step-by ∙ ap (λ (o : Option Refusal). unless_barred (stock_of s).keys o (record { keys = keep_ruled source dest agg grid (stock_of s).keys; response = Done })) (sym e)
+
+  -- where there is none
+  pub unbarred-answer : IsReason s.limits n d None → kept_create_rule s.limits (stock_of s).keys source dest agg grid ≡ record { keys = keep_ruled source dest agg grid (stock_of s).keys; response = Done }
+  unbarred-answer reason = step-by ∙ ap (λ (o : Option Refusal). unless_barred (stock_of s).keys o (record { keys = keep_ruled source dest agg grid (stock_of s).keys; response = Done })) reason.0
+
+  -- both changes come to what is kept then
+  pub both-ruled : (mid new : Store) → IsElsewhere s mid from → IsKeptBy s from (kept_with_rule (key_in s.nodes to) agg grid) mid → IsKeptBy mid to (kept_sourced (Some (key_in mid.nodes from))) new
+      → stock_of new ≡ record (stock_of s) { keys = keep_ruled source dest agg grid (stock_of s).keys }
+  both-ruled mid new elsewhere added set =
+      set
+      ∙ ap (λ (x : Stock). record x { keys = keep_changed (key_in mid.nodes to) (kept_sourced (Some (key_in mid.nodes from))) x.keys }) added
+      ∙ (let here : key_in mid.nodes to ≡ dest = elsewhere.names to ∙ named s store dest to d other in
+      let origin : key_in mid.nodes from ≡ source = elsewhere.names from ∙ named s store source from n holds in
+      let own : key_in s.nodes from ≡ source = named s store source from n holds in
+      let goal : key_in s.nodes to ≡ dest = named s store dest to d other in
+      λ i. record (stock_of s) { keys = keep_changed (here i) (kept_sourced (Some (origin i))) (keep_changed (own i) (kept_with_rule (goal i) agg grid) (stock_of s).keys) })

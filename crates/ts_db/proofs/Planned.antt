@@ -1,0 +1,57 @@
+-- The plan for one rule of a source.
+use Rattle.std.proofs.Common.{◌≡◌, ◌<◌, ℕ, List, [], ◌∷◌, ◌++◌, refl, ap, subst}
+use Rattle.std.specs.Prelude.{None, Some, Result, Ok, length, filter}
+use Rattle.slab.specs.Slab as slab
+use Rattle.ts_spec.specs.Sample.{Point, between, outside}
+use Rattle.ts_spec.specs.Bucket.{starts}
+use Rattle.ts_spec.specs.Key.{Key}
+use Rattle.ts_spec.specs.Mending.{bucket_row, counted_anew, rows_of, loses}
+use Rattle.ts_series.specs.History.{History, list_of}
+use Rattle.ts_rules.specs.declared.rule.Rule.{Rule}
+use Rattle.ts_rules.specs.declared.plan.RulePlan.{RulePlan}
+use Rattle.ts_rules.specs.declared.fault.RuleFault.{RuleFault}
+use Rattle.ts_rules.specs.Rules.{kept_as, IsChanged}
+use Rattle.ts_rules.specs.Plans.{IsPlanned, mended_list}
+use Rattle.ts_rules.specs.PlansOfDeletions.{IsPlanOfDeletion}
+use Rattle.ts_db.specs.declared.node.Node.{Node}
+use Rattle.ts_db.specs.declared.work.Work.{Work}
+use Rattle.ts_db.specs.declared.work.Work.TheVariants.{Delete}
+use Rattle.ts_db.specs.Store.{Nodes, key_in}
+use Rattle.ts_db.specs.Planning.{kept_rule_in, changed_by, gone_by, rows_by_work, IsFedBy, first_full}
+use Rattle.ts_db.proofs.Plans.{fits-one, full-one}
+
+-- the rows of buckets do not tell the key of a destination
+rows-named : (left : List Point) (born : ℕ) (k : Key) (r : Rule) (bs : List ℕ) → rows_of left born (kept_as [] r) bs ≡ rows_of left born (kept_as k r) bs
+rows-named left born k r [] = refl
+rows-named left born k r (b ∷ bs) = ap (λ (rows : List Point). bucket_row r.agg born b (counted_anew (kept_as k r) b left) ++ rows) (rows-named left born k r bs)
+
+-- the plan of a deletion, by any key of the destination
+pub deletion-named : (limit : ℕ) (k : Key) (r : Rule) (source : History) (from to : ℕ) (dest : History) (result : Result RulePlan RuleFault) → IsPlanOfDeletion limit r source from to dest result
+    → IsPlanned limit (changed_by (Delete from to) source) (gone_by (Delete from to) source (kept_as k r)) (rows_by_work (Delete from to) source dest.born (kept_as k r)) r dest result
+deletion-named limit k r source from to dest result planned =
+    subst (λ (rows : List Point). IsPlanned limit (changed_by (Delete from to) source) (gone_by (Delete from to) source (kept_as k r)) rows r dest result)
+    (rows-named (outside from to (list_of source)) dest.born k r (filter (loses (between from to (list_of source)) (kept_as k r)) (starts r.grid (outside from to (list_of source)))))
+    planned
+
+module _ (limit : ℕ) (nodes : Nodes) (work : Work) (source : History) (r : Rule) (n : Node) (is : slab.get nodes r.dest.0 ≡ Some n) where
+  -- what is planned for a rule, by any key of the destination
+  abbrev pub IsPlan : Result RulePlan RuleFault → Type 0
+  IsPlan result = (k : Key) → IsPlanned limit (changed_by work source) (gone_by work source (kept_as k r)) (rows_by_work work source n.series.born (kept_as k r)) r n.series result
+
+  pub planned-changed : (x : RulePlan) → IsPlan (Ok x) → IsChanged (changed_by work source) r x.rule
+  planned-changed x p = (p []).0
+
+  pub planned-fed : (x : RulePlan) → IsPlan (Ok x) → IsFedBy limit nodes (rows_by_work work source) (gone_by work source) r x
+  planned-fed x p = record {
+    dest = (p []).0.dest;
+    node = n;
+    there = is;
+    mended = (p (key_in nodes r.dest)).1;
+  }
+
+  pub planned-fits : (x : RulePlan) → IsPlan (Ok x) → first_full limit nodes (rows_by_work work source) (gone_by work source) (r ∷ []) ≡ None
+  planned-fits x p = fits-one limit nodes (rows_by_work work source) (gone_by work source) r n is (p (key_in nodes r.dest)).1.fits
+
+  pub planned-full : limit < length (mended_list (gone_by work source (kept_rule_in nodes r)) (rows_by_work work source n.series.born (kept_rule_in nodes r)) n.series)
+      → first_full limit nodes (rows_by_work work source) (gone_by work source) (r ∷ []) ≡ Some r.dest
+  planned-full = full-one limit nodes (rows_by_work work source) (gone_by work source) r n is

@@ -1,0 +1,51 @@
+-- What is told of a series.
+use Rattle.std.proofs.Common.{◌≡◌, ◌+◌, ℕ, List, [], ◌∷◌, ◌++◌, map, take, refl, sym, ◌∙◌, ap}
+use Rattle.std.specs.Prelude.{Some, option_map, length}
+use Rattle.ts_spec.specs.Sample.{first_of, last_of}
+use Rattle.ts_spec.specs.Key.{Key}
+use Rattle.ts_spec.specs.Keyed.{get}
+use Rattle.ts_spec.specs.Response as response
+use Rattle.ts_spec.specs.Response.{Told}
+use Rattle.ts_spec.specs.Questions.{time_or_0}
+use Rattle.ts_spec.specs.KeptQuestions.{kept_rule_info, kept_info_response}
+use Rattle.ts_sample.specs.declared.id.Id.{Id}
+use Rattle.ts_series.specs.History.{list_of}
+use Rattle.ts_rules.specs.declared.rule.Rule.{Rule}
+use Rattle.ts_rules.specs.Rules.{kept_as}
+use Rattle.ts_db.specs.declared.info.Info.{Info}
+use Rattle.ts_db.specs.declared.info.RuleInfo.{RuleInfo}
+use Rattle.ts_db.specs.declared.node.Node.{Node}
+use Rattle.ts_db.specs.declared.store.Store.{Store}
+use Rattle.ts_db.specs.Information.{rule_info_of, info_of}
+use Rattle.ts_db.specs.Store.{rules_by, key_at, key_in, stock_of, IsLive, IsInOrder, Holds}
+use Rattle.ts_db.proofs.Applying.{there}
+use Rattle.ts_db.proofs.Collecting.{get-ids}
+
+-- what is told of a key: of each part what is kept
+pub told-kept : (s : Store) (store : IsInOrder s) (key : Key) (id : Id) (n : Node) → Holds s key id n → (i : Info)
+    → i.total ≡ length (list_of n.series) → i.first ≡ time_or_0 (first_of (list_of n.series)) → i.last ≡ time_or_0 (last_of (list_of n.series)) → i.options ≡ n.series.options
+    → i.labels ≡ n.labels → i.source ≡ option_map (key_in s.nodes) n.source → map rule_info_of i.rules.items ≡ map kept_rule_info (rules_by (key_in s.nodes) n.rules.items)
+    → Told (info_of i) ≡ kept_info_response (get key (stock_of s).keys)
+told-kept s store key id n holds i total first last options labels source rules =
+    (λ j. Told (record { total = total j; first = first j; last = last j; options = options j; labels = labels j; source = source j; rules = rules j }))
+    ∙ sym (ap kept_info_response (there s store key id n holds))
+
+-- one rule more is told
+pub told-more : (names : Id → Key) (rs : List Rule) (told : List RuleInfo) (i : ℕ) (r : Rule) (x : RuleInfo) → take (i + 1) rs ≡ take i rs ++ r ∷ []
+    → map rule_info_of told ≡ map kept_rule_info (rules_by names (take i rs)) → rule_info_of x ≡ kept_rule_info (kept_as (names r.dest) r)
+    → map rule_info_of (told ++ x ∷ []) ≡ map kept_rule_info (rules_by names (take (i + 1) rs))
+told-more names rs told i r x more so_far one =
+    each told (x ∷ []) ∙ (λ j. so_far j ++ one j ∷ []) ∙ sym (ap (λ (l : List Rule). map kept_rule_info (rules_by names l)) more ∙ all (take i rs))
+  where
+    each : (xs ys : List RuleInfo) → map rule_info_of (xs ++ ys) ≡ map rule_info_of xs ++ map rule_info_of ys
+    each [] ys = refl
+    each (y ∷ xs) ys = ap (λ (l : List response.RuleInfo). rule_info_of y ∷ l) (each xs ys)
+
+    all : (ps : List Rule) → map kept_rule_info (rules_by names (ps ++ r ∷ [])) ≡ map kept_rule_info (rules_by names ps) ++ kept_rule_info (kept_as (names r.dest) r) ∷ []
+    all [] = refl
+    all (p ∷ ps) = ap (λ (l : List response.RuleInfo). kept_rule_info (kept_as (names p.dest) p) ∷ l) (all ps)
+
+-- the key of a number that has a node
+pub number-key : (s : Store) (store : IsInOrder s) (id : Id) → IsLive s.nodes id → (key : Key) → get key (stock_of s).ids ≡ Some id → key ≡ key_in s.nodes id
+number-key s store id live key is =
+    sym (store.named key id live.node (sym (get-ids key s.keys.entries) ∙ is) live.there) ∙ sym (ap key_at live.there)

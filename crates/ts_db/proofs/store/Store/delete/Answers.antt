@@ -1,0 +1,91 @@
+use Rattle.std.proofs.Common.{◌≡◌, ◌≤◌, length, arith, refl, sym, ◌∙◌, ap, subst}
+use Rattle.std.specs.Prelude.{None, Some}
+use Rattle.ts_spec.specs.Sample.{between}
+use Rattle.ts_spec.proofs.Tidy.{some-same}
+use Rattle.ts_series.specs.History.{list_of}
+use Rattle.ts_series.specs.Plan.{cuts}
+use Rattle.ts_db.specs.declared.node.Node.{Node}
+use Rattle.ts_db.specs.declared.work.Work.TheVariants.{Delete}
+use Rattle.ts_db.specs.Held.{Stock}
+use Rattle.ts_db.specs.Planning.{changed_by, gone_by, rows_by_work}
+use Rattle.ts_db.specs.Store.{kept_at, stock_of, IsNode}
+use Rattle.ts_db.specs.Answering.{node_after}
+use Rattle.ts_db.proofs.Known.{distinct, links}
+use Rattle.ts_db.proofs.Unplanned.{destination-own}
+use Rattle.ts_db.proofs.Working.{ArePlanned, planned-for, unplanned-for, changed-live, changed-grids, takes-deleted, is-feed, still-fed, worked}
+use Rattle.ts_db.proofs.Deleting.{cut-within, deleted-few, deleted-answers, undeleted-answers}
+use Rattle.ts_db.proofs.store.Store.delete.Goals as goal
+
+pub plan_rules-requires-clause-room : goal.plan_rules-requires-clause-room
+plan_rules-requires-clause-room g c = takes-deleted c.args.from c.args.to c.in-Some.node.now.series c.deref.result.now
+
+pub returns-in-Err-plan_rules-clause-deleted : goal.returns-in-Err-plan_rules-clause-deleted
+returns-in-Err-plan_rules-clause-deleted g c key n holds =
+    let it : c.in-Some.node.now ≡ n = some-same c.in-Some.node.now n (c.in-Some.ensures ∙ holds.node) in
+    let work = Delete c.args.from c.args.to in (
+      undeleted-answers c.args.self.now c.requires.db key c.args.id n holds c.args.from c.args.to c.in-Err-plan_rules.fault
+          (unplanned-for c.args.self.now work work c.in-Some.node.now n c.deref.result.now c.in-Err-plan_rules.fault refl it c.deref.ensures.value c.in-Err-plan_rules.ensures.refused),
+      refl,
+    )
+
+pub returns-in-Err-plan_rules-clause-own : goal.returns-in-Err-plan_rules-clause-own
+returns-in-Err-plan_rules-clause-own g c key is =
+    let node : Node = c.in-Some.node.now in
+    let work = Delete c.args.from c.args.to in
+    destination-own c.args.self.now c.requires.db.store node.rules.items (rows_by_work work node.series) (gone_by work node.series) (c.requires.db.store.live c.args.id.0 node (sym c.in-Some.ensures)).rules key c.in-Err-plan_rules.fault
+    (unplanned-for c.args.self.now work work node node c.deref.result.now c.in-Err-plan_rules.fault refl refl c.deref.ensures.value c.in-Err-plan_rules.ensures.refused)
+
+pub apply-requires-clause-ready : goal.apply-requires-clause-ready
+apply-requires-clause-ready g c =
+    let node : Node = c.in-Some.node.now in
+    let work = Delete c.args.from c.args.to in
+    let fits : IsNode c.args.self.now.limits node = c.requires.db.store.each c.args.id.0 node (sym c.in-Some.ensures) in
+    let planned : ArePlanned c.args.self.now work node.series node.rules.items c.in-Ok-plan_rules.planned.rules.items c.in-Ok-plan_rules.planned.plans.items =
+    planned-for c.args.self.now work work node node c.deref.result.now c.in-Ok-plan_rules.planned.rules.items c.in-Ok-plan_rules.planned.plans.items refl refl c.deref.ensures.value
+    (record { changed = c.in-Ok-plan_rules.ensures.rules; fed = c.in-Ok-plan_rules.ensures.fed; fit = c.in-Ok-plan_rules.ensures.fit }) in
+    record {
+      key = c.requires.there.key;
+      node = node;
+      holds = record { number = c.requires.there.holds.number; node = sym c.in-Some.ensures };
+      ready = c.in-Ok.ensures.planned;
+      within = cut-within node.series c.in-Ok.plan c.args.from c.args.to (length (between c.args.from c.args.to (list_of node.series))) c.args.self.now.limits.samples fits.kept c.in-Ok.ensures.cut fits.within;
+      few = fits.labels;
+      live = changed-live c.args.self.now (changed_by work node.series) node.rules.items c.in-Ok-plan_rules.planned.rules.items planned.changed
+          (c.requires.db.store.live c.args.id.0 node (sym c.in-Some.ensures)).rules;
+      grids = changed-grids work node.series node.rules.items c.in-Ok-plan_rules.planned.rules.items planned.changed fits.grids;
+    }
+
+pub feed-requires-clause-planned : goal.feed-requires-clause-planned
+feed-requires-clause-planned g c =
+    let node : Node = c.in-Some.node.now in
+    let work = Delete c.args.from c.args.to in
+    let planned : ArePlanned c.args.self.now work node.series node.rules.items c.in-Ok-plan_rules.planned.rules.items c.in-Ok-plan_rules.planned.plans.items =
+    planned-for c.args.self.now work work node node c.deref.result.now c.in-Ok-plan_rules.planned.rules.items c.in-Ok-plan_rules.planned.plans.items refl refl c.deref.ensures.value
+    (record { changed = c.in-Ok-plan_rules.ensures.rules; fed = c.in-Ok-plan_rules.ensures.fed; fit = c.in-Ok-plan_rules.ensures.fit }) in
+    is-feed c.args.self.now c.requires.db c.requires.there.key c.args.id node (record { number = c.requires.there.holds.number; node = sym c.in-Some.ensures }) c.apply.new.self c.apply.ensures.elsewhere
+    (rows_by_work work node.series) (gone_by work node.series) c.in-Ok-plan_rules.planned.plans.items planned.fed
+
+pub returns-clause-deleted : goal.returns-clause-deleted
+returns-clause-deleted g c key n holds =
+    let it : c.in-Some.node.now ≡ n = some-same c.in-Some.node.now n (c.in-Some.ensures ∙ holds.node) in
+    let work = Delete c.args.from c.args.to in
+    let planned : ArePlanned c.args.self.now work n.series n.rules.items c.in-Ok-plan_rules.planned.rules.items c.in-Ok-plan_rules.planned.plans.items =
+    planned-for c.args.self.now work work c.in-Some.node.now n c.deref.result.now c.in-Ok-plan_rules.planned.rules.items c.in-Ok-plan_rules.planned.plans.items refl it c.deref.ensures.value
+    (record { changed = c.in-Ok-plan_rules.ensures.rules; fed = c.in-Ok-plan_rules.ensures.fed; fit = c.in-Ok-plan_rules.ensures.fit }) in
+    let cut : c.in-Ok.plan ≡ cuts c.args.from c.args.to (length (between c.args.from c.args.to (list_of n.series))) =
+    subst (λ (x : Node). c.in-Ok.plan ≡ cuts c.args.from c.args.to (length (between c.args.from c.args.to (list_of x.series)))) it c.in-Ok.ensures.cut in
+    let done = worked c.args.self.now c.requires.db key c.args.id n holds c.apply.new.self c.apply.ensures.elsewhere (rows_by_work work n.series) (gone_by work n.series)
+    (kept_at c.args.self.now.nodes (node_after c.in-Ok.plan None (Some c.in-Ok-plan_rules.planned.rules) n)) (stock_of c.feed.new.self) (c.apply.ensures.applied key n holds)
+    (c.feed.ensures.fed (rows_by_work work n.series) (gone_by work n.series) n.rules.items
+    (still-fed c.args.self.now c.requires.db key c.args.id n holds c.apply.new.self c.apply.ensures.elsewhere (rows_by_work work n.series) (gone_by work n.series) c.in-Ok-plan_rules.planned.plans.items planned.fed)
+    (distinct c.args.self.now n.rules.items (links c.args.self.now c.requires.db key c.args.id n holds).apart)) in (
+      deleted-answers c.args.self.now c.requires.db key c.args.id n holds c.args.from c.args.to c.in-Ok.plan c.in-Ok-plan_rules.planned.rules c.removed-removed.result (stock_of c.feed.new.self) cut c.removed-removed.ensures planned.changed planned.fit done,
+      ap (λ (x : Stock). x.limits) done,
+    )
+
+pub returns-clause-bounded : goal.returns-clause-bounded
+returns-clause-bounded g c =
+    let fits : IsNode c.args.self.now.limits c.in-Some.node.now = c.requires.db.store.each c.args.id.0 c.in-Some.node.now (sym c.in-Some.ensures) in
+    let few : c.removed-removed.result ≤ c.args.self.now.limits.samples =
+    deleted-few c.in-Some.node.now.series c.in-Ok.plan c.args.from c.args.to c.removed-removed.result c.args.self.now.limits.samples c.in-Ok.ensures.cut c.removed-removed.ensures fits.within in
+    omega (arith, few, c.requires.db.store.bounded)

@@ -1,0 +1,47 @@
+use Rattle.std.proofs.Common.{◌≡◌, ◌+◌, ℕ, List, [], ◌∷◌, ◌++◌, take, drop, sym, ◌∙◌, ap, subst, arith}
+use Rattle.std.proofs.lemmas.List.{take_more, drop_more}
+use Rattle.ts_rules.specs.declared.rule.Rule.{Rule}
+use Rattle.ts_rules.specs.declared.plan.RulePlan.{RulePlan}
+use Rattle.ts_db.specs.Store.{AreLive}
+use Rattle.ts_db.specs.Planning.{changed_by, gone_by, rows_by_work, AllTake, AreChanged, AreFedBy, first_full}
+use Rattle.ts_db.proofs.Plans.{full-past, fed-more, changed-more}
+use Rattle.ts_db.proofs.store.Store.plan_rules.Goals as goal
+
+pub plan_rule-requires-clause-live : goal.plan_rule-requires-clause-live
+plan_rule-requires-clause-live g c =
+    (subst (AreLive c.args.self.now.nodes)
+    (drop_more c.args.rules.now c.loop-rule.rule-index c.rule-item.result c.loop-rule-test.true
+    ∙ ap (λ (r : Rule). r ∷ drop (c.loop-rule.rule-index + 1) c.args.rules.now) (sym c.rule-item.is))
+    c.loop-rule.invariant.live).0
+
+pub returns-in_err-plan-clause-steps : goal.returns-in_err-plan-clause-steps
+returns-in_err-plan-clause-steps g c = c.plan_rule.ensures.steps ∙ c.loop-rule.invariant.steps
+
+pub loop-rule-preserved : goal.loop-rule-preserved
+loop-rule-preserved g c =
+    let limit = c.args.self.now.limits.samples in
+    let nodes = c.args.self.now.nodes in
+    let work = c.args.work.now in
+    let source = c.args.source.now in
+    let all = c.args.rules.now in
+    let i : ℕ = c.loop-rule.rule-index in
+    let r : Rule = c.rule-item.result in
+    let so_far : take (i + 1) all ≡ take i all ++ r ∷ [] = take_more all i r c.loop-rule-test.true ∙ ap (λ (x : Rule). take i all ++ x ∷ []) (sym c.rule-item.is) in
+    let left : drop i all ≡ r ∷ drop (i + 1) all = drop_more all i r c.loop-rule-test.true ∙ ap (λ (x : Rule). x ∷ drop (i + 1) all) (sym c.rule-item.is) in
+    record {
+      changed = subst (λ (rs : List Rule). AreChanged (changed_by work source) rs c.push_reserved.new.self.items) (sym so_far)
+          (subst (λ (xs : List Rule). AreChanged (changed_by work source) (take i all ++ r ∷ []) xs) (sym c.push_reserved.ensures.items)
+          (changed-more (changed_by work source) (take i all) c.loop-rule.changed.items r c.in_ok-plan.plan.rule c.loop-rule.invariant.changed c.in_ok-plan.ensures.changed));
+      fed = subst (λ (rs : List Rule). AreFedBy limit nodes (rows_by_work work source) (gone_by work source) rs c.push_reserved-in-loop-rule.new.self.items) (sym so_far)
+          (subst (λ (xs : List RulePlan). AreFedBy limit nodes (rows_by_work work source) (gone_by work source) (take i all ++ r ∷ []) xs) (sym c.push_reserved-in-loop-rule.ensures.items)
+          (fed-more limit nodes (rows_by_work work source) (gone_by work source) (take i all) c.loop-rule.plans.items r c.in_ok-plan.plan c.loop-rule.invariant.fed c.in_ok-plan.ensures.fed));
+      fit = sym (ap (first_full limit nodes (rows_by_work work source) (gone_by work source)) left
+          ∙ full-past limit nodes (rows_by_work work source) (gone_by work source) r (drop (i + 1) all) c.in_ok-plan.ensures.fits) ∙ c.loop-rule.invariant.fit;
+      live = (subst (AreLive nodes) left c.loop-rule.invariant.live).1;
+      takes = (subst (AllTake work source) left c.loop-rule.invariant.takes).1;
+      many_changed = omega (arith, c.push_reserved.ensures.len, c.loop-rule.invariant.many_changed);
+      many = omega (arith, c.push_reserved-in-loop-rule.ensures.len, c.loop-rule.invariant.many);
+      room_changed = omega (arith, c.push_reserved.ensures.capacity, c.loop-rule.invariant.room_changed);
+      room = omega (arith, c.push_reserved-in-loop-rule.ensures.capacity, c.loop-rule.invariant.room);
+      steps = c.plan_rule.ensures.steps ∙ c.loop-rule.invariant.steps;
+    }

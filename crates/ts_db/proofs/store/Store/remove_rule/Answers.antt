@@ -1,0 +1,32 @@
+use Rattle.std.proofs.Common.{◌==◌, not, filter, List, sym, ◌∙◌, ap}
+use Rattle.ts_spec.specs.Kept.{KeptRule}
+use Rattle.ts_rules.specs.declared.rule.Rule.{Rule}
+use Rattle.ts_db.specs.declared.node.Node.{Node}
+use Rattle.ts_db.specs.Linking.{kept_unruled}
+use Rattle.ts_db.specs.Store.{key_in, kept_at}
+use Rattle.ts_db.proofs.NewLinks.{store-turned, kept-turned, kept-rules, live-rules, node-rules, unruled, live-left, grids-left}
+use Rattle.ts_db.proofs.store.Store.remove_rule.Goals as goal
+
+pub returns-clause-store : goal.returns-clause-store
+returns-clause-store c =
+    let s = c.args.self.now in
+    let n = c.in-Some.node.now in
+    let got = sym c.in-Some.ensures.value in
+    let live = c.requires.store.live c.args.id.0 n got in
+    let fits = c.requires.store.each c.args.id.0 n got in
+    let left : List Rule = filter (λ r. not (r.dest.0 == c.args.dest.0)) n.rules.items in
+    store-turned s c.requires.store c.args.id n c.remove_rule.new.self got (ap (λ (x : Node). x.key) c.remove_rule.ensures.rest)
+    (live-rules s.nodes left n c.remove_rule.new.self c.remove_rule.ensures (live-left s c.requires.store c.args.dest c.requires.dest n.rules.items live.rules) live.source)
+    (node-rules s.limits left n c.remove_rule.new.self c.remove_rule.ensures (grids-left s c.requires.store c.args.dest c.requires.dest n.rules.items fits.grids) fits)
+
+pub returns-clause-removed : goal.returns-clause-removed
+returns-clause-removed c =
+    let s = c.args.self.now in
+    let n = c.in-Some.node.now in
+    let got = sym c.in-Some.ensures.value in
+    let live = c.requires.store.live c.args.id.0 n got in
+    let left : List Rule = filter (λ r. not (r.dest.0 == c.args.dest.0)) n.rules.items in
+    kept-turned s c.requires.store c.args.id n c.remove_rule.new.self got (ap (λ (x : Node). x.key) c.remove_rule.ensures.rest) (kept_unruled (key_in s.nodes c.args.dest))
+    (live-rules s.nodes left n c.remove_rule.new.self c.remove_rule.ensures (live-left s c.requires.store c.args.dest c.requires.dest n.rules.items live.rules) live.source)
+    (kept-rules s.nodes left n c.remove_rule.new.self c.remove_rule.ensures
+    ∙ ap (λ (qs : List KeptRule). record (kept_at s.nodes n) { rules = qs }) (unruled s c.requires.store c.args.dest c.requires.dest n.rules.items live.rules))

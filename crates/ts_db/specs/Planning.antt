@@ -1,0 +1,111 @@
+-- What work on a source comes to for its rules and for their destinations, and the plans of it.
+use Rattle.std.specs.Prelude.{◌≡◌, ◌≢◌, ℕ, false, nat_lt, ⊤, if◌then◌else◌, List, [], ◌∷◌, length, Option, None, Some, option_map}
+use Rattle.slab.specs.Slab as slab
+use Rattle.ts_spec.specs.Sample.{Point, put, between, outside}
+use Rattle.ts_spec.specs.Kept.{KeptRule}
+use Rattle.ts_spec.specs.Mending.{mended_kept, written_row, deleted_rows, loses}
+use Rattle.ts_spec.specs.KeptStep.{list_at}
+use Rattle.ts_sample.specs.declared.id.Id.{Id}
+use Rattle.ts_series.specs.History.{History, list_of}
+use Rattle.ts_rules.specs.declared.rule.Rule.{Rule}
+use Rattle.ts_rules.specs.declared.plan.RulePlan.{RulePlan}
+use Rattle.ts_rules.specs.Rules.{kept_as, IsChanged, TakesAppended}
+use Rattle.ts_rules.specs.Writes.{rule_after}
+use Rattle.ts_rules.specs.Deletions.{rule_left}
+use Rattle.ts_rules.specs.Plans.{IsMendedBy}
+use Rattle.ts_db.specs.declared.fault.DbFault.{DbFault}
+use Rattle.ts_db.specs.declared.fault.DbFault.TheVariants.{SamplesFull, Memory}
+use Rattle.ts_db.specs.declared.node.Node.{Node}
+use Rattle.ts_db.specs.declared.store.Store.{Store}
+use Rattle.ts_db.specs.declared.work.Work.{Work}
+use Rattle.ts_db.specs.declared.work.Work.TheVariants.{Write, Delete}
+use Rattle.ts_db.specs.Feeding.{Rows, Gone, keep_fed}
+use Rattle.ts_db.specs.Store.{Nodes, rules_by, key_in, kept_in, stock_of}
+
+-- ---- work on a source, as it was before
+
+-- a rule after it
+abbrev pub changed_by : Work → (source : History) → KeptRule → KeptRule
+changed_by (Write p) source q = rule_after source p q
+changed_by (Delete from to) source q = rule_left source from to q
+
+-- the times whose samples give way, and the rows that do so
+abbrev pub gone_by : Work → (source : History) → Gone
+gone_by (Write p) source = λ q b. false
+gone_by (Delete from to) source = loses (between from to (list_of source))
+
+abbrev pub rows_by_work : Work → (source : History) → Rows
+rows_by_work (Write p) source = written_row p (put p (list_of source))
+rows_by_work (Delete from to) source = deleted_rows (between from to (list_of source)) (outside from to (list_of source))
+
+-- a rule has room for what it takes
+abbrev pub Takes : Work → (source : History) → Rule → Type 0
+Takes (Write p) source r = TakesAppended r source p
+Takes (Delete from to) source r = ⊤
+
+abbrev pub AllTake : Work → (source : History) → List Rule → Type 0
+AllTake work source [] = ⊤
+AllTake work source (r ∷ rs) = Takes work source r × AllTake work source rs
+
+-- ---- plans
+
+-- a rule as what is kept of it
+abbrev pub kept_rule_in : Nodes → Rule → KeptRule
+kept_rule_in nodes r = kept_as (key_in nodes r.dest) r
+
+-- The plan for a rule: it changes so, and its destination is mended so.
+pub record IsFedBy (limit : ℕ) (nodes : Nodes) (rows : Rows) (gone : Gone) (r : Rule) (x : RulePlan) : Type 0 where
+  pub dest : x.rule.dest ≡ r.dest
+  pub node : Node
+  pub there : slab.get nodes r.dest.0 ≡ Some node
+  pub mended : IsMendedBy limit (gone (kept_rule_in nodes r)) (rows node.series.born (kept_rule_in nodes r)) node.series x.dest
+
+-- the plans for rules, one for each
+abbrev pub AreFedBy : (limit : ℕ) → Nodes → Rows → Gone → List Rule → List RulePlan → Type 0
+AreFedBy limit nodes rows gone [] [] = ⊤
+AreFedBy limit nodes rows gone (r ∷ rs) (x ∷ xs) = IsFedBy limit nodes rows gone r x × AreFedBy limit nodes rows gone rs xs
+AreFedBy limit nodes rows gone rs xs = ⊥
+
+-- each rule is changed so
+abbrev pub AreChanged : (KeptRule → KeptRule) → List Rule → List Rule → Type 0
+AreChanged change [] [] = ⊤
+AreChanged change (r ∷ rs) (x ∷ xs) = IsChanged change r x × AreChanged change rs xs
+AreChanged change rs xs = ⊥
+
+-- no rule has this destination, and no two have one
+abbrev pub NoneTo : ℕ → List Rule → Type 0
+NoneTo i [] = ⊤
+NoneTo i (r ∷ rs) = (r.dest.0 ≢ i) × NoneTo i rs
+
+abbrev pub AreDistinct : List Rule → Type 0
+AreDistinct [] = ⊤
+AreDistinct (r ∷ rs) = NoneTo r.dest.0 rs × AreDistinct rs
+
+-- the list of a destination once it is mended
+abbrev pub fed_list : Nodes → Rows → Gone → Rule → List Point
+fed_list nodes rows gone r = list_at (option_map (λ d. mended_kept (gone (kept_rule_in nodes r)) (rows d.born (kept_rule_in nodes r)) d) (kept_in nodes r.dest))
+
+-- the first of these rules whose destination would show more than the limit
+abbrev pub first_full : (limit : ℕ) → Nodes → Rows → Gone → List Rule → Option Id
+first_full limit nodes rows gone [] = None
+first_full limit nodes rows gone (r ∷ rs) = if nat_lt limit (length (fed_list nodes rows gone r)) then Some r.dest else first_full limit nodes rows gone rs
+
+-- no plan is made where the destination of that rule would be full, or for want of memory
+abbrev pub IsUnplanned : Option Id → DbFault → Type 0
+IsUnplanned full (SamplesFull id written) = (written ≡ false) × (full ≡ Some id)
+IsUnplanned full (Memory e) = ⊤
+IsUnplanned full fault = ⊥
+
+-- ---- the plans of destinations, for a store
+
+-- They were made for rules of different destinations, one for each.
+pub record IsFeed (s : Store) (xs : List RulePlan) : Type 0 where
+  pub rows : Rows
+  pub gone : Gone
+  pub rules : List Rule
+  pub plans : AreFedBy s.limits.samples s.nodes rows gone rules xs
+  pub distinct : AreDistinct rules
+
+-- what is kept is what was kept, with the destinations of these rules mended
+abbrev pub IsFed : (old : Store) → Rows → Gone → List Rule → (new : Store) → Type 0
+IsFed old rows gone rs new = stock_of new ≡ record (stock_of old) { keys = keep_fed rows gone (rules_by (key_in old.nodes) rs) (stock_of old).keys }

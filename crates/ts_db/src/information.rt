@@ -1,0 +1,116 @@
+// What is told of a series and of how it is kept.
+ghost use Rattle.std.specs.Prelude.{◌≡◌, map, option_map, Some, IfOk};
+ghost use Rattle.ts_spec.specs.Key.{Key};
+ghost use Rattle.ts_spec.specs.Keyed.{get};
+ghost use Rattle.ts_spec.specs.KeptQuestions.{kept_rule_info, kept_info_response};
+ghost use Rattle.ts_spec.specs.Questions.{time_or_0};
+ghost use Rattle.ts_spec.specs.Response.{Told};
+ghost use Rattle.ts_rules.specs.Rules.{kept_as};
+ghost use Rattle.ts_db.specs.Held.{Finds, IsLive};
+ghost use Rattle.ts_db.specs.Information.{rule_info_of, info_of};
+ghost use Rattle.ts_db.specs.Store.{rules_by, key_in, stock_of, IsLive as HasNode, AreLive, IsLiveSource, IsInOrder};
+
+use crate::fault::DbFault;
+use crate::info::{Info, RuleInfo};
+use crate::store::Store;
+use std::alloc::AllocError;
+use std::sync::ledger::Ledger;
+use ts_resp::Word;
+use ts_rules::Rule;
+use ts_sample::{Id, Sample, Steps};
+
+impl Store {
+    // What TS.INFO tells of a key.
+    pub(crate) fn info<L: Ledger>(&self, key: &Word, steps: &mut Steps<L>) -> Result<Info, DbFault>
+        requires { IsInOrder self.now }
+        ensures info { Finds (get key.now (stock_of self.now).keys) (λ info. Told (info_of info) ≡ kept_info_response (get key.now (stock_of self.now).keys)) result }
+        ensures steps { steps.new ≡ steps.old }
+    {
+        let Some(id) = self.keys.get(key).copied() else {
+            return Err(DbFault::NoKey);
+        };
+        match self.info_of(id, steps) {
+            Ok(info) => Ok(info),
+            Err(fault) => Err(DbFault::Memory(fault)),
+        }
+    }
+
+    // What it tells of the key of a number.
+    fn info_of<L: Ledger>(&self, id: Id, steps: &mut Steps<L>) -> Result<Info, AllocError>
+        requires store { IsInOrder self.now }
+        requires live { IsLive (stock_of self.now).ids id }
+        ensures told { IfOk result (λ info. (key : Key) → get key (stock_of self.now).ids ≡ Some id
+            → Told (info_of info) ≡ kept_info_response (get key (stock_of self.now).keys)) }
+        ensures steps { steps.new ≡ steps.old }
+    {
+        let node = self.node(id);
+        let first = node.series.first(steps);
+        let last = node.series.last();
+        Ok(Info {
+            total: node.series.len(steps) as u64,
+            first: time_or_0(first),
+            last: time_or_0(last),
+            options: node.series.options(),
+            labels: node.labels.copy()?,
+            source: self.source_key(node.source)?,
+            rules: self.told_rules(&node.rules)?,
+        })
+    }
+
+    // A copy of the key of a source, where there is one.
+    fn source_key(&self, source: Option<Id>) -> Result<Option<Word>, AllocError>
+        requires store { IsInOrder self.now }
+        requires live { IsLiveSource self.now.nodes source }
+        ensures { IfOk result (λ key. key ≡ option_map (key_in self.now.nodes) source) }
+    {
+        match source {
+            None => Ok(None),
+            Some(id) => Ok(Some(self.copied_key(id)?)),
+        }
+    }
+
+    // What is told of rules, in their order.
+    fn told_rules(&self, rules: &[Rule]) -> Result<Vec<RuleInfo>, AllocError>
+        requires store { IsInOrder self.now }
+        requires live { AreLive self.now.nodes rules.now }
+        ensures { IfOk result (λ told. map rule_info_of told.items ≡ map kept_rule_info (rules_by (key_in self.now.nodes) rules.now)) }
+    {
+        let mut told = Vec::with_capacity(self.alloc, rules.len())?;
+        for rule in rules {
+            told.push_reserved(self.told_rule(rule)?);
+        }
+        Ok(told)
+    }
+
+    // What is told of a rule.
+    fn told_rule(&self, rule: &Rule) -> Result<RuleInfo, AllocError>
+        requires store { IsInOrder self.now }
+        requires live { HasNode self.now.nodes rule.now.dest }
+        ensures { IfOk result (λ told. rule_info_of told ≡ kept_rule_info (kept_as (key_in self.now.nodes rule.now.dest) rule.now)) }
+    {
+        Ok(RuleInfo {
+            dest: self.copied_key(rule.dest)?,
+            grid: rule.grid,
+            agg: rule.agg,
+        })
+    }
+
+    // A copy of the key of a number.
+    fn copied_key(&self, id: Id) -> Result<Word, AllocError>
+        requires store { IsInOrder self.now }
+        requires live { HasNode self.now.nodes id }
+        ensures { IfOk result (λ key. key ≡ key_in self.now.nodes id) }
+    {
+        self.key_of(id).copy()
+    }
+}
+
+// The time of a sample, in milliseconds; 0 where there is none.
+fn time_or_0(sample: Option<Sample>) -> u64
+    ensures { result ≡ time_or_0 sample }
+{
+    match sample {
+        None => 0,
+        Some(sample) => sample.time,
+    }
+}

@@ -1,0 +1,121 @@
+ghost use Rattle.std.specs.Prelude.{◌≡◌, ◌≤◌, [], ◌∷◌, None, length, IfOk, IfErr};
+ghost use Rattle.ts_series.specs.History.{list_of};
+ghost use Rattle.ts_rules.specs.Rules.{kept_as, IsChanged};
+ghost use Rattle.ts_rules.specs.Plans.{IsPlanned as IsPlannedSo};
+ghost use Rattle.ts_spec.specs.Key.{Key};
+ghost use Rattle.ts_db.specs.Planning.{changed_by, gone_by, rows_by_work, Takes, AllTake, AreChanged, IsFedBy, AreFedBy, first_full, IsUnplanned};
+ghost use Rattle.ts_db.specs.Store.{IsInOrder, IsLive, AreLive};
+
+use crate::fault::DbFault;
+use crate::store::Store;
+use crate::work::Work;
+use std::alloc::Global;
+use std::sync::ledger::Ledger;
+use ts_rules::{Rule, RuleFault, RulePlan, plan_delete, plan_put};
+use ts_sample::Steps;
+use ts_series::Series;
+
+// The rules of a source after work on it, and the plans for them and their destinations.
+#[derive(Drop)]
+pub(crate) struct Planned {
+    pub(crate) rules: Vec<Rule>,
+    pub(crate) plans: Vec<RulePlan>,
+}
+
+impl Store {
+    // Plans what work on a source comes to for its rules, in the order of their making, and for their destinations.
+    pub(crate) fn plan_rules<L: Ledger>(
+        &self,
+        rules: &[Rule],
+        source: &Series,
+        work: &Work,
+        steps: &mut Steps<L>,
+    ) -> Result<Planned, DbFault>
+        requires store { IsInOrder self.now }
+        requires live { AreLive self.now.nodes rules.now }
+        requires room { AllTake work.now source.now rules.now }
+        ensures rules { IfOk result (λ planned. AreChanged (changed_by work.now source.now) rules.now planned.rules.items) }
+        ensures fed { IfOk result (λ planned. AreFedBy self.now.limits.samples self.now.nodes (rows_by_work work.now source.now) (gone_by work.now source.now) rules.now planned.plans.items) }
+        ensures fit { IfOk result (λ planned. first_full self.now.limits.samples self.now.nodes (rows_by_work work.now source.now) (gone_by work.now source.now) rules.now ≡ None) }
+        ensures refused { IfErr result (IsUnplanned (first_full self.now.limits.samples self.now.nodes (rows_by_work work.now source.now) (gone_by work.now source.now) rules.now)) }
+        ensures steps { steps.new ≡ steps.old }
+    {
+        let mut changed = match Vec::with_capacity(self.alloc, rules.len()) {
+            Ok(changed) => changed,
+            Err(fault) => return Err(DbFault::Memory(fault)),
+        };
+        let mut plans = match Vec::with_capacity(self.alloc, rules.len()) {
+            Ok(plans) => plans,
+            Err(fault) => return Err(DbFault::Memory(fault)),
+        };
+        for rule in rules {
+            let plan = self.plan_rule(rule, source, *work, steps)?;
+            let after = &plan.rule;
+            changed.push_reserved(*after);
+            plans.push_reserved(plan);
+        }
+        Ok(Planned {
+            rules: changed,
+            plans,
+        })
+    }
+
+    // Plans what work on a source comes to for a rule of it and for the rule's destination.
+    fn plan_rule<L: Ledger>(
+        &self,
+        rule: &Rule,
+        source: &Series,
+        work: Work,
+        steps: &mut Steps<L>,
+    ) -> Result<RulePlan, DbFault>
+        requires store { IsInOrder self.now }
+        requires live { IsLive self.now.nodes rule.now.dest }
+        requires room { Takes work source.now rule.now }
+        ensures changed { IfOk result (λ plan. IsChanged (changed_by work source.now) rule.now plan.rule) }
+        ensures fed { IfOk result (λ plan. IsFedBy self.now.limits.samples self.now.nodes (rows_by_work work source.now) (gone_by work source.now) rule.now plan) }
+        ensures fits { IfOk result (λ _. first_full self.now.limits.samples self.now.nodes (rows_by_work work source.now) (gone_by work source.now) (rule.now ∷ []) ≡ None) }
+        ensures refused { IfErr result (IsUnplanned (first_full self.now.limits.samples self.now.nodes (rows_by_work work source.now) (gone_by work source.now) (rule.now ∷ []))) }
+        ensures steps { steps.new ≡ steps.old }
+    {
+        let Some(dest) = self.nodes.get(rule.dest.0) else {
+            unreachable!();
+        };
+        match made_plan(
+            self.alloc,
+            work,
+            rule,
+            source,
+            &dest.series,
+            self.limits.samples,
+            steps,
+        ) {
+            Ok(plan) => Ok(plan),
+            Err(RuleFault::Full) => Err(DbFault::SamplesFull {
+                id: rule.dest,
+                written: false,
+            }),
+            Err(RuleFault::Memory(fault)) => Err(DbFault::Memory(fault)),
+        }
+    }
+}
+
+// Plans what work on a source comes to for a rule of it and for the rule's destination.
+fn made_plan<L: Ledger>(
+    alloc: Global,
+    work: Work,
+    rule: &Rule,
+    source: &Series,
+    dest: &Series,
+    limit: u32,
+    steps: &mut Steps<L>,
+) -> Result<RulePlan, RuleFault>
+    requires room { Takes work source.now rule.now }
+    requires fits { length (list_of dest.now) ≤ limit }
+    ensures planned { (k : Key) → IsPlannedSo limit (changed_by work source.now) (gone_by work source.now (kept_as k rule.now)) (rows_by_work work source.now dest.now.born (kept_as k rule.now)) rule.now dest.now result }
+    ensures steps { steps.new ≡ steps.old }
+{
+    match work {
+        Work::Write(wrote) => plan_put(rule, source, &wrote, dest, limit, steps),
+        Work::Delete(from, to) => plan_delete(alloc, rule, source, from, to, dest, limit, steps),
+    }
+}

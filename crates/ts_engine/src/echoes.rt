@@ -1,0 +1,34 @@
+// PING and ECHO: a sign of life, and words that are sent back.
+ghost use Rattle.std.specs.Prelude.{◌≡◌, ◌+◌, ◌≤◌, [], length, None, IfNone};
+ghost use Rattle.ts_spec.specs.Questions.{ping_response};
+ghost use Rattle.ts_spec.specs.Replies.{reply_to};
+ghost use Rattle.ts_spec.specs.Response.{Word as WordBack};
+ghost use Rattle.ts_spec.specs.Text.{text};
+ghost use Rattle.ts_engine.specs.Answering.{IsTold};
+
+use crate::room::put_or_no_memory;
+use ts_resp::{Out, Reply, Word, put};
+
+/// Writes the reply to PING: a sign of life, or the word back.
+pub(crate) fn put_pong(word: Option<Word>, out: &mut Out)
+    requires empty { out.old.bytes ≡ [] }
+    requires room { 128 ≤ out.old.spare }
+    ensures pong { IfNone word (out.new.bytes ≡ text (reply_to (ping_response None))) }
+    ensures told { IsTold (ping_response word) out.new.bytes }
+    ensures room { 128 ≤ length out.new.bytes + out.new.spare }
+{
+    match word {
+        None => put(&Reply::Simple("PONG"), out),
+        Some(word) => put_word(word, out),
+    }
+}
+
+/// Writes a word back, or says that there is no memory.
+pub(crate) fn put_word(word: Word, out: &mut Out)
+    requires empty { out.old.bytes ≡ [] }
+    requires room { 128 ≤ out.old.spare }
+    ensures told { IsTold (WordBack word) out.new.bytes }
+    ensures room { 128 ≤ length out.new.bytes + out.new.spare }
+{
+    put_or_no_memory(&Reply::Bulk(word), out);
+}
