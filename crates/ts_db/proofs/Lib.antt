@@ -11,10 +11,13 @@ pub mod Fed
 pub mod Feeds
 pub mod Plans
 pub mod Planned
+pub mod Grown
 pub mod Known
 pub mod Fitting
 pub mod Unplanned
 pub mod Working
+pub mod StayingOpen
+pub mod GrownNode
 pub mod Writing
 pub mod NewLinks
 pub mod Freed

@@ -50,7 +50,7 @@ pub record IsWritten (limit : ℕ) (what : Merged) (t : ℕ) (h : History) (p : 
   pub writes : IsWrite limit (sample_of t value h) h (Ok plan)
 
 -- a plan that writes a sample, to a source whose rules change with it
-writes-after : (names : Id → Key) (n : Node) (plan : Plan) (rules : Vec Rule Global) (t : ℕ) (v : ℤ) → Writes (sample_of t v n.series) plan
+pub writes-after : (names : Id → Key) (n : Node) (plan : Plan) (rules : Vec Rule Global) (t : ℕ) (v : ℤ) → Writes (sample_of t v n.series) plan
     → AreChanged (changed_by (Write (sample_of t v n.series)) n.series) n.rules.items rules.items → kept_by names (node_after plan None (Some rules) n) ≡ kept_with t v (kept_by names n)
 writes-after names n plan rules t v w changed =
     let same : rules_by names rules.items ≡ map (changed_by (Write (sample_of t v n.series)) n.series) (rules_by names n.rules.items) =
@@ -125,16 +125,16 @@ module _ (s : Store) (db : IsDb s) (key : Key) (id : Id) (n : Node) (holds : Hol
       length-after s.limits.samples (edge_of n.series.options.retention (raised t n.series.high)) (sample_of t v n.series) n.series.samples node.kept.ascending a.1 node.within
 
   -- a write that was planned, for the key and for the destinations of its rules
-  pub planned-answers : (plan : Plan) (rules : Vec Rule Global) (t : ℕ) (v : ℤ) (new : Stock) → IsWrite s.limits.samples (sample_of t v n.series) n.series (Ok plan)
-      → AreChanged (changed_by (Write (sample_of t v n.series)) n.series) n.rules.items rules.items → full_by t v ≡ None
-      → new ≡ record (stock_of s) { keys = keep_fed (rows t v) (gone t v) (rules_by (key_in s.nodes) n.rules.items) (with_key key (kept_at s.nodes (node_after plan None (Some rules) n)) (stock_of s).keys) }
+  pub planned-answers : (plan : Plan) (d : Kept) (t : ℕ) (v : ℤ) (new : Stock) → IsWrite s.limits.samples (sample_of t v n.series) n.series (Ok plan)
+      → d ≡ kept_with t v (kept_at s.nodes n) → full_by t v ≡ None
+      → new ≡ record (stock_of s) { keys = keep_fed (rows t v) (gone t v) (rules_by (key_in s.nodes) n.rules.items) (with_key key d (stock_of s).keys) }
       → kept_write_merged s.limits (stock_of s).keys key t (To v) ≡ record { keys = new.keys; response = Count t }
-  planned-answers plan rules t v new a changed room is =
+  planned-answers plan d t v new a same room is =
       write-fits t v (fits plan t v a)
       ∙ ap (λ (o : Option Id). kept_unless_full (stock_of s).keys (option_map (key_in s.nodes) o) (record { keys = after_keys t v; response = Count t })) room
       ∙ ap (λ (m : Keeping). record { keys = m; response = Count t })
       (sym (ap (λ (x : Stock). x.keys) is
-      ∙ ap (λ (d : Kept). keep_fed (rows t v) (gone t v) (rules_by (key_in s.nodes) n.rules.items) (with_key key d (stock_of s).keys)) (writes-after (key_in s.nodes) n plan rules t v a.0 changed)))
+      ∙ ap (λ (x : Kept). keep_fed (rows t v) (gone t v) (rules_by (key_in s.nodes) n.rules.items) (with_key key x (stock_of s).keys)) same))
 
   -- one that a destination refuses
   pub unplanned-answers : (plan : Plan) (fault : DbFault) (t : ℕ) (v : ℤ) → IsWrite s.limits.samples (sample_of t v n.series) n.series (Ok plan) → IsUnplanned (full_by t v) fault

@@ -1,6 +1,7 @@
 pub mod Answering
 pub mod Faults
 pub mod Feeding
+pub mod Growing
 pub mod Held
 pub mod Information
 pub mod Latest

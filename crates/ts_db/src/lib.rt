@@ -12,6 +12,7 @@ mod deletion;
 mod dropping;
 mod fault;
 mod feeding;
+mod growing;
 mod increase;
 mod info;
 mod information;

@@ -11,6 +11,7 @@ ghost use Rattle.ts_db.specs.Store.{stock_of, number_of, IsInOrder, IsDb, IsTher
 ghost use Rattle.ts_db.specs.Answering.{KeptNumber};
 
 use crate::fault::{DbFault, fault_at};
+use crate::growing::stays_open;
 use crate::store::Store;
 use crate::work::Work;
 use std::sync::ledger::Ledger;
@@ -104,6 +105,10 @@ impl Store {
         let Some(wrote) = plan.wrote() else {
             return Ok(time);
         };
+        if stays_open(&node.rules, &node.series, &wrote) {
+            self.grow(id, plan, &wrote);
+            return Ok(time);
+        }
         let work = Work::Write(wrote);
         let planned = match self.plan_rules(&node.rules, &node.series, &work, steps) {
             Ok(planned) => planned,

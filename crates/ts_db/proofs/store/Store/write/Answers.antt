@@ -1,6 +1,7 @@
 use Rattle.std.proofs.Common.{◌≡◌, refl, sym, ◌∙◌, ap, subst}
 use Rattle.std.specs.Prelude.{None, Some, Ok, Err}
 use Rattle.ts_spec.specs.Sample.{Point}
+use Rattle.ts_spec.specs.Keyed.{with_key}
 use Rattle.ts_spec.specs.Response.{Count}
 use Rattle.ts_spec.specs.KeptStep.{kept_write_merged}
 use Rattle.ts_spec.specs.Rules.{Merged}
@@ -9,15 +10,17 @@ use Rattle.ts_series.specs.Put.{Answers, met, sample_of}
 use Rattle.ts_db.specs.declared.node.Node.{Node}
 use Rattle.ts_db.specs.declared.work.Work.TheVariants.{Write}
 use Rattle.ts_db.specs.Faults.{refusal_of}
+use Rattle.ts_db.specs.Growing.{StaysOpen, kept_grown}
 use Rattle.ts_db.specs.Held.{Stock}
 use Rattle.ts_db.specs.Planning.{changed_by, gone_by, rows_by_work, AllTake}
-use Rattle.ts_db.specs.Store.{kept_at, stock_of, IsNode}
+use Rattle.ts_db.specs.Store.{key_in, kept_at, stock_of, IsNode}
 use Rattle.ts_db.specs.Answering.{node_after, IsKeptAnswer}
 use Rattle.ts_db.proofs.Known.{takes, distinct, links}
 use Rattle.ts_db.proofs.Owning.{own-fault}
+use Rattle.ts_db.proofs.StayingOpen.{open-for, open-room, no_plans, none-fed, none-full, fed-nothing, grown-after}
 use Rattle.ts_db.proofs.Unplanned.{destination-own}
 use Rattle.ts_db.proofs.Working.{ArePlanned, planned-for, unplanned-for, changed-live, changed-grids, is-feed, still-fed, worked}
-use Rattle.ts_db.proofs.Writing.{IsWritten, within-planned, written-sample, planned-answers, unplanned-answers, refused-answers}
+use Rattle.ts_db.proofs.Writing.{IsWritten, writes-after, within-planned, written-sample, planned-answers, unplanned-answers, refused-answers}
 use Rattle.ts_db.proofs.store.Store.write.Goals as goal
 
 pub returns-in-Err-clause-written : goal.returns-in-Err-clause-written
@@ -33,7 +36,7 @@ returns-in-Err-clause-own g c key is = own-fault c.args.self.now key c.args.id c
 
 pub plan_rules-requires-clause-room : goal.plan_rules-requires-clause-room
 plan_rules-requires-clause-room g c =
-    subst (AllTake (Write c.in-Some-wrote.wrote) c.in-Some.node.now.series) (sym c.deref.ensures.value)
+    subst (AllTake (Write c.in-Some-wrote.wrote) c.in-Some.node.now.series) (sym c.deref-2.ensures.value)
     (takes c.args.self.now c.requires.db c.requires.there.key c.args.id c.in-Some.node.now (record { number = c.requires.there.holds.number; node = sym c.in-Some.ensures }) c.in-Some-wrote.wrote)
 
 pub returns-in-Err-plan_rules-clause-written : goal.returns-in-Err-plan_rules-clause-written
@@ -44,7 +47,7 @@ returns-in-Err-plan_rules-clause-written g c key n holds =
     (subst (λ (x : Node). Answers (met c.args.how c.args.time c.args.value x.series) c.args.self.now.limits.samples c.args.time x.series (Ok c.in-Ok.plan)) it c.in-Ok.ensures.answer) c.in-Some-wrote.ensures in (
       subst (λ (what : Merged). IsKeptAnswer (refusal_of (stock_of c.args.self.now).ids c.in-Err-plan_rules.fault) (stock_of c.args.self.now).keys (kept_write_merged c.args.self.now.limits (stock_of c.args.self.now).keys key c.args.time what)) (sym p.sets)
           (unplanned-answers c.args.self.now c.requires.db key c.args.id n holds c.in-Ok.plan c.in-Err-plan_rules.fault c.args.time p.value p.writes
-          (unplanned-for c.args.self.now (Write c.in-Some-wrote.wrote) (Write (sample_of c.args.time p.value n.series)) c.in-Some.node.now n c.deref.result.now c.in-Err-plan_rules.fault (ap (λ (q : Point). Write q) p.sample) it c.deref.ensures.value c.in-Err-plan_rules.ensures.refused)),
+          (unplanned-for c.args.self.now (Write c.in-Some-wrote.wrote) (Write (sample_of c.args.time p.value n.series)) c.in-Some.node.now n c.deref-2.result.now c.in-Err-plan_rules.fault (ap (λ (q : Point). Write q) p.sample) it c.deref-2.ensures.value c.in-Err-plan_rules.ensures.refused)),
       refl,
     )
 
@@ -53,7 +56,7 @@ returns-in-Err-plan_rules-clause-own g c key is =
     let node : Node = c.in-Some.node.now in
     destination-own c.args.self.now c.requires.db.store node.rules.items (rows_by_work (Write c.in-Some-wrote.wrote) node.series) (gone_by (Write c.in-Some-wrote.wrote) node.series)
     (c.requires.db.store.live c.args.id.0 node (sym c.in-Some.ensures)).rules key c.in-Err-plan_rules.fault
-    (unplanned-for c.args.self.now (Write c.in-Some-wrote.wrote) (Write c.in-Some-wrote.wrote) node node c.deref.result.now c.in-Err-plan_rules.fault refl refl c.deref.ensures.value c.in-Err-plan_rules.ensures.refused)
+    (unplanned-for c.args.self.now (Write c.in-Some-wrote.wrote) (Write c.in-Some-wrote.wrote) node node c.deref-2.result.now c.in-Err-plan_rules.fault refl refl c.deref-2.ensures.value c.in-Err-plan_rules.ensures.refused)
 
 pub apply-requires-clause-ready : goal.apply-requires-clause-ready
 apply-requires-clause-ready g c =
@@ -62,7 +65,7 @@ apply-requires-clause-ready g c =
     let p : IsWritten c.args.self.now.limits.samples (met c.args.how c.args.time c.args.value node.series) c.args.time node.series c.in-Some-wrote.wrote c.in-Ok.plan =
     written-sample c.in-Ok.plan (met c.args.how c.args.time c.args.value node.series) c.args.self.now.limits.samples c.args.time node.series c.in-Some-wrote.wrote c.in-Ok.ensures.answer c.in-Some-wrote.ensures in
     let planned : ArePlanned c.args.self.now (Write c.in-Some-wrote.wrote) node.series node.rules.items c.in-Ok-plan_rules.planned.rules.items c.in-Ok-plan_rules.planned.plans.items =
-    planned-for c.args.self.now (Write c.in-Some-wrote.wrote) (Write c.in-Some-wrote.wrote) node node c.deref.result.now c.in-Ok-plan_rules.planned.rules.items c.in-Ok-plan_rules.planned.plans.items refl refl c.deref.ensures.value
+    planned-for c.args.self.now (Write c.in-Some-wrote.wrote) (Write c.in-Some-wrote.wrote) node node c.deref-2.result.now c.in-Ok-plan_rules.planned.rules.items c.in-Ok-plan_rules.planned.plans.items refl refl c.deref-2.ensures.value
     (record { changed = c.in-Ok-plan_rules.ensures.rules; fed = c.in-Ok-plan_rules.ensures.fed; fit = c.in-Ok-plan_rules.ensures.fit }) in
     record {
       key = c.requires.there.key;
@@ -80,7 +83,7 @@ pub feed-requires-clause-planned : goal.feed-requires-clause-planned
 feed-requires-clause-planned g c =
     let node : Node = c.in-Some.node.now in
     let planned : ArePlanned c.args.self.now (Write c.in-Some-wrote.wrote) node.series node.rules.items c.in-Ok-plan_rules.planned.rules.items c.in-Ok-plan_rules.planned.plans.items =
-    planned-for c.args.self.now (Write c.in-Some-wrote.wrote) (Write c.in-Some-wrote.wrote) node node c.deref.result.now c.in-Ok-plan_rules.planned.rules.items c.in-Ok-plan_rules.planned.plans.items refl refl c.deref.ensures.value
+    planned-for c.args.self.now (Write c.in-Some-wrote.wrote) (Write c.in-Some-wrote.wrote) node node c.deref-2.result.now c.in-Ok-plan_rules.planned.rules.items c.in-Ok-plan_rules.planned.plans.items refl refl c.deref-2.ensures.value
     (record { changed = c.in-Ok-plan_rules.ensures.rules; fed = c.in-Ok-plan_rules.ensures.fed; fit = c.in-Ok-plan_rules.ensures.fit }) in
     is-feed c.args.self.now c.requires.db c.requires.there.key c.args.id node (record { number = c.requires.there.holds.number; node = sym c.in-Some.ensures }) c.apply.new.self c.apply.ensures.elsewhere
     (rows_by_work (Write c.in-Some-wrote.wrote) node.series) (gone_by (Write c.in-Some-wrote.wrote) node.series) c.in-Ok-plan_rules.planned.plans.items planned.fed
@@ -93,7 +96,7 @@ returns-clause-written g c key n holds =
     (subst (λ (x : Node). Answers (met c.args.how c.args.time c.args.value x.series) c.args.self.now.limits.samples c.args.time x.series (Ok c.in-Ok.plan)) it c.in-Ok.ensures.answer) c.in-Some-wrote.ensures in
     let work = Write (sample_of c.args.time p.value n.series) in
     let planned : ArePlanned c.args.self.now work n.series n.rules.items c.in-Ok-plan_rules.planned.rules.items c.in-Ok-plan_rules.planned.plans.items =
-    planned-for c.args.self.now (Write c.in-Some-wrote.wrote) work c.in-Some.node.now n c.deref.result.now c.in-Ok-plan_rules.planned.rules.items c.in-Ok-plan_rules.planned.plans.items (ap (λ (q : Point). Write q) p.sample) it c.deref.ensures.value
+    planned-for c.args.self.now (Write c.in-Some-wrote.wrote) work c.in-Some.node.now n c.deref-2.result.now c.in-Ok-plan_rules.planned.rules.items c.in-Ok-plan_rules.planned.plans.items (ap (λ (q : Point). Write q) p.sample) it c.deref-2.ensures.value
     (record { changed = c.in-Ok-plan_rules.ensures.rules; fed = c.in-Ok-plan_rules.ensures.fed; fit = c.in-Ok-plan_rules.ensures.fit }) in
     let done = worked c.args.self.now c.requires.db key c.args.id n holds c.apply.new.self c.apply.ensures.elsewhere (rows_by_work work n.series) (gone_by work n.series)
     (kept_at c.args.self.now.nodes (node_after c.in-Ok.plan None (Some c.in-Ok-plan_rules.planned.rules) n)) (stock_of c.feed.new.self) (c.apply.ensures.applied key n holds)
@@ -101,6 +104,55 @@ returns-clause-written g c key n holds =
     (still-fed c.args.self.now c.requires.db key c.args.id n holds c.apply.new.self c.apply.ensures.elsewhere (rows_by_work work n.series) (gone_by work n.series) c.in-Ok-plan_rules.planned.plans.items planned.fed)
     (distinct c.args.self.now n.rules.items (links c.args.self.now c.requires.db key c.args.id n holds).apart)) in (
       subst (λ (what : Merged). kept_write_merged c.args.self.now.limits (stock_of c.args.self.now).keys key c.args.time what ≡ record { keys = (stock_of c.feed.new.self).keys; response = Count c.args.time }) (sym p.sets)
-          (planned-answers c.args.self.now c.requires.db key c.args.id n holds c.in-Ok.plan c.in-Ok-plan_rules.planned.rules c.args.time p.value (stock_of c.feed.new.self) p.writes planned.changed planned.fit done),
+          (planned-answers c.args.self.now c.requires.db key c.args.id n holds c.in-Ok.plan (kept_at c.args.self.now.nodes (node_after c.in-Ok.plan None (Some c.in-Ok-plan_rules.planned.rules) n)) c.args.time p.value (stock_of c.feed.new.self) p.writes
+          (writes-after (key_in c.args.self.now.nodes) n c.in-Ok.plan c.in-Ok-plan_rules.planned.rules c.args.time p.value p.writes.0 planned.changed) planned.fit done),
+      ap (λ (x : Stock). x.limits) done,
+    )
+
+-- ---- an append that stays in all open buckets
+
+pub grow-requires-clause-ready : goal.grow-requires-clause-ready
+grow-requires-clause-ready g c =
+    let node : Node = c.in-Some.node.now in
+    let fits : IsNode c.args.self.now.limits node = c.requires.db.store.each c.args.id.0 node (sym c.in-Some.ensures) in
+    let p : IsWritten c.args.self.now.limits.samples (met c.args.how c.args.time c.args.value node.series) c.args.time node.series c.in-Some-wrote.wrote c.in-Ok.plan =
+    written-sample c.in-Ok.plan (met c.args.how c.args.time c.args.value node.series) c.args.self.now.limits.samples c.args.time node.series c.in-Some-wrote.wrote c.in-Ok.ensures.answer c.in-Some-wrote.ensures in
+    record {
+      key = c.requires.there.key;
+      node = node;
+      holds = record { number = c.requires.there.holds.number; node = sym c.in-Some.ensures };
+      ready = c.in-Ok.ensures.planned;
+      within = within-planned node.series c.in-Ok.plan c.args.self.now.limits.samples c.args.time p.value fits.kept p.writes fits.within;
+      few = fits.labels;
+      live = (c.requires.db.store.live c.args.id.0 node (sym c.in-Some.ensures)).rules;
+      grids = fits.grids;
+    }
+
+pub grow-requires-clause-room : goal.grow-requires-clause-room
+grow-requires-clause-room g c key n holds =
+    let it : c.in-Some.node.now ≡ n = some-same c.in-Some.node.now n (c.in-Some.ensures ∙ holds.node) in
+    open-room n.series c.in-Some-wrote.wrote n.rules.items (open-for c.in-Some-wrote.wrote c.in-Some-wrote.wrote c.in-Some.node.now n c.deref.result.now refl it c.deref.ensures.value (c.stays_open.ensures c.if-stays_open.true))
+    (takes c.args.self.now c.requires.db key c.args.id n holds c.in-Some-wrote.wrote)
+
+pub returns-then-stays_open-clause-written : goal.returns-then-stays_open-clause-written
+returns-then-stays_open-clause-written g c key n holds =
+    let it : c.in-Some.node.now ≡ n = some-same c.in-Some.node.now n (c.in-Some.ensures ∙ holds.node) in
+    let p : IsWritten c.args.self.now.limits.samples (met c.args.how c.args.time c.args.value n.series) c.args.time n.series c.in-Some-wrote.wrote c.in-Ok.plan =
+    written-sample c.in-Ok.plan (met c.args.how c.args.time c.args.value n.series) c.args.self.now.limits.samples c.args.time n.series c.in-Some-wrote.wrote
+    (subst (λ (x : Node). Answers (met c.args.how c.args.time c.args.value x.series) c.args.self.now.limits.samples c.args.time x.series (Ok c.in-Ok.plan)) it c.in-Ok.ensures.answer) c.in-Some-wrote.ensures in
+    let sample : Point = sample_of c.args.time p.value n.series in
+    let open_there : StaysOpen n.series sample n.rules.items =
+    open-for c.in-Some-wrote.wrote sample c.in-Some.node.now n c.deref.result.now p.sample it c.deref.ensures.value (c.stays_open.ensures c.if-stays_open.true) in
+    let rules = (c.requires.db.store.live c.args.id.0 n holds.node).rules in
+    let fed = still-fed c.args.self.now c.requires.db key c.args.id n holds c.grow.new.self c.grow.ensures.elsewhere (rows_by_work (Write sample) n.series) (gone_by (Write sample) n.series) (no_plans n.rules.items)
+    (none-fed c.args.self.now c.requires.db.store n.series sample open_there.append n.rules.items open_there.at rules) in
+    let done = worked c.args.self.now c.requires.db key c.args.id n holds c.grow.new.self c.grow.ensures.elsewhere (rows_by_work (Write sample) n.series) (gone_by (Write sample) n.series)
+    (kept_grown c.args.self.now.nodes c.in-Ok.plan sample n) (stock_of c.grow.new.self)
+    (c.grow.ensures.grown key n holds ∙ ap (λ (q : Point). record (stock_of c.args.self.now) { keys = with_key key (kept_grown c.args.self.now.nodes c.in-Ok.plan q n) (stock_of c.args.self.now).keys }) p.sample)
+    (fed-nothing c.grow.new.self c.grow.ensures.store (rows_by_work (Write sample) n.series) (gone_by (Write sample) n.series) n.rules.items n.rules.items fed
+    (distinct c.args.self.now n.rules.items (links c.args.self.now c.requires.db key c.args.id n holds).apart)) in (
+      subst (λ (what : Merged). kept_write_merged c.args.self.now.limits (stock_of c.args.self.now).keys key c.args.time what ≡ record { keys = (stock_of c.grow.new.self).keys; response = Count c.args.time }) (sym p.sets)
+          (planned-answers c.args.self.now c.requires.db key c.args.id n holds c.in-Ok.plan (kept_grown c.args.self.now.nodes c.in-Ok.plan sample n) c.args.time p.value (stock_of c.grow.new.self) p.writes
+          (grown-after c.args.self.now n c.in-Ok.plan c.args.time p.value p.writes.0 open_there) (none-full c.args.self.now c.requires.db.store n.series sample open_there.append n.rules.items open_there.at rules) done),
       ap (λ (x : Stock). x.limits) done,
     )

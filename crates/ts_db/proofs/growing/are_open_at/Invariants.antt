@@ -1,0 +1,7 @@
+use Rattle.std.proofs.Common.{drop}
+use Rattle.ts_db.specs.Growing.{AreOpenAt}
+use Rattle.ts_db.proofs.growing.are_open_at.Given as goal
+
+-- the sample lies in the open buckets of all rules where it lies in those of the rules that are left
+abbrev pub invariant-loop-rule : goal.invariant-loop-rule
+invariant-loop-rule l = AreOpenAt l.wrote (drop l.rule-index l.rules) → AreOpenAt l.wrote l.rules

@@ -1,0 +1,12 @@
+use Rattle.std.proofs.Common.{◌≡◌, take, drop}
+use Rattle.ts_db.specs.Growing.{grown, HaveRoom}
+use Rattle.ts_db.specs.Planning.{AreChanged}
+use Rattle.ts_db.proofs.growing.count_in_all.Given as goal
+
+-- the rules so far have the sample, the others are as they were and have room for it
+abbrev pub invariant-loop-rule : goal.invariant-loop-rule
+invariant-loop-rule l = record {
+  done : AreChanged (grown l.wrote) (take l.rule-index l.initial.rule-items) (take l.rule-index l.rule-items);
+  others : drop l.rule-index l.rule-items ≡ drop l.rule-index l.initial.rule-items;
+  room : HaveRoom (drop l.rule-index l.initial.rule-items);
+}

@@ -1,0 +1,36 @@
+-- An append that stays in the open bucket of each rule: it is counted there, and no destination changes.
+use Rattle.std.specs.Prelude.{◌≡◌, ◌^◌, ◌<◌, true, ⊤, List, [], ◌∷◌, map, None, Some}
+use Rattle.ts_spec.specs.Sample.{Point}
+use Rattle.ts_spec.specs.Bucket.{start}
+use Rattle.ts_spec.specs.Aggregate.{push}
+use Rattle.ts_spec.specs.Rules.{is_append}
+use Rattle.ts_spec.specs.Kept.{KeptRule, Kept}
+use Rattle.ts_series.specs.History.{History}
+use Rattle.ts_series.specs.Plan.{Plan}
+use Rattle.ts_rules.specs.declared.rule.Rule.{Rule}
+use Rattle.ts_db.specs.declared.node.Node.{Node}
+use Rattle.ts_db.specs.Store.{Nodes, kept_at}
+use Rattle.ts_db.specs.Answering.{node_after}
+
+-- a rule with one more sample in its open bucket
+abbrev pub grown : Point → KeptRule → KeptRule
+grown p q = record q { running = push q.running p }
+
+-- the sample lies in the open bucket of each of these rules
+abbrev pub AreOpenAt : Point → List Rule → Type 0
+AreOpenAt p [] = ⊤
+AreOpenAt p (r ∷ rs) = (r.current ≡ Some (start r.grid p.time)) × AreOpenAt p rs
+
+-- it is appended to the source, and lies there
+pub record StaysOpen (source : History) (p : Point) (rs : List Rule) : Type 0 where
+  pub append : is_append p.time source.high ≡ true
+  pub at : AreOpenAt p rs
+
+-- the open bucket of each of these rules takes one more sample
+abbrev pub HaveRoom : List Rule → Type 0
+HaveRoom [] = ⊤
+HaveRoom (r ∷ rs) = (r.running.count < 10 ^ 14) × HaveRoom rs
+
+-- what is kept of a node after a plan of its series, with the sample in the open bucket of each rule
+abbrev pub kept_grown : Nodes → Plan → Point → Node → Kept
+kept_grown nodes plan p n = record (kept_at nodes (node_after plan None None n)) { rules = map (grown p) (kept_at nodes n).rules }

@@ -1,0 +1,65 @@
+// An append that stays in the open bucket of each rule: it is counted there, and no destination changes.
+ghost use Rattle.std.specs.Prelude.{◌≡◌, IsTrue};
+ghost use Rattle.ts_spec.specs.Keyed.{with_key};
+ghost use Rattle.ts_spec.specs.Key.{Key};
+ghost use Rattle.ts_db.specs.declared.node.Node.{Node as TheNode};
+ghost use Rattle.ts_db.specs.Answering.{IsReady, IsElsewhere};
+ghost use Rattle.ts_db.specs.Planning.{AreChanged};
+ghost use Rattle.ts_db.specs.Growing.{grown, AreOpenAt, StaysOpen, HaveRoom, kept_grown};
+ghost use Rattle.ts_db.specs.Store.{stock_of, IsInOrder, Holds};
+
+use crate::store::Store;
+use ts_rules::Rule;
+use ts_sample::{Id, Sample};
+use ts_series::{Series, SeriesPlan};
+
+impl Store {
+    // Does what was planned for a series to which a sample is appended, and counts the sample in the open bucket of
+    // each of its rules. It can't fail, and takes no memory.
+    pub(crate) fn grow(&mut self, id: Id, plan: SeriesPlan, wrote: &Sample)
+        requires store { IsInOrder self.old }
+        requires ready { IsReady self.old id plan None None }
+        requires room { (key : Key) (n : TheNode) → Holds self.old key id n → HaveRoom n.rules.items }
+        ensures store { IsInOrder self.new }
+        ensures grown { (key : Key) (n : TheNode) → Holds self.old key id n → stock_of self.new ≡ record (stock_of self.old) { keys = with_key key (kept_grown self.old.nodes plan wrote.now n) (stock_of self.old).keys } }
+        ensures elsewhere { IsElsewhere self.old self.new id }
+    {
+        let Some(node) = self.nodes.get_mut(id.0) else {
+            unreachable!();
+        };
+        node.series.commit(plan);
+        count_in_all(&mut node.rules, wrote);
+    }
+}
+
+// Counts a sample in the open bucket of each of these rules.
+fn count_in_all(rules: &mut Vec<Rule>, wrote: &Sample)
+    requires { HaveRoom rules.old.items }
+    ensures { AreChanged (grown wrote.now) rules.old.items rules.new.items }
+{
+    for rule in rules.iter_mut() {
+        rule.running.push(wrote);
+    }
+}
+
+// Whether a sample that is written to the source of these rules is appended, and lies in the open bucket of each.
+pub(crate) fn stays_open(rules: &[Rule], source: &Series, wrote: &Sample) -> bool
+    ensures { IsTrue result → StaysOpen source.now wrote.now rules.now }
+{
+    match source.high() {
+        Some(high) if wrote.time <= high => false,
+        _ => are_open_at(rules, wrote),
+    }
+}
+
+// Whether a sample lies in the open bucket of each of these rules.
+fn are_open_at(rules: &[Rule], wrote: &Sample) -> bool
+    ensures { IsTrue result → AreOpenAt wrote.now rules.now }
+{
+    for rule in rules {
+        if rule.current != Some(rule.grid.start_of(wrote.time)) {
+            return false;
+        }
+    }
+    true
+}
