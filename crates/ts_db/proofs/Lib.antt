@@ -36,3 +36,4 @@ pub mod Opened
 pub mod Telling
 pub mod Rows
 pub mod Selecting
+pub mod Totals

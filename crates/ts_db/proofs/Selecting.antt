@@ -46,11 +46,11 @@ front {X} k x (e ∷ es) h = go (and_parts (is_before k e.key) (is_below k es) h
     go first false later = rw (later, first) refl
 
 -- what is kept of numbers, in the order of their keys
-abbrev onto : Key → Option Kept → List (Entry Kept) → List (Entry Kept)
+abbrev pub onto : Key → Option Kept → List (Entry Kept) → List (Entry Kept)
 onto k None es = es
 onto k (Some d) es = record { key = k; value = d } ∷ es
 
-abbrev listing : Nodes → Numbers → List (Entry Kept)
+abbrev pub listing : Nodes → Numbers → List (Entry Kept)
 listing nodes [] = []
 listing nodes (e ∷ es) = onto e.0 (kept_in nodes e.1) (listing nodes es)
 
@@ -68,7 +68,7 @@ below-listing nodes k (e ∷ es) h = go (kept_in nodes e.1) (below-listing nodes
     go (Some d) rest = both_true (below-before k e.0 h.0) rest
 
 -- they are the entries of all that is kept
-listing-entries : (nodes : Nodes) (es : Numbers) → IsStrictlySortedBy (slice_cmp nat_cmp) (keys_of es) → HaveNodes nodes es → (collected nodes es).entries ≡ listing nodes es
+pub listing-entries : (nodes : Nodes) (es : Numbers) → IsStrictlySortedBy (slice_cmp nat_cmp) (keys_of es) → HaveNodes nodes es → (collected nodes es).entries ≡ listing nodes es
 unfolding IsStrictlySortedBy
 listing-entries nodes [] sorted there = refl
 listing-entries nodes (e ∷ es) sorted there = go (kept_in nodes e.1) (ap (option_map (kept_at nodes)) there.0.1) (listing-entries nodes es sorted.1 there.1)

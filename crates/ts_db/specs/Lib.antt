@@ -9,4 +9,5 @@ pub mod Linking
 pub mod Links
 pub mod Planning
 pub mod Store
+pub mod Totals
 pub mod Writes

@@ -27,6 +27,7 @@ mod questions;
 mod ruling;
 mod selection;
 mod store;
+mod total;
 mod work;
 mod write;
 

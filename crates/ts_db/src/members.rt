@@ -5,6 +5,7 @@ ghost use Rattle.ts_spec.specs.Keyed.{get};
 ghost use Rattle.ts_spec.specs.KeptQuestions.{kept_asked, kept_labels_at, kept_selection};
 ghost use Rattle.ts_spec.specs.Sample.{IsAscending, at_times, between, last_of};
 ghost use Rattle.ts_db.specs.Held.{IsLive, AreNumbersOf, AreTimes, ends_of};
+ghost use Rattle.ts_db.specs.Totals.{total_of};
 
 use crate::db::Db;
 use std::alloc::AllocError;
@@ -31,6 +32,14 @@ impl Db {
         ensures there { is_some result ≡ is_some (get key.now self.now.keys) }
     {
         self.store.keys.get(key).copied()
+    }
+
+    /// How many samples all keys show together. Takes no memory.
+    pub fn total<L: Ledger>(&self, steps: &mut Steps<L>) -> u64
+        ensures total { result ≡ total_of self.now.keys }
+        ensures steps { steps.new ≡ steps.old }
+    {
+        self.store.total(steps)
     }
 
     /// The key of a number. Takes no memory.

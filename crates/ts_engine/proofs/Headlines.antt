@@ -37,7 +37,7 @@ module _ (seen : Seen) (last : Spot) (readings : last.world.readings ≡ seen.re
     its_requests : (more : List ℕ) → requests_of (stream_at seen.limits.wire 0 (front ++ more)) ≡ requests_in went.done ++ requests_of (stream_of last.reader more)
     its_requests more = ap requests_of (follows more) ∙ requests_of-then_all went.done (stream_of last.reader more)
 
-    first_requests : (more : List ℕ) → requests seen.limits.wire (front ++ more) ≡ requests_in went.done ++ until_quit (requests_of (stream_of last.reader more))
+    pub first_requests : (more : List ℕ) → requests seen.limits.wire (front ++ more) ≡ requests_in went.done ++ until_quit (requests_of (stream_of last.reader more))
     first_requests more = ap until_quit (its_requests more) ∙ until_quit-append (requests_in went.done) (requests_of (stream_of last.reader more)) went.goes_on
 
     its_ending : (more : List ℕ) → ending seen.limits.wire (front ++ more) ≡ ending_of (stream_of last.reader more)

@@ -8,6 +8,7 @@ pub mod Fronts
 pub mod Headlines
 pub mod InfoTexts
 pub mod Items
+pub mod Links
 pub mod Lists
 pub mod ManyTexts
 pub mod ManyTold
@@ -20,6 +21,7 @@ pub mod Refusals
 pub mod RowTexts
 pub mod Sessions
 pub mod Short
+pub mod Summaries
 pub mod Spending
 pub mod Taking
 pub mod Told

@@ -11,7 +11,7 @@ use Rattle.ts_db.specs.Held.{Held}
 use Rattle.ts_engine.specs.declared.piped.End.{End}
 use Rattle.ts_engine.specs.declared.piped.End.TheVariants as end
 use Rattle.ts_engine.specs.declared.piped.Outcome.{Outcome}
-use Rattle.ts_engine.specs.declared.status.Status.TheVariants as status
+use Rattle.ts_words.specs.declared.status.Status.TheVariants as status
 use Rattle.ts_engine.specs.Headline.{start, Seen, ending, asks_to_quit}
 use Rattle.ts_engine.specs.Piping.{beginning, Ends, is_of_input, Piped, HasCauses}
 use Rattle.ts_engine.specs.Session.{Spot}

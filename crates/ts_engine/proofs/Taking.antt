@@ -9,8 +9,8 @@ use Rattle.ts_db.specs.Held.{Held}
 use Rattle.ts_engine.specs.declared.piped.End.{End}
 use Rattle.ts_engine.specs.declared.piped.End.TheVariants as end
 use Rattle.ts_engine.specs.declared.piped.Outcome.{Outcome}
-use Rattle.ts_engine.specs.declared.status.Status.{Status}
-use Rattle.ts_engine.specs.declared.status.Status.TheVariants as status
+use Rattle.ts_words.specs.declared.status.Status.{Status}
+use Rattle.ts_words.specs.declared.status.Status.TheVariants as status
 use Rattle.ts_engine.specs.Headline.{start, Seen, Writes}
 use Rattle.ts_engine.specs.Piping.{beginning, PIECE, ReadAll, Ends, shown_at, Piped}
 use Rattle.ts_engine.specs.Session.{Spot, Quitted}

@@ -5,8 +5,8 @@ use Rattle.ts_io.specs.Causes.{Rose}
 use Rattle.ts_spec.specs.Wire.{Stream, Ended, Inside, Broken}
 use Rattle.ts_engine.specs.declared.piped.End.{End}
 use Rattle.ts_engine.specs.declared.piped.End.TheVariants as end
-use Rattle.ts_engine.specs.declared.status.Status.{Status}
-use Rattle.ts_engine.specs.declared.status.Status.TheVariants as status
+use Rattle.ts_words.specs.declared.status.Status.{Status}
+use Rattle.ts_words.specs.declared.status.Status.TheVariants as status
 use Rattle.ts_engine.specs.Piping.{HasCauses}
 use Rattle.ts_engine.specs.Status.{status_of}
 use Rattle.ts_engine.specs.Top.{status_by, status_at}

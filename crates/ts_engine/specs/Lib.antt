@@ -1,9 +1,12 @@
 pub mod Answering
+pub mod Asked
 pub mod Ending
+pub mod Generated
 pub mod Going
 pub mod Headline
 pub mod Members
 pub mod Piping
+pub mod Serving
 pub mod Session
 pub mod Standing
 pub mod Status

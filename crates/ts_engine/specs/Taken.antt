@@ -5,8 +5,8 @@ use Rattle.ts_spec.specs.Run.{is_quit}
 use Rattle.ts_spec.specs.Wire.{Stream, Then, Ended, Inside, Broken, stream_at}
 use Rattle.ts_engine.specs.declared.piped.End.{End}
 use Rattle.ts_engine.specs.declared.piped.End.TheVariants as end
-use Rattle.ts_engine.specs.declared.status.Status.{Status}
-use Rattle.ts_engine.specs.declared.status.Status.TheVariants as status
+use Rattle.ts_words.specs.declared.status.Status.{Status}
+use Rattle.ts_words.specs.declared.status.Status.TheVariants as status
 use Rattle.ts_engine.specs.Headline.{Seen, AllAnswered, WholeAnswered, LastCut, FaultCut, asks_to_quit, Writes}
 use Rattle.ts_engine.specs.Piping.{PIECE}
 use Rattle.ts_engine.specs.Status.{status_of, place_of}

@@ -7,9 +7,10 @@ use Rattle.ts_spec.specs.Wire.{Stream, Then, Ended, Inside, Broken}
 use Rattle.ts_spec.specs.declared.limits.Limits.{Limits}
 use Rattle.std.specs.declared.alloc.Global.{Global}
 use Rattle.ts_engine.specs.declared.piped.End.{End}
-use Rattle.ts_engine.specs.declared.status.Status.{Status}
-use Rattle.ts_engine.specs.declared.status.Status.TheVariants as status
-use Rattle.ts_engine.specs.Status.{status_of, place_of, line_of}
+use Rattle.ts_words.specs.Endings.{line_of}
+use Rattle.ts_words.specs.declared.status.Status.{Status}
+use Rattle.ts_words.specs.declared.status.Status.TheVariants as status
+use Rattle.ts_engine.specs.Status.{status_of, place_of}
 use Rattle.ts_engine.specs.Headline.{Seen, Writes}
 
 -- each limit lets something through
@@ -28,15 +29,10 @@ pub record AreUsable (limits : Limits) : Type 0 where
 abbrev pub IsPipe : List (String Global) → Type 0
 IsPipe words = map string_bytes words ≡ codes "pipe" ∷ []
 
--- the line of a status was written; the good end has none
-abbrev pub Tells : Status → Option ℕ → (List ℕ → Type 0) → (List ℕ → Type 0) → Type 0
-Tells status.Ended place had has = Grows had has []
-Tells s place had has = Grows had has (line_of s place)
-
--- the status is the one meant, and its line was written; or a write failed within that line
-abbrev pub Reports : (meant : Status) → Option ℕ → (given : Status) → (List ℕ → Type 0) → (List ℕ → Type 0) → Type 0
+-- the status is the one meant, and its line was written, if it has one; or a write failed within that line
+abbrev pub Reports : (meant : Status) → (place : ℕ) → (given : Status) → (List ℕ → Type 0) → (List ℕ → Type 0) → Type 0
 Reports meant place given had has =
-    ((given ≡ meant) × Tells meant place had has) ⊎ ((given ≡ status.WriteFault) × GrowsByFront had has (line_of meant place))
+    ((given ≡ meant) × Grows had has (line_of meant place)) ⊎ ((given ≡ status.WriteFault) × GrowsByFront had has (line_of meant place))
 
 -- how an input with these bytes was answered: what its end says was written, and the end was reported
 pub record Headline (seen : Seen) (budget : ℕ) (bytes : List ℕ) (left : Option (List ℕ)) (had has : List ℕ → Type 0) (given : Status) : Type 0 where

@@ -2,11 +2,13 @@
 #![tactic(auto)]
 
 mod additions;
+mod address;
 mod answers;
 mod changes;
 mod echoes;
 mod execution;
 mod found;
+mod generated;
 mod go;
 mod info;
 mod keys;
@@ -20,6 +22,7 @@ mod room;
 mod rows;
 mod rules;
 mod running;
+mod serving;
 mod session;
 mod status;
 mod turn;
@@ -30,7 +33,8 @@ pub use go::Go;
 pub use laws::triples_with_memory_are_one_step;
 pub use piped::{End, Outcome, pipe};
 pub use running::top;
+pub use serving::{Served, serve};
 pub use session::Session;
-pub use status::Status;
 pub use ts_command::{Command, CommandFault, read};
 pub use ts_db::{Db, DbFault, Limits};
+pub use ts_words::Status;

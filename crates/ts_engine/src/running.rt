@@ -1,20 +1,26 @@
 // The top call: the words of the command line, and what they ask for.
-ghost use Rattle.std.specs.Prelude.{◌≡◌, ◌⊎◌, ◌≤◌, ◌<◌, ◌↔◌, ℕ, false, List, length, take, None, Some, IsTrue, codes};
-ghost use Rattle.std.specs.String.{string_bytes};
+ghost use Rattle.std.specs.Prelude.{◌≡◌, ◌⊎◌, ◌≤◌, ◌<◌, ℕ, false, List, length, take, None, Some};
 ghost use Rattle.ts_io.specs.Causes.{Rose};
+ghost use Rattle.ts_engine.specs.Asked.{asked, IsServe, IsGen, Connections};
+ghost use Rattle.ts_engine.specs.Generated.{Workload};
 ghost use Rattle.ts_engine.specs.Headline.{Seen, ending, asks_to_quit};
 ghost use Rattle.ts_engine.specs.Taken.{Taken, Told};
 ghost use Rattle.ts_engine.specs.Top.{AreUsable, IsPipe, Reports, Headline, status_by, status_cut, NoneRose};
 
+use crate::address::serve_address;
+use crate::generated::answer_workload;
 use crate::piped::pipe;
-use crate::status::{Status, told_place, write_line};
+use crate::status::report;
 use std::alloc::Global;
 use ts_db::{Db, Limits};
 use ts_io::{Clock, Listener, Sink, Source};
+use ts_words::{Mode, Status};
 
 /// Runs what the words of the command line, after the program's name, ask for: `pipe` answers the requests of
-/// `input` on `out`, over a new database, at most `budget` bytes of them. A status other than `Ended` has its line
-/// on `err`.
+/// `input` on `out`, over a new database, at most `budget` bytes of them; `serve ADDRESS N` serves N connections of
+/// `net` at the address, one after another, over one new database, at most `budget` bytes of each, and writes a line
+/// for each to `out`; `gen SEED N` answers the workload of the seed with N changes, over one new database, and writes
+/// its summary to `out`. A status other than `Ended` has its line on `err`.
 pub fn top<S: Source, K: Sink, E: Sink, C: Clock, N: Listener>(
     alloc: Global,
     words: &[String],
@@ -54,53 +60,45 @@ pub fn top<S: Source, K: Sink, E: Sink, C: Clock, N: Listener>(
     // A status has its line, also where the input tells nothing of itself.
     ensures told { IsPipe words.now → Told (E.has err.old) (E.has err.new) result }
 
-    // Other words touch nothing but `err`.
-    ensures usage { (IsPipe words.now → ⊥) → Reports Status.Usage None result (E.has err.old) (E.has err.new) }
-    ensures idle { (IsPipe words.now → ⊥) → (input.new ≡ input.old) × (out.new ≡ out.old) × (clock.new ≡ clock.old) }
-    ensures only_usage { result ≡ Status.Usage → IsPipe words.now → ⊥ }
+    // Where the words ask to serve, connections are served one after another, the first over the empty database and each other one over what
+    // the one before left.
+    ensures served { (links : ℕ) → asked words.now ≡ Some (Mode.Serve links) → Connections
+        (record { left = N.In.left; reads = N.In.faults; has = N.Out.has; writes = N.Out.faults })
+        (record { limits = limits; readings = C.readings clock.old; readings_left = C.readings clock.new; had = K.has out.old; has = K.has out.new })
+        budget links (N.coming net.old) (N.coming net.new) (N.closed net.old) (N.closed net.new) (E.has err.old) (E.has err.new) result }
+
+    // Where the words ask for a workload, its summary is that of a run of its requests.
+    ensures generated { (seed n : ℕ) → asked words.now ≡ Some (Mode.Gen seed n)
+        → Workload limits seed n (K.has out.old) (K.has out.new) (E.has err.old) (E.has err.new) result }
+
+    // Words that ask for nothing touch nothing but `err`.
+    ensures usage { asked words.now ≡ None → Reports Status.Usage 0 result (E.has err.old) (E.has err.new) }
+    ensures idle { asked words.now ≡ None → (input.new ≡ input.old) × (out.new ≡ out.old) × (clock.new ≡ clock.old) }
+    ensures only_usage { result ≡ Status.Usage → asked words.now ≡ None }
 
     // A fault is answered only where its count rose.
     ensures read_fault { result ≡ Status.ReadFault → Rose (S.faults input.old) (S.faults input.new) }
     ensures write_fault { result ≡ Status.WriteFault
         → Rose (K.faults out.old) (K.faults out.new) ⊎ Rose (E.faults err.old) (E.faults err.new) }
-    ensures net { net.new ≡ net.old }
-{
-    if !is_pipe(words) {
-        return report(err, Status::Usage, None);
-    }
-    let mut db = Db::new(alloc, limits);
-    let outcome = pipe(alloc, &mut db, input, out, clock, limits.wire, budget);
-    report(err, Status::of(outcome.end), told_place(outcome.end))
-}
+    ensures accept_fault { result ≡ Status.AcceptFault → Rose (N.faults net.old) (N.faults net.new) }
 
-// Whether the words are the one word `pipe`.
-fn is_pipe(words: &[String]) -> bool
-    ensures { IsTrue result ↔ IsPipe words.now }
+    // Only a request to pipe touches `input`, and only one to serve touches `net`, from which no link stays handed out. A workload reads no
+    // clock.
+    ensures input { (asked words.now ≡ Some Mode.Pipe → ⊥) → input.new ≡ input.old }
+    ensures net { (IsServe words.now → ⊥) → net.new ≡ net.old }
+    ensures clock { IsGen words.now → clock.new ≡ clock.old }
+    ensures handed_back { N.is_out net.new ≡ false }
 {
-    match words {
-        [word] => says_pipe(word),
-        _ => false,
-    }
-}
-
-fn says_pipe(word: &String) -> bool
-    ensures { IsTrue result ↔ (string_bytes word.now ≡ codes "pipe") }
-{
-    word.as_str() == "pipe"
-}
-
-// Writes the line of a status, and answers the status, or that the line could not be written.
-fn report<E: Sink>(err: &mut E, status: Status, place: Option<u64>) -> Status
-    ensures reported { Reports status place result (E.has err.old) (E.has err.new) }
-    ensures cause { result ≡ Status.WriteFault → (status ≡ Status.WriteFault) ⊎ Rose (E.faults err.old) (E.faults err.new) }
-    ensures same { result ≡ Status.WriteFault ⊎ result ≡ status }
-    ensures good { status ≡ Status.Ended → result ≡ Status.Ended }
-{
-    if status == Status::Ended {
-        return status;
-    }
-    match write_line(err, status, place) {
-        Ok(()) => status,
-        Err(_) => Status::WriteFault,
+    match Mode::read(words) {
+        Some(Mode::Pipe) => {
+            let mut db = Db::new(alloc, limits);
+            let outcome = pipe(alloc, &mut db, input, out, clock, limits.wire, budget);
+            report(err, outcome.end.status(), outcome.end.place())
+        }
+        Some(Mode::Serve(links)) => serve_address(
+            alloc, &words[1], net, out, err, clock, links, limits, budget,
+        ),
+        Some(Mode::Gen(seed, n)) => answer_workload(alloc, seed, n, out, err, limits),
+        None => report(err, Status::Usage, 0),
     }
 }

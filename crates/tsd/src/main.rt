@@ -6,9 +6,9 @@ use std::io::ErrorKind;
 use std::process::ExitCode;
 use std::{env, io};
 use ts_engine::{Limits, top};
-use ts_io::{MemListener, StdSink, StdSource, SystemClock};
+use ts_io::{StdSink, StdSource, SystemClock, TcpNet};
 
-/// The most bytes that a run takes.
+/// The most bytes that are taken of the input, or of a connection.
 const BUDGET: u64 = 1 << 60;
 
 /// The status where there was no memory for the words of the command line.
@@ -25,7 +25,7 @@ fn main(rt: HostRuntime) -> ExitCode {
     }
 }
 
-/// The status of a run over the process's own streams and clock.
+/// The status of a run over the process's own streams and clock, and the system's network.
 fn run(rt: &HostRuntime) -> io::Result<u8> {
     let alloc = rt.alloc();
     let mut words = Vec::new(alloc);
@@ -36,7 +36,7 @@ fn run(rt: &HostRuntime) -> io::Result<u8> {
     let mut out = StdSink::new(rt.stdout());
     let mut err = StdSink::new(rt.stderr());
     let mut clock = SystemClock::new(rt);
-    let mut net = MemListener::new(alloc, Vec::new(alloc), Vec::new(alloc))?;
+    let mut net = TcpNet::new(rt);
     let status = top(
         alloc,
         &words,

@@ -3,13 +3,13 @@ use std::test::Fail;
 
 const USAGE: Row<'static> = Row {
     input: b"*1\r\n$4\r\nPING\r\n",
-    err: b"usage: tsd pipe\n",
+    err: b"usage: tsd pipe | tsd serve <address> <connections> | tsd gen <seed> <n>\n",
     status: 1,
     ..PLAIN
 };
 
 #[test]
-fn other_words_than_pipe_are_refused(rt: HostRuntime) -> Result<(), Fail> {
+fn words_that_ask_for_nothing_are_refused(rt: HostRuntime) -> Result<(), Fail> {
     let rows = [
         Row {
             words: &["pipe", "x"],
@@ -21,6 +21,22 @@ fn other_words_than_pipe_are_refused(rt: HostRuntime) -> Result<(), Fail> {
         },
         Row {
             words: &["serve"],
+            ..USAGE
+        },
+        Row {
+            words: &["serve", "x"],
+            ..USAGE
+        },
+        Row {
+            words: &["serve", "x", "0"],
+            ..USAGE
+        },
+        Row {
+            words: &["gen", "1", "1000001"],
+            ..USAGE
+        },
+        Row {
+            words: &["gen", "-1", "1"],
             ..USAGE
         },
         Row {

@@ -1,0 +1,38 @@
+use Rattle.std.proofs.Common.{◌≡◌, ◌+◌, ◌<◌, ◌^◌, length, refl, sym, ◌∙◌, ap, subst, arith, rules}
+use Rattle.ts_series.specs.History.{list_of}
+use Rattle.ts_db.specs.Totals.{samples_in}
+use Rattle.ts_db.proofs.Selecting.{HaveNodes, listing, listing-entries, all-there}
+use Rattle.ts_db.proofs.Totals.{total-next, total-fits}
+use Rattle.ts_db.proofs.store.Store.total.Goals as goal
+
+pub loop-key-init : goal.loop-key-init
+loop-key-init g c =
+    let all : c.into_iter-key-iterator.result ≡ c.args.self.now.keys.entries = c.into_iter-key-iterator.ensures.into_iter_gives ∙ c.iter-key-items.ensures.rest in
+    let given : samples_in (listing c.args.self.now.nodes c.into_iter-key-iterator.result) ≡ samples_in (listing c.args.self.now.nodes c.args.self.now.keys.entries) =
+    ap (λ l. samples_in (listing c.args.self.now.nodes l)) all in
+    record {
+      sum = omega (arith, given);
+      there = subst (HaveNodes c.args.self.now.nodes) (sym all)
+          (all-there c.args.self.now.nodes c.args.self.now.keys.entries c.args.self.now.keys.entries c.requires.stored c.iter-key-items.ensures.found);
+      steps = refl;
+    }
+
+pub overflow_add-total : goal.overflow_add-total
+overflow_add-total g c =
+    let nodes = c.args.self.now.nodes in
+    let es = c.args.self.now.keys.entries in
+    let keys : c.args.self.now.limits.keys < 2 ^ 32 = search rules in
+    let samples : c.args.self.now.limits.samples < 2 ^ 32 = search rules in
+    let all : samples_in (listing nodes es) < 2 ^ 64 =
+    total-fits c.args.self.now.limits nodes es c.requires.each (all-there nodes es es c.requires.stored c.iter-key-items.ensures.found) c.requires.few keys samples in
+    let one : samples_in (listing nodes c.loop-key._key-iterator) ≡ length (list_of c.in-Some-get.node.now.series) + samples_in (listing nodes c.next.new.self) =
+    total-next nodes c.in-Some._key.now c.in-Some.id.now c.in-Some-get.node.now c.loop-key._key-iterator c.next.new.self c.in-Some.ensures.steps (sym c.in-Some-get.ensures) in
+    omega (arith, all, one, c.loop-key.invariant.sum, c.len.ensures.len)
+
+pub returns-clause-total : goal.returns-clause-total
+returns-clause-total g c =
+    let nodes = c.args.self.now.nodes in
+    let es = c.args.self.now.keys.entries in
+    let none : samples_in (listing nodes c.loop-key._key-iterator) ≡ 0 = ap (λ l. samples_in (listing nodes l)) c.in-None.ensures.steps.0 in
+    let count : c.loop-key.total ≡ samples_in (listing nodes es) = omega (arith, c.loop-key.invariant.sum, none) in
+    count ∙ sym (ap samples_in (listing-entries nodes es c.iter-key-items.ensures.ordered (all-there nodes es es c.requires.stored c.iter-key-items.ensures.found)))

@@ -1,0 +1,12 @@
+use Rattle.std.proofs.Common.{◌≡◌, ◌+◌}
+use Rattle.ts_db.specs.Totals.{samples_in}
+use Rattle.ts_db.proofs.Selecting.{HaveNodes, listing}
+use Rattle.ts_db.proofs.store.Store.total.Given as goal
+
+-- the samples so far, and those of the keys that are left, are all of them
+abbrev pub invariant-loop-key : goal.invariant-loop-key
+invariant-loop-key g l = record {
+  sum : l.total + samples_in (listing l.self.nodes l._key-iterator) ≡ samples_in (listing l.self.nodes l.self.keys.entries);
+  there : HaveNodes l.self.nodes l._key-iterator;
+  steps : l.steps ≡ l.fn.steps;
+}

@@ -1,0 +1,17 @@
+use Rattle.std.proofs.Common.{◌≡◌, sym, ◌∙◌, ap, subst}
+use Rattle.ts_spec.specs.State.{empty}
+use Rattle.ts_words.specs.declared.status.Status.{Status}
+use Rattle.ts_engine.specs.Asked.{status_served}
+use Rattle.ts_engine.specs.Top.{Reports}
+use Rattle.ts_engine.proofs.address.serve_address.Goals as goal
+
+pub returns-clause-served : goal.returns-clause-served
+returns-clause-served g c =
+    let carried = c.open_and_serve-served.ensures.serves (record { limits = c.args.limits; state = empty }) c.new-db.ensures.stands in
+    record {
+      served = c.open_and_serve-served.result;
+      held = carried.to;
+      serves = carried.done;
+      reported = subst (λ (s : Status). Reports s 0 c.report.result (g.E.Sink.has c.args.err.now) (g.E.Sink.has c.report.new.err)) c.status_served.ensures c.report.ensures.reported;
+      quiet = λ is. c.report.ensures.good (c.status_served.ensures ∙ ap status_served is);
+    }

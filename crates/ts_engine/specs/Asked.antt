@@ -1,0 +1,43 @@
+-- What the words of the command line ask for, and what the top call does where they ask to serve.
+use Rattle.std.specs.Prelude.{◌≡◌, ℕ, List, map, Option, Some, String}
+use Rattle.std.specs.String.{string_bytes}
+use Rattle.std.specs.declared.alloc.Global.{Global}
+use Rattle.ts_io.specs.declared.listener.Ends.{Ends}
+use Rattle.ts_words.specs.Modes.{mode_of}
+use Rattle.ts_words.specs.declared.mode.Mode.{Mode}
+use Rattle.ts_words.specs.declared.mode.Mode.TheVariants.{Serve, Gen}
+use Rattle.ts_words.specs.declared.status.Status.{Status}
+use Rattle.ts_words.specs.declared.status.Status.TheVariants as status
+use Rattle.ts_db.specs.Held.{Held}
+use Rattle.ts_engine.specs.declared.serving.Served.{Served}
+use Rattle.ts_engine.specs.declared.serving.Served.TheVariants.{Done, AcceptFault, WriteFault}
+use Rattle.ts_engine.specs.Headline.{Seen, start}
+use Rattle.ts_engine.specs.Serving.{Telling, Serves}
+use Rattle.ts_engine.specs.Top.{Reports}
+
+-- the mode that the words ask for, if they ask for one
+abbrev pub asked : List (String Global) → Option Mode
+asked words = mode_of (map string_bytes words)
+
+-- the words ask to serve
+abbrev pub IsServe : List (String Global) → Type 0
+IsServe words = (links : ℕ) × (asked words ≡ Some (Serve links))
+
+-- the words ask for a workload
+abbrev pub IsGen : List (String Global) → Type 0
+IsGen words = (seed : ℕ) × (n : ℕ) × (asked words ≡ Some (Gen seed n))
+
+-- the status of a run, by how its serving ended
+abbrev pub status_served : Served → Status
+status_served Done = status.Ended
+status_served AcceptFault = status.AcceptFault
+status_served WriteFault = status.WriteFault
+
+-- How links were served, from the empty database and the first link on, and how the ending was reported. Where so many were served and their
+-- lines were written, the status is the good one.
+pub record Connections {I O : Type 0} (told : Telling I O) (seen : Seen) (budget most : ℕ) (coming coming' closed closed' : Option (List (Ends I O))) (had has : List ℕ → Type 0) (given : Status) : Type 0 where
+  pub served : Served
+  pub held : Held
+  pub serves : Serves told seen.limits.wire budget served 1 most (start seen.limits seen.readings) (record { held = held; readings = seen.readings_left }) coming coming' closed closed' seen.had seen.has
+  pub reported : Reports (status_served served) 0 given had has
+  pub quiet : served ≡ Done → given ≡ status.Ended

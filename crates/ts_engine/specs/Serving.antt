@@ -1,0 +1,90 @@
+-- What `serve` does to a listener, an output and a database: links are served one after another.
+use Rattle.std.specs.Prelude.{◌≡◌, ℕ, ◌+◌, ◌≤◌, ◌<◌, List, [], ◌∷◌, ◌++◌, length, map, take, Option}
+use Rattle.std.specs.Option.{option_map}
+use Rattle.ts_io.specs.Sinks.{Grows}
+use Rattle.ts_io.specs.declared.listener.Ends.{Ends}
+use Rattle.ts_spec.specs.declared.wire.WireLimits.{WireLimits}
+use Rattle.ts_words.specs.Lines.{link_line_of}
+use Rattle.ts_words.specs.declared.link_lines.LinkEnd.{LinkEnd}
+use Rattle.ts_words.specs.declared.link_lines.LinkEnd.TheVariants as word
+use Rattle.ts_engine.specs.declared.piped.End.{End}
+use Rattle.ts_engine.specs.declared.piped.End.TheVariants as end
+use Rattle.ts_engine.specs.declared.piped.Outcome.{Outcome}
+use Rattle.ts_engine.specs.declared.serving.Served.{Served}
+use Rattle.ts_engine.specs.declared.serving.Served.TheVariants.{Done, AcceptFault, WriteFault}
+use Rattle.ts_engine.specs.Piping.{Piped, HasCauses}
+use Rattle.ts_engine.specs.Turn.{World}
+
+-- ---- lines
+
+-- how a line says that a stream ended
+abbrev pub link_end_of : End → LinkEnd
+link_end_of end.Ended = word.Ended
+link_end_of (end.Truncated place) = word.Truncated
+link_end_of (end.Protocol fault) = word.Protocol
+link_end_of end.ReadFault = word.ReadFault
+link_end_of end.WriteFault = word.WriteFault
+link_end_of end.Memory = word.Memory
+link_end_of end.Budget = word.Budget
+
+-- the line of the link with this number
+abbrev pub line_at : (number : ℕ) → Outcome → List ℕ
+line_at number outcome = link_line_of number outcome.executed (link_end_of outcome.end)
+
+-- a link that was served: as it was handed out, as it was handed back, and what became of its stream
+pub record Link (I O : Type 0) : Type 0 where
+  pub came : Ends I O
+  pub back : Ends I O
+  pub outcome : Outcome
+
+-- the lines of links, of which the first has this number
+abbrev pub lines_from : {I O : Type 0} → (number : ℕ) → List (Link I O) → List ℕ
+lines_from number [] = []
+lines_from number (link ∷ links) = line_at number link.outcome ++ lines_from (number + 1) links
+
+-- ---- links
+
+-- what the ends of links tell: what an input has left, what an output has, and their counts of faults
+pub record Telling (I O : Type 0) : Type 1 where
+  pub left : I → Option (List ℕ)
+  pub reads : I → ℕ
+  pub has : O → List ℕ → Type 0
+  pub writes : O → ℕ
+
+-- the links to come began with these, in order, and lost them; and as they were handed back these joined the closed ones, at their end
+pub record Handed {I O : Type 0} (links : List (Link I O)) (coming coming' closed closed' : Option (List (Ends I O))) : Type 0 where
+  pub came : coming ≡ option_map (λ rest. map (λ link. link.came) links ++ rest) coming'
+  pub back : closed' ≡ option_map (λ before. before ++ map (λ link. link.back) links) closed
+
+module _ {I O : Type 0} (told : Telling I O) (limits : WireLimits) (budget : ℕ) where
+  -- the requests in a link's input were answered on its output, and a fault ended that only where its own count rose
+  pub record IsServed (link : Link I O) (from to : World) : Type 0 where
+    pub piped : Piped limits budget link.outcome from to (told.left link.came.input) (told.left link.back.input) (told.has link.came.out) (told.has link.back.out)
+    pub causes : HasCauses link.outcome.end (told.reads link.came.input) (told.reads link.back.input) (told.writes link.came.out) (told.writes link.back.out)
+
+  -- links were served one after another, each in the world that the one before left
+  abbrev pub AreServed : List (Link I O) → (from to : World) → Type 0
+  AreServed [] from to = to ≡ from
+  AreServed (link ∷ links) from to = (mid : World) × IsServed link from mid × AreServed links mid to
+
+  -- the output has the lines of these links, and of the last one's line maybe only a front
+  pub record LineCut (number most : ℕ) (links : List (Link I O)) (had has : List ℕ → Type 0) : Type 0 where
+    pub first : List (Link I O)
+    pub last : Link I O
+    pub split : links ≡ first ++ last ∷ []
+    pub within : length links ≤ most
+    pub kept : ℕ
+    pub grown : Grows had has (lines_from number first ++ take kept (line_at (number + length first) last.outcome))
+
+  -- how many links there are, and what the output has of their lines, by how the serving ended
+  abbrev pub Lines : Served → (number most : ℕ) → List (Link I O) → (had has : List ℕ → Type 0) → Type 0
+  Lines Done number most links had has = (length links ≡ most) × Grows had has (lines_from number links)
+  Lines AcceptFault number most links had has = (length links < most) × Grows had has (lines_from number links)
+  Lines WriteFault number most links had has = LineCut number most links had has
+
+  -- Links were served, of which the first has this number: so many, or fewer where a fault ended that.
+  pub record Serves (served : Served) (number most : ℕ) (from to : World) (coming coming' closed closed' : Option (List (Ends I O))) (had has : List ℕ → Type 0) : Type 0 where
+    pub links : List (Link I O)
+    pub run : AreServed links from to
+    pub handed : Handed links coming coming' closed closed'
+    pub lines : Lines served number most links had has

@@ -1,0 +1,141 @@
+// What serves connections, one after another, over one database.
+ghost use Rattle.std.specs.Prelude.{◌≡◌, ◌≤◌, false, OnOk, OnErr};
+ghost use Rattle.ts_io.specs.Causes.{HasCause, Rose};
+ghost use Rattle.ts_io.specs.Sinks.{Grows, GrowsByFront};
+ghost use Rattle.ts_db.specs.Held.{Carries};
+ghost use Rattle.ts_engine.specs.Serving.{Serves, line_at};
+ghost use Rattle.ts_engine.specs.Serving as lines;
+
+use crate::piped::{End, Outcome, pipe};
+use std::alloc::Global;
+use ts_db::Db;
+use ts_io::{Clock, Failed, Listener, Sink, write_all_counted};
+use ts_resp::WireLimits;
+use ts_words::{LinkEnd, link_line};
+
+/// How the serving of connections ended.
+#[derive(Clone, Copy, Debug, PartialEq, Eq)]
+pub enum Served {
+    /// As many connections were served as were asked for, and their lines were written.
+    Done,
+    /// The next connection could not be accepted.
+    AcceptFault,
+    /// The line of the last connection could not be written. It was served.
+    WriteFault,
+}
+
+/// The most bytes of the line of a connection.
+const ROOM: usize = 80;
+
+/// Serves so many links of the listener, one after another, over one database. The requests of each are answered as
+/// `pipe` answers them, at most `budget` bytes of each link; then it is closed, and its line is written to `out`.
+/// However a link ends, the next one is served. Links are counted from 1.
+pub fn serve<N: Listener, K: Sink, C: Clock>(
+    alloc: Global,
+    db: &mut Db,
+    net: &mut N,
+    out: &mut K,
+    clock: &mut C,
+    links: u32,
+    limits: WireLimits,
+    budget: u64,
+) -> Served
+    requires words { 1 ≤ limits.words }
+    requires word_bytes { 1 ≤ limits.word_bytes }
+    requires request_bytes { 1 ≤ limits.request_bytes }
+    requires budget { 1 ≤ budget }
+    requires net { N.is_out net.old ≡ false }
+    ensures serves { Carries db.old db.new (λ from to. Serves
+        (record { left = N.In.left; reads = N.In.faults; has = N.Out.has; writes = N.Out.faults }) limits budget result 1 links
+        (record { held = from; readings = C.readings clock.old }) (record { held = to; readings = C.readings clock.new })
+        (N.coming net.old) (N.coming net.new) (N.closed net.old) (N.closed net.new) (K.has out.old) (K.has out.new)) }
+    ensures net { N.is_out net.new ≡ false }
+    ensures accepts_later { N.faults net.old ≤ N.faults net.new }
+    ensures writes_later { K.faults out.old ≤ K.faults out.new }
+    ensures accept_fault { result ≡ Served.AcceptFault → Rose (N.faults net.old) (N.faults net.new) }
+    ensures write_fault { result ≡ Served.WriteFault → Rose (K.faults out.old) (K.faults out.new) }
+{
+    for link in 0..links {
+        match serve_link(alloc, db, net, out, clock, link + 1, limits, budget) {
+            Served::Done => {}
+            fault => return fault,
+        }
+    }
+    Served::Done
+}
+
+// Serves the next link, which has this number, and writes its line.
+fn serve_link<N: Listener, K: Sink, C: Clock>(
+    alloc: Global,
+    db: &mut Db,
+    net: &mut N,
+    out: &mut K,
+    clock: &mut C,
+    number: u32,
+    limits: WireLimits,
+    budget: u64,
+) -> Served
+    requires words { 1 ≤ limits.words }
+    requires word_bytes { 1 ≤ limits.word_bytes }
+    requires request_bytes { 1 ≤ limits.request_bytes }
+    requires budget { 1 ≤ budget }
+    requires net { N.is_out net.old ≡ false }
+    ensures serves { Carries db.old db.new (λ from to. Serves
+        (record { left = N.In.left; reads = N.In.faults; has = N.Out.has; writes = N.Out.faults }) limits budget result number 1
+        (record { held = from; readings = C.readings clock.old }) (record { held = to; readings = C.readings clock.new })
+        (N.coming net.old) (N.coming net.new) (N.closed net.old) (N.closed net.new) (K.has out.old) (K.has out.new)) }
+    ensures net { N.is_out net.new ≡ false }
+    ensures accepts_later { N.faults net.old ≤ N.faults net.new }
+    ensures writes_later { K.faults out.old ≤ K.faults out.new }
+    ensures accept_fault { result ≡ Served.AcceptFault → Rose (N.faults net.old) (N.faults net.new) }
+    ensures write_fault { result ≡ Served.WriteFault → Rose (K.faults out.old) (K.faults out.new) }
+{
+    let Ok(mut ends) = net.accept() else {
+        return Served::AcceptFault;
+    };
+    let outcome = pipe(
+        alloc,
+        db,
+        &mut ends.input,
+        &mut ends.out,
+        clock,
+        limits,
+        budget,
+    );
+    net.close(ends);
+    match write_link(out, number, outcome) {
+        Ok(()) => Served::Done,
+        Err(_) => Served::WriteFault,
+    }
+}
+
+// Writes the line of the link with this number.
+fn write_link<K: Sink>(out: &mut K, number: u32, outcome: Outcome) -> Result<(), Failed>
+    ensures whole { OnOk result (Grows (K.has out.old) (K.has out.new) (line_at number outcome)) }
+    ensures front { OnErr result (GrowsByFront (K.has out.old) (K.has out.new) (line_at number outcome)) }
+    ensures cause { HasCause (K.faults out.old) (K.faults out.new) result }
+{
+    let mut room = [0; ROOM];
+    let line = link_line(
+        number,
+        outcome.executed,
+        link_end_of(outcome.end),
+        &mut room,
+    );
+    write_all_counted(out, line)
+}
+
+// How a line says that a stream ended.
+fn link_end_of(end: End) -> LinkEnd
+    ensures { result ≡ lines.link_end_of end }
+{
+    match end {
+        End::Ended => LinkEnd::Ended,
+        End::Truncated(_) => LinkEnd::Truncated,
+        End::Protocol(_) => LinkEnd::Protocol,
+        End::ReadFault => LinkEnd::ReadFault,
+        End::WriteFault => LinkEnd::WriteFault,
+        End::Memory => LinkEnd::Memory,
+        End::Budget => LinkEnd::Budget,
+    }
+}
