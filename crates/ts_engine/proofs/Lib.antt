@@ -4,7 +4,6 @@ pub mod Dropping
 pub mod Executed
 pub mod Faulted
 pub mod Finding
-pub mod Fronts
 pub mod Headlines
 pub mod InfoTexts
 pub mod Items
@@ -27,4 +26,3 @@ pub mod Taking
 pub mod Told
 pub mod Tops
 pub mod Turned
-pub mod Words

@@ -1,18 +1,16 @@
 -- How the serving of links adds up.
 use Rattle.std.specs.Prelude.{Option, None, Some}
 use Rattle.std.specs.Option.{option_map}
-use Rattle.std.proofs.Common.{◌≡◌, ℕ, ◌+◌, ◌≤◌, ◌<◌, List, [], ◌∷◌, ◌++◌, length, map, take, refl, sym, ◌∙◌, ap, subst, arith, append_assoc, append-nil, length-append}
+use Rattle.std.proofs.Common.{◌≡◌, ℕ, ◌+◌, ◌≤◌, List, [], ◌∷◌, ◌++◌, length, map, take, refl, sym, ◌∙◌, ap, subst, arith, append_assoc, append-nil, length-append}
 use Rattle.std.proofs.lemmas.List.{map-append}
 use Rattle.ts_io.specs.Sinks.{Grows, GrowsByFront}
 use Rattle.ts_io.specs.Links.{TakesFront, AddsAtEnd}
 use Rattle.ts_io.specs.declared.listener.Ends.{Ends}
 use Rattle.ts_io.proofs.Growth.{grows_none, grows_twice}
 use Rattle.ts_spec.specs.declared.wire.WireLimits.{WireLimits}
-use Rattle.ts_engine.specs.declared.piped.Outcome.{Outcome}
 use Rattle.ts_engine.specs.declared.serving.Served.{Served}
 use Rattle.ts_engine.specs.declared.serving.Served.TheVariants.{Done, AcceptFault, WriteFault}
-use Rattle.ts_engine.specs.Piping.{Piped, HasCauses}
-use Rattle.ts_engine.specs.Serving.{line_at, Link, lines_from, Telling, Handed, IsServed, AreServed, LineCut, Lines, Serves}
+use Rattle.ts_engine.specs.Serving.{line_at, Link, lines_from, Telling, Handed, IsServed, AreServed, Lines, Serves}
 use Rattle.ts_engine.specs.Turn.{World}
 
 -- the lines of two lists of links

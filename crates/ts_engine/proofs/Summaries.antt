@@ -1,7 +1,7 @@
 -- What `pipe` did with an input that it answered whole.
 use Rattle.std.specs.Prelude.{Option, Some}
 use Rattle.std.specs.Io.KnownBytes.{IsAtEnd}
-use Rattle.std.proofs.Common.{◌≡◌, ◌⊎◌, inl, inr, ℕ, ◌+◌, List, [], ◌∷◌, ◌++◌, length, take, refl, sym, ◌∙◌, ap, subst, arith, append-nil, length-append}
+use Rattle.std.proofs.Common.{◌≡◌, ◌⊎◌, inl, inr, ℕ, List, [], ◌∷◌, ◌++◌, length, take, refl, sym, ◌∙◌, ap, subst, arith, append-nil, length-append}
 use Rattle.std.proofs.lemmas.List.{length-map}
 use Rattle.ts_io.specs.Counts.{Counts, counts_of}
 use Rattle.ts_io.specs.Sinks.{Grows}
@@ -22,9 +22,9 @@ use Rattle.ts_engine.specs.declared.piped.End.{End}
 use Rattle.ts_engine.specs.declared.piped.End.TheVariants as end
 use Rattle.ts_engine.specs.declared.piped.Outcome.{Outcome}
 use Rattle.ts_engine.specs.Generated.{with_usual_wire, IsSummary}
-use Rattle.ts_engine.specs.Headline.{Seen, requests, start}
+use Rattle.ts_engine.specs.Headline.{requests, start}
 use Rattle.ts_engine.specs.Piping.{beginning, ReadAll, Ends, Piped}
-use Rattle.ts_engine.specs.Session.{Spot, Quitted}
+use Rattle.ts_engine.specs.Session.{Quitted}
 use Rattle.ts_engine.specs.Turn.{World, turn}
 use Rattle.ts_engine.proofs.Headlines.{splits, first_requests, with_last}
 use Rattle.ts_engine.proofs.Quits.{until_quit-last}

@@ -5,7 +5,7 @@ ghost use Rattle.ts_db.specs.Held.{Carries};
 ghost use Rattle.ts_engine.specs.Asked.{Connections};
 ghost use Rattle.ts_engine.specs.Asked as asked;
 ghost use Rattle.ts_engine.specs.Serving.{Serves};
-ghost use Rattle.ts_engine.specs.Top.{AreUsable, NoneRose};
+ghost use Rattle.ts_engine.specs.Top.{AreUsable};
 
 use crate::serving::{Served, serve};
 use crate::status::report;

@@ -1,4 +1,4 @@
-use Rattle.std.proofs.Common.{◌≡◌, sym, ◌∙◌, ap, subst}
+use Rattle.std.proofs.Common.{◌∙◌, ap, subst}
 use Rattle.ts_spec.specs.State.{empty}
 use Rattle.ts_words.specs.declared.status.Status.{Status}
 use Rattle.ts_engine.specs.Asked.{status_served}
