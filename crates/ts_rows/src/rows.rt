@@ -24,6 +24,7 @@ mod talk;
 mod told;
 mod wire;
 mod words;
+mod workload;
 
 /// What is given to a run, and what it must come to.
 #[derive(Clone, Copy)]
