@@ -23,7 +23,7 @@ struct Run<'a> {
 }
 
 /// Serves two connections.
-fn run(rt: &impl Abort, alloc: Global, row: &Run) -> Result<(), Fail> {
+fn serve_two(rt: &impl Abort, alloc: Global, row: &Run) -> Result<(), Fail> {
     let mut words = Vec::new(alloc);
     for word in ["serve", "127.0.0.1:6380", "2"] {
         words.push(String::from_str(alloc, word)?)?;
@@ -71,7 +71,7 @@ fn connections_share_one_database(rt: HostRuntime) -> Result<(), Fail> {
         err: b"",
         status: 0,
     };
-    run(&rt, rt.alloc(), &row)
+    serve_two(&rt, rt.alloc(), &row)
 }
 
 #[test]
@@ -84,7 +84,7 @@ fn a_connection_that_does_not_come_ends_the_run(rt: HostRuntime) -> Result<(), F
         err: b"tsd: accept fault\n",
         status: 7,
     };
-    run(&rt, rt.alloc(), &row)
+    serve_two(&rt, rt.alloc(), &row)
 }
 
 #[test]
@@ -97,7 +97,7 @@ fn an_address_that_is_not_opened_ends_the_run(rt: HostRuntime) -> Result<(), Fai
         err: b"tsd: accept fault\n",
         status: 7,
     };
-    run(&rt, rt.alloc(), &row)
+    serve_two(&rt, rt.alloc(), &row)
 }
 
 #[test]
@@ -110,5 +110,5 @@ fn a_connection_whose_line_is_not_written_was_served(rt: HostRuntime) -> Result<
         err: b"tsd: write fault\n",
         status: 5,
     };
-    run(&rt, rt.alloc(), &row)
+    serve_two(&rt, rt.alloc(), &row)
 }
