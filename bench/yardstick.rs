@@ -20,12 +20,14 @@
 // and is run as
 //   yardstick          copies each word of a request, as the server does
 //   yardstick slices   takes the words as slices of the buffer, and copies a key only where it is new
+//   yardstick slices ADDRESS   does so for one TCP connection, and sends off what waits before each read, as the server does
 use std::collections::BTreeMap;
 use std::fs::File;
 use std::io::{Read, Write};
 use std::mem::take;
+use std::net::{TcpListener, TcpStream};
 use std::ops::{Range, RangeInclusive};
-use std::os::fd::FromRawFd;
+use std::os::fd::{FromRawFd, OwnedFd};
 use std::process::exit;
 
 const PIECE: usize = 4096;
@@ -860,14 +862,34 @@ fn write(out: &mut File, reply: &[u8]) {
     }
 }
 
+fn accept(address: &str) -> std::io::Result<(TcpStream, File, File)> {
+    let (link, _) = TcpListener::bind(address)?.accept()?;
+    let (input, out) = (link.try_clone()?, link.try_clone()?);
+    Ok((link, OwnedFd::from(input).into(), OwnedFd::from(out).into()))
+}
+
+fn push(link: &TcpStream) {
+    let _ = link.set_nodelay(true);
+    let _ = link.set_nodelay(false);
+}
+
 fn main() {
     let slices = std::env::args().nth(1).as_deref() == Some("slices");
-    let (mut input, mut out) = unsafe { (File::from_raw_fd(0), File::from_raw_fd(1)) };
+    let (link, mut input, mut out) = match std::env::args().nth(2) {
+        Some(address) => match accept(&address) {
+            Ok((link, input, out)) => (Some(link), input, out),
+            Err(_) => end("yardstick: accept fault", 7),
+        },
+        None => unsafe { (None, File::from_raw_fd(0), File::from_raw_fd(1)) },
+    };
     let mut reader = Reader { buf: Vec::new(), place: 0, begin: 0, at: 0, left: None, room: 0, words: Vec::new() };
     let mut database = Database::default();
     let mut room = Vec::with_capacity(128);
     let mut piece = [0; PIECE];
     loop {
+        if let Some(link) = &link {
+            push(link);
+        }
         let count = match input.read(&mut piece) {
             Ok(0) if reader.begin == reader.buf.len() => return,
             Ok(0) => end(&format!("yardstick: input ends inside a request that begins at byte {}", reader.place), 2),
