@@ -19,7 +19,7 @@ parted {X} p (x ∷ xs) (suc i) h le =
     let rest = parted p xs i ((λ k d low high. h.0 (suc k) d (omega arith) (omega arith)), (λ k d low high. h.1 (suc k) d (omega arith) (omega arith))) (omega arith) in
     rw passes (ap (λ (l : List X). x ∷ l) rest.0, rest.1)
 
-after_each : (t : ℕ) (ps : List Point) (k : ℕ) (d : Point) → IsAfter t ps → k < length ps → t < (get_or ps k d).time
+pub after_each : (t : ℕ) (ps : List Point) (k : ℕ) (d : Point) → IsAfter t ps → k < length ps → t < (get_or ps k d).time
 after_each t [] k d h lt = absurd (omega arith)
 after_each t (p ∷ ps) zero d h lt = h.0
 after_each t (p ∷ ps) (suc k) d h lt = after_each t ps k d h.1 (omega arith)

@@ -1,5 +1,5 @@
 -- What a visitor has taken, and the room that it has left.
-use Rattle.std.proofs.Common.{◌≡◌, ℕ, ◌+◌, ◌≤◌, List, [], ◌∷◌, ◌++◌, length, sym, ◌∙◌, append-nil, append_assoc, arith}
+use Rattle.std.proofs.Common.{◌≡◌, ℕ, ◌+◌, ◌≤◌, List, [], ◌∷◌, ◌++◌, length, sym, ◌∙◌, ap, append-nil, append_assoc, arith}
 use Rattle.ts_spec.specs.Sample.{Point}
 use Rattle.ts_sample.specs.Gathered.{Gathering, with_one_more}
 use Rattle.ts_sample.specs.Visit.{visited}
@@ -14,3 +14,7 @@ room_left step room lowers v (p ∷ ps) = omega (arith, lowers v p, room_left st
 pub list-visited : (g : Gathering) (ps : List Point) → (visited with_one_more g ps).list ≡ g.list ++ ps
 list-visited g [] = sym (append-nil g.list)
 list-visited g (p ∷ ps) = list-visited (with_one_more g p) ps ∙ append_assoc g.list (p ∷ []) ps
+
+-- what was gathered after a list, where nothing was there
+pub list-gathered : (old new : Gathering) (ps : List Point) → old.list ≡ [] → new ≡ visited with_one_more old ps → new.list ≡ ps
+list-gathered old new ps none is = ap (λ (g : Gathering). g.list) is ∙ list-visited old ps ∙ ap (λ (l : List Point). l ++ ps) none

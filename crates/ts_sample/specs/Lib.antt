@@ -1,3 +1,4 @@
+pub mod Chunk
 pub mod Gathered
 pub mod Sample
 pub mod Visit

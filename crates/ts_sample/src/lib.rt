@@ -1,9 +1,12 @@
 //! A sample of a series, and what it is made of: its value in millionths, and the cell that a reply shows
-//! for a value. Visitors take samples one after another. Also the number of a series in a database, and
-//! the counter of steps, which costs nothing when it runs.
+//! for a value. Visitors take samples one after another, and chunks hold them as bytes. Also the number of
+//! a series in a database, and the counter of steps, which costs nothing when it runs.
 #![tactic(auto)]
 
 mod cell;
+mod changed;
+mod chunk;
+mod cutting;
 mod gathered;
 mod id;
 mod place;
@@ -13,6 +16,7 @@ mod units;
 mod visit;
 
 pub use cell::Cell;
+pub use chunk::Chunk;
 pub use gathered::Gathered;
 pub use id::Id;
 pub use place::{find, place_of, place_past, places_between};

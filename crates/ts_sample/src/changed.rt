@@ -1,0 +1,87 @@
+// New chunks for a chunk whose samples change, by the one rule for all formats.
+ghost use Rattle.std.specs.Prelude.{◌≡◌, ◌+◌, ◌≤◌, ◌<◌, length, map, IfOk, vec_len, vec_capacity};
+ghost use Rattle.ts_spec.specs.Sample.{IsAscending, outside, put};
+ghost use Rattle.ts_sample.specs.Chunk.{IsCut, HaveLimit};
+
+use crate::chunk::Chunk;
+use crate::cutting::cut_into;
+use crate::gathered::Gathered;
+use crate::place::{find, places_between};
+use crate::sample::{MAX_TIME, Sample};
+use crate::steps::Steps;
+use std::alloc::{AllocError, Global};
+use std::sync::ledger::Ledger;
+
+/// Chunks of the same limit with the sample at its time, in the place of one there or as a new one.
+pub(crate) fn with_sample<C: Chunk, L: Ledger>(
+    chunk: &C,
+    alloc: Global,
+    sample: &Sample,
+    steps: &mut Steps<L>,
+) -> Result<Vec<C>, AllocError>
+    ensures cut { IfOk result (λ v. IsCut C.format (C.most chunk.now) (put sample.now (C.list chunk.now)) (map C.list v.items)) }
+    ensures limits { IfOk result (λ v. HaveLimit C.most (C.most chunk.now) v.items) }
+    ensures counted { steps.old ≤ steps.new }
+    ensures bounded { steps.new ≤ steps.old + length (C.list chunk.now) }
+{
+    chunk.known();
+    let mut samples = decoded(chunk, alloc, steps)?;
+    put_at_its_time(&mut samples, sample)?;
+    cut_into(alloc, chunk.limit(), &samples)
+}
+
+/// Chunks of the same limit without the samples from one time to another, both included.
+pub(crate) fn without_interval<C: Chunk, L: Ledger>(
+    chunk: &C,
+    alloc: Global,
+    from: u64,
+    to: u64,
+    steps: &mut Steps<L>,
+) -> Result<Vec<C>, AllocError>
+    ensures cut { IfOk result (λ v. IsCut C.format (C.most chunk.now) (outside from to (C.list chunk.now)) (map C.list v.items)) }
+    ensures limits { IfOk result (λ v. HaveLimit C.most (C.most chunk.now) v.items) }
+    ensures counted { steps.old ≤ steps.new }
+    ensures bounded { steps.new ≤ steps.old + length (C.list chunk.now) }
+{
+    chunk.known();
+    let mut samples = decoded(chunk, alloc, steps)?;
+    take_out(&mut samples, from, to);
+    cut_into(alloc, chunk.limit(), &samples)
+}
+
+// The samples of a chunk, in a list that has room for one more.
+fn decoded<C: Chunk, L: Ledger>(
+    chunk: &C,
+    alloc: Global,
+    steps: &mut Steps<L>,
+) -> Result<Vec<Sample>, AllocError>
+    ensures list { IfOk result (λ v. v.items ≡ C.list chunk.now) }
+    ensures counted { steps.old ≤ steps.new }
+    ensures bounded { steps.new ≤ steps.old + length (C.list chunk.now) }
+{
+    chunk.known();
+    let mut gathered = Gathered::with_room(alloc, chunk.len() + 1)?;
+    chunk.scan(0, MAX_TIME, &mut gathered, steps);
+    Ok(gathered.into_samples())
+}
+
+// Puts a sample to its time in an ascending list.
+fn put_at_its_time(samples: &mut Vec<Sample>, sample: &Sample) -> Result<(), AllocError>
+    requires { IsAscending samples.old.items }
+    ensures { IfOk result (λ _. samples.new.items ≡ put sample.now samples.old.items) }
+{
+    match find(samples, sample.time) {
+        Ok(place) => samples[place] = *sample,
+        Err(place) => samples.insert(place, *sample)?,
+    }
+    Ok(())
+}
+
+// Takes the samples from one time to another, both included, out of an ascending list.
+fn take_out(samples: &mut Vec<Sample>, from: u64, to: u64)
+    requires { IsAscending samples.old.items }
+    ensures { samples.new.items ≡ outside from to samples.old.items }
+{
+    let places = places_between(samples, from, to);
+    samples.drain(places);
+}

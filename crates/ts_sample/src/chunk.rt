@@ -1,0 +1,119 @@
+ghost use Rattle.std.specs.Prelude.{◌≡◌, ℕ, ◌+◌, ◌*◌, ◌≤◌, nat_le, if◌then◌else◌, List, [], ◌∷◌, ◌++◌, length, map, IfOk};
+ghost use Rattle.ts_spec.specs.Sample.{Point, between, outside, put, first_of, last_of};
+ghost use Rattle.ts_sample.specs.Chunk.{IsLimit, IsChunk, IsPast, IsCut, HaveLimit, least_limit};
+ghost use Rattle.ts_sample.specs.Sample.{IsFine};
+ghost use Rattle.ts_sample.specs.Visit.{visited};
+
+use crate::changed::{with_sample, without_interval};
+use crate::sample::Sample;
+use crate::steps::Steps;
+use crate::visit::Visit;
+use std::alloc::{AllocError, Global};
+use std::sync::ledger::Ledger;
+
+/// Samples in strictly ascending time, kept as bytes of a format, of which there are at most a limit.
+pub trait Chunk: Drop {
+    // Its samples.
+    ghost list: { Self → List Point };
+
+    // How many bytes it has at most.
+    ghost most: { Self → ℕ };
+
+    // The bytes that its format gives for a list.
+    ghost format: { List Point → List ℕ };
+
+    /// A chunk without samples, of 48 to 1,048,576 bytes, all of which are reserved.
+    fn new(alloc: Global, limit: u32) -> Result<Self, AllocError>
+        requires { IsLimit limit }
+        ensures list { IfOk result (λ c. list c ≡ []) }
+        ensures limit { IfOk result (λ c. most c ≡ limit) };
+
+    /// Does nothing: it tells a caller what holds of every chunk, which a reference hides.
+    fn known(&self)
+        ensures { IsChunk format (most self.now) (list self.now) };
+
+    /// How many bytes it has at most.
+    fn limit(&self) -> u32
+        ensures { result ≡ most self.now };
+
+    /// How many samples it has. It decodes nothing.
+    fn len(&self) -> usize
+        ensures { result ≡ length (list self.now) };
+
+    /// Its first sample. It decodes nothing.
+    fn first(&self) -> Option<Sample>
+        ensures { result ≡ first_of (list self.now) };
+
+    /// Its last sample. It decodes nothing.
+    fn last(&self) -> Option<Sample>
+        ensures { result ≡ last_of (list self.now) };
+
+    /// How many bytes its samples take.
+    fn bytes(&self) -> u32
+        ensures { result ≡ length (format (list self.now)) };
+
+    /// The bytes of its samples, as its format has them.
+    fn raw(&self) -> &[u8]
+        ensures { result.now ≡ format (list self.now) };
+
+    /// Takes a visitor over the samples from one time to another, in milliseconds, both included, in their
+    /// order. Each sample that is decoded is a step.
+    fn scan<V: Visit, L: Ledger>(&self, from: u64, to: u64, visit: &mut V, steps: &mut Steps<L>)
+        requires room { length (between from to (list self.now)) ≤ V.room visit.old }
+        ensures visited { visit.new ≡ visited V.step visit.old (between from to (list self.now)) }
+        ensures counted { steps.old + length (between from to (list self.now)) ≤ steps.new }
+        ensures bounded { steps.new ≤ steps.old + length (list self.now) };
+
+    /// Whether a sample past the last one would fit. It decodes nothing.
+    fn fits(&self, sample: &Sample) -> bool
+        requires past { IsPast (last_of (list self.now)) sample.now.time }
+        ensures { result ≡ nat_le (length (format (list self.now ++ sample.now ∷ []))) (most self.now) };
+
+    /// Puts a sample past the last one, where it fits, and says whether it did. It takes no memory.
+    fn try_append(&mut self, sample: &Sample) -> bool
+        requires past { IsPast (last_of (list self.old)) sample.now.time }
+        ensures fits { result ≡ nat_le (length (format (list self.old ++ sample.now ∷ []))) (most self.old) }
+        ensures list { list self.new ≡ (if result then list self.old ++ sample.now ∷ [] else list self.old) }
+        ensures limit { most self.new ≡ most self.old };
+
+    /// New chunks with the sample at its time, in the place of one there or as a new one.
+    final fn upsert<L: Ledger>(
+        &self,
+        alloc: Global,
+        sample: &Sample,
+        steps: &mut Steps<L>,
+    ) -> Result<Vec<Self>, AllocError>
+        ensures cut { IfOk result (λ v. IsCut format (most self.now) (put sample.now (list self.now)) (map list v.items)) }
+        ensures limits { IfOk result (λ v. HaveLimit most (most self.now) v.items) }
+        ensures counted { steps.old ≤ steps.new }
+        ensures bounded { steps.new ≤ steps.old + length (list self.now) }
+    {
+        with_sample(self, alloc, sample, steps)
+    }
+
+    /// New chunks without the samples from one time to another, in milliseconds, both included: none where
+    /// nothing is left.
+    final fn without<L: Ledger>(
+        &self,
+        alloc: Global,
+        from: u64,
+        to: u64,
+        steps: &mut Steps<L>,
+    ) -> Result<Vec<Self>, AllocError>
+        ensures cut { IfOk result (λ v. IsCut format (most self.now) (outside from to (list self.now)) (map list v.items)) }
+        ensures limits { IfOk result (λ v. HaveLimit most (most self.now) v.items) }
+        ensures counted { steps.old ≤ steps.new }
+        ensures bounded { steps.new ≤ steps.old + length (list self.now) }
+    {
+        without_interval(self, alloc, from, to, steps)
+    }
+
+    // A sample takes three bytes or more.
+    ghost at_least: { (ps : List Point) → 3 * length ps ≤ length (format ps) };
+
+    // Without its last samples a list takes no more bytes.
+    ghost grows: { (ps : List Point) (p : Point) → length (format ps) ≤ length (format (ps ++ p ∷ [])) };
+
+    // One sample fits the least limit.
+    ghost one_fits: { (p : Point) → IsFine p → length (format (p ∷ [])) ≤ least_limit };
+}
