@@ -1,6 +1,8 @@
--- What holds of lists that a list is cut into.
+-- What holds of the lists that a list is cut into.
 use Rattle.std.proofs.Common.{◌≡◌, ◌≢◌, ℕ, ◌/◌, List, [], ◌∷◌, ◌++◌, length, take, drop, refl, sym, ◌∙◌, ap, append-nil, append_assoc}
+use Rattle.std.specs.List.{All}
 use Rattle.std.proofs.lemmas.List.{take-append-drop}
+use Rattle.std.proofs.lemmas.List.Elements.{All-nil, All-cons, All-append}
 use Rattle.ts_spec.specs.Sample.{Point}
 use Rattle.ts_sample.specs.Chunk.{Fits, IsCut, nothing, whole, halves, joined}
 
@@ -18,25 +20,18 @@ joined-cut format limit _ _ (halves ps firsts lasts more first last) =
     ∙ ap (λ (l : List Point). take (length ps / 2) ps ++ l) (joined-cut format limit (drop (length ps / 2) ps) lasts last)
     ∙ take-append-drop (length ps / 2) ps
 
--- P holds of each list
-abbrev pub Each : (List Point → Type 0) → List (List Point) → Type 0
-Each P [] = Unit {0}
-Each P (ps ∷ pss) = P ps × Each P pss
-
-each-append : (P : List Point → Type 0) (pss qss : List (List Point)) → Each P pss → Each P qss → Each P (pss ++ qss)
-each-append P [] qss h k = k
-each-append P (ps ∷ pss) qss h k = (h.0, each-append P pss qss h.1 k)
-
 -- none of them is empty
-pub cut-some : (format : List Point → List ℕ) (limit : ℕ) (ps : List Point) (pss : List (List Point)) → IsCut format limit ps pss → Each (λ qs. qs ≢ []) pss
-cut-some format limit _ _ nothing = tt
-cut-some format limit _ _ (whole ps some fits) = (some, tt)
+pub cut-some : (format : List Point → List ℕ) (limit : ℕ) (ps : List Point) (pss : List (List Point)) → IsCut format limit ps pss → All (λ qs. qs ≢ []) pss
+cut-some format limit _ _ nothing = All-nil (λ (qs : List Point). qs ≢ [])
+cut-some format limit _ _ (whole ps some fits) = All-cons (λ (qs : List Point). qs ≢ []) ps [] some (All-nil (λ (qs : List Point). qs ≢ []))
 cut-some format limit _ _ (halves ps firsts lasts more first last) =
-    each-append (λ qs. qs ≢ []) firsts lasts (cut-some format limit (take (length ps / 2) ps) firsts first) (cut-some format limit (drop (length ps / 2) ps) lasts last)
+    All-append (λ (qs : List Point). qs ≢ []) firsts lasts
+    (cut-some format limit (take (length ps / 2) ps) firsts first) (cut-some format limit (drop (length ps / 2) ps) lasts last)
 
 -- each of them fits
-pub cut-fits : (format : List Point → List ℕ) (limit : ℕ) (ps : List Point) (pss : List (List Point)) → IsCut format limit ps pss → Each (Fits format limit) pss
-cut-fits format limit _ _ nothing = tt
-cut-fits format limit _ _ (whole ps some fits) = (fits, tt)
+pub cut-fits : (format : List Point → List ℕ) (limit : ℕ) (ps : List Point) (pss : List (List Point)) → IsCut format limit ps pss → All (Fits format limit) pss
+cut-fits format limit _ _ nothing = All-nil (Fits format limit)
+cut-fits format limit _ _ (whole ps some fits) = All-cons (Fits format limit) ps [] fits (All-nil (Fits format limit))
 cut-fits format limit _ _ (halves ps firsts lasts more first last) =
-    each-append (Fits format limit) firsts lasts (cut-fits format limit (take (length ps / 2) ps) firsts first) (cut-fits format limit (drop (length ps / 2) ps) lasts last)
+    All-append (Fits format limit) firsts lasts
+    (cut-fits format limit (take (length ps / 2) ps) firsts first) (cut-fits format limit (drop (length ps / 2) ps) lasts last)
