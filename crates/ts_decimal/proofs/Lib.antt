@@ -1,3 +1,4 @@
+pub mod FewBytes
 pub mod Kept
 pub mod Nearest
 pub mod Nearness

@@ -6,7 +6,7 @@ use Rattle.ts_spec.specs.Value.{bound}
 use Rattle.ts_decimal.proofs.Kept.{tens_positive}
 use Rattle.ts_decimal.proofs.Nearest.{half_of_ten}
 
-tens_grow : (i j : ℕ) → i ≤ j → 10 ^ i ≤ 10 ^ j
+pub tens_grow : (i j : ℕ) → i ≤ j → 10 ^ i ≤ 10 ^ j
 tens_grow i j h =
     let e : 10 ^ j ≡ 10 ^ i * 10 ^ (j - i) = ap (λ x. 10 ^ x) (omega arith) ∙ pow-add 10 i (j - i) in
     omega (arith, e, le-mul_of_pos_right (10 ^ i) (tens_positive (j - i)))

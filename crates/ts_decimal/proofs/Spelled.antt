@@ -77,7 +77,7 @@ decimal_sized text some few =
 abbrev pub put_together : Bool → List ℕ → List ℕ → Scale → Decimal
 put_together negative whole part by = record { negative = negative; digits = number_after (number_after 0 whole) part; up = by.up; down = length part + by.down }
 
-joined_read : (negative : Bool) (whole part : List ℕ) (by : Scale) → 1 ≤ length whole + length part → joined negative whole part (Some by) ≡ Some (put_together negative whole part by)
+pub joined_read : (negative : Bool) (whole part : List ℕ) (by : Scale) → 1 ≤ length whole + length part → joined negative whole part (Some by) ≡ Some (put_together negative whole part by)
 joined_read negative whole part by some = let e : nat_le 1 (length whole + length part) ≡ true = grind (arith, nat_tests) in rw e refl
 
 body_read : (negative : Bool) (whole part mark tail : List ℕ) (by : Scale) → AreDigits whole → IsFraction part mark → IsExponent by tail → 1 ≤ length whole + length part

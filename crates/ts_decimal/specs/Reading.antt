@@ -4,7 +4,7 @@ use Rattle.std.specs.declared.option.Option.{Option}
 use Rattle.std.specs.declared.option.Option.TheVariants.{Some}
 use Rattle.std.specs.declared.result.Result.{Result}
 use Rattle.std.specs.declared.result.Result.TheVariants.{Err, Ok}
-use Rattle.ts_spec.specs.Value.{Decimal, bound}
+use Rattle.ts_spec.specs.Value.{Decimal, bound, millionths}
 use Rattle.ts_spec.specs.declared.value.ValueFault.{ValueFault}
 use Rattle.ts_spec.specs.declared.value.ValueFault.TheVariants.{OutOfRange}
 use Rattle.ts_decimal.specs.Leading.{Leads}
@@ -14,6 +14,13 @@ pub record IsSpelled (negative : Bool) (first dropped up down : ℕ) (spelled : 
   pub digits : ℕ
   pub begin : Leads first dropped digits
   pub is : spelled ≡ Some (record { negative = negative; digits = digits; up = up; down = down })
+
+-- the decimal that a text spells has this sign, and its magnitude is rounded to so many millionths
+pub record IsRounded (negative : Bool) (m : ℕ) (spelled : Option Decimal) : Type 0 where
+  pub decimal : Decimal
+  pub is : spelled ≡ Some decimal
+  pub sign : negative ≡ decimal.negative
+  pub nearest : millionths decimal ≡ m
 
 -- so many millionths as a value
 abbrev pub in_range_of : ℤ → Result ℤ ValueFault

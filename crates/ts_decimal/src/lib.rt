@@ -10,6 +10,7 @@ mod powers;
 mod printing;
 mod reading;
 mod rounding;
+mod short;
 mod sign;
 
 pub use laws::{decimal_is_spelled, printed_reads_back, value_is_nearest};

@@ -6,6 +6,7 @@ ghost use Rattle.ts_decimal.specs.Reading.{IsSpelled, in_range_of};
 use crate::exponent::read_exponent;
 use crate::leading::Leading;
 use crate::powers::power_of_ten;
+use crate::short::short_magnitude;
 use crate::sign::split_sign;
 use ts_sample::Units;
 use ts_spec::ValueFault;
@@ -14,7 +15,7 @@ use ts_spec::ValueFault;
 const MOST_BYTES: usize = 64;
 
 /// The decimal places of a value.
-const PLACES: usize = 6;
+pub(crate) const PLACES: usize = 6;
 
 /// The places by which one digit passes the bound of values.
 const MOST_RAISED: usize = 24;
@@ -131,6 +132,9 @@ pub fn parse(text: &[u8]) -> Result<Units, ValueFault>
         return Err(ValueFault::NotANumber);
     }
     let (negative, body) = split_sign(text);
+    if let Some(magnitude) = short_magnitude(body) {
+        return in_range(with_sign(negative, u128::from(magnitude)));
+    }
     let Some(decimal) = Decimal::read(body) else {
         return Err(ValueFault::NotANumber);
     };

@@ -1,8 +1,9 @@
 -- A line with a number, one byte at a time.
-use Rattle.std.proofs.Common.{◌≡◌, ℕ, suc, ◌+◌, ◌<◌, ◌≤◌, Bool, List, length, drop, get_or, refl, sym, ap, ◌∙◌, subst, add_assoc, add-one, add-zero, zero-add, arith}
+use Rattle.std.proofs.Common.{◌≡◌, ℕ, suc, ◌+◌, ◌<◌, ◌≤◌, Bool, if◌then◌else◌, List, length, drop, get_or, refl, sym, ap, ◌∙◌, subst, add_assoc, add-one, add-zero, zero-add, arith}
+use Rattle.std.proofs.lemmas.Bool.{ne_eqb}
 use Rattle.std.proofs.Math.Seq.{drop-cons}
 use Rattle.std.proofs.Math.ListN.{drop_of_length-le}
-use Rattle.ts_spec.specs.Wire.{Line, Goes, Returns, Wrong, Blank, Number, RETURN, line_step}
+use Rattle.ts_spec.specs.Wire.{Line, Goes, Returns, Wrong, Blank, Number, RETURN, line_step, with_digit}
 use Rattle.ts_resp.specs.declared.line.NumberLine.{NumberLine}
 use Rattle.ts_resp.specs.declared.line.NumberLine.TheVariants as found
 use Rattle.ts_resp.specs.Lines.{after, on_move, number_line}
@@ -72,3 +73,21 @@ one_digit_line limit negative bytes number two first second =
     let one : 1 < length bytes = omega arith in
     number_line-returns limit negative (Number number) number bytes 1 (number_line limit negative Blank bytes) one (ap (line_step limit negative (Number number)) (sym second))
     (number_line-goes limit negative Blank (Number number) bytes 0 (number_line limit negative Blank bytes) none first (after-zero (number_line limit negative Blank bytes)))
+
+-- two digits, and the CR that ends them
+pub two_digit_line : (limit : ℕ) (negative : Bool) (bytes : List ℕ) (tens number : ℕ) → 3 ≤ length bytes
+    → Goes (Number tens) ≡ line_step limit negative Blank (get_or bytes 0 0) → Goes (Number number) ≡ line_step limit negative (Number tens) (get_or bytes 1 0)
+    → get_or bytes 2 0 ≡ RETURN → found.Whole number 2 ≡ number_line limit negative Blank bytes
+two_digit_line limit negative bytes tens number three first second third =
+    let none : 0 < length bytes = omega arith in
+    let one : 1 < length bytes = omega arith in
+    let two : 2 < length bytes = omega arith in
+    number_line-returns limit negative (Number number) number bytes 2 (number_line limit negative Blank bytes) two (ap (line_step limit negative (Number number)) (sym third))
+    (number_line-goes limit negative (Number tens) (Number number) bytes 1 (number_line limit negative Blank bytes) one second
+    (number_line-goes limit negative Blank (Number tens) bytes 0 (number_line limit negative Blank bytes) none first (after-zero (number_line limit negative Blank bytes))))
+
+-- a digit that goes on with a number is no CR
+pub digit_step : (limit : ℕ) (negative : Bool) (tens number byte : ℕ) → (byte ≡ RETURN → ⊥) → Goes (Number number) ≡ with_digit limit tens byte
+    → Goes (Number number) ≡ line_step limit negative (Number tens) byte
+digit_step limit negative tens number byte other e =
+    e ∙ sym (ap (λ test. if test then Returns tens else with_digit limit tens byte) (ne_eqb byte RETURN other))

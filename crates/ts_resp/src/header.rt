@@ -1,9 +1,10 @@
 // The first lines of a request, and a whole word, as they stand at the beginning of unread bytes.
-ghost use Rattle.std.specs.Prelude.{ℕ, ◌≡◌, ◌+◌, ◌-◌, ◌<◌, ◌≤◌, drop, length};
+ghost use Rattle.std.specs.Prelude.{ℕ, ◌≡◌, ◌+◌, ◌-◌, ◌^◌, ◌<◌, ◌≤◌, drop, length};
+ghost use Rattle.ts_spec.specs.declared.wire.Kind.TheVariants.{TooLarge};
 ghost use Rattle.ts_spec.specs.Wire.{Request};
 ghost use Rattle.ts_resp.specs.Headers.{IsCount, IsBegun, IsLength, IsWord, IsHeaderWithin, IsWordWithin, HasNumber, HasAtMost, feed_at, ended_by, body_at};
 
-use crate::line::{NumberLine, number_line};
+use crate::line::{NumberLine, number_line, short_line};
 use ts_spec::{Kind, WireLimits};
 
 // A marker, a number and CRLF. The LF stands at `feed`.
@@ -36,6 +37,12 @@ pub(crate) fn count_header(bytes: &[u8], limits: &WireLimits) -> Header
             at: 0,
         };
     }
+    if let Some((number, len)) = short_line(line, limits.words, true) {
+        return Header::Whole {
+            number,
+            feed: len + 2,
+        };
+    }
     match number_line(line, limits.words, true) {
         NumberLine::Open => Header::Open,
         NumberLine::Whole { number, len } => line_feed(line, number, len),
@@ -62,14 +69,20 @@ fn length_header(bytes: &[u8], limits: &WireLimits, room: u32) -> Header
             at: 0,
         };
     }
+    if let Some((number, len)) = short_line(line, limits.word_bytes, false) {
+        if number > room {
+            return too_large(len);
+        }
+        return Header::Whole {
+            number,
+            feed: len + 2,
+        };
+    }
     match number_line(line, limits.word_bytes, false) {
         NumberLine::Open => Header::Open,
         NumberLine::Whole { number, len } => {
             if number > room {
-                return Header::Broken {
-                    kind: Kind::TooLarge,
-                    at: len + 1,
-                };
+                return too_large(len);
             }
             line_feed(line, number, len)
         }
@@ -77,6 +90,17 @@ fn length_header(bytes: &[u8], limits: &WireLimits, room: u32) -> Header
             kind: Kind::Bulk,
             at: at + 1,
         },
+    }
+}
+
+// The fault of a word that is too long, where the CR of its line stands at `len` after the marker.
+fn too_large(len: usize) -> Header
+    requires { len + 1 < 2 ^ 64 }
+    ensures { result ≡ Header.Broken TooLarge (len + 1) }
+{
+    Header::Broken {
+        kind: Kind::TooLarge,
+        at: len + 1,
     }
 }
 

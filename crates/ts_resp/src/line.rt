@@ -1,8 +1,10 @@
 // The line that says how many words a request has, or how many bytes a word has.
-ghost use Rattle.std.specs.Prelude.{◌≡◌, ◌<◌, length, IfSome};
-ghost use Rattle.ts_spec.specs.Wire.{line_step, with_digit};
+ghost use Rattle.std.specs.Prelude.{◌≡◌, ◌+◌, ◌<◌, length, drop, IfSome};
+ghost use Rattle.ts_spec.specs.Wire.{Goes, Number, line_step, with_digit};
 ghost use Rattle.ts_spec.specs.Wire.Line.{Blank};
+ghost use Rattle.ts_resp.specs.declared.header.Header.TheVariants as header;
 ghost use Rattle.ts_resp.specs.declared.line.NumberLine.TheVariants.{Whole};
+ghost use Rattle.ts_resp.specs.Headers.{feed_at};
 ghost use Rattle.ts_resp.specs.Lines.{line_of, move_of, number_line as line_at, IsWithin};
 
 // How far such a line has come.
@@ -74,36 +76,57 @@ fn one_more_digit(limit: u32, number: u32, byte: u8) -> LineMove
     LineMove::Goes(Line::Number(longer as u32))
 }
 
-// The number at the beginning of the bytes. Where `negative` is set, -1 stands for 0 too.
-pub(crate) fn number_line(bytes: &[u8], limit: u32, negative: bool) -> NumberLine
-    ensures line { result ≡ line_at limit negative Blank bytes.now }
-    ensures within { IsWithin (length bytes.now) result }
+// The number of a line of one or two digits and CRLF, as most are, and where its CR stands. None: see each byte.
+#[inline]
+pub(crate) fn short_line(bytes: &[u8], limit: u32, negative: bool) -> Option<(u32, usize)>
+    ensures line { IfSome result (λ p. Whole p.0 p.1 ≡ line_at limit negative Blank bytes.now) }
+    ensures feed { IfSome result (λ p. header.Whole p.0 (p.1 + 2) ≡ feed_at p.0 (p.1 + 2) (drop (p.1 + 1) bytes.now)) }
+    ensures within { IfSome result (λ p. p.1 + 1 < length bytes.now) }
 {
-    match one_digit(bytes, limit, negative) {
-        Some(number) => NumberLine::Whole { number, len: 1 },
-        None => any_line(bytes, limit, negative),
-    }
-}
-
-// The number of a line that is one digit and CR, as most are. None: see each byte.
-fn one_digit(bytes: &[u8], limit: u32, negative: bool) -> Option<u32>
-    ensures line { IfSome result (λ number. Whole number 1 ≡ line_at limit negative Blank bytes.now) }
-    ensures within { IfSome result (λ _. 1 < length bytes.now) }
-{
-    let [first, second, ..] = bytes else {
+    let [first, second, third, fourth, ..] = bytes else {
         return None;
     };
-    if *second != b'\r' {
+    let number = one_digit(limit, negative, *first)?;
+    if *second == b'\r' {
+        if *third != b'\n' {
+            return None;
+        }
+        return Some((number, 1));
+    }
+    if *third != b'\r' {
         return None;
     }
-    match first_step(limit, negative, *first) {
+    if *fourth != b'\n' {
+        return None;
+    }
+    let number = second_digit(limit, number, *second)?;
+    Some((number, 2))
+}
+
+// The number that one digit makes, unless it is 0.
+#[inline]
+fn one_digit(limit: u32, negative: bool, byte: u8) -> Option<u32>
+    ensures { IfSome result (λ number. Goes (Number number) ≡ line_step limit negative Blank byte) }
+{
+    match first_step(limit, negative, byte) {
         LineMove::Goes(Line::Number(number)) => Some(number),
         LineMove::Goes(_) | LineMove::Returns(_) | LineMove::Wrong => None,
     }
 }
 
-// The same as `number_line`, one byte at a time.
-fn any_line(bytes: &[u8], limit: u32, negative: bool) -> NumberLine
+// The number that one more digit makes.
+#[inline]
+fn second_digit(limit: u32, tens: u32, byte: u8) -> Option<u32>
+    ensures { IfSome result (λ number. Goes (Number number) ≡ with_digit limit tens byte) }
+{
+    match one_more_digit(limit, tens, byte) {
+        LineMove::Goes(Line::Number(number)) => Some(number),
+        LineMove::Goes(_) | LineMove::Returns(_) | LineMove::Wrong => None,
+    }
+}
+
+// The number at the beginning of the bytes, one byte at a time. Where `negative` is set, -1 stands for 0 too.
+pub(crate) fn number_line(bytes: &[u8], limit: u32, negative: bool) -> NumberLine
     ensures line { result ≡ line_at limit negative Blank bytes.now }
     ensures within { IsWithin (length bytes.now) result }
 {

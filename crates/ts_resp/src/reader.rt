@@ -13,6 +13,9 @@ use ts_spec::WireLimits;
 
 mod steps;
 
+// The most words for which room is kept from one request to the next.
+const MOST_SPARE: usize = 1024;
+
 /// What a reader answers.
 #[derive(Debug, Drop)]
 pub enum Next {
@@ -52,6 +55,8 @@ pub struct Reader {
     place: u64,
     so_far: Option<Unfinished>,
     unread: BytesMut,
+    // room for the words of the next request
+    spare: Vec<Word>,
 }
 
 impl Model for Reader {
@@ -90,6 +95,7 @@ impl Reader {
             place: 0,
             so_far: None,
             unread: BytesMut::new(alloc),
+            spare: Vec::new(alloc),
         }
     }
 
@@ -131,6 +137,18 @@ impl Reader {
             if let Some(next) = self.step() {
                 return next;
             }
+        }
+    }
+
+    /// Takes back the vector of a request that was answered, so that the next request finds its room there. The words
+    /// that are left in it are dropped, and so is a room for very many.
+    pub fn give_back(&mut self, words: Vec<Word>)
+        ensures { self.new ≡ self.old }
+    {
+        let mut words = words;
+        words.clear();
+        if words.capacity() <= MOST_SPARE {
+            self.spare = words;
         }
     }
 

@@ -1,5 +1,5 @@
 // A word of a request: bytes of any kind, which it owns.
-ghost use Rattle.std.specs.Prelude.{◌≡◌, ◌≤◌, length, take, slice_range, nat_eq, refl, Some, IfOk};
+ghost use Rattle.std.specs.Prelude.{◌≡◌, ◌≤◌, length, take, slice_range, nat_eq, refl, Some, IfOk, IfSome};
 ghost use Rattle.std.specs.Ordering.{nat_cmp};
 ghost use Rattle.std.specs.Hash as fed;
 ghost use Rattle.std.specs.Cmp.Lexicographic.{pointwise, slice_cmp, nat_list_eq_equiv, nat_list_cmp_total, texts_ties, texts_po};
@@ -61,24 +61,19 @@ impl Word {
         })
     }
 
-    // A word of the bytes from `start` to `end`. A short one takes all bytes that fit into it, and
-    // tells only its own: to move so many at once is quicker than to count them.
+    // A word of the bytes from `start` to `end`, if they are few and others follow. It takes all bytes that fit into
+    // it, and tells only its own: to move so many at once is quicker than to count them.
     #[inline]
-    pub(crate) fn part(
-        alloc: Global,
-        bytes: &[u8],
-        start: usize,
-        end: usize,
-    ) -> Result<Word, AllocError>
+    pub(crate) fn short_part(alloc: Global, bytes: &[u8], start: usize, end: usize) -> Option<Word>
         requires { (start ≤ end) × (end ≤ length bytes.now) }
-        ensures { IfOk result (λ w. w ≡ slice_range bytes.now start end) }
+        ensures { IfSome result (λ w. w ≡ slice_range bytes.now start end) }
     {
         if end - start <= SHORT
             && let Some(room) = bytes[start..].first_chunk::<SHORT>()
         {
-            return Ok(Word::filled(alloc, (end - start) as u8, *room));
+            return Some(Word::filled(alloc, (end - start) as u8, *room));
         }
-        Word::from_slice(alloc, &bytes[start..end])
+        None
     }
 
     // A word of the first bytes of some.

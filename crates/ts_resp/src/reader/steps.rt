@@ -7,6 +7,7 @@ use super::{Next, Reader, Unfinished};
 use crate::header::{FoundWord, Header, count_header, found_word};
 use crate::{Protocol, Word};
 use std::alloc::{AllocError, Global};
+use std::mem;
 use ts_spec::Kind;
 
 // Words that are made room for at once: a header may claim more words than ever come.
@@ -47,10 +48,12 @@ impl Reader {
             self.begin = self.place;
             return None;
         }
+        self.spare.clear();
         let first_room = number.min(FIRST_WORDS) as usize;
-        let Ok(words) = Vec::with_capacity(self.alloc, first_room) else {
+        if self.spare.reserve(first_room).is_err() {
             return Some(Next::Memory);
-        };
+        }
+        let words = mem::replace(&mut self.spare, Vec::new(self.alloc));
         self.pass(len);
         Some(self.read_words(Unfinished {
             words,
@@ -128,8 +131,12 @@ fn push_word(
         ≡ words.old.items ++ slice_range bytes.now start end ∷ []) }
     ensures err { OnErr result (words.new.items ≡ words.old.items) }
 {
-    let word = Word::part(alloc, bytes, start, end)?;
-    words.push(word)?;
+    words.reserve(1)?;
+    if let Some(word) = Word::short_part(alloc, bytes, start, end) {
+        words.push_reserved(word);
+        return Ok(());
+    }
+    words.push_reserved(Word::from_slice(alloc, &bytes[start..end])?);
     Ok(())
 }
 

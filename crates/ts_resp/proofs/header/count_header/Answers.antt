@@ -54,3 +54,13 @@ pub returns-in-Wrong-clause-begun : goal.returns-in-Wrong-clause-begun
 returns-in-Wrong-clause-begun c =
     of_slice (λ bytes. IsBegun c.args.limits.now bytes (header.Broken Multibulk (c.in-Wrong.at + 1))) c.args.bytes.now c.in-len1-up.len_at_least
     (IsBegun-wrong c.args.limits.now _ _ _ c.if-first-ne42.false c.in-Wrong.ensures.line)
+
+pub returns-in-Some-clause-meaning : goal.returns-in-Some-clause-meaning
+returns-in-Some-clause-meaning c =
+    of_slice (λ bytes. IsHeader c.args.limits.now Start (after_count c.args.limits.now) bytes (header.Whole c.in-Some.number (c.in-Some.len + 2))) c.args.bytes.now c.in-len1-up.len_at_least
+    (IsHeader-feed (count_led c.args.limits.now _ c.if-first-ne42.false) (after_count c.args.limits.now) (CountFeed c.in-Some.number) _ _ _ _ c.in-Some.ensures.line refl (count_fed c.args.limits.now c.in-Some.number) c.in-Some.ensures.feed)
+
+pub returns-in-Some-clause-begun : goal.returns-in-Some-clause-begun
+returns-in-Some-clause-begun c =
+    of_slice (λ bytes. IsBegun c.args.limits.now bytes (header.Whole c.in-Some.number (c.in-Some.len + 2))) c.args.bytes.now c.in-len1-up.len_at_least
+    (IsBegun-feed c.args.limits.now _ _ _ _ _ c.if-first-ne42.false c.in-Some.ensures.line c.in-Some.ensures.feed)

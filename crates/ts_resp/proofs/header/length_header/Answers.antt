@@ -1,4 +1,4 @@
-use Rattle.std.proofs.Common.{◌+◌, ◌-◌, ℕ}
+use Rattle.std.proofs.Common.{◌+◌, ◌-◌, ℕ, sym, subst}
 use Rattle.ts_spec.specs.declared.wire.Kind.TheVariants.{Bulk, Dollar, TooLarge}
 use Rattle.ts_spec.specs.Wire.{Request, Partial, Mark, Length, LengthFeed, DOLLAR, Goto, Blank, Move, after_length}
 use Rattle.ts_resp.specs.declared.header.Header.TheVariants as header
@@ -30,16 +30,32 @@ returns-in-Open-clause-meaning c = λ words later.
 
 pub returns-then-number-room-clause-meaning : goal.returns-then-number-room-clause-meaning
 returns-then-number-room-clause-meaning c = λ words later.
-    of_slice (λ bytes. IsHeader c.args.limits.now (Mark (at words later c.args.room)) (next words later c.args.room) bytes (header.Broken TooLarge (c.in-Whole.len + 1))) c.args.bytes.now c.in-len1-up.len_at_least
-    (IsHeader-room (length_led c.args.limits.now (at words later c.args.room) _ c.if-first-ne36.false) (next words later c.args.room) _ c.in-Whole.number _ _ c.in-Whole.ensures.line
-    (length_ends-room (at words later c.args.room) c.in-Whole.number c.if-number-room.true))
+    subst (IsHeader c.args.limits.now (Mark (at words later c.args.room)) (next words later c.args.room) c.args.bytes.now) (sym c.too_large.ensures)
+    (of_slice (λ bytes. IsHeader c.args.limits.now (Mark (at words later c.args.room)) (next words later c.args.room) bytes (header.Broken TooLarge (c.in-Some.len + 1))) c.args.bytes.now c.in-len1-up.len_at_least
+    (IsHeader-room (length_led c.args.limits.now (at words later c.args.room) _ c.if-first-ne36.false) (next words later c.args.room) _ c.in-Some.number _ _ c.in-Some.ensures.line
+    (length_ends-room (at words later c.args.room) c.in-Some.number c.if-number-room.true)))
 
-pub returns-else-number-room-clause-meaning : goal.returns-else-number-room-clause-meaning
-returns-else-number-room-clause-meaning c = λ words later.
+pub returns-in-Some-clause-meaning : goal.returns-in-Some-clause-meaning
+returns-in-Some-clause-meaning c = λ words later.
+    of_slice (λ bytes. IsHeader c.args.limits.now (Mark (at words later c.args.room)) (next words later c.args.room) bytes (header.Whole c.in-Some.number (c.in-Some.len + 2))) c.args.bytes.now c.in-len1-up.len_at_least
+    (IsHeader-feed (length_led c.args.limits.now (at words later c.args.room) _ c.if-first-ne36.false) (next words later c.args.room)
+    (LengthFeed (at words later (c.args.room - c.in-Some.number)) c.in-Some.number) _ _ _ _ c.in-Some.ensures.line
+    (length_ends-goes (at words later c.args.room) c.in-Some.number c.if-number-room.false)
+    (length_fed c.args.limits.now (at words later (c.args.room - c.in-Some.number)) c.in-Some.number) c.in-Some.ensures.feed)
+
+pub returns-then-number-room-2-clause-meaning : goal.returns-then-number-room-2-clause-meaning
+returns-then-number-room-2-clause-meaning c = λ words later.
+    subst (IsHeader c.args.limits.now (Mark (at words later c.args.room)) (next words later c.args.room) c.args.bytes.now) (sym c.too_large-then-number-room-2.ensures)
+    (of_slice (λ bytes. IsHeader c.args.limits.now (Mark (at words later c.args.room)) (next words later c.args.room) bytes (header.Broken TooLarge (c.in-Whole.len + 1))) c.args.bytes.now c.in-len1-up.len_at_least
+    (IsHeader-room (length_led c.args.limits.now (at words later c.args.room) _ c.if-first-ne36.false) (next words later c.args.room) _ c.in-Whole.number _ _ c.in-Whole.ensures.line
+    (length_ends-room (at words later c.args.room) c.in-Whole.number c.if-number-room-2.true)))
+
+pub returns-else-number-room-2-clause-meaning : goal.returns-else-number-room-2-clause-meaning
+returns-else-number-room-2-clause-meaning c = λ words later.
     of_slice (λ bytes. IsHeader c.args.limits.now (Mark (at words later c.args.room)) (next words later c.args.room) bytes c.line_feed.result) c.args.bytes.now c.in-len1-up.len_at_least
     (IsHeader-feed (length_led c.args.limits.now (at words later c.args.room) _ c.if-first-ne36.false) (next words later c.args.room)
     (LengthFeed (at words later (c.args.room - c.in-Whole.number)) c.in-Whole.number) _ _ _ _ c.in-Whole.ensures.line
-    (length_ends-goes (at words later c.args.room) c.in-Whole.number c.if-number-room.false)
+    (length_ends-goes (at words later c.args.room) c.in-Whole.number c.if-number-room-2.false)
     (length_fed c.args.limits.now (at words later (c.args.room - c.in-Whole.number)) c.in-Whole.number) c.line_feed.ensures.line)
 
 pub returns-in-Wrong-clause-meaning : goal.returns-in-Wrong-clause-meaning

@@ -1,6 +1,6 @@
 use Rattle.std.proofs.Common.{◌∙◌, arith}
 use Rattle.ts_resp.proofs.PartLemmas.{part_of_front}
-use Rattle.ts_resp.proofs.word.Word.part.Goals as goal
+use Rattle.ts_resp.proofs.word.Word.short_part.Goals as goal
 
 pub returns : goal.returns
 returns c =

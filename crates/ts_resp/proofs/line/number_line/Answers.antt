@@ -1,6 +1,6 @@
 use Rattle.ts_resp.specs.Lines.{line_of}
 use Rattle.ts_resp.proofs.LineLemmas.{number_line-goes, number_line-returns, number_line-wrong, number_line-open}
-use Rattle.ts_resp.proofs.line.any_line.Goals as goal
+use Rattle.ts_resp.proofs.line.number_line.Goals as goal
 
 pub returns-in-Returns-clause-line : goal.returns-in-Returns-clause-line
 returns-in-Returns-clause-line c =

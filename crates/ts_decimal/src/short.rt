@@ -1,0 +1,64 @@
+ghost use Rattle.std.specs.Prelude.{◌≡◌, ℕ, ◌+◌, ◌*◌, ◌^◌, ◌≤◌, Bool, length, IfSome};
+ghost use Rattle.ts_spec.specs.Value.{digits, after_digits, number_after, decimal_of};
+ghost use Rattle.ts_decimal.specs.Reading.{IsRounded};
+
+use crate::digit::split_digit;
+use crate::powers::power_of_ten;
+use crate::reading::PLACES;
+
+/// The most bytes whose digits, in millionths, are counted in 64 bits.
+const FEW: usize = 12;
+
+/// The number that the digits at the beginning of the text spell after `number`, and the text after them.
+#[inline]
+fn spelled_after(number: u64, text: &[u8]) -> (u64, &[u8])
+    requires { (number + 1) * 10 ^ length text.now ≤ 10 ^ 12 }
+    ensures number { result.0 ≡ number_after number (digits text.now) }
+    ensures rest { result.1.now ≡ after_digits text.now }
+    ensures count { length result.1.now + length (digits text.now) ≡ length text.now }
+    ensures room { (result.0 + 1) * 10 ^ length result.1.now ≤ 10 ^ 12 }
+{
+    let mut number = number;
+    let mut rest = text;
+    while let Some((digit, after)) = split_digit(rest) {
+        number = 10 * number + u64::from(digit);
+        rest = after;
+    }
+    (number, rest)
+}
+
+/// The magnitude in millionths of a text after its sign, if it is few bytes, all of them digits but for a point with at
+/// most six digits after it. None: it is read with care for more digits, and for an exponent.
+#[inline]
+pub fn short_magnitude(text: &[u8]) -> Option<u64>
+    ensures value { IfSome result (λ m. (negative : Bool) → IsRounded negative m (decimal_of negative text.now)) }
+    ensures small { IfSome result (λ m. m ≤ 10 ^ 18) }
+{
+    if text.len() > FEW {
+        return None;
+    }
+    let (whole, rest) = spelled_after(0, text);
+    if rest.is_empty() {
+        if text.is_empty() {
+            return None;
+        }
+        return Some(whole * 1_000_000);
+    }
+    let [point, part @ ..] = rest else {
+        return None;
+    };
+    if *point != b'.' {
+        return None;
+    }
+    let (number, after) = spelled_after(whole, part);
+    if !after.is_empty() {
+        return None;
+    }
+    if text.len() == 1 {
+        return None;
+    }
+    if part.len() > PLACES {
+        return None;
+    }
+    Some(number * power_of_ten(PLACES - part.len()) as u64)
+}
