@@ -1,0 +1,5 @@
+pub mod Coding
+pub mod Examples
+pub mod Pushing
+pub mod Scanning
+pub mod Walking

@@ -1,0 +1,3 @@
+pub mod Chunk
+pub mod Laws
+pub mod Plain

@@ -1,0 +1,146 @@
+ghost use Rattle.std.specs.Prelude.{◌≡◌, ◌+◌, ◌≤◌, nat_le, List, map, drop, length};
+ghost use Rattle.ts_chunk_plain.specs.Plain.{sample_of};
+ghost use Rattle.ts_sample.specs.Chunk.{AreFine};
+ghost use Rattle.ts_sample.specs.Visit.{visited};
+ghost use Rattle.ts_spec.specs.Sample.{Point, IsAscending, at_times};
+
+use crate::piece::{WIDTH, decode, encode, time_of};
+use std::alloc::{AllocError, Global};
+use std::marker::Model;
+use std::sync::ledger::Ledger;
+use ts_sample::{Chunk, Sample, Steps, Visit};
+
+/// Samples in 28 bytes each.
+#[derive(Drop)]
+pub struct PlainChunk {
+    limit: u32,
+    bytes: Vec<u8>,
+    first: Option<Sample>,
+    last: Option<Sample>,
+}
+
+impl Model for PlainChunk {
+    ghost use Rattle.std.specs.Prelude.{vec_capacity};
+    ghost use Rattle.ts_chunk_plain.specs.Chunk.{Samples, IsPlain};
+    ghost use Rattle.ts_chunk_plain.specs.Plain.{samples_of};
+
+    ghost Value = { Samples };
+
+    ghost view = { λ c. record { limit = c.limit; list = samples_of c.bytes.items } };
+
+    ghost invariant = { λ c. IsPlain c.limit (vec_capacity c.bytes) c.bytes.items c.first c.last };
+}
+
+impl Chunk for PlainChunk {
+    ghost use Rattle.ts_chunk_plain.specs.Laws.{three_or_more, no_fewer, one_within};
+    ghost use Rattle.ts_chunk_plain.specs.Plain.{plain};
+
+    ghost list = { λ c. c.list };
+
+    ghost most = { λ c. c.limit };
+
+    ghost format = { plain };
+
+    fn new(alloc: Global, limit: u32) -> Result<PlainChunk, AllocError> {
+        Ok(PlainChunk {
+            limit,
+            bytes: Vec::with_capacity(alloc, limit as usize)?,
+            first: None,
+            last: None,
+        })
+    }
+
+    fn known(&self) {
+        let _limit = self.limit;
+    }
+
+    fn limit(&self) -> u32 {
+        self.limit
+    }
+
+    fn len(&self) -> usize {
+        self.bytes.len() / WIDTH
+    }
+
+    fn first(&self) -> Option<Sample> {
+        self.first
+    }
+
+    fn last(&self) -> Option<Sample> {
+        self.last
+    }
+
+    fn bytes(&self) -> u32 {
+        self.bytes.len() as u32
+    }
+
+    fn raw(&self) -> &[u8] {
+        &self.bytes
+    }
+
+    fn scan<V: Visit, L: Ledger>(&self, from: u64, to: u64, visit: &mut V, steps: &mut Steps<L>) {
+        let pieces = self.pieces();
+        let start = place_of(pieces, from);
+        walk(&pieces[start..], to, visit, steps);
+    }
+
+    fn fits(&self, _sample: &Sample) -> bool {
+        self.bytes.len() + WIDTH <= self.limit as usize
+    }
+
+    fn try_append(&mut self, sample: &Sample) -> bool {
+        if !self.fits(sample) {
+            return false;
+        }
+        sample.known();
+        self.bytes.extend_from_slice(&encode(sample)).unwrap();
+        self.first = self.first.or(Some(*sample));
+        self.last = Some(*sample);
+        true
+    }
+
+    ghost at_least = { three_or_more };
+
+    ghost grows = { no_fewer };
+
+    ghost one_fits = { one_within };
+}
+
+impl PlainChunk {
+    // The bytes of each sample.
+    fn pieces(&self) -> &[[u8; WIDTH]]
+        ensures list { map sample_of result.now ≡ self.now.list }
+        ensures ascending { IsAscending (map sample_of result.now) }
+        ensures fine { AreFine (map sample_of result.now) }
+    {
+        let (pieces, _) = self.bytes.as_slice().as_chunks::<WIDTH>();
+        pieces
+    }
+}
+
+// How many of the samples are before this time. It reads times alone.
+fn place_of(pieces: &[[u8; WIDTH]], time: u64) -> usize
+    requires { IsAscending (map sample_of pieces.now) }
+    ensures within { result ≤ length pieces.now }
+    ensures after { map sample_of (drop result pieces.now) ≡ at_times (nat_le time) (map sample_of pieces.now) }
+{
+    pieces.partition_point(|piece| time_of(piece) < time)
+}
+
+// Takes a visitor over the samples up to a time.
+fn walk<V: Visit, L: Ledger>(pieces: &[[u8; WIDTH]], to: u64, visit: &mut V, steps: &mut Steps<L>)
+    requires ascending { IsAscending (map sample_of pieces.now) }
+    requires fine { AreFine (map sample_of pieces.now) }
+    requires room { length (at_times (λ t. nat_le t to) (map sample_of pieces.now)) ≤ V.room visit.old }
+    ensures visited { visit.new ≡ visited V.step visit.old (at_times (λ t. nat_le t to) (map sample_of pieces.now)) }
+    ensures counted { steps.old + length (at_times (λ t. nat_le t to) (map sample_of pieces.now)) ≤ steps.new }
+    ensures bounded { steps.new ≤ steps.old + length pieces.now }
+{
+    for piece in pieces {
+        steps.tick();
+        if time_of(piece) > to {
+            return;
+        }
+        visit.sample(&decode(piece));
+    }
+}
