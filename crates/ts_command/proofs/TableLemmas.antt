@@ -1,8 +1,9 @@
 -- Tables whose rows are seen in another way.
-use Rattle.std.proofs.Common.{◌≡◌, ℕ, Bool, true, false, not, ◌&&◌, ◌||◌, if◌then◌else◌, List, [], ◌∷◌, ◌++◌, map, refl, ap, subst, ◌∙◌}
+use Rattle.std.proofs.Common.{◌≡◌, ℕ, Bool, true, false, not, ◌&&◌, ◌||◌, if◌then◌else◌, List, [], ◌∷◌, ◌++◌, map, refl, sym, ap, subst, ◌∙◌}
 use Rattle.std.proofs.lemmas.Bool.{false≢true}
 use Rattle.std.specs.Prelude.{Option, None, Some, option_map, IfSome, IsTrue}
-use Rattle.std.specs.Str.{str_eq_ignore_ascii_case}
+use Rattle.std.specs.Str.{bytes_eq, str_to_ascii_lowercase, str_eq_ignore_ascii_case}
+use Rattle.std.proofs.lemmas.Slice.Eq.{bytes_eq-Decides}
 use Rattle.ts_spec.specs.Key.{same}
 use Rattle.ts_spec.specs.Names.{Table, named}
 use Rattle.ts_spec.proofs.Keys.{same-true}
@@ -77,3 +78,15 @@ pub named-so : {X : Type 0} (is_so : X → Bool) (name word : List ℕ) (rows : 
     → IsTrue (each_named is_so name rows) → IfSome (named rows word) (λ x. IsTrue (is_so x) → IsTrue (str_eq_ignore_ascii_case name word))
 named-so is_so name word rows each =
     named-holds (λ x. IsTrue (is_so x) → IsTrue (str_eq_ignore_ascii_case name word)) word rows (each_row is_so name word rows each)
+
+-- words that differ only in the case of their letters name the same
+named-alike : {X : Type 0} (name word : List ℕ) (table : Table X) → str_to_ascii_lowercase word ≡ str_to_ascii_lowercase name → named table word ≡ named table name
+named-alike name word [] alike = refl
+named-alike name word (row ∷ rows) alike =
+    ap (λ l. if bytes_eq (str_to_ascii_lowercase row.0) l then Some row.1 else named rows word) alike
+    ∙ ap (λ found. if str_eq_ignore_ascii_case row.0 name then Some row.1 else found) (named-alike name word rows alike)
+
+-- what a word names that is this name
+pub named-as : {X : Type 0} (name word : List ℕ) (table : Table X) → IsTrue (str_eq_ignore_ascii_case name word) → named table word ≡ named table name
+named-as name word table is =
+    named-alike name word table (sym ((bytes_eq-Decides (str_to_ascii_lowercase name) (str_to_ascii_lowercase word)).0 is))

@@ -1,3 +1,4 @@
+pub mod Addition
 pub mod Answers
 pub mod Faults
 pub mod Forms

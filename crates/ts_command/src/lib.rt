@@ -2,6 +2,7 @@
 //! encodings are those of RedisTimeSeries' command reference, with letters in either case.
 #![tactic(auto)]
 
+mod addition;
 mod bucket_words;
 mod clock;
 mod command;
@@ -27,6 +28,7 @@ mod verb;
 mod with_options;
 mod words;
 
+pub use addition::Addition;
 pub use command::{Command, Triple};
 pub use fault::CommandFault;
 pub use request::read;

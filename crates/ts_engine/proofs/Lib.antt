@@ -1,3 +1,4 @@
+pub mod Added
 pub mod Carried
 pub mod Carrying
 pub mod Dropping

@@ -1,6 +1,7 @@
 //! Execution: the replies to commands, sessions over a stream, and the top call.
 #![tactic(auto)]
 
+mod addition;
 mod additions;
 mod address;
 mod answers;

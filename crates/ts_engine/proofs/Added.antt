@@ -1,0 +1,70 @@
+-- TS.ADD without options to a key that is there: a write by the series' own policy.
+use Rattle.std.proofs.Common.{◌≡◌, ◌≢◌, ℕ, ℤ, refl, sym, ap}
+use Rattle.std.specs.Prelude.{Option, None, Some, Ok, Err, true, false}
+use Rattle.ts_spec.specs.Command.{Spec}
+use Rattle.ts_spec.specs.Key.{Key}
+use Rattle.ts_spec.specs.Keyed.{Keyed, get}
+use Rattle.ts_spec.specs.Refusal as refusal
+use Rattle.ts_spec.specs.Refusal.{Refusal}
+use Rattle.ts_spec.specs.Response.{Count, Refused}
+use Rattle.ts_spec.specs.State.{Record}
+use Rattle.ts_spec.specs.Step.{Outcome, add_at, put_at}
+use Rattle.ts_sample.specs.declared.id.Id.{Id}
+use Rattle.ts_db.specs.Faults.{refusal_of}
+use Rattle.ts_db.specs.Held.{Held, Stock, AnswersNumber, IsDone, IsAnswer}
+use Rattle.ts_db.specs.declared.fault.DbFault.{DbFault}
+use Rattle.ts_db.specs.declared.fault.DbFault.TheVariants.{KeyExists, NoKey, KeysFull, LabelsFull, TooOld, Duplicate, OutOfRange, BeforeLast, SamplesFull, DeleteBeyondRetention, SameKey, SourceIsDest, DestIsSource, DestHasSource, RulesSpent, RulesFull, NoRule, Memory}
+
+-- only one fault is that the key is missing
+only_missing : (ids : Keyed Id) (fault : DbFault) → refusal_of ids fault ≡ Some refusal.NoKey → fault ≡ NoKey
+only_missing ids KeyExists is = absurd (cc is)
+only_missing ids NoKey is = refl
+only_missing ids KeysFull is = absurd (cc is)
+only_missing ids LabelsFull is = absurd (cc is)
+only_missing ids TooOld is = absurd (cc is)
+only_missing ids Duplicate is = absurd (cc is)
+only_missing ids OutOfRange is = absurd (cc is)
+only_missing ids BeforeLast is = absurd (cc is)
+only_missing ids (SamplesFull id true) is = absurd (cc is)
+only_missing ids (SamplesFull id false) is = absurd (cc is)
+only_missing ids DeleteBeyondRetention is = absurd (cc is)
+only_missing ids SameKey is = absurd (cc is)
+only_missing ids SourceIsDest is = absurd (cc is)
+only_missing ids DestIsSource is = absurd (cc is)
+only_missing ids DestHasSource is = absurd (cc is)
+only_missing ids RulesSpent is = absurd (cc is)
+only_missing ids RulesFull is = absurd (cc is)
+only_missing ids NoRule is = absurd (cc is)
+only_missing ids (Memory e) is = absurd (cc is)
+
+module _ (key : Key) (t : ℕ) (v : ℤ) (spec : Spec) where
+  -- a triple of TS.MADD, and TS.ADD
+  abbrev pub puts : Held → Outcome
+  puts h = put_at h.limits h.state key t v (get key h.state)
+
+  abbrev pub adds : Held → Outcome
+  adds h = add_at h.limits h.state key t v None spec (get key h.state)
+
+  done_as : (time : ℕ) (from : Held) (new : Stock) (o : Option Record)
+      → IsDone (Count time) from.limits (put_at from.limits from.state key t v o) new → IsDone (Count time) from.limits (add_at from.limits from.state key t v None spec o) new
+  done_as time from new None done = absurd (cc done.says)
+  done_as time from new (Some d) done = done
+
+  refused_as : (r : Option Refusal) (from : Held) (o : Option Record) → r ≢ Some refusal.NoKey
+      → IsAnswer r from.state (put_at from.limits from.state key t v o) → IsAnswer r from.state (add_at from.limits from.state key t v None spec o)
+  refused_as None from o other is = tt
+  refused_as (Some r) from None other is =
+      let same : Refused refusal.NoKey ≡ Refused r = ap (λ (s : Outcome). s.response) is in
+      let missing : refusal.NoKey ≡ r = cc same in
+      absurd (other (ap (λ (x : Refusal). Some x) (sym missing)))
+  refused_as (Some r) from (Some d) other is = is
+
+  -- a time that was answered, and a fault that is not that the key is missing
+  pub added : (old new : Stock) (time : ℕ) → AnswersNumber old puts (Ok time) new → AnswersNumber old adds (Ok time) new
+  added old new time answers = λ from stands. done_as time from new (get key from.state) (answers from stands)
+
+  pub not_added : (old new : Stock) (fault : DbFault) → fault ≢ NoKey → AnswersNumber old puts (Err fault) new → AnswersNumber old adds (Err fault) new
+  not_added old new fault there answers = (
+    (λ from stands. refused_as (refusal_of old.ids fault) from (get key from.state) (λ missing. there (only_missing old.ids fault missing)) (answers.0 from stands)),
+    answers.1,
+  )

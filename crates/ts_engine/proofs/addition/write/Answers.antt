@@ -1,0 +1,37 @@
+use Rattle.std.proofs.Common.{arith, sym, subst}
+use Rattle.std.specs.Prelude.{None, Ok, Err}
+use Rattle.ts_spec.specs.Keyed.{get}
+use Rattle.ts_spec.specs.Response.{Count}
+use Rattle.ts_spec.specs.Settings.{nothing}
+use Rattle.ts_spec.specs.SeriesOptions.{spec}
+use Rattle.ts_spec.specs.Step.{add_at}
+use Rattle.ts_resp.specs.Replies.{reply_of}
+use Rattle.ts_db.specs.Held.{Stock, Carries}
+use Rattle.ts_engine.specs.Answering.{IsShort}
+use Rattle.ts_engine.specs.Turn.{StepOrMemory}
+use Rattle.ts_engine.proofs.Added.{adds, added, not_added}
+use Rattle.ts_engine.proofs.Carried.{answered}
+use Rattle.ts_engine.proofs.Short.{short_number}
+use Rattle.ts_engine.proofs.addition.write.Goals as goal
+
+pub returns-in-Ok-clause-answer : goal.returns-in-Ok-clause-answer
+returns-in-Ok-clause-answer g c =
+    let a = c.args.addition.now in
+    answered (λ t. Count t) c.args.db.now c.put.new.self (adds a.key.now c.args.time a.value (spec nothing)) (Ok c.in-Ok.time) (reply_of c.number.result) (λ ids. c.number.ensures)
+    (added a.key.now c.args.time a.value (spec nothing) c.args.db.now c.put.new.self c.in-Ok.time c.in-Ok.ensures.put)
+
+pub returns-in-Ok-clause-short : goal.returns-in-Ok-clause-short
+returns-in-Ok-clause-short g c = subst IsShort (sym c.number.ensures) (short_number c.in-Ok.time (omega (arith, c.in-Ok.ensures.bounded)))
+
+-- a key that is missing: what is written is so of the database as it was
+pub returns-in-NoKey-clause-answer : goal.returns-in-NoKey-clause-answer
+returns-in-NoKey-clause-answer g c =
+    let a = c.args.addition.now in
+    subst (λ (s : Stock). Carries s c.begin.new.db (λ from to. StepOrMemory (add_at from.limits from.state a.key.now c.args.time a.value None (spec nothing) (get a.key.now from.state)) from (reply_of c.begin.result) to))
+    c.in-Err.ensures.put.1 c.begin.ensures.answer
+
+pub returns-in_default-clause-answer : goal.returns-in_default-clause-answer
+returns-in_default-clause-answer g c =
+    let a = c.args.addition.now in
+    answered (λ t. Count t) c.args.db.now c.put.new.self (adds a.key.now c.args.time a.value (spec nothing)) (Err c.in-Err.fault) (reply_of c.refusal_reply.result) c.refusal_reply.ensures.told
+    (not_added a.key.now c.args.time a.value (spec nothing) c.args.db.now c.put.new.self c.in-Err.fault c.in_default.not-NoKey c.in-Err.ensures.put)
