@@ -8,6 +8,7 @@ ghost use Rattle.ts_engine.specs.Turn.{turn, IsReading, left_by};
 
 use crate::answers::fault_reply;
 use crate::execution::execute;
+use std::mem;
 use std::sync::ledger::Ledger;
 use ts_command::{Command, read};
 use ts_db::Db;
@@ -15,21 +16,23 @@ use ts_io::Clock;
 use ts_resp::{Out, Word, put};
 use ts_sample::Steps;
 
-/// Gives a request its turn, and leaves its reply in `room`. Answers whether the request is QUIT.
+/// Gives a request its turn, and leaves its reply in `room`. Answers whether the request is QUIT. What a command takes of
+/// the words is gone from them afterwards.
 pub(crate) fn take_turn<C: Clock, L: Ledger>(
     db: &mut Db,
-    words: Vec<Word>,
+    words: &mut Vec<Word>,
     clock: &mut C,
     room: &mut Out,
     steps: &mut Steps<L>,
 ) -> bool
     requires { 128 ≤ length room.old.bytes + room.old.spare }
-    ensures turn { Carries db.old db.new (λ from to. turn (record { held = from; readings = C.readings clock.old }) words.items room.new.bytes
+    ensures turn { Carries db.old db.new (λ from to. turn (record { held = from; readings = C.readings clock.old }) words.old.items room.new.bytes
         (record { held = to; readings = C.readings clock.new })) }
-    ensures quits { result ≡ is_quit words.items }
+    ensures quits { result ≡ is_quit words.old.items }
     ensures room { 128 ≤ length room.new.bytes + room.new.spare }
 {
-    match read(words) {
+    let alloc = *words.allocator();
+    match read(mem::replace(words, Vec::new(alloc))) {
         Ok(command) => {
             let reading = reading_for(&command, clock);
             let quits = says_quit(&command);

@@ -12,13 +12,13 @@ put-requires g c = omega (arith, subst IsShort (sym c.fault_reply.ensures) (shor
 
 pub returns-in-Err-clause-turn : goal.returns-in-Err-clause-turn
 returns-in-Err-clause-turn g c =
-    turns_faulted c.args.words.items c.in-Err.fault (g.C.Clock.readings c.args.clock.now) c.args.db.now c.put.new.out.bytes c.in-Err.ensures.fault
+    turns_faulted c.args.words.now.items c.in-Err.fault (g.C.Clock.readings c.args.clock.now) c.args.db.now c.put.new.out.bytes (rw c.replace.ensures.value at c.in-Err.ensures.fault)
     (c.put.ensures.bytes ∙ ap (λ (l : List ℕ). l ++ text (reply_of c.fault_reply.result)) c.clear.ensures.empty ∙ ap text c.fault_reply.ensures)
 
 pub returns-in-Ok-clause-turn : goal.returns-in-Ok-clause-turn
 returns-in-Ok-clause-turn g c =
-    turns_by c.args.words.items (command_of c.in-Ok.command) c.reading_for-reading.result (g.C.Clock.readings c.args.clock.now) (g.C.Clock.readings c.reading_for-reading.new.clock) c.args.db.now c.execute.new.db
-    c.execute.new.out.bytes c.in-Ok.ensures.ok c.reading_for-reading.ensures.reading c.reading_for-reading.ensures.left c.execute.ensures.executes
+    turns_by c.args.words.now.items (command_of c.in-Ok.command) c.reading_for-reading.result (g.C.Clock.readings c.args.clock.now) (g.C.Clock.readings c.reading_for-reading.new.clock) c.args.db.now c.execute.new.db
+    c.execute.new.out.bytes (rw c.replace.ensures.value at c.in-Ok.ensures.ok) c.reading_for-reading.ensures.reading c.reading_for-reading.ensures.left c.execute.ensures.executes
 
 pub returns-in-Err-clause-quits : goal.returns-in-Err-clause-quits
-returns-in-Err-clause-quits g c = sym (faulted_no_quit c.args.words.items c.in-Err.fault c.in-Err.ensures.fault)
+returns-in-Err-clause-quits g c = sym (faulted_no_quit c.args.words.now.items c.in-Err.fault (rw c.replace.ensures.value at c.in-Err.ensures.fault))
