@@ -177,7 +177,9 @@ impl Session {
         ensures ends { result ≡ Some Go.More → ⊥ }
         ensures cause { WroteOrFault (K.faults out.old) (K.faults out.new) result }
     {
-        let quits = take_turn(db, words, clock, &mut self.room, steps);
+        let mut words = words;
+        let quits = take_turn(db, &mut words, clock, &mut self.room, steps);
+        self.reader.give_back(words);
         self.executed += 1;
         match write_all_counted(out, self.room.bytes()) {
             Ok(()) if quits => Some(Go::Quit),

@@ -9,6 +9,7 @@ ghost use Rattle.ts_engine.specs.Turn.{turn, IsReading, left_by};
 use crate::addition::put_addition;
 use crate::answers::fault_reply;
 use crate::execution::execute;
+use std::mem;
 use std::sync::ledger::Ledger;
 use ts_command::{Addition, Command, read};
 use ts_db::Db;
@@ -17,25 +18,27 @@ use ts_resp::{Out, Word, put};
 use ts_sample::Steps;
 use ts_spec::At;
 
-/// Gives a request its turn, and leaves its reply in `room`. Answers whether the request is QUIT.
+/// Gives a request its turn, and leaves its reply in `room`. Answers whether the request is QUIT. What a command takes of
+/// the words is gone from them afterwards.
 pub(crate) fn take_turn<C: Clock, L: Ledger>(
     db: &mut Db,
-    words: Vec<Word>,
+    words: &mut Vec<Word>,
     clock: &mut C,
     room: &mut Out,
     steps: &mut Steps<L>,
 ) -> bool
     requires { 128 ≤ length room.old.bytes + room.old.spare }
-    ensures turn { Carries db.old db.new (λ from to. turn (record { held = from; readings = C.readings clock.old }) words.items room.new.bytes
+    ensures turn { Carries db.old db.new (λ from to. turn (record { held = from; readings = C.readings clock.old }) words.old.items room.new.bytes
         (record { held = to; readings = C.readings clock.new })) }
-    ensures quits { result ≡ is_quit words.items }
+    ensures quits { result ≡ is_quit words.old.items }
     ensures room { 128 ≤ length room.new.bytes + room.new.spare }
 {
-    let Some(addition) = Addition::read(&words) else {
-        return take_command(db, words, clock, room, steps);
+    let alloc = *words.allocator();
+    let Some(addition) = Addition::read(words) else {
+        return take_command(db, mem::replace(words, Vec::new(alloc)), clock, room, steps);
     };
     let reading = reading_at(addition.at, clock);
-    put_addition(db, *words.allocator(), &addition, reading, room, steps);
+    put_addition(db, alloc, &addition, reading, room, steps);
     false
 }
 

@@ -4,5 +4,5 @@ use Rattle.ts_engine.proofs.turn.take_turn.Goals as goal
 
 pub returns-clause-turn : goal.returns-clause-turn
 returns-clause-turn g c =
-    turns_by c.args.words.items (addition_of c.in-Some.addition) c.reading_at-reading.result (g.C.Clock.readings c.args.clock.now) (g.C.Clock.readings c.reading_at-reading.new.clock) c.args.db.now c.put_addition.new.db
+    turns_by c.args.words.now.items (addition_of c.in-Some.addition) c.reading_at-reading.result (g.C.Clock.readings c.args.clock.now) (g.C.Clock.readings c.reading_at-reading.new.clock) c.args.db.now c.put_addition.new.db
     c.put_addition.new.out.bytes (rw c.deref.ensures.value at c.in-Some.ensures) c.reading_at-reading.ensures.reading c.reading_at-reading.ensures.left c.put_addition.ensures.executes
