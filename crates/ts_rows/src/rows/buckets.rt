@@ -1,4 +1,4 @@
-use super::talk::run_talk;
+use super::talk::{Line, run_talk};
 use super::{PLAIN, Row};
 use std::test::Fail;
 
@@ -8,8 +8,7 @@ const TOO_MANY: &str = "-ERR TSDB: too many empty buckets";
 
 #[test]
 fn empty_buckets(rt: HostRuntime) -> Result<(), Fail> {
-    let alloc = rt.alloc();
-    let told = [
+    const TOLD: &[Line] = &[
         ("TS.ADD e 1 2", ":1"),
         ("TS.ADD e 35 4", ":35"),
         (
@@ -33,12 +32,11 @@ fn empty_buckets(rt: HostRuntime) -> Result<(), Fail> {
             "[0:NaN, 10:2, 20:2, 30:4]",
         ),
     ];
-    run_talk(&rt, alloc, PLAIN, &told)?;
-    let few = Row {
+    const FEW: Row = Row {
         empty_rows: 3,
         ..PLAIN
     };
-    let refused = [
+    const REFUSED: &[Line] = &[
         ("TS.ADD e 1 2", ":1"),
         ("TS.ADD e 35 4", ":35"),
         ("TS.RANGE e - + AGGREGATION sum 10 EMPTY", TOO_MANY),
@@ -51,13 +49,14 @@ fn empty_buckets(rt: HostRuntime) -> Result<(), Fail> {
             "[30:4, 20:0, 10:0]",
         ),
     ];
-    run_talk(&rt, alloc, few, &refused)
+    let alloc = rt.alloc();
+    run_talk(&rt, alloc, PLAIN, TOLD)?;
+    run_talk(&rt, alloc, FEW, REFUSED)
 }
 
 #[test]
 fn buckets_begin_where_they_are_aligned(rt: HostRuntime) -> Result<(), Fail> {
-    let alloc = rt.alloc();
-    let ends = [
+    const ENDS: &[Line] = &[
         ("TS.ADD a 3 1", ":3"),
         ("TS.ADD a 12 1", ":12"),
         ("TS.ADD a 14 1", ":14"),
@@ -83,8 +82,7 @@ fn buckets_begin_where_they_are_aligned(rt: HostRuntime) -> Result<(), Fail> {
         ),
         ("TS.RANGE a - + ALIGN end AGGREGATION count 10", BAD_OPTION),
     ];
-    run_talk(&rt, alloc, PLAIN, &ends)?;
-    let a_time = [
+    const A_TIME: &[Line] = &[
         ("TS.ADD q 3 1", ":3"),
         ("TS.ADD q 5 2", ":5"),
         ("TS.RANGE q - + ALIGN 5 AGGREGATION sum 10", "[0:1, 5:2]"),
@@ -100,13 +98,14 @@ fn buckets_begin_where_they_are_aligned(rt: HostRuntime) -> Result<(), Fail> {
         ("TS.RANGE q - + ALIGN 5", BAD_OPTION),
         ("TS.RANGE q - + BUCKETTIMESTAMP -", BAD_OPTION),
     ];
-    run_talk(&rt, alloc, PLAIN, &a_time)
+    let alloc = rt.alloc();
+    run_talk(&rt, alloc, PLAIN, ENDS)?;
+    run_talk(&rt, alloc, PLAIN, A_TIME)
 }
 
 #[test]
 fn buckets_at_both_ends_of_time(rt: HostRuntime) -> Result<(), Fail> {
-    let alloc = rt.alloc();
-    let past_the_end = [
+    const PAST_THE_END: &[Line] = &[
         ("TS.ADD r 1 2", ":1"),
         ("TS.ADD r 9223372036854775807 4", ":9223372036854775807"),
         (
@@ -131,12 +130,12 @@ fn buckets_at_both_ends_of_time(rt: HostRuntime) -> Result<(), Fail> {
             "[9223372036854775807:4, 9223372036854775806:2]",
         ),
     ];
-    run_talk(&rt, alloc, PLAIN, &past_the_end)
+    run_talk(&rt, rt.alloc(), PLAIN, PAST_THE_END)
 }
 
 #[test]
 fn aggregators(rt: HostRuntime) -> Result<(), Fail> {
-    let lines = [
+    const LINES: &[Line] = &[
         ("TS.ADD g 1 1", ":1"),
         ("TS.ADD g 2 0", ":2"),
         ("TS.ADD g 3 0", ":3"),
@@ -165,5 +164,5 @@ fn aggregators(rt: HostRuntime) -> Result<(), Fail> {
         ),
         ("TS.CREATE z CHUNK_SIZE 50", "-ERR TSDB: invalid chunk size"),
     ];
-    run_talk(&rt, rt.alloc(), PLAIN, &lines)
+    run_talk(&rt, rt.alloc(), PLAIN, LINES)
 }

@@ -1,6 +1,6 @@
 // What a client writes to a destination, and takes out of it.
 use super::PLAIN;
-use super::talk::run_talk;
+use super::talk::{Line, run_talk};
 use std::test::Fail;
 
 const OK: &str = "+OK";
@@ -9,7 +9,7 @@ const RULE: &str = "TS.CREATERULE s d AGGREGATION sum 10";
 
 #[test]
 fn a_write_stands_until_its_bucket_changes(rt: HostRuntime) -> Result<(), Fail> {
-    let lines = [
+    const LINES: &[Line] = &[
         ("TS.CREATE s", OK),
         ("TS.CREATE d", OK),
         (RULE, OK),
@@ -23,12 +23,12 @@ fn a_write_stands_until_its_bucket_changes(rt: HostRuntime) -> Result<(), Fail> 
         ("TS.DEL s 1 2", ":2"),
         ("TS.RANGE d - +", "[]"),
     ];
-    run_talk(&rt, rt.alloc(), PLAIN, &lines)
+    run_talk(&rt, rt.alloc(), PLAIN, LINES)
 }
 
 #[test]
 fn a_write_stands_where_nothing_goes(rt: HostRuntime) -> Result<(), Fail> {
-    let lines = [
+    const LINES: &[Line] = &[
         ("TS.CREATE s", OK),
         ("TS.CREATE d", OK),
         (RULE, OK),
@@ -39,12 +39,12 @@ fn a_write_stands_where_nothing_goes(rt: HostRuntime) -> Result<(), Fail> {
         ("TS.DEL s 5 15", ":1"),
         ("TS.RANGE d - +", "[0:99]"),
     ];
-    run_talk(&rt, rt.alloc(), PLAIN, &lines)
+    run_talk(&rt, rt.alloc(), PLAIN, LINES)
 }
 
 #[test]
 fn a_write_between_two_buckets(rt: HostRuntime) -> Result<(), Fail> {
-    let lines = [
+    const LINES: &[Line] = &[
         ("TS.CREATE s", OK),
         ("TS.CREATE d", OK),
         (RULE, OK),
@@ -57,12 +57,12 @@ fn a_write_between_two_buckets(rt: HostRuntime) -> Result<(), Fail> {
         ("TS.DEL s 5 25", ":2"),
         ("TS.RANGE d - +", "[0:1, 15:9]"),
     ];
-    run_talk(&rt, rt.alloc(), PLAIN, &lines)
+    run_talk(&rt, rt.alloc(), PLAIN, LINES)
 }
 
 #[test]
 fn a_deletion_stands_until_its_bucket_changes(rt: HostRuntime) -> Result<(), Fail> {
-    let lines = [
+    const LINES: &[Line] = &[
         ("TS.CREATE s", OK),
         ("TS.CREATE d", OK),
         (RULE, OK),
@@ -72,5 +72,5 @@ fn a_deletion_stands_until_its_bucket_changes(rt: HostRuntime) -> Result<(), Fai
         ("TS.ADD s 2 1", ":2"),
         ("TS.RANGE d - +", "[0:6]"),
     ];
-    run_talk(&rt, rt.alloc(), PLAIN, &lines)
+    run_talk(&rt, rt.alloc(), PLAIN, LINES)
 }

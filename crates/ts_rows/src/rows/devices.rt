@@ -10,7 +10,7 @@ const THREE: &[u8] = b"*1\r\n$4\r\nPING\r\n*1\r\n$4\r\nPING\r\n*1\r\n$4\r\nPING\
 #[test]
 fn devices_that_fail_and_budgets(rt: HostRuntime) -> Result<(), Fail> {
     // the second reply can't be written
-    let second_write = Row {
+    const SECOND_WRITE: Row = Row {
         input: TWO,
         failing_write: 2,
         out: b"+PONG\r\n",
@@ -18,9 +18,8 @@ fn devices_that_fail_and_budgets(rt: HostRuntime) -> Result<(), Fail> {
         status: 5,
         ..PLAIN
     };
-    run(&rt, rt.alloc(), &second_write, 4096)?;
     // the read after the whole input fails: no reply is lost
-    let second_read = Row {
+    const SECOND_READ: Row = Row {
         input: TWO,
         failing_read: 2,
         out: b"+PONG\r\n+PONG\r\n",
@@ -28,8 +27,7 @@ fn devices_that_fail_and_budgets(rt: HostRuntime) -> Result<(), Fail> {
         status: 4,
         ..PLAIN
     };
-    run(&rt, rt.alloc(), &second_read, 4096)?;
-    let rows = [
+    const ROWS: &[Row] = &[
         Row {
             input: TWO,
             failing_read: 1,
@@ -68,5 +66,7 @@ fn devices_that_fail_and_budgets(rt: HostRuntime) -> Result<(), Fail> {
             ..PLAIN
         },
     ];
-    run_all(&rt, rt.alloc(), &rows)
+    run(&rt, rt.alloc(), &SECOND_WRITE, 4096)?;
+    run(&rt, rt.alloc(), &SECOND_READ, 4096)?;
+    run_all(&rt, rt.alloc(), ROWS)
 }

@@ -1,6 +1,6 @@
 // Rules where samples of the source or of the destination expire.
 use super::PLAIN;
-use super::talk::run_talk;
+use super::talk::{Line, run_talk};
 use std::test::Fail;
 
 const OK: &str = "+OK";
@@ -9,7 +9,7 @@ const RULE: &str = "TS.CREATERULE s d AGGREGATION sum 10";
 
 #[test]
 fn expired_samples_stay_counted(rt: HostRuntime) -> Result<(), Fail> {
-    let lines = [
+    const LINES: &[Line] = &[
         ("TS.CREATE s RETENTION 5", OK),
         ("TS.CREATE d", OK),
         (RULE, OK),
@@ -25,12 +25,12 @@ fn expired_samples_stay_counted(rt: HostRuntime) -> Result<(), Fail> {
             "-ERR TSDB: timestamp is older than retention",
         ),
     ];
-    run_talk(&rt, rt.alloc(), PLAIN, &lines)
+    run_talk(&rt, rt.alloc(), PLAIN, LINES)
 }
 
 #[test]
 fn an_expired_bucket_is_not_deleted_in_part(rt: HostRuntime) -> Result<(), Fail> {
-    let lines = [
+    const LINES: &[Line] = &[
         ("TS.CREATE s RETENTION 5", OK),
         ("TS.CREATE d", OK),
         (RULE, OK),
@@ -42,12 +42,12 @@ fn an_expired_bucket_is_not_deleted_in_part(rt: HostRuntime) -> Result<(), Fail>
         ),
         ("TS.DEL s 10 12", ":1"),
     ];
-    run_talk(&rt, rt.alloc(), PLAIN, &lines)
+    run_talk(&rt, rt.alloc(), PLAIN, LINES)
 }
 
 #[test]
 fn what_a_destination_dropped_stays_dropped(rt: HostRuntime) -> Result<(), Fail> {
-    let lines = [
+    const LINES: &[Line] = &[
         ("TS.CREATE s", OK),
         ("TS.CREATE d RETENTION 10", OK),
         (RULE, OK),
@@ -59,12 +59,12 @@ fn what_a_destination_dropped_stays_dropped(rt: HostRuntime) -> Result<(), Fail>
         ("TS.ALTER d RETENTION 0", OK),
         ("TS.RANGE d - +", "[10:1, 20:1]"),
     ];
-    run_talk(&rt, rt.alloc(), PLAIN, &lines)
+    run_talk(&rt, rt.alloc(), PLAIN, LINES)
 }
 
 #[test]
 fn a_bucket_that_closes_past_an_edge(rt: HostRuntime) -> Result<(), Fail> {
-    let lines = [
+    const LINES: &[Line] = &[
         ("TS.CREATE s", OK),
         ("TS.CREATE d RETENTION 5", OK),
         (RULE, OK),
@@ -73,5 +73,5 @@ fn a_bucket_that_closes_past_an_edge(rt: HostRuntime) -> Result<(), Fail> {
         ("TS.ADD s 31 1", ":31"),
         ("TS.RANGE d - +", "[10:1]"),
     ];
-    run_talk(&rt, rt.alloc(), PLAIN, &lines)
+    run_talk(&rt, rt.alloc(), PLAIN, LINES)
 }

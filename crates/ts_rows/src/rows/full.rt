@@ -1,5 +1,5 @@
 // Destinations that have as many samples as a series may show.
-use super::talk::run_talk;
+use super::talk::{Line, run_talk};
 use super::{PLAIN, Row};
 use std::test::Fail;
 
@@ -17,19 +17,19 @@ const THREE: Row<'static> = Row {
 
 #[test]
 fn a_write_that_fills_its_series(rt: HostRuntime) -> Result<(), Fail> {
-    let lines = [
+    const LINES: &[Line] = &[
         ("TS.ADD a 1 1", ":1"),
         ("TS.ADD a 2 1", ":2"),
         ("TS.ADD a 3 1", ":3"),
         ("TS.ADD a 4 1", "-ERR TSDB: too many samples"),
         ("TS.ADD a 3 9 ON_DUPLICATE LAST", ":3"),
     ];
-    run_talk(&rt, rt.alloc(), THREE, &lines)
+    run_talk(&rt, rt.alloc(), THREE, LINES)
 }
 
 #[test]
 fn a_write_that_fills_a_destination(rt: HostRuntime) -> Result<(), Fail> {
-    let lines = [
+    const LINES: &[Line] = &[
         ("TS.ADD d 100 1", ":100"),
         ("TS.ADD d 200 1", ":200"),
         ("TS.ADD d 300 1", ":300"),
@@ -43,12 +43,12 @@ fn a_write_that_fills_a_destination(rt: HostRuntime) -> Result<(), Fail> {
             "*2\r\n-ERR TSDB: too many samples in a destination\r\n-ERR TSDB: too many samples",
         ),
     ];
-    run_talk(&rt, rt.alloc(), THREE, &lines)
+    run_talk(&rt, rt.alloc(), THREE, LINES)
 }
 
 #[test]
 fn a_deletion_that_fills_a_destination(rt: HostRuntime) -> Result<(), Fail> {
-    let lines = [
+    const LINES: &[Line] = &[
         ("TS.CREATE s", OK),
         ("TS.CREATE d", OK),
         (RULE, OK),
@@ -63,5 +63,5 @@ fn a_deletion_that_fills_a_destination(rt: HostRuntime) -> Result<(), Fail> {
         ("TS.RANGE s - +", "[1:1, 2:1, 11:1]"),
         ("TS.RANGE d - +", "[100:1, 200:1, 300:1]"),
     ];
-    run_talk(&rt, rt.alloc(), THREE, &lines)
+    run_talk(&rt, rt.alloc(), THREE, LINES)
 }

@@ -1,5 +1,5 @@
 // Labels, and questions over many series.
-use super::talk::run_talk;
+use super::talk::{Line, run_talk};
 use super::{PLAIN, Row};
 use std::test::Fail;
 
@@ -23,7 +23,7 @@ const SIXTY_FIVE: &str =
 
 #[test]
 fn keys_by_their_labels(rt: HostRuntime) -> Result<(), Fail> {
-    let lines = [
+    const LINES: &[Line] = &[
         ("TS.CREATE k3 LABELS kind s", OK),
         ("TS.CREATE k1 LABELS kind s area x", OK),
         ("TS.CREATE k2 LABELS kind s area y", OK),
@@ -42,12 +42,12 @@ fn keys_by_their_labels(rt: HostRuntime) -> Result<(), Fail> {
         ),
         ("TS.QUERYINDEX area", "-ERR TSDB: invalid filter"),
     ];
-    run_talk(&rt, rt.alloc(), PLAIN, &lines)
+    run_talk(&rt, rt.alloc(), PLAIN, LINES)
 }
 
 #[test]
 fn labels_that_are_shown(rt: HostRuntime) -> Result<(), Fail> {
-    let lines = [
+    const LINES: &[Line] = &[
         ("TS.CREATE m LABELS kind s area x", OK),
         ("TS.ADD m 1 2", ":1"),
         (
@@ -68,13 +68,13 @@ fn labels_that_are_shown(rt: HostRuntime) -> Result<(), Fail> {
             "*1\r\n*3\r\n$1\r\nm\r\n*1\r\n*2\r\n$4\r\nzone\r\n$1\r\nz\r\n*2\r\n:1\r\n+2",
         ),
     ];
-    run_talk(&rt, rt.alloc(), PLAIN, &lines)
+    run_talk(&rt, rt.alloc(), PLAIN, LINES)
 }
 
 #[test]
 fn one_label_is_the_limit(rt: HostRuntime) -> Result<(), Fail> {
-    let row = Row { labels: 1, ..PLAIN };
-    let lines = [
+    const ROW: Row = Row { labels: 1, ..PLAIN };
+    const LINES: &[Line] = &[
         ("TS.CREATE k LABELS a 1 a 2", OK),
         ("TS.CREATE k2 LABELS a 1 b 2", TOO_MANY_LABELS),
         ("TS.ADD k2 1 1 LABELS a 1 b 2", TOO_MANY_LABELS),
@@ -82,26 +82,26 @@ fn one_label_is_the_limit(rt: HostRuntime) -> Result<(), Fail> {
         ("TS.QUERYINDEX a", "-ERR TSDB: invalid filter"),
         ("TS.ALTER k LABELS a", "-ERR TSDB: invalid labels"),
     ];
-    run_talk(&rt, rt.alloc(), row, &lines)
+    run_talk(&rt, rt.alloc(), ROW, LINES)
 }
 
 #[test]
 fn as_many_labels_as_there_may_be(rt: HostRuntime) -> Result<(), Fail> {
-    let lines = [
+    const LINES: &[Line] = &[
         (SIXTY_FOUR, OK),
         (SIXTY_FIVE, TOO_MANY_LABELS),
         ("TS.QUERYINDEX l63=v l0=v", "*1\r\n$1\r\nf"),
     ];
-    run_talk(&rt, rt.alloc(), PLAIN, &lines)
+    run_talk(&rt, rt.alloc(), PLAIN, LINES)
 }
 
 #[test]
 fn rows_under_their_keys(rt: HostRuntime) -> Result<(), Fail> {
-    let row = Row {
+    const ROW: Row = Row {
         empty_rows: 3,
         ..PLAIN
     };
-    let lines = [
+    const LINES: &[Line] = &[
         ("TS.ADD e 1 2 LABELS kind s", ":1"),
         ("TS.ADD b 5 7 LABELS kind s", ":5"),
         ("TS.ADD e 35 4", ":35"),
@@ -131,12 +131,12 @@ fn rows_under_their_keys(rt: HostRuntime) -> Result<(), Fail> {
             "*2\r\n*3\r\n$1\r\nb\r\n*0\r\n*0\r\n*3\r\n$1\r\ne\r\n*0\r\n*2\r\n:35\r\n+4",
         ),
     ];
-    run_talk(&rt, rt.alloc(), row, &lines)
+    run_talk(&rt, rt.alloc(), ROW, LINES)
 }
 
 #[test]
 fn words_of_any_kind_as_labels(rt: HostRuntime) -> Result<(), Fail> {
-    let lines = [
+    const LINES: &[Line] = &[
         ("TS.CREATE o LABELS count 1 WITHLABELS 2 v ),(", OK),
         (
             "TS.MGET SELECTED_LABELS count FILTER WITHLABELS=2",
@@ -149,5 +149,5 @@ fn words_of_any_kind_as_labels(rt: HostRuntime) -> Result<(), Fail> {
             "-ERR TSDB: invalid option",
         ),
     ];
-    run_talk(&rt, rt.alloc(), PLAIN, &lines)
+    run_talk(&rt, rt.alloc(), PLAIN, LINES)
 }

@@ -1,17 +1,15 @@
 use super::PLAIN;
-use super::talk::run_talk;
+use super::talk::{Line, run_talk};
 use std::test::Fail;
 
 #[test]
 fn questions_and_deletion(rt: HostRuntime) -> Result<(), Fail> {
-    let alloc = rt.alloc();
-    let one_time = [
+    const ONE_TIME: &[Line] = &[
         ("TS.ADD a 1000 1", ":1000"),
         ("TS.ADD a 1000 2", "-ERR TSDB: duplicate sample"),
         ("TS.GET a", "*2\r\n:1000\r\n+1"),
     ];
-    run_talk(&rt, alloc, PLAIN, &one_time)?;
-    let values = [
+    const VALUES: &[Line] = &[
         ("TS.ADD v 1 0.0000005", ":1"),
         ("TS.ADD v 2 -0.0000005", ":2"),
         ("TS.ADD v 3 0.00000049", ":3"),
@@ -26,8 +24,7 @@ fn questions_and_deletion(rt: HostRuntime) -> Result<(), Fail> {
             "[1:0.000001, 2:-0.000001, 3:0, 4:1000000000000000000, 5:1000000000000000000]",
         ),
     ];
-    run_talk(&rt, alloc, PLAIN, &values)?;
-    let parts = [
+    const PARTS: &[Line] = &[
         ("TS.ADD f 1 1", ":1"),
         ("TS.ADD f 2 5", ":2"),
         ("TS.ADD f 3 9", ":3"),
@@ -42,12 +39,15 @@ fn questions_and_deletion(rt: HostRuntime) -> Result<(), Fail> {
         ("TS.DEL f - 1", ":1"),
         ("TS.GET f", "*0"),
     ];
-    run_talk(&rt, alloc, PLAIN, &parts)
+    let alloc = rt.alloc();
+    run_talk(&rt, alloc, PLAIN, ONE_TIME)?;
+    run_talk(&rt, alloc, PLAIN, VALUES)?;
+    run_talk(&rt, alloc, PLAIN, PARTS)
 }
 
 #[test]
 fn keys_that_are_there_and_gone(rt: HostRuntime) -> Result<(), Fail> {
-    let lines = [
+    const LINES: &[Line] = &[
         ("TS.ADD g 1 1", ":1"),
         ("TS.ADD g 2 0", ":2"),
         ("TS.ADD g 3 0", ":3"),
@@ -59,5 +59,5 @@ fn keys_that_are_there_and_gone(rt: HostRuntime) -> Result<(), Fail> {
         ("DEL g g h", ":2"),
         ("EXISTS e e g", ":2"),
     ];
-    run_talk(&rt, rt.alloc(), PLAIN, &lines)
+    run_talk(&rt, rt.alloc(), PLAIN, LINES)
 }

@@ -1,6 +1,6 @@
 // The buckets of a source as samples of its destinations.
 use super::PLAIN;
-use super::talk::run_talk;
+use super::talk::{Line, run_talk};
 use std::test::Fail;
 
 const OK: &str = "+OK";
@@ -9,7 +9,7 @@ const RULE: &str = "TS.CREATERULE s d AGGREGATION sum 10";
 
 #[test]
 fn a_closed_bucket_stays_right(rt: HostRuntime) -> Result<(), Fail> {
-    let lines = [
+    const LINES: &[Line] = &[
         ("TS.CREATE s", OK),
         ("TS.CREATE d", OK),
         (RULE, OK),
@@ -27,12 +27,12 @@ fn a_closed_bucket_stays_right(rt: HostRuntime) -> Result<(), Fail> {
         ("TS.ADD s 9 7", ":9"),
         ("TS.RANGE d - +", "[0:7]"),
     ];
-    run_talk(&rt, rt.alloc(), PLAIN, &lines)
+    run_talk(&rt, rt.alloc(), PLAIN, LINES)
 }
 
 #[test]
 fn samples_from_before_the_rule(rt: HostRuntime) -> Result<(), Fail> {
-    let lines = [
+    const LINES: &[Line] = &[
         ("TS.ADD s 1 100", ":1"),
         ("TS.CREATE d", OK),
         (RULE, OK),
@@ -42,12 +42,12 @@ fn samples_from_before_the_rule(rt: HostRuntime) -> Result<(), Fail> {
         ("TS.ADD s 1 3 ON_DUPLICATE LAST", ":1"),
         ("TS.RANGE d - +", "[0:8]"),
     ];
-    run_talk(&rt, rt.alloc(), PLAIN, &lines)
+    run_talk(&rt, rt.alloc(), PLAIN, LINES)
 }
 
 #[test]
 fn the_bucket_that_is_open(rt: HostRuntime) -> Result<(), Fail> {
-    let lines = [
+    const LINES: &[Line] = &[
         ("TS.CREATE s", OK),
         ("TS.CREATE d", OK),
         (RULE, OK),
@@ -62,12 +62,12 @@ fn the_bucket_that_is_open(rt: HostRuntime) -> Result<(), Fail> {
         ("TS.ADD s 5 1", ":5"),
         ("TS.RANGE d - +", "[0:2]"),
     ];
-    run_talk(&rt, rt.alloc(), PLAIN, &lines)
+    run_talk(&rt, rt.alloc(), PLAIN, LINES)
 }
 
 #[test]
 fn buckets_from_another_time(rt: HostRuntime) -> Result<(), Fail> {
-    let lines = [
+    const LINES: &[Line] = &[
         ("TS.CREATE s", OK),
         ("TS.CREATE d", OK),
         ("TS.CREATERULE s d AGGREGATION sum 10 5", OK),
@@ -77,12 +77,12 @@ fn buckets_from_another_time(rt: HostRuntime) -> Result<(), Fail> {
         ("TS.ADD s 15 1", ":15"),
         ("TS.RANGE d - +", "[0:1, 5:1]"),
     ];
-    run_talk(&rt, rt.alloc(), PLAIN, &lines)
+    run_talk(&rt, rt.alloc(), PLAIN, LINES)
 }
 
 #[test]
 fn a_late_sample_in_an_open_bucket(rt: HostRuntime) -> Result<(), Fail> {
-    let lines = [
+    const LINES: &[Line] = &[
         ("TS.ADD s 100 1", ":100"),
         ("TS.CREATE d", OK),
         (RULE, OK),
@@ -91,12 +91,12 @@ fn a_late_sample_in_an_open_bucket(rt: HostRuntime) -> Result<(), Fail> {
         ("TS.RANGE d - +", "[0:2]"),
         ("TS.RANGE d - + LATEST", "[0:2, 10:3]"),
     ];
-    run_talk(&rt, rt.alloc(), PLAIN, &lines)
+    run_talk(&rt, rt.alloc(), PLAIN, LINES)
 }
 
 #[test]
 fn a_first_bucket_that_is_short(rt: HostRuntime) -> Result<(), Fail> {
-    let lines = [
+    const LINES: &[Line] = &[
         ("TS.CREATE s", OK),
         ("TS.CREATE d", OK),
         ("TS.CREATERULE s d AGGREGATION min 10 9", OK),
@@ -106,5 +106,5 @@ fn a_first_bucket_that_is_short(rt: HostRuntime) -> Result<(), Fail> {
         ("TS.ADD s 20 1", ":20"),
         ("TS.RANGE d - +", "[0:4, 9:3]"),
     ];
-    run_talk(&rt, rt.alloc(), PLAIN, &lines)
+    run_talk(&rt, rt.alloc(), PLAIN, LINES)
 }

@@ -1,5 +1,5 @@
 // How rules are made and how they end, and what TS.INFO tells of them.
-use super::talk::run_talk;
+use super::talk::{Line, run_talk};
 use super::{PLAIN, Row};
 use std::test::Fail;
 
@@ -9,7 +9,7 @@ const NO_RULE: &str = "-ERR TSDB: the rule does not exist";
 
 #[test]
 fn which_rules_there_may_be(rt: HostRuntime) -> Result<(), Fail> {
-    let lines = [
+    const LINES: &[Line] = &[
         ("TS.CREATE a", OK),
         ("TS.CREATE b", OK),
         ("TS.CREATE c", OK),
@@ -31,12 +31,12 @@ fn which_rules_there_may_be(rt: HostRuntime) -> Result<(), Fail> {
             "-ERR TSDB: source and destination are the same",
         ),
     ];
-    run_talk(&rt, rt.alloc(), PLAIN, &lines)
+    run_talk(&rt, rt.alloc(), PLAIN, LINES)
 }
 
 #[test]
 fn keys_that_a_rule_needs(rt: HostRuntime) -> Result<(), Fail> {
-    let lines = [
+    const LINES: &[Line] = &[
         ("TS.CREATE a", OK),
         (
             "TS.CREATERULE a b AGGREGATION sum 10",
@@ -49,12 +49,12 @@ fn keys_that_a_rule_needs(rt: HostRuntime) -> Result<(), Fail> {
         ("TS.DELETERULE b a", "-ERR TSDB: the key does not exist"),
         ("TS.DELETERULE a b", NO_RULE),
     ];
-    run_talk(&rt, rt.alloc(), PLAIN, &lines)
+    run_talk(&rt, rt.alloc(), PLAIN, LINES)
 }
 
 #[test]
 fn a_rule_that_has_ended_tells_no_more(rt: HostRuntime) -> Result<(), Fail> {
-    let lines = [
+    const LINES: &[Line] = &[
         ("TS.CREATE s", OK),
         ("TS.CREATE d", OK),
         ("TS.CREATERULE s d AGGREGATION sum 10", OK),
@@ -65,17 +65,17 @@ fn a_rule_that_has_ended_tells_no_more(rt: HostRuntime) -> Result<(), Fail> {
         ("TS.RANGE d - +", "[0:5]"),
         ("TS.DELETERULE s d", NO_RULE),
     ];
-    run_talk(&rt, rt.alloc(), PLAIN, &lines)
+    run_talk(&rt, rt.alloc(), PLAIN, LINES)
 }
 
 #[test]
 fn one_rule_at_a_time_and_two_in_all(rt: HostRuntime) -> Result<(), Fail> {
-    let row = Row {
+    const ROW: Row = Row {
         rules: 1,
         born: 2,
         ..PLAIN
     };
-    let lines = [
+    const LINES: &[Line] = &[
         ("TS.CREATE s", OK),
         ("TS.CREATE d", OK),
         ("TS.CREATE e", OK),
@@ -92,5 +92,5 @@ fn one_rule_at_a_time_and_two_in_all(rt: HostRuntime) -> Result<(), Fail> {
             "-ERR TSDB: too many rules made",
         ),
     ];
-    run_talk(&rt, rt.alloc(), row, &lines)
+    run_talk(&rt, rt.alloc(), ROW, LINES)
 }

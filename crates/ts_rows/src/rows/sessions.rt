@@ -1,10 +1,10 @@
-use super::talk::run_talk;
+use super::talk::{Line, run_talk};
 use super::{PLAIN, Row, run_all};
 use std::test::Fail;
 
 #[test]
 fn sessions_and_their_ends(rt: HostRuntime) -> Result<(), Fail> {
-    let rows = [
+    const ROWS: &[Row] = &[
         Row {
             input: b"*4\r\n$6\r\nTS.ADD\r\n$1\r\na\r\n$4\r\n1000\r\n$1\r\n1\r\n",
             out: b":1000\r\n",
@@ -23,12 +23,12 @@ fn sessions_and_their_ends(rt: HostRuntime) -> Result<(), Fail> {
             ..PLAIN
         },
     ];
-    run_all(&rt, rt.alloc(), &rows)?;
-    let words_back = [
+    const WORDS_BACK: &[Line] = &[
         ("PING", "+PONG"),
         ("PING hi", "$2\r\nhi"),
         ("ECHO hi", "$2\r\nhi"),
         ("QUIT now", "+OK"),
     ];
-    run_talk(&rt, rt.alloc(), PLAIN, &words_back)
+    run_all(&rt, rt.alloc(), ROWS)?;
+    run_talk(&rt, rt.alloc(), PLAIN, WORDS_BACK)
 }

@@ -71,9 +71,9 @@ const LINES: [Line<'static>; 59] = [
 
 #[test]
 fn all_destinations_or_none(rt: HostRuntime) -> Result<(), Fail> {
-    let row = Row {
+    const ROW: Row = Row {
         samples: 3,
         ..PLAIN
     };
-    run_talk(&rt, rt.alloc(), row, &LINES)
+    run_talk(&rt, rt.alloc(), ROW, &LINES)
 }

@@ -1,13 +1,13 @@
 // What TS.INFO tells.
 use super::PLAIN;
-use super::talk::run_talk;
+use super::talk::{Line, run_talk};
 use std::test::Fail;
 
 const OK: &str = "+OK";
 
 #[test]
 fn how_a_series_is_kept(rt: HostRuntime) -> Result<(), Fail> {
-    let lines = [
+    const LINES: &[Line] = &[
         ("TS.CREATE i RETENTION 60000 LABELS u x", OK),
         ("TS.ADD i 5 1", ":5"),
         (
@@ -20,12 +20,12 @@ fn how_a_series_is_kept(rt: HostRuntime) -> Result<(), Fail> {
         ("TS.CREATE i", "-ERR TSDB: the key already exists"),
         ("TS.INFO nokey", "-ERR TSDB: the key does not exist"),
     ];
-    run_talk(&rt, rt.alloc(), PLAIN, &lines)
+    run_talk(&rt, rt.alloc(), PLAIN, LINES)
 }
 
 #[test]
 fn rules_and_their_source(rt: HostRuntime) -> Result<(), Fail> {
-    let lines = [
+    const LINES: &[Line] = &[
         ("TS.CREATE s ENCODING UNCOMPRESSED CHUNK_SIZE 48", OK),
         ("TS.CREATE d DUPLICATE_POLICY max", OK),
         ("TS.CREATERULE s d AGGREGATION range 10 3", OK),
@@ -45,5 +45,5 @@ fn rules_and_their_source(rt: HostRuntime) -> Result<(), Fail> {
                 +duplicatePolicy\r\n+max\r\n+labels\r\n*0\r\n+sourceKey\r\n$1\r\ns\r\n+rules\r\n*0",
         ),
     ];
-    run_talk(&rt, rt.alloc(), PLAIN, &lines)
+    run_talk(&rt, rt.alloc(), PLAIN, LINES)
 }

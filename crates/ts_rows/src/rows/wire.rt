@@ -3,7 +3,7 @@ use std::test::Fail;
 
 #[test]
 fn streams_that_break_or_end_early(rt: HostRuntime) -> Result<(), Fail> {
-    let rows = [
+    const ROWS: &[Row] = &[
         PLAIN,
         // inside a request
         Row {
@@ -89,5 +89,5 @@ fn streams_that_break_or_end_early(rt: HostRuntime) -> Result<(), Fail> {
             ..PLAIN
         },
     ];
-    run_all(&rt, rt.alloc(), &rows)
+    run_all(&rt, rt.alloc(), ROWS)
 }

@@ -10,7 +10,7 @@ const USAGE: Row<'static> = Row {
 
 #[test]
 fn words_that_ask_for_nothing_are_refused(rt: HostRuntime) -> Result<(), Fail> {
-    let rows = [
+    const ROWS: &[Row] = &[
         Row {
             words: &["pipe", "x"],
             ..USAGE
@@ -44,5 +44,5 @@ fn words_that_ask_for_nothing_are_refused(rt: HostRuntime) -> Result<(), Fail> {
             ..USAGE
         },
     ];
-    run_all(&rt, rt.alloc(), &rows)
+    run_all(&rt, rt.alloc(), ROWS)
 }

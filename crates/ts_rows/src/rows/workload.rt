@@ -9,7 +9,7 @@ const ANSWERED: Row<'static> = Row {
 
 #[test]
 fn the_workload_of_a_seed_is_summed_up(rt: HostRuntime) -> Result<(), Fail> {
-    let rows = [
+    const ROWS: &[Row] = &[
         Row {
             words: &["gen", "7", "0"],
             out: b"requests 21\nin 1674\nout 288\nerrors 0\nkeys 12\nsamples 0\n",
@@ -21,6 +21,11 @@ fn the_workload_of_a_seed_is_summed_up(rt: HostRuntime) -> Result<(), Fail> {
             ..ANSWERED
         },
         Row {
+            words: &["gen", "7", "1000"],
+            out: b"requests 1021\nin 77165\nout 11590\nerrors 0\nkeys 12\nsamples 942\n",
+            ..ANSWERED
+        },
+        Row {
             words: &["gen", "7", "1"],
             failing_write: 1,
             err: b"tsd: write fault\n",
@@ -28,5 +33,5 @@ fn the_workload_of_a_seed_is_summed_up(rt: HostRuntime) -> Result<(), Fail> {
             ..ANSWERED
         },
     ];
-    run_all(&rt, rt.alloc(), &rows)
+    run_all(&rt, rt.alloc(), ROWS)
 }
