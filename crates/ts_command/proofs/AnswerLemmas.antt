@@ -1,13 +1,18 @@
 -- What a fault that was answered says.
-use Rattle.std.proofs.Common.{◌≡◌, refl, ◌⊎◌, inl, inr}
-use Rattle.std.specs.Prelude.{Err, IsTrue}
+use Rattle.std.proofs.Common.{◌≡◌, refl, sym, subst, ◌⊎◌, inl, inr}
+use Rattle.std.specs.Prelude.{Result, Ok, Err, IsTrue}
+use Rattle.std.specs.Result.{IsErrAnd}
+use Rattle.ts_spec.specs.Refusal.{Fault}
 use Rattle.ts_spec.specs.Wire.{Request}
 use Rattle.ts_spec.specs.Grammar.{command, makes_list}
 use Rattle.ts_spec.specs.Messages.{fault_message, memory_message}
 use Rattle.ts_command.specs.declared.fault.CommandFault.{CommandFault}
 use Rattle.ts_command.specs.declared.fault.CommandFault.TheVariants as code
-use Rattle.ts_command.specs.Faults.{fault_of, message}
+use Rattle.ts_command.specs.Faults.{fault_of, fault_of_word, message, IsFaultOr, SaysOr}
 use Rattle.ts_command.specs.Answers.{IsFaultIn}
+use Rattle.ts_command.specs.declared.word_fault.WordFault.{WordFault}
+use Rattle.ts_command.specs.declared.word_fault.ReadFault.{ReadFault}
+use Rattle.ts_command.specs.declared.word_fault.ReadFault.TheVariants as read
 
 -- the fault of the words with its message
 pub record IsToldFault (words : Request) (fault : CommandFault) : Type 0 where
@@ -37,3 +42,9 @@ IsFaultIn-told words code.BadDuration e = inl (record { command = e; message = r
 IsFaultIn-told words code.BadFilter e = inl (record { command = e; message = refl })
 IsFaultIn-told words code.NoPositiveFilter e = inl (record { command = e; message = refl })
 IsFaultIn-told words (code.Memory error) e = inr (record { lists = e; message = refl })
+
+-- the fault of a word is answered
+pub word-answered : {X Y : Type 0} (allowed : Type 0) (view : X → Y) (result : Result X ReadFault) (fault : WordFault) (wanted : Result Y Fault)
+    → IsErrAnd result (λ e. e ≡ read.Word fault) → wanted ≡ Err (fault_of_word fault) → SaysOr allowed view result wanted
+word-answered allowed view (Ok x) fault wanted is says = absurd is
+word-answered allowed view (Err e) fault wanted is says = subst (λ (f : ReadFault). IsFaultOr allowed f wanted) (sym is) says

@@ -1,11 +1,15 @@
 -- Faults of commands, as the definitions have them.
-use Rattle.std.specs.Prelude.{◌≡◌, ⊤, ℕ, List, Result, Ok, Err}
+use Rattle.std.specs.Prelude.{◌≡◌, ℕ, List, Result, Ok, Err}
 use Rattle.ts_spec.specs.Refusal as spec
 use Rattle.ts_spec.specs.Refusal.{Fault}
 use Rattle.ts_spec.specs.Messages.{fault_message, memory_message}
 use Rattle.std.specs.declared.alloc.AllocError.{AllocError}
 use Rattle.ts_command.specs.declared.fault.CommandFault.{CommandFault}
 use Rattle.ts_command.specs.declared.fault.CommandFault.TheVariants as code
+use Rattle.ts_command.specs.declared.word_fault.WordFault.{WordFault}
+use Rattle.ts_command.specs.declared.word_fault.WordFault.TheVariants as word
+use Rattle.ts_command.specs.declared.word_fault.ReadFault.{ReadFault}
+use Rattle.ts_command.specs.declared.word_fault.ReadFault.TheVariants as read
 
 -- The fault in the words. Want of memory is none of them: it stands in no command, and where it is answered that is told apart.
 abbrev pub fault_of : CommandFault → Fault
@@ -26,34 +30,46 @@ fault_of code.BadFilter = spec.BadFilter
 fault_of code.NoPositiveFilter = spec.NoPositiveFilter
 fault_of (code.Memory _) = spec.UnknownCommand
 
--- it is a fault in the words, and no want of memory
-abbrev pub IsInWords : CommandFault → Type 0
-IsInWords (code.Memory _) = ⊥
-IsInWords fault = ⊤
-
 -- it is no want of memory
 abbrev pub IsNoMemory : CommandFault → Type 0
 IsNoMemory fault = (error : AllocError) → fault ≡ code.Memory error → ⊥
 
--- An answer says what is wanted, seen by this view. It is no want of memory.
-abbrev pub Says : {X Y : Type 0} → (X → Y) → Result X CommandFault → Result Y Fault → Type 0
+-- the fault in the words after a command's name
+abbrev pub fault_of_word : WordFault → Fault
+fault_of_word word.Arity = spec.Arity
+fault_of_word word.BadTimestamp = spec.BadTimestamp
+fault_of_word (word.BadValue fault) = spec.BadValue fault
+fault_of_word word.BadOption = spec.BadOption
+fault_of_word word.RepeatedOption = spec.RepeatedOption
+fault_of_word word.BadLabels = spec.BadLabels
+fault_of_word word.BadChunkSize = spec.BadChunkSize
+fault_of_word word.BadPolicy = spec.BadPolicy
+fault_of_word word.BadEncoding = spec.BadEncoding
+fault_of_word word.UnknownAggregator = spec.UnknownAggregator
+fault_of_word word.AggregatorNotInProfile = spec.AggregatorNotInProfile
+fault_of_word word.BadDuration = spec.BadDuration
+fault_of_word word.BadFilter = spec.BadFilter
+fault_of_word word.NoPositiveFilter = spec.NoPositiveFilter
+
+-- an answer says what is wanted, seen by this view
+abbrev pub Says : {X Y : Type 0} → (X → Y) → Result X WordFault → Result Y Fault → Type 0
 Says view (Ok x) wanted = wanted ≡ Ok (view x)
-Says view (Err fault) wanted = IsInWords fault × (wanted ≡ Err (fault_of fault))
+Says view (Err fault) wanted = wanted ≡ Err (fault_of_word fault)
+
+-- an answer says what is wanted, which needs no other view
+abbrev pub SaysSame : {X : Type 0} → Result X WordFault → Result X Fault → Type 0
+SaysSame (Ok x) wanted = wanted ≡ Ok x
+SaysSame (Err fault) wanted = wanted ≡ Err (fault_of_word fault)
 
 -- a fault is the one that is wanted, or want of memory where that is allowed
-abbrev pub IsFaultOr : {Y : Type 0} → (allowed : Type 0) → CommandFault → Result Y Fault → Type 0
-IsFaultOr allowed (code.Memory _) wanted = allowed
-IsFaultOr allowed fault wanted = wanted ≡ Err (fault_of fault)
+abbrev pub IsFaultOr : {Y : Type 0} → (allowed : Type 0) → ReadFault → Result Y Fault → Type 0
+IsFaultOr allowed (read.Word fault) wanted = wanted ≡ Err (fault_of_word fault)
+IsFaultOr allowed (read.Memory error) wanted = allowed
 
 -- An answer says what is wanted, seen by this view. It is want of memory only where that is allowed.
-abbrev pub SaysOr : {X Y : Type 0} → (allowed : Type 0) → (X → Y) → Result X CommandFault → Result Y Fault → Type 0
+abbrev pub SaysOr : {X Y : Type 0} → (allowed : Type 0) → (X → Y) → Result X ReadFault → Result Y Fault → Type 0
 SaysOr allowed view (Ok x) wanted = wanted ≡ Ok (view x)
 SaysOr allowed view (Err fault) wanted = IsFaultOr allowed fault wanted
-
--- an answer says what is wanted, which needs no other view, and is no want of memory
-abbrev pub SaysSame : {X : Type 0} → Result X CommandFault → Result X Fault → Type 0
-SaysSame (Ok x) wanted = wanted ≡ Ok x
-SaysSame (Err fault) wanted = IsInWords fault × (wanted ≡ Err (fault_of fault))
 
 -- what stands in a command where a time or a value is wanted
 abbrev pub said_same : {X : Type 0} → Result X CommandFault → Result X Fault

@@ -128,6 +128,6 @@ pub struct Triple {
     pub at: Result<At, CommandFault>,
     pub value: Result<Units, CommandFault>,
     ghost time_fits: { ForOk at IsTime },
-    ghost time_told: { ForErr at IsNoMemory },
-    ghost value_told: { ForErr value IsNoMemory },
+    ghost time_no_memory: { ForErr at IsNoMemory },
+    ghost value_no_memory: { ForErr value IsNoMemory },
 }

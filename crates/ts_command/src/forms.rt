@@ -9,7 +9,7 @@ ghost use Rattle.ts_command.specs.Forms.{signed_by};
 ghost use Rattle.ts_command.specs.Reading.{command_of};
 
 use crate::command::Command;
-use crate::fault::CommandFault;
+use crate::word_fault::{ReadFault, WordFault};
 use crate::given::Given;
 use crate::with_options::{add_with_options, create_with_options, incr_with_options};
 use crate::words::{at_word, end_word, value_word};
@@ -35,7 +35,7 @@ impl Sign {
     }
 }
 
-pub(crate) fn read_create(mut words: Vec<Word>) -> Result<Command, CommandFault>
+pub(crate) fn read_create(mut words: Vec<Word>) -> Result<Command, ReadFault>
     ensures command { SaysOr (IsTrue (has_labels (drop 1 (drop 1 words.items)))) command_of result (create (drop 1 words.items)) }
     ensures time { IfOk result HasTime }
 {
@@ -49,7 +49,7 @@ pub(crate) fn read_create(mut words: Vec<Word>) -> Result<Command, CommandFault>
     })
 }
 
-pub(crate) fn read_add(mut words: Vec<Word>) -> Result<Command, CommandFault>
+pub(crate) fn read_add(mut words: Vec<Word>) -> Result<Command, ReadFault>
     ensures command { SaysOr (IsTrue (has_labels (drop 3 (drop 1 words.items)))) command_of result (add (drop 1 words.items)) }
     ensures time { IfOk result HasTime }
 {
@@ -68,7 +68,7 @@ pub(crate) fn read_add(mut words: Vec<Word>) -> Result<Command, CommandFault>
     })
 }
 
-pub(crate) fn read_incr(sign: Sign, mut words: Vec<Word>) -> Result<Command, CommandFault>
+pub(crate) fn read_incr(sign: Sign, mut words: Vec<Word>) -> Result<Command, ReadFault>
     ensures command { SaysOr (IsTrue (has_labels (drop 2 (drop 1 words.items)))) command_of result (incr (signed_by sign) (drop 1 words.items)) }
     ensures time { IfOk result HasTime }
 {
@@ -85,12 +85,12 @@ pub(crate) fn read_incr(sign: Sign, mut words: Vec<Word>) -> Result<Command, Com
     })
 }
 
-pub(crate) fn read_del_range(mut words: Vec<Word>) -> Result<Command, CommandFault>
+pub(crate) fn read_del_range(mut words: Vec<Word>) -> Result<Command, WordFault>
     ensures command { Says command_of result (del_range (drop 1 words.items)) }
     ensures time { IfOk result HasTime }
 {
     let [_, _, from, to, ..] = words.as_slice() else {
-        return Err(CommandFault::Arity);
+        return Err(WordFault::Arity);
     };
     let from = end_word(from.bytes())?;
     let to = end_word(to.bytes())?;

@@ -7,7 +7,7 @@ ghost use Rattle.ts_labels.specs.Labels.{labelled};
 ghost use Rattle.ts_command.specs.Faults.{SaysOr};
 ghost use Rattle.ts_command.specs.Options.{table_of};
 
-use crate::fault::CommandFault;
+use crate::word_fault::{ReadFault, WordFault};
 use crate::option_word::OptionSet;
 use crate::own_words::split_own;
 use std::alloc::{AllocError, Global};
@@ -30,14 +30,14 @@ pub(crate) fn count_pairs(set: OptionSet, words: &[Word]) -> usize
 }
 
 // The labels that words say.
-pub(crate) fn read_labels(alloc: Global, words: &[Word]) -> Result<Labels, CommandFault>
+pub(crate) fn read_labels(alloc: Global, words: &[Word]) -> Result<Labels, ReadFault>
     ensures { SaysOr ⊤ (λ labels. labels) result (labels_after [] words.now) }
 {
     let mut labels = Labels::new(alloc);
     let mut rest = words;
     while let Some((name, after)) = rest.split_first() {
         let Some((value, next)) = after.split_first() else {
-            return Err(CommandFault::BadLabels);
+            return Err(ReadFault::Word(WordFault::BadLabels));
         };
         add_label(&mut labels, name, value)?;
         rest = next;
@@ -46,16 +46,13 @@ pub(crate) fn read_labels(alloc: Global, words: &[Word]) -> Result<Labels, Comma
 }
 
 // Adds a label, unless it or its value is empty.
-fn add_label(labels: &mut Labels, name: &Word, value: &Word) -> Result<(), CommandFault>
+fn add_label(labels: &mut Labels, name: &Word, value: &Word) -> Result<(), ReadFault>
     ensures { SaysOr ⊤ (λ done. labels.new) result (labels_after labels.old (name.now ∷ value.now ∷ [])) }
 {
     if name.bytes().is_empty() || value.bytes().is_empty() {
-        return Err(CommandFault::BadLabels);
+        return Err(ReadFault::Word(WordFault::BadLabels));
     }
-    match set_copies(labels, name, value) {
-        Ok(()) => Ok(()),
-        Err(error) => Err(CommandFault::Memory(error)),
-    }
+    Ok(set_copies(labels, name, value)?)
 }
 
 // Gives a label a value, both copied.

@@ -26,6 +26,7 @@ mod small;
 mod triple;
 mod verb;
 mod with_options;
+mod word_fault;
 mod words;
 
 pub use addition::Addition;

@@ -7,7 +7,7 @@ ghost use Rattle.ts_command.specs.Faults.{Says, SaysOr};
 ghost use Rattle.ts_command.specs.Reading.{command_of};
 
 use crate::command::Command;
-use crate::fault::CommandFault;
+use crate::word_fault::{ReadFault, WordFault};
 use crate::given::Given;
 use crate::lists::read_filters;
 use crate::option_word::OptionSet;
@@ -19,13 +19,13 @@ use ts_labels::{Filter, Show, has_positive};
 use ts_resp::Word;
 
 // Filters, of which one asks for a value.
-fn selection(filters: Vec<Filter>) -> Result<Vec<Filter>, CommandFault>
+fn selection(filters: Vec<Filter>) -> Result<Vec<Filter>, WordFault>
     ensures { Says (λ filters. filters.items) result (selecting filters.items) }
 {
     if has_positive(&filters) {
         Ok(filters)
     } else {
-        Err(CommandFault::NoPositiveFilter)
+        Err(WordFault::NoPositiveFilter)
     }
 }
 
@@ -36,7 +36,7 @@ fn read_asked(
     from: &[u8],
     to: &[u8],
     options: &[Word],
-) -> Result<Command, CommandFault>
+) -> Result<Command, ReadFault>
     ensures command { SaysOr ⊤ command_of result (many_ranges reverse (from.now ∷ to.now ∷ options.now)) }
     ensures time { IfOk result HasTime }
 {
@@ -44,7 +44,7 @@ fn read_asked(
     let last = end_word(to)?;
     let mut given = Given::nothing();
     read_options(alloc, OptionSet::ManyRanges, options, &mut given)?;
-    let filters = given.filters.ok_or(CommandFault::BadOption)?;
+    let filters = given.filters.ok_or(WordFault::BadOption)?;
     let query = given.range.query(reverse, from, to, first, last)?;
     Ok(Command::MRange {
         latest: given.latest,
@@ -55,18 +55,18 @@ fn read_asked(
 }
 
 // The words are the whole request, with its name.
-pub(crate) fn read_many_ranges(reverse: bool, words: &Vec<Word>) -> Result<Command, CommandFault>
+pub(crate) fn read_many_ranges(reverse: bool, words: &Vec<Word>) -> Result<Command, ReadFault>
     ensures command { SaysOr ⊤ command_of result (many_ranges reverse (drop 1 words.now.items)) }
     ensures time { IfOk result HasTime }
 {
     let alloc = *words.allocator();
     let [_, from, to, options @ ..] = words.as_slice() else {
-        return Err(CommandFault::Arity);
+        return Err(ReadFault::Word(WordFault::Arity));
     };
     read_asked(alloc, reverse, from.bytes(), to.bytes(), options)
 }
 
-pub(crate) fn read_last_of_many(words: &Vec<Word>) -> Result<Command, CommandFault>
+pub(crate) fn read_last_of_many(words: &Vec<Word>) -> Result<Command, ReadFault>
     ensures command { SaysOr ⊤ command_of result (last_of_many (drop 1 words.now.items)) }
     ensures time { IfOk result HasTime }
 {
@@ -74,7 +74,7 @@ pub(crate) fn read_last_of_many(words: &Vec<Word>) -> Result<Command, CommandFau
     let (_name, options) = split_own(1, words);
     let mut given = Given::nothing();
     read_options(alloc, OptionSet::ManyLast, options, &mut given)?;
-    let filters = given.filters.ok_or(CommandFault::BadOption)?;
+    let filters = given.filters.ok_or(WordFault::BadOption)?;
     Ok(Command::MGet {
         latest: given.latest,
         show: given.show.unwrap_or(Show::Nothing),
@@ -82,7 +82,7 @@ pub(crate) fn read_last_of_many(words: &Vec<Word>) -> Result<Command, CommandFau
     })
 }
 
-pub(crate) fn read_query_index(words: &Vec<Word>) -> Result<Command, CommandFault>
+pub(crate) fn read_query_index(words: &Vec<Word>) -> Result<Command, ReadFault>
     ensures command { SaysOr ⊤ command_of result (query_index (drop 1 words.now.items)) }
     ensures time { IfOk result HasTime }
 {

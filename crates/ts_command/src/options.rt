@@ -6,7 +6,7 @@ ghost use Rattle.ts_command.specs.Faults.{Says, SaysOr};
 ghost use Rattle.ts_command.specs.Given.{given_of};
 ghost use Rattle.ts_command.specs.Options.{setting_of, table_of, is_list, lister, is_lister, may_list};
 
-use crate::fault::CommandFault;
+use crate::word_fault::{ReadFault, WordFault};
 use crate::given::Given;
 use crate::labels_option::{count_pairs, read_labels};
 use crate::lists::{read_filters, read_names, read_times};
@@ -75,13 +75,13 @@ fn count_own(set: OptionSet, words: &[Word]) -> usize
 }
 
 // The option that a word names, unless it stood before.
-fn new_option(set: OptionSet, word: &[u8], given: &Given) -> Result<OptionWord, CommandFault>
+fn new_option(set: OptionSet, word: &[u8], given: &Given) -> Result<OptionWord, WordFault>
     ensures option { Says setting_of result (new_setting (given_of given.now) (named (table_of set) word.now)) }
     ensures list { IfOk result (λ option. IsTrue (is_list option) → IsTrue (is_lister (lister set) word.now)) }
 {
     match set.named(word) {
-        None => Err(CommandFault::BadOption),
-        Some(option) if option.is_given(given) => Err(CommandFault::RepeatedOption),
+        None => Err(WordFault::BadOption),
+        Some(option) if option.is_given(given) => Err(WordFault::RepeatedOption),
         Some(option) => Ok(option),
     }
 }
@@ -92,7 +92,7 @@ fn add_own(
     option: OptionWord,
     own: &[Word],
     given: &mut Given,
-) -> Result<(), CommandFault>
+) -> Result<(), ReadFault>
     ensures { SaysOr (IsTrue (is_list option)) (λ done. given_of given.new) result ((setting_of option).says own.now (given_of given.old)) }
 {
     match option {
@@ -126,7 +126,7 @@ pub(crate) fn read_options(
     set: OptionSet,
     words: &[Word],
     given: &mut Given,
-) -> Result<(), CommandFault>
+) -> Result<(), ReadFault>
     ensures { SaysOr (IsTrue (may_list (lister set) words.now)) (λ done. given_of given.new) result (options (table_of set) (given_of given.old) 0 words.now) }
 {
     let mut rest = words;

@@ -7,7 +7,7 @@ ghost use Rattle.ts_command.specs.Faults.{SaysOr};
 ghost use Rattle.ts_command.specs.Reading.{command_of};
 
 use crate::command::Command;
-use crate::fault::CommandFault;
+use crate::word_fault::{ReadFault, WordFault};
 use crate::given::Given;
 use crate::option_word::OptionSet;
 use crate::options::read_options;
@@ -15,13 +15,13 @@ use crate::words::end_word;
 use ts_resp::Word;
 
 // The words are the whole request, with its name; the key is taken out of them at the end.
-pub(crate) fn read_range(reverse: bool, mut words: Vec<Word>) -> Result<Command, CommandFault>
+pub(crate) fn read_range(reverse: bool, mut words: Vec<Word>) -> Result<Command, ReadFault>
     ensures command { SaysOr (IsTrue (has_list (drop 3 (drop 1 words.items)))) command_of result (range reverse (drop 1 words.items)) }
     ensures time { IfOk result HasTime }
 {
     let alloc = *words.allocator();
     let [_, _, from, to, options @ ..] = words.as_slice() else {
-        return Err(CommandFault::Arity);
+        return Err(ReadFault::Word(WordFault::Arity));
     };
     let first = end_word(from.bytes())?;
     let last = end_word(to.bytes())?;

@@ -4,7 +4,7 @@ ghost use Rattle.std.specs.Option.{ForSome};
 ghost use Rattle.ts_spec.specs.Ranges.{IsDuration, IsAlign};
 ghost use Rattle.ts_spec.specs.Sample.{MAX_TIME};
 
-use crate::fault::CommandFault;
+use crate::word_fault::WordFault;
 use ts_bucket::{Grid, Stamp};
 use ts_range::{Buckets, Query};
 use ts_sample::Units;
@@ -106,13 +106,13 @@ impl RangeGiven {
         to: &[u8],
         first: u64,
         last: u64,
-    ) -> Result<Query, CommandFault>
+    ) -> Result<Query, WordFault>
         requires first { first ≤ MAX_TIME }
         requires last { last ≤ MAX_TIME }
         ensures { Says query_of result (query reverse from.now to.now first last (range_given_of self)) }
     {
         if self.lacks_aggregation() || self.lacks_end(from, to) {
-            return Err(CommandFault::BadOption);
+            return Err(WordFault::BadOption);
         }
         let buckets = self.buckets(first, last);
         Ok(Query {

@@ -4,18 +4,18 @@ ghost use Rattle.ts_command.specs.Faults.{Says};
 ghost use Rattle.ts_command.specs.Given.{given_of};
 
 use crate::bucket_words::{aggregator_word, align_word, duration_word, stamp_word};
-use crate::fault::CommandFault;
+use crate::word_fault::WordFault;
 use crate::given::Given;
 use crate::own_words::own_word;
 use crate::words::value_word;
 use ts_resp::Word;
 use ts_spec::Aggregation;
 
-pub(crate) fn add_values(own: &[Word], given: &mut Given) -> Result<(), CommandFault>
+pub(crate) fn add_values(own: &[Word], given: &mut Given) -> Result<(), WordFault>
     ensures { Says (λ done. given_of given.new) result (filter_by_value.says own.now (given_of given.old)) }
 {
     let [least, greatest, ..] = own else {
-        return Err(CommandFault::BadOption);
+        return Err(WordFault::BadOption);
     };
     let least = value_word(least.bytes())?;
     let greatest = value_word(greatest.bytes())?;
@@ -23,11 +23,11 @@ pub(crate) fn add_values(own: &[Word], given: &mut Given) -> Result<(), CommandF
     Ok(())
 }
 
-pub(crate) fn add_aggregation(own: &[Word], given: &mut Given) -> Result<(), CommandFault>
+pub(crate) fn add_aggregation(own: &[Word], given: &mut Given) -> Result<(), WordFault>
     ensures { Says (λ done. given_of given.new) result (aggregation.says own.now (given_of given.old)) }
 {
     let [name, duration, ..] = own else {
-        return Err(CommandFault::BadOption);
+        return Err(WordFault::BadOption);
     };
     let agg = aggregator_word(name.bytes())?;
     let duration = duration_word(duration.bytes())?;
@@ -35,14 +35,14 @@ pub(crate) fn add_aggregation(own: &[Word], given: &mut Given) -> Result<(), Com
     Ok(())
 }
 
-pub(crate) fn add_align(own: &[Word], given: &mut Given) -> Result<(), CommandFault>
+pub(crate) fn add_align(own: &[Word], given: &mut Given) -> Result<(), WordFault>
     ensures { Says (λ done. given_of given.new) result (align.says own.now (given_of given.old)) }
 {
     given.range.align = Some(align_word(own_word(own)?)?);
     Ok(())
 }
 
-pub(crate) fn add_stamp(own: &[Word], given: &mut Given) -> Result<(), CommandFault>
+pub(crate) fn add_stamp(own: &[Word], given: &mut Given) -> Result<(), WordFault>
     ensures { Says (λ done. given_of given.new) result (bucket_timestamp.says own.now (given_of given.old)) }
 {
     given.range.stamp = Some(stamp_word(own_word(own)?)?);

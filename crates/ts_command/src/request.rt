@@ -1,7 +1,9 @@
 // The one way in: the name finds the command and the number of its words, and the command reads them.
-ghost use Rattle.std.specs.Prelude.{◌≡◌, IfOk, IfErr};
+ghost use Rattle.std.specs.Prelude.{◌≡◌, drop, IfOk, IfErr, IsTrue};
 ghost use Rattle.ts_spec.specs.Grammar.{command};
 ghost use Rattle.ts_command.specs.Answers.{HasTime, IsFaultIn};
+ghost use Rattle.ts_command.specs.Faults.{SaysOr};
+ghost use Rattle.ts_command.specs.Forms.{form_of};
 ghost use Rattle.ts_command.specs.Reading.{command_of};
 
 use crate::command::Command;
@@ -14,6 +16,7 @@ use crate::small::{read_drop, read_echo, read_exists, read_get, read_info, read_
 use crate::triple::read_madd;
 use crate::verb::Verb;
 use crate::with_options::read_alter;
+use crate::word_fault::ReadFault;
 use ts_resp::Word;
 
 /// The command that the words of a request say, with the words moved into it, or the first fault in them: the
@@ -34,6 +37,18 @@ pub fn read(words: Vec<Word>) -> Result<Command, CommandFault>
     if !verb.takes(words.len()) {
         return Err(CommandFault::Arity);
     }
+    match read_by(verb, words) {
+        Ok(command) => Ok(command),
+        Err(ReadFault::Word(fault)) => Err(fault.of_command()),
+        Err(ReadFault::Memory(error)) => Err(CommandFault::Memory(error)),
+    }
+}
+
+// The command that the words after its name say.
+fn read_by(verb: Verb, words: Vec<Word>) -> Result<Command, ReadFault>
+    ensures command { SaysOr (IsTrue ((form_of verb).lists (drop 1 words.items))) command_of result ((form_of verb).says (drop 1 words.items)) }
+    ensures time { IfOk result HasTime }
+{
     match verb {
         Verb::Create => read_create(words),
         Verb::Alter => read_alter(words),
@@ -41,21 +56,21 @@ pub fn read(words: Vec<Word>) -> Result<Command, CommandFault>
         Verb::Madd => read_madd(words),
         Verb::IncrBy => read_incr(Sign::Plus, words),
         Verb::DecrBy => read_incr(Sign::Minus, words),
-        Verb::DelRange => read_del_range(words),
-        Verb::CreateRule => read_create_rule(words),
-        Verb::DeleteRule => read_delete_rule(words),
+        Verb::DelRange => Ok(read_del_range(words)?),
+        Verb::CreateRule => Ok(read_create_rule(words)?),
+        Verb::DeleteRule => Ok(read_delete_rule(words)?),
         Verb::Range => read_range(false, words),
         Verb::RevRange => read_range(true, words),
         Verb::MRange => read_many_ranges(false, &words),
         Verb::MRevRange => read_many_ranges(true, &words),
-        Verb::Get => read_get(words),
+        Verb::Get => Ok(read_get(words)?),
         Verb::MGet => read_last_of_many(&words),
         Verb::QueryIndex => read_query_index(&words),
-        Verb::Info => read_info(words),
-        Verb::Ping => read_ping(words),
-        Verb::Echo => read_echo(words),
+        Verb::Info => Ok(read_info(words)?),
+        Verb::Ping => Ok(read_ping(words)?),
+        Verb::Echo => Ok(read_echo(words)?),
         Verb::Quit => Ok(Command::Quit),
-        Verb::Drop => read_drop(words),
-        Verb::Exists => read_exists(words),
+        Verb::Drop => Ok(read_drop(words)?),
+        Verb::Exists => Ok(read_exists(words)?),
     }
 }

@@ -5,11 +5,11 @@ ghost use Rattle.ts_spec.specs.Grammar.{create_rule, delete_rule, rule_buckets};
 ghost use Rattle.ts_command.specs.Answers.{HasTime};
 ghost use Rattle.ts_command.specs.Faults.{Says};
 ghost use Rattle.ts_command.specs.Reading.{command_of};
-ghost use Rattle.ts_command.specs.declared.fault.CommandFault.TheVariants.{Arity};
+ghost use Rattle.ts_command.specs.declared.word_fault.WordFault.TheVariants.{Arity};
 
 use crate::bucket_words::{aggregator_word, duration_word};
 use crate::command::Command;
-use crate::fault::CommandFault;
+use crate::word_fault::WordFault;
 use crate::words::time_word;
 use std::vec::IntoIter;
 use ts_agg::is_name;
@@ -17,11 +17,11 @@ use ts_bucket::Grid;
 use ts_resp::Word;
 
 // A word that has to be there.
-fn next_word(words: &mut IntoIter<Word>) -> Result<Word, CommandFault>
+fn next_word(words: &mut IntoIter<Word>) -> Result<Word, WordFault>
     ensures ok { IfOk result (λ word. into_iter_items words.old ≡ word ∷ into_iter_items words.new) }
     ensures fault { IfErr result (λ fault. (fault ≡ Arity) × (into_iter_items words.old ≡ [])) }
 {
-    words.next().ok_or(CommandFault::Arity)
+    words.next().ok_or(WordFault::Arity)
 }
 
 // The rule of two series: what is told of each bucket, how long it is, and where one begins, which may be left out.
@@ -29,7 +29,7 @@ fn read_buckets(
     source: Word,
     dest: Word,
     mut words: IntoIter<Word>,
-) -> Result<Command, CommandFault>
+) -> Result<Command, WordFault>
     ensures command { Says command_of result (rule_buckets source dest (into_iter_items words)) }
     ensures time { IfOk result HasTime }
 {
@@ -41,7 +41,7 @@ fn read_buckets(
         None => 0,
         Some(word) => time_word(word.bytes())?,
     };
-    let grid = Grid::new(align, duration).ok_or(CommandFault::BadDuration)?;
+    let grid = Grid::new(align, duration).ok_or(WordFault::BadDuration)?;
     Ok(Command::CreateRule {
         source,
         dest,
@@ -50,7 +50,7 @@ fn read_buckets(
     })
 }
 
-pub(crate) fn read_create_rule(words: Vec<Word>) -> Result<Command, CommandFault>
+pub(crate) fn read_create_rule(words: Vec<Word>) -> Result<Command, WordFault>
     ensures command { Says command_of result (create_rule (drop 1 words.items)) }
     ensures time { IfOk result HasTime }
 {
@@ -60,12 +60,12 @@ pub(crate) fn read_create_rule(words: Vec<Word>) -> Result<Command, CommandFault
     let dest = next_word(&mut words)?;
     let option = next_word(&mut words)?;
     if !is_name(b"AGGREGATION", option.bytes()) {
-        return Err(CommandFault::BadOption);
+        return Err(WordFault::BadOption);
     }
     read_buckets(source, dest, words)
 }
 
-pub(crate) fn read_delete_rule(words: Vec<Word>) -> Result<Command, CommandFault>
+pub(crate) fn read_delete_rule(words: Vec<Word>) -> Result<Command, WordFault>
     ensures command { Says command_of result (delete_rule (drop 1 words.items)) }
     ensures time { IfOk result HasTime }
 {

@@ -7,20 +7,20 @@ ghost use Rattle.ts_command.specs.Faults.{Says};
 ghost use Rattle.ts_command.specs.Reading.{command_of};
 
 use crate::command::Command;
-use crate::fault::CommandFault;
+use crate::word_fault::WordFault;
 use ts_agg::is_name;
 use ts_resp::Word;
 
-pub(crate) fn read_get(mut words: Vec<Word>) -> Result<Command, CommandFault>
+pub(crate) fn read_get(mut words: Vec<Word>) -> Result<Command, WordFault>
     ensures command { Says command_of result (get_last (drop 1 words.items)) }
     ensures time { IfOk result HasTime }
 {
     let latest = match words.as_slice() {
-        [] | [_] => return Err(CommandFault::Arity),
+        [] | [_] => return Err(WordFault::Arity),
         [_, _] => false,
         [_, _, word, ..] => {
             if !is_name(b"LATEST", word.bytes()) {
-                return Err(CommandFault::BadOption);
+                return Err(WordFault::BadOption);
             }
             true
         }
@@ -31,19 +31,19 @@ pub(crate) fn read_get(mut words: Vec<Word>) -> Result<Command, CommandFault>
     })
 }
 
-pub(crate) fn read_info(mut words: Vec<Word>) -> Result<Command, CommandFault>
+pub(crate) fn read_info(mut words: Vec<Word>) -> Result<Command, WordFault>
     ensures command { Says command_of result (info (drop 1 words.items)) }
     ensures time { IfOk result HasTime }
 {
     if words.len() < 2 {
-        return Err(CommandFault::Arity);
+        return Err(WordFault::Arity);
     }
     Ok(Command::InfoOf {
         key: words.swap_remove(1),
     })
 }
 
-pub(crate) fn read_ping(mut words: Vec<Word>) -> Result<Command, CommandFault>
+pub(crate) fn read_ping(mut words: Vec<Word>) -> Result<Command, WordFault>
     ensures command { Says command_of result (ping (drop 1 words.items)) }
     ensures time { IfOk result HasTime }
 {
@@ -55,12 +55,12 @@ pub(crate) fn read_ping(mut words: Vec<Word>) -> Result<Command, CommandFault>
     })
 }
 
-pub(crate) fn read_echo(mut words: Vec<Word>) -> Result<Command, CommandFault>
+pub(crate) fn read_echo(mut words: Vec<Word>) -> Result<Command, WordFault>
     ensures command { Says command_of result (echo (drop 1 words.items)) }
     ensures time { IfOk result HasTime }
 {
     if words.len() < 2 {
-        return Err(CommandFault::Arity);
+        return Err(WordFault::Arity);
     }
     Ok(Command::Echo {
         word: words.swap_remove(1),
@@ -77,14 +77,14 @@ fn keys(mut words: Vec<Word>) -> Vec<Word>
     words
 }
 
-pub(crate) fn read_drop(words: Vec<Word>) -> Result<Command, CommandFault>
+pub(crate) fn read_drop(words: Vec<Word>) -> Result<Command, WordFault>
     ensures command { Says command_of result (Ok (spec.Drop (drop 1 words.items))) }
     ensures time { IfOk result HasTime }
 {
     Ok(Command::Drop { keys: keys(words) })
 }
 
-pub(crate) fn read_exists(words: Vec<Word>) -> Result<Command, CommandFault>
+pub(crate) fn read_exists(words: Vec<Word>) -> Result<Command, WordFault>
     ensures command { Says command_of result (Ok (spec.Exists (drop 1 words.items))) }
     ensures time { IfOk result HasTime }
 {

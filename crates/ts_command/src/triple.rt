@@ -1,17 +1,22 @@
 // The samples of TS.MADD.
 ghost use Rattle.std.specs.Prelude.{◌≡◌, ◌<◌, ⊤, ◌∷◌, [], drop, length, IfOk, OnSome, MatchOption};
 ghost use Rattle.std.specs.Vec.Iter.{into_iter_items};
+ghost use Rattle.std.specs.Result.{ForErr, ForOk};
 ghost use Rattle.ts_spec.specs.Grammar.{madd, triples};
+ghost use Rattle.ts_spec.specs.Settings.{IsTime, at_word, value_word};
 ghost use Rattle.ts_command.specs.Answers.{HasTime};
-ghost use Rattle.ts_command.specs.Faults.{SaysOr};
+ghost use Rattle.ts_command.specs.Faults.{SaysOr, IsNoMemory, said_same};
 ghost use Rattle.ts_command.specs.Reading.{command_of, triple_of, triples_of};
 
 use crate::command::{Command, Triple};
 use crate::fault::CommandFault;
+use crate::word_fault::ReadFault;
 use crate::words::{at_word, value_word};
 use std::alloc::{AllocError, Global};
 use std::vec::IntoIter;
 use ts_resp::Word;
+use ts_sample::Units;
+use ts_spec::At;
 
 // The next three words.
 fn next_triple(words: &mut IntoIter<Word>) -> Option<Triple>
@@ -24,9 +29,32 @@ fn next_triple(words: &mut IntoIter<Word>) -> Option<Triple>
     let value = words.next()?;
     Some(Triple {
         key,
-        at: at_word(time.bytes()),
-        value: value_word(value.bytes()),
+        at: time_of(time.bytes()),
+        value: value_of(value.bytes()),
     })
+}
+
+// The time of a triple, or the fault that is its answer.
+fn time_of(word: &[u8]) -> Result<At, CommandFault>
+    ensures answer { said_same result ≡ at_word word.now }
+    ensures time { ForOk result IsTime }
+    ensures no_memory { ForErr result IsNoMemory }
+{
+    match at_word(word) {
+        Ok(at) => Ok(at),
+        Err(fault) => Err(fault.of_command()),
+    }
+}
+
+// The value of a triple, or the fault that is its answer.
+fn value_of(word: &[u8]) -> Result<Units, CommandFault>
+    ensures answer { said_same result ≡ value_word word.now }
+    ensures no_memory { ForErr result IsNoMemory }
+{
+    match value_word(word) {
+        Ok(value) => Ok(value),
+        Err(fault) => Err(fault.of_command()),
+    }
 }
 
 // Three words each.
@@ -41,15 +69,13 @@ fn read_triples(alloc: Global, mut words: IntoIter<Word>) -> Result<Vec<Triple>,
 }
 
 // The words are the whole request, with its name.
-pub(crate) fn read_madd(words: Vec<Word>) -> Result<Command, CommandFault>
+pub(crate) fn read_madd(words: Vec<Word>) -> Result<Command, ReadFault>
     ensures command { SaysOr ⊤ command_of result (madd (drop 1 words.items)) }
     ensures time { IfOk result HasTime }
 {
     let alloc = *words.allocator();
     let mut words = words.into_iter();
     let _name = words.next();
-    match read_triples(alloc, words) {
-        Ok(triples) => Ok(Command::Madd { triples }),
-        Err(error) => Err(CommandFault::Memory(error)),
-    }
+    let triples = read_triples(alloc, words)?;
+    Ok(Command::Madd { triples })
 }

@@ -9,7 +9,7 @@ ghost use Rattle.ts_command.specs.Forms.{signed_by};
 ghost use Rattle.ts_command.specs.Reading.{command_of};
 
 use crate::command::Command;
-use crate::fault::CommandFault;
+use crate::word_fault::{ReadFault, WordFault};
 use crate::forms::Sign;
 use crate::given::Given;
 use crate::option_word::OptionSet;
@@ -19,13 +19,13 @@ use ts_resp::Word;
 use ts_spec::At;
 
 #[inline(never)]
-pub(crate) fn create_with_options(mut words: Vec<Word>) -> Result<Command, CommandFault>
+pub(crate) fn create_with_options(mut words: Vec<Word>) -> Result<Command, ReadFault>
     ensures command { SaysOr (IsTrue (has_labels (drop 1 (drop 1 words.items)))) command_of result (create (drop 1 words.items)) }
     ensures time { IfOk result HasTime }
 {
     let alloc = *words.allocator();
     let [_, _, options @ ..] = words.as_slice() else {
-        return Err(CommandFault::Arity);
+        return Err(ReadFault::Word(WordFault::Arity));
     };
     let mut given = Given::nothing();
     read_options(alloc, OptionSet::Create, options, &mut given)?;
@@ -35,13 +35,13 @@ pub(crate) fn create_with_options(mut words: Vec<Word>) -> Result<Command, Comma
     })
 }
 
-pub(crate) fn read_alter(mut words: Vec<Word>) -> Result<Command, CommandFault>
+pub(crate) fn read_alter(mut words: Vec<Word>) -> Result<Command, ReadFault>
     ensures command { SaysOr (IsTrue (has_labels (drop 1 (drop 1 words.items)))) command_of result (alter (drop 1 words.items)) }
     ensures time { IfOk result HasTime }
 {
     let alloc = *words.allocator();
     let [_, _, options @ ..] = words.as_slice() else {
-        return Err(CommandFault::Arity);
+        return Err(ReadFault::Word(WordFault::Arity));
     };
     let mut given = Given::nothing();
     read_options(alloc, OptionSet::Alter, options, &mut given)?;
@@ -52,13 +52,13 @@ pub(crate) fn read_alter(mut words: Vec<Word>) -> Result<Command, CommandFault>
 }
 
 #[inline(never)]
-pub(crate) fn add_with_options(mut words: Vec<Word>) -> Result<Command, CommandFault>
+pub(crate) fn add_with_options(mut words: Vec<Word>) -> Result<Command, ReadFault>
     ensures command { SaysOr (IsTrue (has_labels (drop 3 (drop 1 words.items)))) command_of result (add (drop 1 words.items)) }
     ensures time { IfOk result HasTime }
 {
     let alloc = *words.allocator();
     let [_, _, time, value, options @ ..] = words.as_slice() else {
-        return Err(CommandFault::Arity);
+        return Err(ReadFault::Word(WordFault::Arity));
     };
     let at = at_word(time.bytes())?;
     let value = value_word(value.bytes())?;
@@ -74,13 +74,13 @@ pub(crate) fn add_with_options(mut words: Vec<Word>) -> Result<Command, CommandF
 }
 
 #[inline(never)]
-pub(crate) fn incr_with_options(sign: Sign, mut words: Vec<Word>) -> Result<Command, CommandFault>
+pub(crate) fn incr_with_options(sign: Sign, mut words: Vec<Word>) -> Result<Command, ReadFault>
     ensures command { SaysOr (IsTrue (has_labels (drop 2 (drop 1 words.items)))) command_of result (incr (signed_by sign) (drop 1 words.items)) }
     ensures time { IfOk result HasTime }
 {
     let alloc = *words.allocator();
     let [_, _, value, options @ ..] = words.as_slice() else {
-        return Err(CommandFault::Arity);
+        return Err(ReadFault::Word(WordFault::Arity));
     };
     let value = value_word(value.bytes())?;
     let mut given = Given::nothing();

@@ -46,7 +46,7 @@ fn add_all<L: Ledger>(
     requires empty { out.old.bytes ≡ [] }
     requires room { 128 ≤ out.old.spare }
     requires items { 64 * length triples.items + 64 ≤ out.old.spare }
-    ensures told { Carries db.old db.new (λ from to. WritesAll reading (triples_of triples.items) from out.new.bytes to) }
+    ensures reply { Carries db.old db.new (λ from to. WritesAll reading (triples_of triples.items) from out.new.bytes to) }
     ensures room { 128 ≤ length out.new.bytes + out.new.spare }
 {
     begin_array(triples.len(), out);
@@ -58,7 +58,7 @@ fn add_all<L: Ledger>(
 
 // Executes one triple, and answers its item.
 fn add_one<L: Ledger>(db: &mut Db, triple: Triple, reading: u64, steps: &mut Steps<L>) -> Reply
-    ensures told { Carries db.old db.new (λ from to. IsTold from.limits reading (triple_of triple) from.state (reply_of result) to.state
+    ensures reply { Carries db.old db.new (λ from to. IsTold from.limits reading (triple_of triple) from.state (reply_of result) to.state
         × (to.limits ≡ from.limits)) }
     ensures short { IsShort (reply_of result) }
 {

@@ -77,7 +77,7 @@ pub(crate) fn too_many_rows() -> Reply
 
 /// The error reply to a command that the database refuses, or for which there is no memory. It names no key.
 pub(crate) fn refusal_reply(fault: DbFault) -> Reply
-    ensures told { (ids : Keyed Id) → reply_of result ≡ Error (message_of (refusal_of ids fault)) }
+    ensures reply { (ids : Keyed Id) → reply_of result ≡ Error (message_of (refusal_of ids fault)) }
     ensures short { IsShort (reply_of result) }
 {
     error(message(fault))

@@ -24,7 +24,7 @@ use ts_sample::Steps;
 pub(crate) fn put_info<L: Ledger>(db: &Db, key: &Word, out: &mut Out, steps: &mut Steps<L>)
     requires empty { out.old.bytes ≡ [] }
     requires room { 128 ≤ out.old.spare }
-    ensures told { (from : Held) → Stands db.now from → IsTold (info_response from.state key.now (get key.now from.state)) out.new.bytes }
+    ensures reply { (from : Held) → Stands db.now from → IsTold (info_response from.state key.now (get key.now from.state)) out.new.bytes }
     ensures room { 128 ≤ length out.new.bytes + out.new.spare }
 {
     match db.info(key, steps) {

@@ -28,7 +28,7 @@ pub(crate) fn put_members<L: Ledger>(
 )
     requires empty { out.old.bytes ≡ [] }
     requires room { 128 ≤ out.old.spare }
-    ensures told { (from : Held) → Stands db.now from → IsTold (many_response from wanted.now filters.now) out.new.bytes }
+    ensures reply { (from : Held) → Stands db.now from → IsTold (many_response from wanted.now filters.now) out.new.bytes }
     ensures room { 128 ≤ length out.new.bytes + out.new.spare }
 {
     let Ok(ids) = db.select(filters, steps) else {

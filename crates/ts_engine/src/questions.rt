@@ -30,7 +30,7 @@ pub(crate) fn put_range<L: Ledger>(
 )
     requires empty { out.old.bytes ≡ [] }
     requires room { 128 ≤ out.old.spare }
-    ensures told { (from : Held) → Stands db.now from
+    ensures reply { (from : Held) → Stands db.now from
         → IsTold (range_response from.limits from.state key.now latest (query_of query.now) (get key.now from.state)) out.new.bytes }
     ensures room { 128 ≤ length out.new.bytes + out.new.spare }
 {
@@ -46,7 +46,7 @@ fn put_answer(query: &Query, asked: &Asked, empty_rows: u32, out: &mut Out)
     requires room { 128 ≤ out.old.spare }
     requires ascending { IsAscending asked.now.rows.items }
     requires within { between query.now.from query.now.to asked.now.rows.items ≡ asked.now.rows.items }
-    ensures told { (l : List Point) → IsAscending l → IsAskedOf query.now asked.now l
+    ensures reply { (l : List Point) → IsAscending l → IsAskedOf query.now asked.now l
         → IsTold (rows_response (spec.answer empty_rows (query_of query.now) l)) out.new.bytes }
     ensures room { 128 ≤ length out.new.bytes + out.new.spare }
 {
@@ -68,7 +68,7 @@ pub(crate) fn put_get<L: Ledger>(
 )
     requires empty { out.old.bytes ≡ [] }
     requires room { 128 ≤ out.old.spare }
-    ensures told { (from : Held) → Stands db.now from → IsTold (last_response from.state key.now latest (get key.now from.state)) out.new.bytes }
+    ensures reply { (from : Held) → Stands db.now from → IsTold (last_response from.state key.now latest (get key.now from.state)) out.new.bytes }
     ensures room { 128 ≤ length out.new.bytes + out.new.spare }
 {
     match db.last(key, latest, steps) {

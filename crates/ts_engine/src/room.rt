@@ -10,7 +10,7 @@ use ts_resp::{Out, Reply, encode, put};
 pub(crate) fn put_no_memory(out: &mut Out)
     requires empty { out.old.bytes ≡ [] }
     requires room { 128 ≤ length out.old.bytes + out.old.spare }
-    ensures told { out.new.bytes ≡ text memory_reply }
+    ensures bytes { out.new.bytes ≡ text memory_reply }
     ensures room { 128 ≤ length out.new.bytes + out.new.spare }
 {
     put(&Reply::Error("OOM out of memory"), out);
@@ -20,7 +20,7 @@ pub(crate) fn put_no_memory(out: &mut Out)
 pub(crate) fn put_or_no_memory(reply: &Reply, out: &mut Out)
     requires empty { out.old.bytes ≡ [] }
     requires room { 128 ≤ out.old.spare }
-    ensures told { (out.new.bytes ≡ text (reply_of reply.now)) ⊎ (out.new.bytes ≡ text memory_reply) }
+    ensures bytes { (out.new.bytes ≡ text (reply_of reply.now)) ⊎ (out.new.bytes ≡ text memory_reply) }
     ensures room { 128 ≤ length out.new.bytes + out.new.spare }
 {
     match encode(reply, out) {

@@ -16,7 +16,7 @@ use ts_sample::{Cell, Sample};
 pub(crate) fn put_rows(rows: &[Row], out: &mut Out)
     requires empty { out.old.bytes ≡ [] }
     requires room { 128 ≤ out.old.spare }
-    ensures told { IsTold (Rows (map row_of rows.now)) out.new.bytes }
+    ensures reply { IsTold (Rows (map row_of rows.now)) out.new.bytes }
     ensures room { 128 ≤ length out.new.bytes + out.new.spare }
 {
     match reserve_items(rows.len(), out) {

@@ -24,4 +24,4 @@ returns-in-Err-clause-answer g c =
     let a = c.args.addition.now in
     let reply = reply_of c.refusal_reply.result in
     carries_none c.args.db.now (λ from to. StepOrMemory (add_at from.limits from.state a.key.now c.args.time a.value None (spec nothing) (get a.key.now from.state)) from reply to)
-    (λ from stands. inr (record { says = c.refusal_reply.ensures.told c.args.db.now.ids; same = refl }))
+    (λ from stands. inr (record { says = c.refusal_reply.ensures.reply c.args.db.now.ids; same = refl }))

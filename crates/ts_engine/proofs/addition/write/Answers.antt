@@ -33,5 +33,5 @@ returns-in-NoKey-clause-answer g c =
 pub returns-in_default-clause-answer : goal.returns-in_default-clause-answer
 returns-in_default-clause-answer g c =
     let a = c.args.addition.now in
-    answered (λ t. Count t) c.args.db.now c.put.new.self (adds a.key.now c.args.time a.value (spec nothing)) (Err c.in-Err.fault) (reply_of c.refusal_reply.result) c.refusal_reply.ensures.told
+    answered (λ t. Count t) c.args.db.now c.put.new.self (adds a.key.now c.args.time a.value (spec nothing)) (Err c.in-Err.fault) (reply_of c.refusal_reply.result) c.refusal_reply.ensures.reply
     (not_added a.key.now c.args.time a.value (spec nothing) c.args.db.now c.put.new.self c.in-Err.fault c.in_default.not-NoKey c.in-Err.ensures.put)

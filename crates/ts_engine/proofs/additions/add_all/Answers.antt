@@ -32,28 +32,28 @@ pub loop-triple-preserved : goal.loop-triple-preserved
 loop-triple-preserved g c =
     adding_more c.args.reading (triples_of c.args.triples.items) (triples_of (into_iter_items c.loop-triple.triple-iterator)) (triples_of (into_iter_items c.next.new.self)) (triple_of c.in-Some.triple)
     c.args.db.now c.loop-triple.db c.add_one-item.new.db (reply_of c.add_one-item.result) c.loop-triple.out.bytes c.put.new.out.bytes c.loop-triple.out.spare c.put.new.out.spare
-    c.loop-triple.invariant (ap triples_of c.in-Some.ensures.steps.0) c.add_one-item.ensures.told c.add_one-item.ensures.short c.put.ensures.bytes c.put.ensures.room
+    c.loop-triple.invariant (ap triples_of c.in-Some.ensures.steps.0) c.add_one-item.ensures.reply c.add_one-item.ensures.short c.put.ensures.bytes c.put.ensures.room
 
 pub loop-triple-preserved-in-Some : goal.loop-triple-preserved-in-Some
 loop-triple-preserved-in-Some g c =
     adding_more c.args.reading (triples_of c.args.triples.items) (triples_of (into_iter_items c.loop-triple.triple-iterator)) (triples_of (into_iter_items c.next.new.self)) (triple_of c.in-Some.triple)
     c.args.db.now c.loop-triple.db c.add_one-item.new.db (reply_of c.add_one-item.result) c.loop-triple.out.bytes c.put.new.out.bytes c.loop-triple.out.spare c.put.new.out.spare
-    c.loop-triple.invariant (ap triples_of c.in-Some.ensures.steps.0) c.add_one-item.ensures.told c.add_one-item.ensures.short c.put.ensures.bytes c.put.ensures.room
+    c.loop-triple.invariant (ap triples_of c.in-Some.ensures.steps.0) c.add_one-item.ensures.reply c.add_one-item.ensures.short c.put.ensures.bytes c.put.ensures.room
 
 pub loop-triple-preserved-in-Some-2 : goal.loop-triple-preserved-in-Some-2
 loop-triple-preserved-in-Some-2 g c =
     adding_more c.args.reading (triples_of c.args.triples.items) (triples_of (into_iter_items c.loop-triple.triple-iterator)) (triples_of (into_iter_items c.next.new.self)) (triple_of c.in-Some.triple)
     c.args.db.now c.loop-triple.db c.add_one-item.new.db (reply_of c.add_one-item.result) c.loop-triple.out.bytes c.put.new.out.bytes c.loop-triple.out.spare c.put.new.out.spare
-    c.loop-triple.invariant (ap triples_of c.in-Some.ensures.steps.0) c.add_one-item.ensures.told c.add_one-item.ensures.short c.put.ensures.bytes c.put.ensures.room
+    c.loop-triple.invariant (ap triples_of c.in-Some.ensures.steps.0) c.add_one-item.ensures.reply c.add_one-item.ensures.short c.put.ensures.bytes c.put.ensures.room
 
 pub loop-triple-preserved-in-Some-3 : goal.loop-triple-preserved-in-Some-3
 loop-triple-preserved-in-Some-3 g c =
     adding_more c.args.reading (triples_of c.args.triples.items) (triples_of (into_iter_items c.loop-triple.triple-iterator)) (triples_of (into_iter_items c.next.new.self)) (triple_of c.in-Some.triple)
     c.args.db.now c.loop-triple.db c.add_one-item.new.db (reply_of c.add_one-item.result) c.loop-triple.out.bytes c.put.new.out.bytes c.loop-triple.out.spare c.put.new.out.spare
-    c.loop-triple.invariant (ap triples_of c.in-Some.ensures.steps.0) c.add_one-item.ensures.told c.add_one-item.ensures.short c.put.ensures.bytes c.put.ensures.room
+    c.loop-triple.invariant (ap triples_of c.in-Some.ensures.steps.0) c.add_one-item.ensures.reply c.add_one-item.ensures.short c.put.ensures.bytes c.put.ensures.room
 
-pub returns-clause-told : goal.returns-clause-told
-returns-clause-told g c =
+pub returns-clause-reply : goal.returns-clause-reply
+returns-clause-reply g c =
     let none : into_iter_items c.loop-triple.triple-iterator ≡ [] = no_items (into_iter_items c.loop-triple.triple-iterator) (omega (arith, c.in-None.ensures.steps.0, c.loop-triple.triple-iterator.rest.ok.0)) in
     each_told c.args.reading (triples_of c.args.triples.items) (triples_of (into_iter_items c.loop-triple.triple-iterator)) c.args.db.now c.loop-triple.db c.loop-triple.out.bytes
     c.loop-triple.invariant.so_far (ap triples_of none)

@@ -6,8 +6,8 @@ use Rattle.ts_engine.specs.Answering.{IsShort}
 use Rattle.ts_engine.proofs.Short.{short_error}
 use Rattle.ts_engine.proofs.answers.refusal_reply.Goals as goal
 
-pub returns-clause-told : goal.returns-clause-told
-returns-clause-told c = λ ids. c.error.ensures ∙ ap (λ (l : List ℕ). Error l) (c.message.ensures ids)
+pub returns-clause-reply : goal.returns-clause-reply
+returns-clause-reply c = λ ids. c.error.ensures ∙ ap (λ (l : List ℕ). Error l) (c.message.ensures ids)
 
 pub returns-clause-short : goal.returns-clause-short
 returns-clause-short c = subst IsShort (sym (c.error.ensures ∙ ap (λ (l : List ℕ). Error l) (c.message.ensures none))) (short_error (refusal_of none c.args.fault))

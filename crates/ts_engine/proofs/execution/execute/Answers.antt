@@ -68,46 +68,46 @@ pub returns-in-Range-clause-executes : goal.returns-in-Range-clause-executes
 returns-in-Range-clause-executes g c =
     rw c.in-Range.is (asks_execute c.args.reading (Range c.in-Range.key c.in-Range.latest (query_of c.in-Range.query)) c.args.db.now c.put_range.new.out.bytes
     (λ (h : Held). range_response h.limits h.state c.in-Range.key c.in-Range.latest (query_of c.in-Range.query) (get c.in-Range.key h.state)) refl
-    (λ from. record { says = refl; state = refl; limits = refl }) c.put_range.ensures.told)
+    (λ from. record { says = refl; state = refl; limits = refl }) c.put_range.ensures.reply)
 
 pub returns-in-MRange-clause-executes : goal.returns-in-MRange-clause-executes
 returns-in-MRange-clause-executes g c =
     let wanted = Rows c.in-MRange.latest c.in-MRange.show c.in-MRange.query in
     rw c.in-MRange.is (asks_execute c.args.reading (MRange c.in-MRange.latest (show_of c.in-MRange.show) c.in-MRange.filters.items (query_of c.in-MRange.query)) c.args.db.now c.put_members.new.out.bytes
     (λ (h : Held). many_response h wanted c.in-MRange.filters.items) refl (λ from. record { says = refl; state = refl; limits = refl })
-    (subst (λ (fs : List Filter). (from : Held) → Stands c.args.db.now from → IsTold (many_response from wanted fs) c.put_members.new.out.bytes) c.deref.ensures.value c.put_members.ensures.told))
+    (subst (λ (fs : List Filter). (from : Held) → Stands c.args.db.now from → IsTold (many_response from wanted fs) c.put_members.new.out.bytes) c.deref.ensures.value c.put_members.ensures.reply))
 
 pub returns-in-MGet-clause-executes : goal.returns-in-MGet-clause-executes
 returns-in-MGet-clause-executes g c =
     let wanted = Last c.in-MGet.latest c.in-MGet.show in
     rw c.in-MGet.is (asks_execute c.args.reading (MGet c.in-MGet.latest (show_of c.in-MGet.show) c.in-MGet.filters.items) c.args.db.now c.put_members-in-MGet.new.out.bytes
     (λ (h : Held). many_response h wanted c.in-MGet.filters.items) refl (λ from. record { says = refl; state = refl; limits = refl })
-    (subst (λ (fs : List Filter). (from : Held) → Stands c.args.db.now from → IsTold (many_response from wanted fs) c.put_members-in-MGet.new.out.bytes) c.deref-in-MGet.ensures.value c.put_members-in-MGet.ensures.told))
+    (subst (λ (fs : List Filter). (from : Held) → Stands c.args.db.now from → IsTold (many_response from wanted fs) c.put_members-in-MGet.new.out.bytes) c.deref-in-MGet.ensures.value c.put_members-in-MGet.ensures.reply))
 
 pub returns-in-QueryIndex-clause-executes : goal.returns-in-QueryIndex-clause-executes
 returns-in-QueryIndex-clause-executes g c =
     rw c.in-QueryIndex.is (asks_execute c.args.reading (QueryIndex c.in-QueryIndex.filters.items) c.args.db.now c.put_members-in-QueryIndex.new.out.bytes
     (λ (h : Held). many_response h wanted.Key c.in-QueryIndex.filters.items) refl (λ from. record { says = refl; state = refl; limits = refl })
-    (subst (λ (fs : List Filter). (from : Held) → Stands c.args.db.now from → IsTold (many_response from wanted.Key fs) c.put_members-in-QueryIndex.new.out.bytes) c.deref-in-QueryIndex.ensures.value c.put_members-in-QueryIndex.ensures.told))
+    (subst (λ (fs : List Filter). (from : Held) → Stands c.args.db.now from → IsTold (many_response from wanted.Key fs) c.put_members-in-QueryIndex.new.out.bytes) c.deref-in-QueryIndex.ensures.value c.put_members-in-QueryIndex.ensures.reply))
 
 pub returns-in-Get-clause-executes : goal.returns-in-Get-clause-executes
 returns-in-Get-clause-executes g c =
     rw c.in-Get.is (asks_execute c.args.reading (Get c.in-Get.key c.in-Get.latest) c.args.db.now c.put_get.new.out.bytes
-    (λ (h : Held). last_response h.state c.in-Get.key c.in-Get.latest (get c.in-Get.key h.state)) refl (λ from. record { says = refl; state = refl; limits = refl }) c.put_get.ensures.told)
+    (λ (h : Held). last_response h.state c.in-Get.key c.in-Get.latest (get c.in-Get.key h.state)) refl (λ from. record { says = refl; state = refl; limits = refl }) c.put_get.ensures.reply)
 
 pub returns-in-InfoOf-clause-executes : goal.returns-in-InfoOf-clause-executes
 returns-in-InfoOf-clause-executes g c =
     rw c.in-InfoOf.is (asks_execute c.args.reading (InfoOf c.in-InfoOf.key) c.args.db.now c.put_info.new.out.bytes
-    (λ (h : Held). info_response h.state c.in-InfoOf.key (get c.in-InfoOf.key h.state)) refl (λ from. record { says = refl; state = refl; limits = refl }) c.put_info.ensures.told)
+    (λ (h : Held). info_response h.state c.in-InfoOf.key (get c.in-InfoOf.key h.state)) refl (λ from. record { says = refl; state = refl; limits = refl }) c.put_info.ensures.reply)
 
 pub returns-in-Ping-clause-executes : goal.returns-in-Ping-clause-executes
 returns-in-Ping-clause-executes g c =
-    rw c.in-Ping.is (pings_execute c.args.reading c.in-Ping.word c.args.db.now c.put_pong.new.out.bytes c.put_pong.ensures.pong c.put_pong.ensures.told)
+    rw c.in-Ping.is (pings_execute c.args.reading c.in-Ping.word c.args.db.now c.put_pong.new.out.bytes c.put_pong.ensures.pong c.put_pong.ensures.reply)
 
 pub returns-in-Echo-clause-executes : goal.returns-in-Echo-clause-executes
 returns-in-Echo-clause-executes g c =
     rw c.in-Echo.is (asks_execute c.args.reading (Echo c.in-Echo.word) c.args.db.now c.put_word.new.out.bytes (λ h. Word c.in-Echo.word) refl (λ from. record { says = refl; state = refl; limits = refl })
-    (λ from stands. c.put_word.ensures.told))
+    (λ from stands. c.put_word.ensures.reply))
 
 pub returns-in-Quit-clause-executes : goal.returns-in-Quit-clause-executes
 returns-in-Quit-clause-executes g c =

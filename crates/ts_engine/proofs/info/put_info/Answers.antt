@@ -12,15 +12,15 @@ use Rattle.ts_engine.proofs.Finding.{found}
 use Rattle.ts_engine.proofs.Refusals.{lost_told}
 use Rattle.ts_engine.proofs.info.put_info.Goals as goal
 
-pub returns-in-Ok-info_reply-clause-told : goal.returns-in-Ok-info_reply-clause-told
-returns-in-Ok-info_reply-clause-told g c = λ from stands.
+pub returns-in-Ok-info_reply-clause-reply : goal.returns-in-Ok-info_reply-clause-reply
+returns-in-Ok-info_reply-clause-reply g c = λ from stands.
     let o = get c.args.key.now from.state in
     let what = found o (λ (info : Info). Told (info_of info) ≡ info_response from.state c.args.key.now o) c.in-Ok.info (c.in-Ok.ensures.info from stands) in
     ⊎_elim (λ (is : c.put_or_no_memory.new.out.bytes ≡ text (reply_of c.in-Ok-info_reply.reply)). inl (is ∙ ap text c.in-Ok-info_reply.ensures ∙ ap (λ (r : Response). text (reply_to r)) what))
-    (λ (is : c.put_or_no_memory.new.out.bytes ≡ text memory_reply). inr is) c.put_or_no_memory.ensures.told
+    (λ (is : c.put_or_no_memory.new.out.bytes ≡ text memory_reply). inr is) c.put_or_no_memory.ensures.bytes
 
-pub returns-in-Err-clause-told : goal.returns-in-Err-clause-told
-returns-in-Err-clause-told g c = λ from stands.
+pub returns-in-Err-clause-reply : goal.returns-in-Err-clause-reply
+returns-in-Err-clause-reply g c = λ from stands.
     lost_told (info_response from.state c.args.key.now) (get c.args.key.now from.state)
     (λ (info : Info). Told (info_of info) ≡ info_response from.state c.args.key.now (get c.args.key.now from.state)) c.in-Err.fault c.args.db.now.ids c.put.new.out.bytes refl (c.in-Err.ensures.info from stands)
-    (alone (reply_of c.refusal_reply.result) c.args.out.now.bytes c.put.new.out.bytes c.put.ensures.bytes c.requires.empty ∙ ap text (c.refusal_reply.ensures.told c.args.db.now.ids))
+    (alone (reply_of c.refusal_reply.result) c.args.out.now.bytes c.put.new.out.bytes c.put.ensures.bytes c.requires.empty ∙ ap text (c.refusal_reply.ensures.reply c.args.db.now.ids))

@@ -13,14 +13,14 @@ add_members-requires g c =
     let keys = kept_selection c.args.db.now.keys c.args.filters.now in
     numbers-live c.args.db.now.ids keys c.deref.result.now (subst (AreNumbersOf c.args.db.now.ids keys) (sym c.deref.ensures.value) c.in-Ok.ensures)
 
-pub returns-in-Ok-add_members-clause-told : goal.returns-in-Ok-add_members-clause-told
-returns-in-Ok-add_members-clause-told g c =
+pub returns-in-Ok-add_members-clause-reply : goal.returns-in-Ok-add_members-clause-reply
+returns-in-Ok-add_members-clause-reply g c =
     let keys = kept_selection c.args.db.now.keys c.args.filters.now in
     many-told c.args.db.now c.args.wanted.now c.args.filters.now c.args.out.now.bytes c.add_members.new.out.bytes c.requires.empty
     (c.in-Ok-add_members.ensures.added keys (subst (AreNumbersOf c.args.db.now.ids keys) (sym c.deref.ensures.value) c.in-Ok.ensures))
 
-pub returns-in-Err-EmptyRows-clause-told : goal.returns-in-Err-EmptyRows-clause-told
-returns-in-Err-EmptyRows-clause-told g c =
+pub returns-in-Err-EmptyRows-clause-reply : goal.returns-in-Err-EmptyRows-clause-reply
+returns-in-Err-EmptyRows-clause-reply g c =
     let keys = kept_selection c.args.db.now.keys c.args.filters.now in
     many-refused c.args.db.now c.args.wanted.now c.args.filters.now c.put.new.out.bytes
     (c.in-Err-EmptyRows.ensures.refused c.in-Err-EmptyRows.field-0-is keys (subst (AreNumbersOf c.args.db.now.ids keys) (sym c.deref.ensures.value) c.in-Ok.ensures))
