@@ -15,36 +15,36 @@ use Rattle.ts_command.specs.declared.word_fault.ReadFault.{ReadFault}
 use Rattle.ts_command.specs.declared.word_fault.ReadFault.TheVariants as read
 
 -- the fault of the words with its message
-pub record IsToldFault (words : Request) (fault : CommandFault) : Type 0 where
+pub record IsFaultOfWords (words : Request) (fault : CommandFault) : Type 0 where
   pub command : command words ≡ Err (fault_of fault)
   pub message : message fault ≡ fault_message (fault_of fault)
 
 -- want of memory with its message
-pub record IsToldMemory (words : Request) (fault : CommandFault) : Type 0 where
+pub record IsWantOfMemory (words : Request) (fault : CommandFault) : Type 0 where
   pub lists : IsTrue (makes_list words)
   pub message : message fault ≡ memory_message
 
 -- a fault that was answered is that of the words, or want of memory where they make a list
-pub IsFaultIn-told : (words : Request) (fault : CommandFault) → IsFaultIn words fault → IsToldFault words fault ⊎ IsToldMemory words fault
-IsFaultIn-told words code.UnknownCommand e = inl (record { command = e; message = refl })
-IsFaultIn-told words code.Arity e = inl (record { command = e; message = refl })
-IsFaultIn-told words code.BadTimestamp e = inl (record { command = e; message = refl })
-IsFaultIn-told words (code.BadValue fault) e = inl (record { command = e; message = refl })
-IsFaultIn-told words code.BadOption e = inl (record { command = e; message = refl })
-IsFaultIn-told words code.RepeatedOption e = inl (record { command = e; message = refl })
-IsFaultIn-told words code.BadLabels e = inl (record { command = e; message = refl })
-IsFaultIn-told words code.BadChunkSize e = inl (record { command = e; message = refl })
-IsFaultIn-told words code.BadPolicy e = inl (record { command = e; message = refl })
-IsFaultIn-told words code.BadEncoding e = inl (record { command = e; message = refl })
-IsFaultIn-told words code.UnknownAggregator e = inl (record { command = e; message = refl })
-IsFaultIn-told words code.AggregatorNotInProfile e = inl (record { command = e; message = refl })
-IsFaultIn-told words code.BadDuration e = inl (record { command = e; message = refl })
-IsFaultIn-told words code.BadFilter e = inl (record { command = e; message = refl })
-IsFaultIn-told words code.NoPositiveFilter e = inl (record { command = e; message = refl })
-IsFaultIn-told words (code.Memory error) e = inr (record { lists = e; message = refl })
+pub fault-or-memory : (words : Request) (fault : CommandFault) → IsFaultIn words fault → IsFaultOfWords words fault ⊎ IsWantOfMemory words fault
+fault-or-memory words code.UnknownCommand e = inl (record { command = e; message = refl })
+fault-or-memory words code.Arity e = inl (record { command = e; message = refl })
+fault-or-memory words code.BadTimestamp e = inl (record { command = e; message = refl })
+fault-or-memory words (code.BadValue fault) e = inl (record { command = e; message = refl })
+fault-or-memory words code.BadOption e = inl (record { command = e; message = refl })
+fault-or-memory words code.RepeatedOption e = inl (record { command = e; message = refl })
+fault-or-memory words code.BadLabels e = inl (record { command = e; message = refl })
+fault-or-memory words code.BadChunkSize e = inl (record { command = e; message = refl })
+fault-or-memory words code.BadPolicy e = inl (record { command = e; message = refl })
+fault-or-memory words code.BadEncoding e = inl (record { command = e; message = refl })
+fault-or-memory words code.UnknownAggregator e = inl (record { command = e; message = refl })
+fault-or-memory words code.AggregatorNotInProfile e = inl (record { command = e; message = refl })
+fault-or-memory words code.BadDuration e = inl (record { command = e; message = refl })
+fault-or-memory words code.BadFilter e = inl (record { command = e; message = refl })
+fault-or-memory words code.NoPositiveFilter e = inl (record { command = e; message = refl })
+fault-or-memory words (code.Memory error) e = inr (record { lists = e; message = refl })
 
--- the fault of a word is answered
-pub word-answered : {X Y : Type 0} (allowed : Type 0) (view : X → Y) (result : Result X ReadFault) (fault : WordFault) (wanted : Result Y Fault)
+-- what answers the fault of a word says what is wanted, if that is this fault
+pub word-fault-says : {X Y : Type 0} (allowed : Type 0) (view : X → Y) (result : Result X ReadFault) (fault : WordFault) (wanted : Result Y Fault)
     → IsErrAnd result (λ e. e ≡ read.Word fault) → wanted ≡ Err (fault_of_word fault) → SaysOr allowed view result wanted
-word-answered allowed view (Ok x) fault wanted is says = absurd is
-word-answered allowed view (Err e) fault wanted is says = subst (λ (f : ReadFault). IsFaultOr allowed f wanted) (sym is) says
+word-fault-says allowed view (Ok x) fault wanted is says = absurd is
+word-fault-says allowed view (Err e) fault wanted is says = subst (λ (f : ReadFault). IsFaultOr allowed f wanted) (sym is) says

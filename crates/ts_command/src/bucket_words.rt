@@ -3,9 +3,9 @@ ghost use Rattle.std.specs.Prelude.{IfOk};
 ghost use Rattle.ts_spec.specs.Ranges.{IsDuration, IsAlign, aggregator_word, duration_word, align_word, stamp_word};
 ghost use Rattle.ts_command.specs.Faults.{SaysSame};
 
-use crate::word_fault::WordFault;
 use crate::names::{align_named, stamp_named};
 use crate::number::number_of;
+use crate::word_fault::WordFault;
 use ts_agg::{AggFault, Aggregator, read_aggregator};
 use ts_bucket::{LONGEST, Stamp};
 use ts_spec::Align;

@@ -9,9 +9,9 @@ ghost use Rattle.ts_command.specs.Forms.{signed_by};
 ghost use Rattle.ts_command.specs.Reading.{command_of};
 
 use crate::command::Command;
-use crate::word_fault::{ReadFault, WordFault};
 use crate::given::Given;
 use crate::with_options::{add_with_options, create_with_options, incr_with_options};
+use crate::word_fault::{ReadFault, WordFault};
 use crate::words::{at_word, end_word, value_word};
 use ts_resp::Word;
 use ts_sample::Units;

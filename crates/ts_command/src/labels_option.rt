@@ -7,9 +7,9 @@ ghost use Rattle.ts_labels.specs.Labels.{labelled};
 ghost use Rattle.ts_command.specs.Faults.{SaysOr};
 ghost use Rattle.ts_command.specs.Options.{table_of};
 
-use crate::word_fault::{ReadFault, WordFault};
 use crate::option_word::OptionSet;
 use crate::own_words::split_own;
+use crate::word_fault::{ReadFault, WordFault};
 use std::alloc::{AllocError, Global};
 use ts_labels::Labels;
 use ts_resp::Word;

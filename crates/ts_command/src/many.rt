@@ -7,12 +7,12 @@ ghost use Rattle.ts_command.specs.Faults.{Says, SaysOr};
 ghost use Rattle.ts_command.specs.Reading.{command_of};
 
 use crate::command::Command;
-use crate::word_fault::{ReadFault, WordFault};
 use crate::given::Given;
 use crate::lists::read_filters;
 use crate::option_word::OptionSet;
 use crate::options::read_options;
 use crate::own_words::split_own;
+use crate::word_fault::{ReadFault, WordFault};
 use crate::words::end_word;
 use std::alloc::Global;
 use ts_labels::{Filter, Show, has_positive};

@@ -6,13 +6,13 @@ ghost use Rattle.ts_command.specs.Faults.{Says, SaysOr};
 ghost use Rattle.ts_command.specs.Given.{given_of};
 ghost use Rattle.ts_command.specs.Options.{setting_of, table_of, is_list, lister, is_lister, may_list};
 
-use crate::word_fault::{ReadFault, WordFault};
 use crate::given::Given;
 use crate::labels_option::{count_pairs, read_labels};
 use crate::lists::{read_filters, read_names, read_times};
 use crate::option_word::{OptionSet, OptionWord};
 use crate::own_words::{own_word, own_words, split_own};
 use crate::range_options::{add_aggregation, add_align, add_stamp, add_values};
+use crate::word_fault::{ReadFault, WordFault};
 use crate::words::{
     at_word, chunk_size_word, count_word, encoding_word, policy_word, retention_word,
 };

@@ -7,10 +7,10 @@ ghost use Rattle.ts_command.specs.Faults.{SaysOr};
 ghost use Rattle.ts_command.specs.Reading.{command_of};
 
 use crate::command::Command;
-use crate::word_fault::{ReadFault, WordFault};
 use crate::given::Given;
 use crate::option_word::OptionSet;
 use crate::options::read_options;
+use crate::word_fault::{ReadFault, WordFault};
 use crate::words::end_word;
 use ts_resp::Word;
 

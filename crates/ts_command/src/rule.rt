@@ -25,11 +25,7 @@ fn next_word(words: &mut IntoIter<Word>) -> Result<Word, WordFault>
 }
 
 // The rule of two series: what is told of each bucket, how long it is, and where one begins, which may be left out.
-fn read_buckets(
-    source: Word,
-    dest: Word,
-    mut words: IntoIter<Word>,
-) -> Result<Command, WordFault>
+fn read_buckets(source: Word, dest: Word, mut words: IntoIter<Word>) -> Result<Command, WordFault>
     ensures command { Says command_of result (rule_buckets source dest (into_iter_items words)) }
     ensures time { IfOk result HasTime }
 {

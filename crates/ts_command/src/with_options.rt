@@ -9,11 +9,11 @@ ghost use Rattle.ts_command.specs.Forms.{signed_by};
 ghost use Rattle.ts_command.specs.Reading.{command_of};
 
 use crate::command::Command;
-use crate::word_fault::{ReadFault, WordFault};
 use crate::forms::Sign;
 use crate::given::Given;
 use crate::option_word::OptionSet;
 use crate::options::read_options;
+use crate::word_fault::{ReadFault, WordFault};
 use crate::words::{at_word, value_word};
 use ts_resp::Word;
 use ts_spec::At;

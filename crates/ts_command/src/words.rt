@@ -6,9 +6,9 @@ ghost use Rattle.ts_spec.specs.Ranges.{count_word};
 ghost use Rattle.ts_spec.specs.Sample.{MAX_TIME};
 ghost use Rattle.ts_command.specs.Faults.{SaysSame};
 
-use crate::word_fault::WordFault;
 use crate::names::{encoding_named, policy_named};
 use crate::number::number_of;
+use crate::word_fault::WordFault;
 use ts_decimal::parse;
 use ts_sample::{MAX_TIME, Units};
 use ts_spec::{At, Encoding, Policy};

@@ -11,7 +11,7 @@ use Rattle.ts_command.specs.declared.fault.CommandFault.{CommandFault}
 use Rattle.ts_command.specs.declared.fault.CommandFault.TheVariants as code
 use Rattle.ts_command.specs.Answers.{IsFaultIn}
 use Rattle.ts_command.specs.Faults.{message}
-use Rattle.ts_command.proofs.AnswerLemmas.{IsToldFault, IsToldMemory, IsFaultIn-told}
+use Rattle.ts_command.proofs.AnswerLemmas.{IsFaultOfWords, IsWantOfMemory, fault-or-memory}
 use Rattle.ts_engine.specs.Answering.{IsShort}
 use Rattle.ts_engine.specs.Turn.{World, TurnBy, turn}
 use Rattle.ts_engine.proofs.Short.{short_fault, short_memory}
@@ -20,23 +20,23 @@ use Rattle.ts_engine.proofs.Lists.{lists_no_quit}
 pub faulted : (words : Request) (fault : CommandFault) (from : World) (written : List ℕ) → IsFaultIn words fault → written ≡ text (Error (message fault)) → turn from words written from
 faulted words fault from written is says =
     ⊎_elim
-    (λ (told : IsToldFault words fault). inl (subst (λ (r : Result Command Fault). TurnBy r from written from) (sym told.command) (record {
-      says = says ∙ ap (λ (l : List ℕ). text (Error l)) told.message;
+    (λ (in_words : IsFaultOfWords words fault). inl (subst (λ (r : Result Command Fault). TurnBy r from written from) (sym in_words.command) (record {
+      says = says ∙ ap (λ (l : List ℕ). text (Error l)) in_words.message;
       same = refl;
     })))
-    (λ (told : IsToldMemory words fault). inr (record {
-      may = told.lists;
-      says = says ∙ ap (λ (l : List ℕ). text (Error l)) told.message;
+    (λ (want : IsWantOfMemory words fault). inr (record {
+      may = want.lists;
+      says = says ∙ ap (λ (l : List ℕ). text (Error l)) want.message;
       same = refl;
     }))
-    (IsFaultIn-told words fault is)
+    (fault-or-memory words fault is)
 
 -- words that were answered by a fault, or by want of memory, are not QUIT
 pub faulted_no_quit : (words : Request) (fault : CommandFault) → IsFaultIn words fault → is_quit words ≡ false
 faulted_no_quit words fault is =
-    ⊎_elim (λ (told : IsToldFault words fault). ap says_quit told.command)
-    (λ (told : IsToldMemory words fault). lists_no_quit words told.lists)
-    (IsFaultIn-told words fault is)
+    ⊎_elim (λ (in_words : IsFaultOfWords words fault). ap says_quit in_words.command)
+    (λ (want : IsWantOfMemory words fault). lists_no_quit words want.lists)
+    (fault-or-memory words fault is)
 
 pub short_told : (fault : CommandFault) → IsShort (Error (message fault))
 short_told code.UnknownCommand = short_fault refusal.UnknownCommand

@@ -7,7 +7,7 @@ use Rattle.ts_spec.specs.Ranges.{has_list}
 use Rattle.ts_command.specs.Faults.{fault_of_word}
 use Rattle.ts_command.specs.Reading.{command_of}
 use Rattle.ts_command.specs.declared.word_fault.WordFault.{WordFault}
-use Rattle.ts_command.proofs.AnswerLemmas.{word-answered}
+use Rattle.ts_command.proofs.AnswerLemmas.{word-fault-says}
 use Rattle.ts_command.proofs.RangeLemmas.{range-read, range-refused}
 use Rattle.ts_command.proofs.range.read_range.Goals as goal
 
@@ -24,7 +24,7 @@ returns-clause-command c =
 pub returns-in_err-query-clause-command : goal.returns-in_err-query-clause-command
 returns-in_err-query-clause-command c =
     let fault : WordFault = c.in_err-query.field-0.0 in
-    word-answered (IsTrue (has_list (drop 3 (drop 1 c.args.words.items)))) command_of c.from_residual-in_err-query.result fault (range c.args.reverse (drop 1 c.args.words.items))
+    word-fault-says (IsTrue (has_list (drop 3 (drop 1 c.args.words.items)))) command_of c.from_residual-in_err-query.result fault (range c.args.reverse (drop 1 c.args.words.items))
     c.from_residual-in_err-query.ensures.1
     (rw (← c.as_slice.ensures.value)
     (range-refused c.args.reverse c.as_slice.result.now c.from-item.result c.to-item.result c.in_ok-first.first c.in_ok-last.last (given_of c.read_options.new.given) (fault_of_word fault)
