@@ -1,6 +1,7 @@
 pub mod Aggregates
 pub mod Around
 pub mod Counted
+pub mod Cuts
 pub mod Filtered
 pub mod First
 pub mod Groups

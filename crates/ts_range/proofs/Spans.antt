@@ -23,7 +23,7 @@ module _ (g : Grid) (some : 0 < g.duration) (b last : ℕ) (begins : start g b �
     | inr le ↦ (let e = start-mono g b u some le in grind (arith, nat_tests))
   ]
 
-  late : (u : ℕ) → u ≤ MAX_TIME → last < u → b < start g u
+  pub late : (u : ℕ) → u ≤ MAX_TIME → last < u → b < start g u
   late u time past =
       let le : start g last ≤ start g u = start-mono g last u some (omega arith) in
       let same = ends.same in
@@ -32,7 +32,7 @@ module _ (g : Grid) (some : 0 < g.duration) (b last : ℕ) (begins : start g b �
         | inr more ↦ (let e = ends.latest u time (omega arith) in absurd (omega arith))
       ]
 
-  inside : (u : ℕ) → b ≤ u → u ≤ last → start g u ≡ b
+  pub inside : (u : ℕ) → b ≤ u → u ≤ last → start g u ≡ b
   inside u from to =
       let low = start-mono g b u some from in
       let high = start-mono g u last some to in

@@ -1,7 +1,10 @@
+pub mod Cutting
 pub mod Empty
 pub mod Filters
 pub mod Order
 pub mod Query
 pub mod Starts
+pub mod Taking
 pub mod Told
 pub mod Walk
+pub mod Walking

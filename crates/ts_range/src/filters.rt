@@ -7,9 +7,9 @@ use crate::query::Query;
 use std::alloc::{AllocError, Global};
 use ts_sample::{Sample, Units};
 
-// What a question lets through, in a form that is asked quickly.
+/// What a question lets through, in a form that is asked quickly.
 #[derive(Drop)]
-pub(crate) struct Filters {
+pub struct Filters {
     // In ascending order.
     times: Option<Vec<u64>>,
     values: Option<(Units, Units)>,
@@ -22,8 +22,8 @@ impl Filters {
     ghost use Rattle.ts_range.specs.Query.{query_of, span_of};
     ghost use Rattle.ts_range.specs.Filters.{passes};
 
-    // What this question lets through.
-    pub(crate) fn of(alloc: Global, query: &Query) -> Result<Filters, AllocError>
+    /// What this question lets through.
+    pub fn of(alloc: Global, query: &Query) -> Result<Filters, AllocError>
         ensures { IfOk result (λ f. (p : Point) →
             passes f p ≡ is_let_through (query_of query.now) p) }
     {

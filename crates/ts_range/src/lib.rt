@@ -2,22 +2,32 @@
 #![tactic(auto)]
 
 mod answers;
+mod bucket;
 mod buckets;
 mod cells;
 mod cut;
+mod cutter;
 mod empty;
 mod fault;
 mod filters;
+mod limited;
+mod list;
 mod place;
 mod query;
 mod row;
 mod samples;
 mod starts;
+mod take;
+mod trail;
+mod walk;
 
 pub use answers::answer;
 pub use fault::RangeFault;
+pub use filters::Filters;
 pub use query::{Buckets, Query};
 pub use row::{Asked, Row};
+pub use take::Take;
+pub use walk::Walk;
 
 #[cfg(test)]
 mod tests;

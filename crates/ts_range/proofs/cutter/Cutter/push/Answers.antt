@@ -1,0 +1,19 @@
+use Rattle.std.proofs.Common.{refl, ap, subst, arith}
+use Rattle.std.specs.Prelude.{Option}
+use Rattle.ts_spec.specs.Sample.{Point}
+use Rattle.ts_range.specs.declared.bucket.Bucket.{Bucket}
+use Rattle.ts_range.specs.Cutting.{IsCut}
+use Rattle.ts_range.proofs.Cuts.{same, next}
+use Rattle.ts_range.proofs.cutter.Cutter.push.Goals as goal
+
+pub returns-then-sample-bucket-clause-cut : goal.returns-then-sample-bucket-clause-cut
+returns-then-sample-bucket-clause-cut g c = λ ps rises is.
+    same (g.T.Take.has c.args.taker.now) c.args.self.now.buckets c.in-Some.bucket ps (subst (λ (o : Option Bucket). IsCut (g.T.Take.has c.args.taker.now) c.args.self.now.buckets o ps) c.in-Some.is is) c.args.sample.now rises
+    (omega (arith, ap (λ (p : Point). p.time) c.sample.view_is, c.if-sample-bucket.true)) _ refl refl c.push.ensures.stands
+
+pub returns-else-sample-bucket-clause-cut : goal.returns-else-sample-bucket-clause-cut
+returns-else-sample-bucket-clause-cut g c = λ ps rises is.
+    next (g.T.Take.has c.args.taker.now) c.args.self.now.buckets c.in-Some.bucket ps (subst (λ (o : Option Bucket). IsCut (g.T.Take.has c.args.taker.now) c.args.self.now.buckets o ps) c.in-Some.is is) c.args.sample.now rises
+    (omega (arith, ap (λ (p : Point). p.time) c.sample.view_is, c.if-sample-bucket.false)) (omega (arith, ap (λ (p : Point). p.time) c.sample.view_is, c.sample.invariant))
+    c.of-in-Some.result c.of-in-Some.ensures.span c.of-in-Some.ensures.start c.of-in-Some.ensures.stands
+    (g.T.Take.has c.row-in-Some.new.self) _ c.row-in-Some.ensures c.row.ensures

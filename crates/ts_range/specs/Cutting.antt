@@ -1,0 +1,40 @@
+-- Samples that are cut into buckets one after another.
+use Rattle.std.specs.Prelude.{◌≡◌, ◌<◌, ◌≤◌, ℕ, List, [], ◌++◌, length, Option, None, Some}
+use Rattle.std.specs.List.{All}
+use Rattle.std.specs.Option.{ForSome}
+use Rattle.ts_spec.specs.Sample.{Point}
+use Rattle.ts_spec.specs.Bucket.{Grid, start}
+use Rattle.ts_spec.specs.Answer.{Row}
+use Rattle.ts_bucket.specs.Grid.{IsGrid, IsLastOf}
+use Rattle.ts_agg.specs.Running.{StandsFor}
+use Rattle.ts_range.specs.declared.query.Buckets.{Buckets}
+use Rattle.ts_range.specs.declared.bucket.Bucket.{Bucket}
+use Rattle.ts_range.specs.Query.{buckets_of}
+use Rattle.ts_range.specs.Told.{rows_told}
+
+-- a bucket of a grid begins at b, and this is its last time
+pub record IsSpan (g : Grid) (b last : ℕ) : Type 0 where
+  pub grid : IsGrid g
+  pub begins : start g b ≡ b
+  pub ends : IsLastOf g b last
+
+-- A bucket is open: it has the last ones of these samples, and the rows of the buckets before it were handed on.
+pub record IsOpenAt (has : List Row → Type 0) (bs : Buckets) (o : Bucket) (ps : List Point) : Type 0 where
+  pub early : List Point
+  pub here : List Point
+  pub parts : ps ≡ early ++ here
+  pub some : 0 < length here
+  pub span : IsSpan bs.grid o.start o.last
+  pub before : All (λ p. start bs.grid p.time < o.start) early
+  pub inside : All (λ p. start bs.grid p.time ≡ o.start) here
+  pub stands : StandsFor o.running here
+  pub taken : (asked : List Point) → has (rows_told (buckets_of bs) asked early)
+
+-- the bucket of the last of these samples is open, if there are any
+abbrev pub IsCut : (has : List Row → Type 0) → Buckets → Option Bucket → List Point → Type 0
+IsCut has bs None ps = (ps ≡ []) × has []
+IsCut has bs (Some o) ps = IsOpenAt has bs o ps
+
+-- an open bucket has at most so many samples
+abbrev pub HasAtMost : ℕ → Option Bucket → Type 0
+HasAtMost n current = ForSome current (λ o. o.running.count ≤ n)

@@ -1,0 +1,56 @@
+-- A walk over samples that hands on their rows.
+use Rattle.std.specs.Prelude.{ℕ, ◌+◌, ◌-◌, ◌^◌, ◌≤◌, ℤ, Bool, ◌&&◌, List, [], ◌∷◌, ◌++◌, map, filter, length, Option, None, Some, option_map}
+use Rattle.std.proofs.Common.{arith}
+use Rattle.std.proofs.lemmas.List.{length-append}
+use Rattle.std.specs.Option.{ForSome}
+use Rattle.ts_spec.specs.Sample.{Point, IsAscending}
+use Rattle.ts_spec.specs.Command as spec
+use Rattle.ts_spec.specs.Answer.{Row, row_of, lets_time, lets_value}
+use Rattle.ts_range.specs.declared.cutter.Cutter.{Cutter}
+use Rattle.ts_range.specs.Query.{span_of}
+use Rattle.ts_range.specs.Told.{rows_told}
+use Rattle.ts_range.specs.Cutting.{IsCut, HasAtMost}
+
+-- what it lets through, the buckets that it tells of, if not of samples, and the samples that it was given
+pub record Walking : Type 0 where
+  pub times : Option (List ℕ)
+  pub values : Option (ℤ × ℤ)
+  pub buckets : Option spec.Buckets
+  pub seen : List Point
+
+-- whether it lets a sample through
+abbrev pub lets : Walking → Point → Bool
+lets w p = lets_time w.times p.time && lets_value (option_map span_of w.values) p.value
+
+-- after one more sample
+abbrev pub with_seen : Walking → Point → Walking
+with_seen w p = record w { seen = w.seen ++ p ∷ [] }
+
+-- the rows of the samples that were let through: of each, or of their buckets
+abbrev pub rows_chosen : Option spec.Buckets → (asked chosen : List Point) → List Row
+rows_chosen None asked chosen = map row_of chosen
+rows_chosen (Some bs) asked chosen = rows_told bs asked chosen
+
+-- the rows of the samples that it was given
+abbrev pub rows_of_walk : Walking → (asked : List Point) → List Row
+rows_of_walk w asked = rows_chosen w.buckets asked (filter (lets w) w.seen)
+
+-- one sample takes at most one place of the room
+pub lowered : (w : Walking) (p : Point) → 10 ^ 14 - length w.seen ≤ 10 ^ 14 - length (with_seen w p).seen + 1
+lowered w p = omega (arith, length-append w.seen (p ∷ []))
+
+-- ---- what was handed on
+
+-- the rows of these samples were handed on, but for that of the bucket that is open
+abbrev pub AreWalked : (has : List Row → Type 0) → Option Cutter → List Point → Type 0
+AreWalked has None ps = has (map row_of ps)
+AreWalked has (Some c) ps = IsCut has c.buckets c.current ps
+
+-- the bucket that is open has at most so many samples
+abbrev pub HasFew : ℕ → Option Cutter → Type 0
+HasFew n cut = ForSome cut (λ c. HasAtMost n c.current)
+
+-- where the samples ascend, the rows of those that were let through were handed on
+pub record IsWalk (has : List Row → Type 0) (cut : Option Cutter) (seen chosen : List Point) : Type 0 where
+  pub few : HasFew (length seen) cut
+  pub walked : IsAscending seen → AreWalked has cut chosen

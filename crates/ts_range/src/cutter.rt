@@ -1,0 +1,63 @@
+// Cuts samples into buckets, and hands on a row for each.
+use crate::bucket::Bucket;
+use crate::query::Buckets;
+use crate::take::Take;
+use ts_sample::Sample;
+
+#[derive(Clone, Copy)]
+pub(crate) struct Cutter {
+    pub(crate) buckets: Buckets,
+    // The bucket of the last sample, to which more may come.
+    pub(crate) current: Option<Bucket>,
+}
+
+impl Cutter {
+    ghost use Rattle.std.specs.Prelude.{◌≡◌, ◌<◌, ◌+◌, ◌^◌, ℕ, List, [], ◌∷◌, ◌++◌, None};
+    ghost use Rattle.std.specs.Option.{ForSome};
+    ghost use Rattle.ts_spec.specs.Sample.{Point, IsAscending};
+    ghost use Rattle.ts_range.specs.Query.{buckets_of};
+    ghost use Rattle.ts_range.specs.Told.{rows_told};
+    ghost use Rattle.ts_range.specs.Cutting.{IsCut, HasAtMost};
+
+    // No sample yet.
+    pub(crate) fn new(buckets: Buckets) -> Cutter
+        ensures { result ≡ record { buckets = buckets; current = None } }
+    {
+        Cutter {
+            buckets,
+            current: None,
+        }
+    }
+
+    // Puts a sample that is past the others into its bucket. Where that is another one, it hands on the row of
+    // the one before. Within a bucket nothing is divided.
+    #[inline]
+    pub(crate) fn push<T: Take>(&mut self, sample: &Sample, taker: &mut T)
+        requires few { ForSome self.old.current (λ b. b.running.count < 10 ^ 14) }
+        ensures buckets { self.new.buckets ≡ self.old.buckets }
+        ensures few { (n : ℕ) → HasAtMost n self.old.current → HasAtMost (n + 1) self.new.current }
+        ensures cut { (ps : List Point) → IsAscending (ps ++ sample.now ∷ []) → IsCut (T.has taker.old) self.old.buckets self.old.current ps
+            → IsCut (T.has taker.new) self.old.buckets self.new.current (ps ++ sample.now ∷ []) }
+    {
+        match &mut self.current {
+            None => self.current = Some(Bucket::of(&self.buckets.grid, sample)),
+            Some(bucket) => {
+                if sample.time <= bucket.last {
+                    bucket.running.push(sample);
+                    return;
+                }
+                taker.row(bucket.row(&self.buckets));
+                *bucket = Bucket::of(&self.buckets.grid, sample);
+            }
+        }
+    }
+
+    // Hands on the row of the bucket that is open.
+    pub(crate) fn close<T: Take>(&self, taker: &mut T)
+        ensures { (ps asked : List Point) → IsCut (T.has taker.old) self.now.buckets self.now.current ps → T.has taker.new (rows_told (buckets_of self.now.buckets) asked ps) }
+    {
+        if let Some(bucket) = &self.current {
+            taker.row(bucket.row(&self.buckets));
+        }
+    }
+}

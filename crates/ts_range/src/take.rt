@@ -1,0 +1,15 @@
+ghost use Rattle.std.specs.Prelude.{List, [], ◌∷◌, ◌++◌};
+ghost use Rattle.ts_spec.specs.Answer.{Row as TheRow};
+ghost use Rattle.ts_range.specs.Query.{row_of};
+
+use crate::row::Row;
+
+/// Takes the rows of an answer one after another. Where it finds no memory it remembers that, and takes no more.
+pub trait Take: Drop {
+    // Whether these are the rows that it took; any are, once it has found no memory.
+    ghost has: { Self → List TheRow → Type 0 };
+
+    /// Takes one row more.
+    fn row(&mut self, row: Row)
+        ensures { (rows : List TheRow) → has self.old rows → has self.new (rows ++ row_of row ∷ []) };
+}

@@ -1,0 +1,130 @@
+ghost use Rattle.std.specs.Prelude.{◌≡◌, ◌<◌, ◌+◌, ◌^◌, ℕ, List, [], ◌∷◌, ◌++◌, filter, option_map};
+ghost use Rattle.std.specs.Option.{ForSome};
+ghost use Rattle.ts_spec.specs.Sample.{Point, IsAscending};
+ghost use Rattle.ts_range.specs.Filters.{passes};
+ghost use Rattle.ts_range.specs.Walking.{AreWalked, HasFew};
+
+use crate::cutter::Cutter;
+use crate::filters::Filters;
+use crate::query::Buckets;
+use crate::row::Row;
+use crate::take::Take;
+use crate::trail::Trail;
+use std::marker::Model;
+use ts_sample::{Cell, Sample, Visit};
+
+/// A visitor that answers a question: it hands the rows of the samples that it is given to a taker, each as soon as
+/// it is known. It can take 10^14 samples, which come in ascending time.
+#[derive(Drop)]
+pub struct Walk<T: Take> {
+    filters: Filters,
+    // Where buckets are told, and not samples.
+    cut: Option<Cutter>,
+    taker: T,
+    seen: Trail,
+}
+
+impl<T: Take> Model for Walk<T> {
+    ghost use Rattle.std.specs.Prelude.{filter, option_map};
+    ghost use Rattle.ts_range.specs.Query.{buckets_of};
+    ghost use Rattle.ts_range.specs.Filters.{passes};
+    ghost use Rattle.ts_range.specs.Walking.{Walking, IsWalk};
+
+    ghost Value = { Walking };
+
+    ghost view = { λ w. record {
+      times = option_map (λ times. times.items) w.filters.times;
+      values = w.filters.values;
+      buckets = option_map (λ c. buckets_of c.buckets) w.cut;
+      seen = w.seen.points;
+    } };
+
+    ghost invariant = { λ w. IsWalk (T.has w.taker) w.cut w.seen.points (filter (passes w.filters) w.seen.points) };
+}
+
+impl<T: Take> Walk<T> {
+    ghost use Rattle.std.specs.Prelude.{◌≡◌, []};
+    ghost use Rattle.ts_spec.specs.Sample.{Point, IsAscending};
+    ghost use Rattle.ts_range.specs.Query.{buckets_of};
+    ghost use Rattle.ts_range.specs.Filters.{passes};
+    ghost use Rattle.ts_range.specs.Walking.{lets, rows_of_walk};
+
+    /// Lets through what these filters do, and tells of these buckets, or of each sample. No sample was given yet,
+    /// and no row handed on.
+    pub fn new(filters: Filters, buckets: Option<Buckets>, taker: T) -> Walk<T>
+        requires { T.has taker [] }
+        ensures lets { (p : Point) → lets result p ≡ passes filters p }
+        ensures buckets { result.buckets ≡ option_map buckets_of buckets }
+        ensures seen { result.seen ≡ [] }
+    {
+        let cut = match buckets {
+            None => None,
+            Some(buckets) => Some(Cutter::new(buckets)),
+        };
+        Walk {
+            filters,
+            cut,
+            taker,
+            seen: Trail::new(),
+        }
+    }
+
+    /// The taker, to which the rows of all samples were handed.
+    pub fn finish(self) -> T
+        ensures { IsAscending self.seen → (asked : List Point) → T.has result (rows_of_walk self asked) }
+    {
+        let Walk {
+            filters: _,
+            cut,
+            mut taker,
+            seen: _,
+        } = self;
+        if let Some(cutter) = cut {
+            cutter.close(&mut taker);
+        }
+        taker
+    }
+}
+
+impl<T: Take> Visit for Walk<T> {
+    ghost use Rattle.std.specs.Prelude.{◌-◌, ◌^◌, length};
+    ghost use Rattle.ts_range.specs.Walking.{with_seen, lowered};
+
+    ghost step = { with_seen };
+
+    ghost room = { λ w. 10 ^ 14 - length w.seen };
+
+    #[inline]
+    fn sample(&mut self, sample: &Sample) {
+        take_sample(&self.filters, &mut self.cut, &mut self.taker, sample);
+        self.seen = Trail::with(&self.seen, sample);
+    }
+
+    ghost lowers = { lowered };
+}
+
+// Hands on the row that a sample makes, or that it ends, if the filters let it through.
+#[inline]
+fn take_sample<T: Take>(
+    filters: &Filters,
+    cut: &mut Option<Cutter>,
+    taker: &mut T,
+    sample: &Sample,
+)
+    requires { ForSome cut.old (λ c. ForSome c.current (λ b. b.running.count < 10 ^ 14)) }
+    ensures buckets { option_map (λ c. c.buckets) cut.new ≡ option_map (λ c. c.buckets) cut.old }
+    ensures few { (n : ℕ) → HasFew n cut.old → HasFew (n + 1) cut.new }
+    ensures walked { (seen : List Point) → IsAscending (seen ++ sample.now ∷ []) → AreWalked (T.has taker.old) cut.old (filter (passes filters.now) seen)
+        → AreWalked (T.has taker.new) cut.new (filter (passes filters.now) (seen ++ sample.now ∷ [])) }
+{
+    if !filters.let_through(sample) {
+        return;
+    }
+    match cut {
+        None => taker.row(Row {
+            time: sample.time,
+            value: Cell::Number(sample.value),
+        }),
+        Some(cutter) => cutter.push(sample, taker),
+    }
+}
