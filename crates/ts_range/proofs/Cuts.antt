@@ -1,5 +1,5 @@
 -- One sample more that is cut into its bucket.
-use Rattle.std.proofs.Common.{◌≡◌, ℕ, suc, ◌+◌, ◌<◌, ◌≤◌, Bool, true, cond, List, [], ◌∷◌, ◌++◌, length, refl, sym, ◌∙◌, ap, subst, append_assoc, arith}
+use Rattle.std.proofs.Common.{◌≡◌, ℕ, ◌<◌, ◌≤◌, Bool, true, cond, List, [], ◌∷◌, ◌++◌, length, refl, sym, ◌∙◌, ap, subst, append_assoc, arith}
 use Rattle.std.specs.Prelude.{filter}
 use Rattle.std.specs.List.{All}
 use Rattle.std.proofs.lemmas.List.{length-append}
@@ -14,7 +14,8 @@ use Rattle.ts_range.specs.declared.query.Buckets.{Buckets}
 use Rattle.ts_range.specs.declared.bucket.Bucket.{Bucket}
 use Rattle.ts_range.specs.Query.{buckets_of}
 use Rattle.ts_range.specs.Told.{rows_told}
-use Rattle.ts_range.specs.Cutting.{IsSpan, IsOpenAt}
+use Rattle.ts_range.specs.Spans.{IsSpan}
+use Rattle.ts_range.specs.Cutting.{IsOpenAt}
 use Rattle.ts_range.proofs.Groups.{one_row, rows-append, rows-one}
 use Rattle.ts_range.proofs.Spans.{late, inside}
 
@@ -46,14 +47,14 @@ module _ (has : List Row → Type 0) (bs : Buckets) (o : Bucket) (ps : List Poin
 
   -- the row of the bucket is handed on
   pub closed : (has' : List Row → Type 0) (row : Row) → ((rows : List Row) → has rows → has' (rows ++ row ∷ []))
-      → ((qs : List Point) → StandsFor o.running qs → 0 < length qs → row ≡ record { time = stamp bs.grid o.start bs.stamp; value = Number (aggregate bs.agg qs) })
+      → ((qs : List Point) → StandsFor o.running qs → 0 < length qs → start bs.grid o.start ≡ o.start → row ≡ record { time = stamp bs.grid o.start bs.stamp; value = Number (aggregate bs.agg qs) })
       → (asked : List Point) → has' (rows_told (buckets_of bs) asked ps)
   closed has' row takes its asked =
       let told : rows_told (buckets_of bs) asked ps ≡ rows_told (buckets_of bs) asked is.early ++ row ∷ [] =
       ap (rows_told (buckets_of bs) asked) is.parts
       ∙ rows-append (buckets_of bs) asked o.start is.early is.here is.before
       (All-weaker (λ (p : Point). start bs.grid p.time ≡ o.start) (λ (p : Point). o.start ≤ start bs.grid p.time) (λ p e. omega arith) is.here is.inside)
-      ∙ ap (λ (rs : List Row). rows_told (buckets_of bs) asked is.early ++ rs) (rows-one (buckets_of bs) asked o.start is.here is.inside ∙ one-row bs o.start is.here row is.some (its is.here is.stands is.some)) in
+      ∙ ap (λ (rs : List Row). rows_told (buckets_of bs) asked is.early ++ rs) (rows-one (buckets_of bs) asked o.start is.here is.inside ∙ one-row bs o.start is.here row is.some (its is.here is.stands is.some is.span.begins)) in
       subst has' (sym told) (takes (rows_told (buckets_of bs) asked is.early) (is.taken asked))
 
   module _ (p : Point) (rises : IsAscending (ps ++ p ∷ [])) where
@@ -82,11 +83,13 @@ module _ (has : List Row → Type 0) (bs : Buckets) (o : Bucket) (ps : List Poin
         }
 
     -- it is past that bucket, whose row is handed on
-    pub next : o.last < p.time → p.time ≤ MAX_TIME → (new : Bucket) → IsSpan bs.grid new.start new.last → new.start ≡ start bs.grid p.time → StandsFor new.running (p ∷ [])
+    pub next : o.last < p.time → p.time ≤ MAX_TIME → (new : Bucket) → (IsSpan bs.grid o.start o.last → IsSpan bs.grid new.start new.last) → (IsSpan bs.grid o.start o.last → new.start ≡ start bs.grid p.time) → StandsFor new.running (p ∷ [])
         → (has' : List Row → Type 0) (row : Row) → ((rows : List Row) → has rows → has' (rows ++ row ∷ []))
-        → ((qs : List Point) → StandsFor o.running qs → 0 < length qs → row ≡ record { time = stamp bs.grid o.start bs.stamp; value = Number (aggregate bs.agg qs) })
+        → ((qs : List Point) → StandsFor o.running qs → 0 < length qs → start bs.grid o.start ≡ o.start → row ≡ record { time = stamp bs.grid o.start bs.stamp; value = Number (aggregate bs.agg qs) })
         → IsOpenAt has' bs new (ps ++ p ∷ [])
-    next past time new span at stands has' row takes its =
+    next past time new spans begins stands has' row takes its =
+        let span = spans is.span in
+        let at = begins is.span in
         let later : o.start < start bs.grid p.time = late bs.grid some o.start o.last is.span.begins is.span.ends p.time time past in
         record {
           early = ps;

@@ -1,9 +1,9 @@
 pub mod Aggregates
 pub mod Around
-pub mod Counted
 pub mod Cuts
 pub mod Filtered
-pub mod First
+pub mod Within
+pub mod Following
 pub mod Groups
 pub mod Later
 pub mod Line
@@ -11,8 +11,7 @@ pub mod Lines
 pub mod Listed
 pub mod Near
 pub mod Order
+pub mod Reversed
 pub mod Spans
-pub mod Steps
 pub mod Turns
-pub mod Walks
 pub mod Whole

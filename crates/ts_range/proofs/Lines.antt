@@ -23,7 +23,7 @@ use Rattle.ts_range.specs.Walk.{times_of, last_before, IsAroundOf, most_of}
 use Rattle.ts_range.proofs.Filtered.{filter-swap}
 use Rattle.ts_range.proofs.Around.{before-is}
 use Rattle.ts_range.proofs.Turns.{number_in, in-turn, turn-past, turn-within, ends-told, first-told}
-use Rattle.ts_range.proofs.Walks.{map-reverse, first_rows}
+use Rattle.ts_range.proofs.Reversed.{map-reverse, first_rows}
 
 -- ---- cells
 

@@ -3,20 +3,14 @@ use Rattle.std.specs.Prelude.{◌≡◌, ◌<◌, ◌≤◌, ℕ, List, [], ◌+
 use Rattle.std.specs.List.{All}
 use Rattle.std.specs.Option.{ForSome}
 use Rattle.ts_spec.specs.Sample.{Point}
-use Rattle.ts_spec.specs.Bucket.{Grid, start}
+use Rattle.ts_spec.specs.Bucket.{start}
 use Rattle.ts_spec.specs.Answer.{Row}
-use Rattle.ts_bucket.specs.Grid.{IsGrid, IsLastOf}
 use Rattle.ts_agg.specs.Running.{StandsFor}
 use Rattle.ts_range.specs.declared.query.Buckets.{Buckets}
 use Rattle.ts_range.specs.declared.bucket.Bucket.{Bucket}
 use Rattle.ts_range.specs.Query.{buckets_of}
+use Rattle.ts_range.specs.Spans.{IsSpan}
 use Rattle.ts_range.specs.Told.{rows_told}
-
--- a bucket of a grid begins at b, and this is its last time
-pub record IsSpan (g : Grid) (b last : ℕ) : Type 0 where
-  pub grid : IsGrid g
-  pub begins : start g b ≡ b
-  pub ends : IsLastOf g b last
 
 -- A bucket is open: it has the last ones of these samples, and the rows of the buckets before it were handed on.
 pub record IsOpenAt (has : List Row → Type 0) (bs : Buckets) (o : Bucket) (ps : List Point) : Type 0 where

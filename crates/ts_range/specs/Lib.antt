@@ -3,6 +3,7 @@ pub mod Empty
 pub mod Filters
 pub mod Order
 pub mod Query
+pub mod Spans
 pub mod Starts
 pub mod Taking
 pub mod Told

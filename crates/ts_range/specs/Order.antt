@@ -1,6 +1,5 @@
 -- Samples and buckets in the order asked: ascending, or the last one first.
-use Rattle.std.specs.Prelude.{ℕ, ◌-◌, ◌≤◌, Bool, true, false, nat_lt, List, reverse, length, Option, slice_get}
-use Rattle.std.specs.List.{All}
+use Rattle.std.specs.Prelude.{ℕ, Bool, true, false, nat_lt, List, reverse}
 use Rattle.ts_spec.specs.Sample.{Point, at_times}
 use Rattle.ts_spec.specs.Bucket.{Grid, start}
 
@@ -8,16 +7,6 @@ use Rattle.ts_spec.specs.Bucket.{Grid, start}
 abbrev pub in_order : {X : Type 0} → Bool → List X → List X
 in_order true xs = reverse xs
 in_order false xs = xs
-
--- the sample that comes first, if there is one
-abbrev pub first_in : Bool → List Point → Option Point
-first_in true ps = slice_get ps (length ps - 1)
-first_in false ps = slice_get ps 0
-
--- no sample comes before one of this time
-abbrev pub IsFrom : Bool → ℕ → List Point → Type 0
-IsFrom true t ps = All (λ p. p.time ≤ t) ps
-IsFrom false t ps = All (λ p. t ≤ p.time) ps
 
 -- whether a bucket that begins at c comes after the one that begins at b
 abbrev pub is_beyond : Bool → (b c : ℕ) → Bool

@@ -1,5 +1,5 @@
 -- What is told of the samples of buckets.
-use Rattle.std.specs.Prelude.{ℕ, ℤ, Bool, true, nat_lt, List, [], ◌∷◌, map, Option, None, Some}
+use Rattle.std.specs.Prelude.{ℤ, List, [], ◌∷◌, map, Option, None, Some}
 use Rattle.ts_spec.specs.declared.bucket.Aggregator.{Aggregator}
 use Rattle.ts_spec.specs.Sample.{Point}
 use Rattle.ts_spec.specs.Bucket.{starts}
@@ -15,8 +15,3 @@ told_of a (p ∷ ps) = Some (aggregate a (p ∷ ps))
 -- the rows of the buckets of these samples
 abbrev pub rows_told : Buckets → (asked chosen : List Point) → List Row
 rows_told bs asked chosen = map (bucket_row bs asked chosen) (starts bs.grid chosen)
-
--- whether more rows are wanted than so many
-abbrev pub wants_more : Option ℕ → ℕ → Bool
-wants_more None rows = true
-wants_more (Some count) rows = nat_lt rows count

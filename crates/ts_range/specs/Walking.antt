@@ -11,11 +11,13 @@ use Rattle.ts_range.specs.Query.{span_of}
 use Rattle.ts_range.specs.Told.{rows_told}
 use Rattle.ts_range.specs.Cutting.{IsCut, HasAtMost}
 
--- what it lets through, the buckets that it tells of, if not of samples, and the samples that it was given
+-- What it lets through, the buckets that it tells of, if not of samples, how many rows are kept, if there is a limit, and the samples
+-- that it was given.
 pub record Walking : Type 0 where
   pub times : Option (List ℕ)
   pub values : Option (ℤ × ℤ)
   pub buckets : Option spec.Buckets
+  pub limit : Option ℕ
   pub seen : List Point
 
 -- whether it lets a sample through

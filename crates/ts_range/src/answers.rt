@@ -4,13 +4,12 @@ ghost use Rattle.ts_spec.specs.Answer as spec;
 ghost use Rattle.ts_range.specs.Query.{query_of, row_of};
 ghost use Rattle.ts_range.specs.Walk.{IsAskedOf};
 
-use crate::buckets::bucket_rows;
 use crate::empty::{all_rows, are_too_many};
 use crate::fault::RangeFault;
 use crate::filters::Filters;
 use crate::query::Query;
 use crate::row::{Asked, Row};
-use crate::samples::sample_rows;
+use crate::walked::walked_rows;
 use std::alloc::{AllocError, Global};
 
 /// The rows of a question over a series, of what the series holds of it. `empty_rows` is the limit on the rows
@@ -50,11 +49,11 @@ fn rows(alloc: Global, query: &Query, asked: &Asked) -> Result<Vec<Row>, AllocEr
 {
     let filters = Filters::of(alloc, query)?;
     let Some(buckets) = &query.buckets else {
-        return sample_rows(alloc, query, &filters, &asked.rows);
+        return walked_rows(alloc, query, filters, &asked.rows);
     };
     if buckets.empty {
         all_rows(alloc, query, buckets, &filters, asked)
     } else {
-        bucket_rows(alloc, query, buckets, &filters, &asked.rows)
+        walked_rows(alloc, query, filters, &asked.rows)
     }
 }

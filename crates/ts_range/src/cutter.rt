@@ -35,6 +35,7 @@ impl Cutter {
     pub(crate) fn push<T: Take>(&mut self, sample: &Sample, taker: &mut T)
         requires few { ForSome self.old.current (λ b. b.running.count < 10 ^ 14) }
         ensures buckets { self.new.buckets ≡ self.old.buckets }
+        ensures limit { T.limit taker.new ≡ T.limit taker.old }
         ensures few { (n : ℕ) → HasAtMost n self.old.current → HasAtMost (n + 1) self.new.current }
         ensures cut { (ps : List Point) → IsAscending (ps ++ sample.now ∷ []) → IsCut (T.has taker.old) self.old.buckets self.old.current ps
             → IsCut (T.has taker.new) self.old.buckets self.new.current (ps ++ sample.now ∷ []) }
@@ -47,14 +48,15 @@ impl Cutter {
                     return;
                 }
                 taker.row(bucket.row(&self.buckets));
-                *bucket = Bucket::of(&self.buckets.grid, sample);
+                *bucket = bucket.after(&self.buckets.grid, sample);
             }
         }
     }
 
     // Hands on the row of the bucket that is open.
     pub(crate) fn close<T: Take>(&self, taker: &mut T)
-        ensures { (ps asked : List Point) → IsCut (T.has taker.old) self.now.buckets self.now.current ps → T.has taker.new (rows_told (buckets_of self.now.buckets) asked ps) }
+        ensures limit { T.limit taker.new ≡ T.limit taker.old }
+        ensures closed { (ps asked : List Point) → IsCut (T.has taker.old) self.now.buckets self.now.current ps → T.has taker.new (rows_told (buckets_of self.now.buckets) asked ps) }
     {
         if let Some(bucket) = &self.current {
             taker.row(bucket.row(&self.buckets));

@@ -3,7 +3,6 @@
 
 mod answers;
 mod bucket;
-mod buckets;
 mod cells;
 mod cut;
 mod cutter;
@@ -15,11 +14,11 @@ mod list;
 mod place;
 mod query;
 mod row;
-mod samples;
 mod starts;
 mod take;
 mod trail;
 mod walk;
+mod walked;
 
 pub use answers::answer;
 pub use fault::RangeFault;

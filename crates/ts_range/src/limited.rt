@@ -44,6 +44,8 @@ impl<T: Take> Limited<T> {
 impl<T: Take> Take for Limited<T> {
     ghost has = { λ t rows. IsFirstOf (T.has t.taker) t.count t.left rows };
 
+    ghost limit = { λ t. t.count };
+
     fn row(&mut self, row: Row) {
         match self.left {
             None => self.taker.row(row),

@@ -1,5 +1,5 @@
 // A taker that keeps the rows.
-ghost use Rattle.std.specs.Prelude.{◌≡◌, ◌≤◌, false, List, [], ◌∷◌, ◌++◌, map, IfOk, OnOk};
+ghost use Rattle.std.specs.Prelude.{◌≡◌, ◌≤◌, false, List, [], ◌∷◌, ◌++◌, None, map, IfOk, OnOk};
 ghost use Rattle.ts_spec.specs.Answer.{Row as TheRow};
 ghost use Rattle.ts_spec.specs.Sample.{MAX_TIME};
 ghost use Rattle.ts_range.specs.Query.{cell_of, row_of};
@@ -43,6 +43,8 @@ impl RowList {
 
 impl Take for RowList {
     ghost has = { λ t rows. IsListOf t.lost t.rows.items rows };
+
+    ghost limit = { λ t. None };
 
     fn row(&mut self, row: Row) {
         if self.lost {

@@ -36,6 +36,7 @@ impl<T: Take> Model for Walk<T> {
       times = option_map (λ times. times.items) w.filters.times;
       values = w.filters.values;
       buckets = option_map (λ c. buckets_of c.buckets) w.cut;
+      limit = T.limit w.taker;
       seen = w.seen.points;
     } };
 
@@ -55,6 +56,7 @@ impl<T: Take> Walk<T> {
         requires { T.has taker [] }
         ensures lets { (p : Point) → lets result p ≡ passes filters p }
         ensures buckets { result.buckets ≡ option_map buckets_of buckets }
+        ensures limit { result.limit ≡ T.limit taker }
         ensures seen { result.seen ≡ [] }
     {
         let cut = match buckets {
@@ -71,7 +73,8 @@ impl<T: Take> Walk<T> {
 
     /// The taker, to which the rows of all samples were handed.
     pub fn finish(self) -> T
-        ensures { IsAscending self.seen → (asked : List Point) → T.has result (rows_of_walk self asked) }
+        ensures rows { IsAscending self.seen → (asked : List Point) → T.has result (rows_of_walk self asked) }
+        ensures limit { T.limit result ≡ self.limit }
     {
         let Walk {
             filters: _,
@@ -105,14 +108,10 @@ impl<T: Take> Visit for Walk<T> {
 
 // Hands on the row that a sample makes, or that it ends, if the filters let it through.
 #[inline]
-fn take_sample<T: Take>(
-    filters: &Filters,
-    cut: &mut Option<Cutter>,
-    taker: &mut T,
-    sample: &Sample,
-)
+fn take_sample<T: Take>(filters: &Filters, cut: &mut Option<Cutter>, taker: &mut T, sample: &Sample)
     requires { ForSome cut.old (λ c. ForSome c.current (λ b. b.running.count < 10 ^ 14)) }
     ensures buckets { option_map (λ c. c.buckets) cut.new ≡ option_map (λ c. c.buckets) cut.old }
+    ensures limit { T.limit taker.new ≡ T.limit taker.old }
     ensures few { (n : ℕ) → HasFew n cut.old → HasFew (n + 1) cut.new }
     ensures walked { (seen : List Point) → IsAscending (seen ++ sample.now ∷ []) → AreWalked (T.has taker.old) cut.old (filter (passes filters.now) seen)
         → AreWalked (T.has taker.new) cut.new (filter (passes filters.now) (seen ++ sample.now ∷ [])) }

@@ -1,15 +1,17 @@
 use Rattle.std.proofs.Common.{◌≡◌, List, map, sym, ◌∙◌, ap}
-use Rattle.std.specs.Prelude.{filter, option_map}
+use Rattle.std.specs.Prelude.{filter, Option, option_map}
 use Rattle.std.proofs.lemmas.List.Elements.{filter_agree}
 use Rattle.std.proofs.lemmas.Result.{IfOk-weaker}
 use Rattle.ts_spec.specs.Sample.{Point, between}
 use Rattle.ts_spec.specs.Answer as spec
 use Rattle.ts_range.specs.declared.filters.Filters.{Filters}
+use Rattle.ts_range.specs.declared.query.Buckets.{Buckets}
 use Rattle.ts_range.specs.declared.query.Query.{Query}
 use Rattle.ts_range.specs.Query.{buckets_of, query_of}
 use Rattle.ts_range.specs.Filters.{passes}
 use Rattle.ts_range.specs.Starts.{starts_within}
 use Rattle.ts_range.specs.Told.{rows_told}
+use Rattle.ts_range.specs.Walking.{rows_chosen}
 use Rattle.ts_range.proofs.Whole.{rows-single, rows-told, rows-all}
 use Rattle.ts_range.proofs.answers.rows.Goals as goal
 
@@ -24,13 +26,14 @@ returns-in_default c = λ l rises is.
     let q = query_of c.args.query.now in
     let samples = c.deref.ensures.value in
     let lets = chosen c.args.query.now c.in_ok-filters.filters c.args.asked.now.rows.items l c.in_ok-filters.ensures is.rows in
-    IfOk-weaker c.sample_rows.result _ _
+    IfOk-weaker c.walked_rows.result _ _
     (λ rows told.
     told
+    ∙ ap (λ (o : Option Buckets). spec.first_ones q.count (spec.turned q.reverse (rows_chosen (option_map buckets_of o) l (filter (passes c.in_ok-filters.filters) c.deref.result.now)))) c.in_default.is
     ∙ ap (λ (ps : List Point). spec.first_ones q.count (spec.turned q.reverse (map spec.row_of (filter (passes c.in_ok-filters.filters) ps)))) samples
     ∙ ap (λ (ps : List Point). spec.first_ones q.count (spec.turned q.reverse (map spec.row_of ps))) lets
     ∙ sym (rows-single q l (ap (option_map buckets_of) c.in_default.is)))
-    c.sample_rows.ensures
+    (c.walked_rows.ensures l)
 
 pub returns-then-buckets : goal.returns-then-buckets
 returns-then-buckets c = λ l rises is.
@@ -46,16 +49,17 @@ returns-then-buckets c = λ l rises is.
     ∙ sym (rows-all q l bs (ap (option_map buckets_of) c.in-Some.is) c.if-buckets.true asked.ends around.ends))
     (c.all_rows.ensures l rises is.rows around)
 
-pub returns : goal.returns
-returns c = λ l rises is.
+pub returns-else-buckets : goal.returns-else-buckets
+returns-else-buckets c = λ l rises is.
     let q = query_of c.args.query.now in
     let bs = buckets_of c.in-Some.buckets in
     let samples = c.deref-else-buckets.ensures.value in
     let lets = chosen c.args.query.now c.in_ok-filters.filters c.args.asked.now.rows.items l c.in_ok-filters.ensures is.rows in
-    IfOk-weaker c.bucket_rows.result _ _
+    IfOk-weaker c.walked_rows-else-buckets.result _ _
     (λ rows told.
     told
+    ∙ ap (λ (o : Option Buckets). spec.first_ones q.count (spec.turned q.reverse (rows_chosen (option_map buckets_of o) l (filter (passes c.in_ok-filters.filters) c.deref-else-buckets.result.now)))) c.in-Some.is
     ∙ ap (λ (ps : List Point). spec.first_ones q.count (spec.turned q.reverse (rows_told bs l (filter (passes c.in_ok-filters.filters) ps)))) samples
     ∙ ap (λ (ps : List Point). spec.first_ones q.count (spec.turned q.reverse (rows_told bs l ps))) lets
     ∙ sym (rows-told q l bs (ap (option_map buckets_of) c.in-Some.is) c.if-buckets.false))
-    (c.bucket_rows.ensures l)
+    (c.walked_rows-else-buckets.ensures l)

@@ -13,7 +13,7 @@ use Rattle.ts_range.specs.Empty.{known_before}
 use Rattle.ts_range.specs.Order.{in_order, is_beyond}
 use Rattle.ts_range.specs.Starts.{starts_of}
 use Rattle.ts_range.specs.Walk.{last_before}
-use Rattle.ts_range.proofs.First.{times-within}
+use Rattle.ts_range.proofs.Within.{times-within}
 use Rattle.ts_range.proofs.Lines.{cell-told, left-same, row-more, rows-wanted, before-known}
 use Rattle.ts_range.proofs.Turns.{told-start, told-within, told-beyond}
 use Rattle.ts_range.proofs.empty.all_rows.Goals as goal

@@ -1,5 +1,5 @@
 use Rattle.std.proofs.Common.{◌≡◌, List, ◌∷◌, [], ◌++◌, sym, ◌∙◌, ap, subst}
-use Rattle.std.specs.Prelude.{true, filter, Option}
+use Rattle.std.specs.Prelude.{filter, Option}
 use Rattle.ts_spec.specs.Sample.{Point, IsAscending}
 use Rattle.ts_spec.proofs.Samples.{ascending-filter}
 use Rattle.ts_range.specs.declared.cutter.Cutter.{Cutter}

@@ -5,6 +5,6 @@ use Rattle.ts_range.specs.Cutting.{IsCut}
 use Rattle.ts_range.proofs.Cuts.{closed}
 use Rattle.ts_range.proofs.cutter.Cutter.close.Goals as goal
 
-pub returns-in-Some : goal.returns-in-Some
-returns-in-Some g c = λ ps asked is.
-    closed (g.T.Take.has c.args.taker.now) c.args.self.now.buckets c.in-Some.bucket ps (subst (λ (o : Option Bucket). IsCut (g.T.Take.has c.args.taker.now) c.args.self.now.buckets o ps) c.in-Some.is is) (g.T.Take.has c.row-in-Some.new.self) _ c.row-in-Some.ensures c.row.ensures asked
+pub returns-in-Some-clause-closed : goal.returns-in-Some-clause-closed
+returns-in-Some-clause-closed g c = λ ps asked is.
+    closed (g.T.Take.has c.args.taker.now) c.args.self.now.buckets c.in-Some.bucket ps (subst (λ (o : Option Bucket). IsCut (g.T.Take.has c.args.taker.now) c.args.self.now.buckets o ps) c.in-Some.is is) (g.T.Take.has c.row-in-Some.new.self) _ c.row-in-Some.ensures.taken c.row.ensures asked
