@@ -1,6 +1,7 @@
 //! RESP2: the requests of a stream of bytes, and the text of a reply.
 #![tactic(auto)]
 
+mod gap;
 mod header;
 mod line;
 mod order;
@@ -12,6 +13,7 @@ mod reader;
 mod reply;
 mod word;
 
+pub use gap::{GAP, close_array, open_array};
 pub use out::Out;
 pub use pair::{PAIR, put_pair};
 pub use parts::{encode_bulk, encode_count, reserve_items};

@@ -1,9 +1,12 @@
 // The room that a reply is written into.
-ghost use Rattle.std.specs.Prelude.{◌≡◌, ◌+◌, ◌<◌, ◌≤◌, [], ◌++◌, length, IfOk, OnOk, OnErr};
+ghost use Rattle.std.specs.Prelude.{◌≡◌, ◌+◌, ◌<◌, ◌≤◌, [], ◌++◌, length, drop, IfOk, OnOk, OnErr};
+ghost use Rattle.ts_spec.specs.Text.{line_text};
 
+use crate::gap::write_line;
 use bytes::BytesMut;
 use std::alloc::{AllocError, Global};
 use std::marker::Model;
+use std::mem;
 
 // Every error, every number and every short reply fits.
 const FIRST_ROOM: usize = 128;
@@ -63,6 +66,28 @@ impl Out {
         ensures { result ≡ self.now.spare }
     {
         self.bytes.capacity() - self.bytes.len()
+    }
+
+    /// The bytes with their room, in whose place none are left. Takes no memory.
+    pub fn take(&mut self) -> Out
+        ensures taken { result ≡ self.old }
+        ensures left { self.new.bytes ≡ [] }
+    {
+        let alloc = *self.bytes.allocator();
+        Out {
+            bytes: mem::replace(&mut self.bytes, BytesMut::new(alloc)),
+        }
+    }
+
+    // Writes a line that ends where a gap at the front does, and drops what stands before it.
+    pub(crate) fn end_gap(&mut self, gap: usize, first: u8, others: &[u8])
+        requires line { length others.now + 3 ≤ gap }
+        requires gap { gap ≤ length self.old.bytes }
+        ensures bytes { self.new.bytes ≡ line_text first others.now ++ drop gap self.old.bytes }
+        ensures total { length self.old.bytes + self.old.spare ≤ length self.new.bytes + self.new.spare + gap }
+    {
+        self.bytes.advance(gap - (others.len() + 3));
+        write_line(first, others, self.bytes.as_mut_slice());
     }
 
     // Adds bytes for which there is room.
