@@ -1,8 +1,9 @@
 -- A row among the samples of a list.
-use Rattle.std.proofs.Common.{◌≡◌, ℕ, suc, ◌+◌, ◌<◌, ◌≤◌, Bool, true, false, cond, ◌&&◌, List, [], ◌∷◌, ◌++◌, length, append_assoc, refl, sym, ◌∙◌, ap, arith, ltb-true, lt-ltb, le-ltb}
+use Rattle.std.proofs.Common.{◌≡◌, ℕ, suc, ◌+◌, ◌<◌, ◌≤◌, Bool, true, false, cond, ◌&&◌, List, [], ◌∷◌, ◌++◌, length, refl, sym, ◌∙◌, ap, arith, ltb-true, lt-ltb, le-ltb}
 use Rattle.std.specs.Prelude.{◌-◌, nat_lt, nat_le, if◌then◌else◌, Option, None, Some}
 use Rattle.std.specs.Option.{option_or}
 use Rattle.std.proofs.lemmas.Bool.Decides.{nat_tests}
+use Rattle.std.proofs.lemmas.List.Sums.{fold-append}
 use Rattle.ts_spec.specs.Sample.{Point, IsAfter, IsAscending, at, at_times, is_within, between, put, put_all, first_of, last_of, later_or}
 use Rattle.ts_rules.specs.Rules.{one_of}
 use Rattle.ts_db.specs.Held.{ends_of}
@@ -10,9 +11,8 @@ use Rattle.ts_spec.proofs.Samples.{at-times, at-put_all, ascending-times, ascend
 use Rattle.ts_sample.proofs.Between.{filter-filter}
 use Rattle.ts_sample.proofs.Parted.{filter_alike}
 use Rattle.ts_spec.proofs.Tidy.{some-same}
-use Rattle.ts_sample.specs.Gathered.{Gathering, with_one_more}
 use Rattle.ts_sample.specs.Visit.{visited}
-use Rattle.ts_sample.proofs.Visiting.{room_left, list-visited}
+use Rattle.ts_sample.proofs.Visiting.{room_left}
 use Rattle.ts_series.proofs.Counting.{times-length}
 use Rattle.ts_series.proofs.Placing.{none-before, all-after}
 
@@ -41,6 +41,12 @@ before-put t row early ps h is = ap (λ (rows : List Point). put_all rows (at_ti
 pub within-put : (from to : ℕ) (row : Option Point) (inside : Option Point) (ps : List Point) → IsAscending ps → one_of inside ≡ between from to (one_of row)
     → put_all (one_of inside) (between from to ps) ≡ between from to (put_all (one_of row) ps)
 within-put from to row inside ps h is = ap (λ (rows : List Point). put_all rows (between from to ps)) is ∙ sym (times-put_all (is_within from to) (one_of row) ps h)
+
+-- the samples of an interval with a row among them are those of the list with the row asked
+pub put-within : (from to : ℕ) (asked inside : Option Point) (row : Point) (ps : List Point) → IsAscending ps → one_of inside ≡ between from to (one_of asked) → inside ≡ Some row
+    → put row (between from to ps) ≡ between from to (put_all (one_of asked) ps)
+put-within from to asked inside row ps up is there =
+    ap (λ (o : Option Point). put_all (one_of o) (between from to ps)) (sym there) ∙ within-put from to asked inside ps up is
 
 -- ---- the first and the last
 
@@ -204,41 +210,35 @@ pub ends-no-last : (ps : List Point) → None ≡ last_of ps → None ≡ ends_o
 ends-no-last [] x = refl
 ends-no-last (p ∷ ps) x = absurd (cc x)
 
--- ---- gathering around a row
-
--- one sample takes at most one place
-lowers : (g : Gathering) (p : Point) → g.room ≤ (with_one_more g p).room + 1
-lowers g p = omega arith
+-- ---- a walk around a row
 
 -- the room that is asked for is enough for those before it
 pub room-before : (from to t : ℕ) (ps : List Point) (room : ℕ) → t ≤ to → length (between from to ps) + 1 ≤ room → length (at_times (λ u. nat_lt u t) (at_times (nat_le from) ps)) ≤ room
 room-before from to t ps room upto some = omega (arith, some, times-length (λ u. nat_lt u t) (between from to ps), ap length (before-row from to t ps upto))
 
--- the samples of an interval that are before a time in it, then a row at that time, and then those past it
-module _ (from to t : ℕ) (p : Point) (ps : List Point) (past : from ≤ t) (upto : t ≤ to) (start before : Gathering) (room : length (between from to ps) + 1 ≤ start.room)
-    (first : before ≡ visited with_one_more start (at_times (λ u. nat_lt u t) (at_times (nat_le from) ps))) where
-  left : length (between from to ps) + 1 ≤ before.room + length (at_times (λ u. nat_lt u t) (between from to ps))
+-- a visitor takes the samples of an interval that are before a time in it, then a row at that time, and then those past it
+module _ {V : Type 0} (step : V → Point → V) (room : V → ℕ) (lowers : (v : V) (p : Point) → room v ≤ room (step v p) + 1)
+    (from to t : ℕ) (p : Point) (ps : List Point) (past : from ≤ t) (upto : t ≤ to) (start before : V) (enough : length (between from to ps) + 1 ≤ room start)
+    (first : before ≡ visited step start (at_times (λ u. nat_lt u t) (at_times (nat_le from) ps))) where
+  left : length (between from to ps) + 1 ≤ room before + length (at_times (λ u. nat_lt u t) (between from to ps))
   left =
-      let taken = room_left with_one_more (λ g. g.room) lowers start (at_times (λ u. nat_lt u t) (at_times (nat_le from) ps)) in
-      omega (arith, taken, room, ap (λ (g : Gathering). g.room) first, ap length (before-row from to t ps upto))
+      let taken = room_left step room lowers start (at_times (λ u. nat_lt u t) (at_times (nat_le from) ps)) in
+      omega (arith, taken, enough, ap room first, ap length (before-row from to t ps upto))
 
-  pub room-row : 1 ≤ before.room
+  pub room-row : 1 ≤ room before
   room-row = omega (arith, left, times-length (λ u. nat_lt u t) (between from to ps))
 
-  module _ (row : Gathering) (second : row ≡ with_one_more before p) where
-    pub room-past : length (between (t + 1) to ps) ≤ row.room
+  module _ (row : V) (second : row ≡ step before p) where
+    pub room-past : length (between (t + 1) to ps) ≤ room row
     room-past =
-        omega (arith, left, around-length t (between from to ps), ap length (past-row from to t ps past), ap (λ (g : Gathering). g.room) second)
+        omega (arith, left, lowers before p, around-length t (between from to ps), ap length (past-row from to t ps past), ap room second)
 
-    pub gathered-put : (end : Gathering) → start.list ≡ [] → t ≡ p.time → end ≡ visited with_one_more row (between (t + 1) to ps) → end.list ≡ put p (between from to ps)
-    gathered-put end none at third =
-        ap (λ (g : Gathering). g.list) third
-        ∙ list-visited row (between (t + 1) to ps)
-        ∙ ap (λ (g : Gathering). g.list ++ between (t + 1) to ps) second
-        ∙ append_assoc before.list (p ∷ []) (between (t + 1) to ps)
-        ∙ ap (λ (l : List Point). before.list ++ p ∷ l) (sym (past-row from to t ps past))
-        ∙ ap (λ (g : Gathering). g.list ++ p ∷ at_times (nat_lt t) (between from to ps)) first
-        ∙ ap (λ (l : List Point). l ++ p ∷ at_times (nat_lt t) (between from to ps))
-        (list-visited start (at_times (λ u. nat_lt u t) (at_times (nat_le from) ps))
-        ∙ ap (λ (l : List Point). l ++ at_times (λ u. nat_lt u t) (at_times (nat_le from) ps)) none ∙ sym (before-row from to t ps upto))
-        ∙ ap (λ k. at_times (λ u. nat_lt u k) (between from to ps) ++ p ∷ at_times (nat_lt k) (between from to ps)) at
+    pub visited-put : (end : V) → t ≡ p.time → end ≡ visited step row (between (t + 1) to ps) → end ≡ visited step start (put p (between from to ps))
+    visited-put end at third =
+        third
+        ∙ ap (λ (v : V). visited step v (between (t + 1) to ps)) second
+        ∙ ap (λ (l : List Point). visited step (step before p) l) (sym (past-row from to t ps past))
+        ∙ ap (λ (v : V). visited step (step v p) (at_times (nat_lt t) (between from to ps))) first
+        ∙ ap (λ (l : List Point). visited step (step (visited step start l) p) (at_times (nat_lt t) (between from to ps))) (sym (before-row from to t ps upto))
+        ∙ sym (fold-append step start (at_times (λ u. nat_lt u t) (between from to ps)) (p ∷ at_times (nat_lt t) (between from to ps)))
+        ∙ ap (λ k. visited step start (at_times (λ u. nat_lt u k) (between from to ps) ++ p ∷ at_times (nat_lt k) (between from to ps))) at

@@ -1,7 +1,6 @@
 // A row among the samples of a series, in the place of one of its time.
 ghost use Rattle.std.specs.Prelude.{◌≡◌, ◌≤◌, ◌+◌, nat_lt, nat_le, List, length, IfOk};
 ghost use Rattle.ts_spec.specs.Sample.{Point, MAX_TIME, IsAscending, at_times, between, first_of, last_of, put, put_all};
-ghost use Rattle.ts_sample.specs.Gathered.{with_one_more};
 ghost use Rattle.ts_sample.specs.Visit.{visited};
 ghost use Rattle.ts_series.specs.History.{list_of, IsKept};
 ghost use Rattle.ts_rules.specs.Rules.{one_of};
@@ -80,27 +79,45 @@ pub(crate) fn gather_with<L: Ledger>(
     ensures gathered { IfOk result (λ samples. samples.items ≡ put row.now (between from to (list_of series.now))) }
     ensures steps { steps.new ≡ steps.old }
 {
-    row.known();
     let mut gathered = Gathered::with_room(alloc, series.room_for(from, to) + 1)?;
-    gather_before(series, from, row.time, &mut gathered, steps);
-    gathered.sample(row);
-    series.scan(row.time + 1, to, &mut gathered, steps);
+    scan_with(series, from, to, row, &mut gathered, steps);
     Ok(gathered.into_samples())
 }
 
-// Gathers the samples of a series from one time on that are before another.
-fn gather_before<L: Ledger>(
+// Takes a visitor over the samples of a series between two times, both included, with a row between them.
+pub(crate) fn scan_with<V: Visit, L: Ledger>(
+    series: &Series,
+    from: u64,
+    to: u64,
+    row: &Sample,
+    visit: &mut V,
+    steps: &mut Steps<L>,
+)
+    requires room { length (between from to (list_of series.now)) + 1 ≤ V.room visit.old }
+    requires past { from ≤ row.now.time }
+    requires upto { row.now.time ≤ to }
+    ensures visited { visit.new ≡ visited V.step visit.old (put row.now (between from to (list_of series.now))) }
+    ensures steps { steps.new ≡ steps.old }
+{
+    row.known();
+    scan_before(series, from, row.time, visit, steps);
+    visit.sample(row);
+    series.scan(row.time + 1, to, visit, steps);
+}
+
+// Takes a visitor over the samples of a series from one time on that are before another.
+fn scan_before<V: Visit, L: Ledger>(
     series: &Series,
     from: u64,
     t: u64,
-    gathered: &mut Gathered,
+    visit: &mut V,
     steps: &mut Steps<L>,
 )
-    requires room { length (at_times (λ u. nat_lt u t) (at_times (nat_le from) (list_of series.now))) ≤ gathered.old.room }
-    ensures gathered { gathered.new ≡ visited with_one_more gathered.old (at_times (λ u. nat_lt u t) (at_times (nat_le from) (list_of series.now))) }
+    requires room { length (at_times (λ u. nat_lt u t) (at_times (nat_le from) (list_of series.now))) ≤ V.room visit.old }
+    ensures visited { visit.new ≡ visited V.step visit.old (at_times (λ u. nat_lt u t) (at_times (nat_le from) (list_of series.now))) }
     ensures steps { steps.new ≡ steps.old }
 {
     if let Some(last) = t.checked_sub(1) {
-        series.scan(from, last, gathered, steps);
+        series.scan(from, last, visit, steps);
     }
 }

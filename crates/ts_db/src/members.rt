@@ -1,4 +1,5 @@
-ghost use Rattle.std.specs.Prelude.{◌≡◌, nat_lt, is_some, Some, IfOk};
+ghost use Rattle.std.specs.Prelude.{◌≡◌, ◌≤◌, ◌^◌, nat_lt, is_some, Some, IfOk};
+ghost use Rattle.ts_sample.specs.Visit.{visited};
 ghost use Rattle.std.specs.Option.{ForSome};
 ghost use Rattle.ts_spec.specs.Key.{Key};
 ghost use Rattle.ts_spec.specs.Keyed.{get};
@@ -12,7 +13,7 @@ use std::alloc::AllocError;
 use std::sync::ledger::Ledger;
 use ts_labels::{Filter, Labels};
 use ts_resp::Word;
-use ts_sample::{Id, Sample, Steps};
+use ts_sample::{Id, Sample, Steps, Visit};
 
 impl Db {
     /// The numbers of the keys whose labels pass all filters, in ascending order of the bytes of the keys.
@@ -86,6 +87,26 @@ impl Db {
         ensures steps { steps.new ≡ steps.old }
     {
         self.store.samples_of(id, from, to, latest, steps)
+    }
+
+    /// Takes a visitor over the samples of the key of a number between two times, in milliseconds, both included, in
+    /// their order; with `latest` also over that of an open bucket. Takes no memory.
+    pub fn visit_of<V: Visit, L: Ledger>(
+        &self,
+        id: Id,
+        from: u64,
+        to: u64,
+        latest: bool,
+        visit: &mut V,
+        steps: &mut Steps<L>,
+    )
+        requires live { IsLive self.now.ids id }
+        requires room { 10 ^ 14 ≤ V.room visit.old }
+        ensures visited { (key : Key) → get key self.now.ids ≡ Some id
+            → visit.new ≡ visited V.step visit.old (between from to (kept_asked self.now.keys latest key)) }
+        ensures steps { steps.new ≡ steps.old }
+    {
+        self.store.visit_of(id, from, to, latest, visit, steps);
     }
 
     /// The last sample of the key of a number before a time, in milliseconds, if it has one; with `latest` that of

@@ -1,5 +1,6 @@
 // What is kept under the number of a key.
-ghost use Rattle.std.specs.Prelude.{◌≡◌, ◌≤◌, nat_lt, length, Some, IfOk};
+ghost use Rattle.std.specs.Prelude.{◌≡◌, ◌≤◌, ◌<◌, ◌^◌, nat_lt, length, Some, IfOk};
+ghost use Rattle.ts_sample.specs.Visit.{visited};
 ghost use Rattle.std.specs.Option.{ForSome};
 ghost use Rattle.ts_spec.specs.Key.{Key};
 ghost use Rattle.ts_spec.specs.Keyed.{get};
@@ -10,14 +11,14 @@ ghost use Rattle.ts_rules.specs.Rules.{one_of};
 ghost use Rattle.ts_db.specs.Store.{stock_of, IsInOrder, Holds};
 ghost use Rattle.ts_db.specs.Held.{IsLive, AreTimes, ends_of};
 
-use crate::among::{first_with, gather_with, last_with, row_before, row_within};
+use crate::among::{first_with, gather_with, last_with, row_before, row_within, scan_with};
 use crate::node::Node;
 use crate::store::Store;
 use std::alloc::{AllocError, Global};
 use std::sync::ledger::Ledger;
 use ts_labels::Labels;
 use ts_resp::Word;
-use ts_sample::{Gathered, Id, Sample, Steps};
+use ts_sample::{Gathered, Id, Sample, Steps, Visit};
 use ts_series::Series;
 
 impl Store {
@@ -28,11 +29,19 @@ impl Store {
         ensures holds { (key : Key) → get key (stock_of self.now).ids ≡ Some id → Holds self.now key id result.now }
         ensures kept { IsKept result.now.series }
         ensures few { length (list_of result.now.series) ≤ MAX_TIME }
+        ensures within { length (list_of result.now.series) ≤ self.now.limits.samples }
     {
         let Some(node) = self.nodes.get(id.0) else {
             unreachable!();
         };
         node
+    }
+
+    // Does nothing: it tells a caller a bound that a reference hides.
+    fn known(&self)
+        ensures { self.now.limits.samples < 2 ^ 32 }
+    {
+        let _samples = self.limits.samples;
     }
 
     // The key of a number.
@@ -91,6 +100,32 @@ impl Store {
         match row_within(from, to, self.asked_row(id, node, latest)) {
             None => gather(self.alloc, &node.series, from, to, steps),
             Some(row) => gather_with(self.alloc, &node.series, from, to, &row, steps),
+        }
+    }
+
+    // Takes a visitor over the samples between two times, in milliseconds, both included, in their order; with
+    // `latest` also over that of an open bucket.
+    pub(crate) fn visit_of<V: Visit, L: Ledger>(
+        &self,
+        id: Id,
+        from: u64,
+        to: u64,
+        latest: bool,
+        visit: &mut V,
+        steps: &mut Steps<L>,
+    )
+        requires store { IsInOrder self.now }
+        requires live { IsLive (stock_of self.now).ids id }
+        requires room { 10 ^ 14 ≤ V.room visit.old }
+        ensures visited { (key : Key) → get key (stock_of self.now).ids ≡ Some id
+            → visit.new ≡ visited V.step visit.old (between from to (kept_asked (stock_of self.now).keys latest key)) }
+        ensures steps { steps.new ≡ steps.old }
+    {
+        self.known();
+        let node = self.node(id);
+        match row_within(from, to, self.asked_row(id, node, latest)) {
+            None => node.series.scan(from, to, visit, steps),
+            Some(row) => scan_with(&node.series, from, to, &row, visit, steps),
         }
     }
 

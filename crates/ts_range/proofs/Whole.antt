@@ -1,13 +1,15 @@
 -- The rows of a question, by what it asks of buckets.
 use Rattle.std.proofs.Common.{◌≡◌, ℕ, Bool, true, false, if◌then◌else◌, List, map, refl, sym, ◌∙◌, ap}
-use Rattle.std.specs.Prelude.{Option, None, Some}
-use Rattle.ts_spec.specs.Sample.{Point, first_of, last_of}
+use Rattle.std.specs.Prelude.{◌&&◌, nat_lt, length, filter, Option, None, Some}
+use Rattle.std.proofs.lemmas.List.Elements.{filter_agree}
+use Rattle.ts_spec.specs.Sample.{Point, between, first_of, last_of}
 use Rattle.ts_spec.specs.Bucket.{Grid, starts}
 use Rattle.ts_spec.specs.Command.{Query, Buckets}
-use Rattle.ts_spec.specs.Answer.{row_of, selected, bucket_row, ends_between, turned, first_ones, rows, rows_of}
+use Rattle.ts_spec.specs.Answer.{row_of, is_let_through, selected, bucket_row, ends_between, turned, first_ones, rows, rows_of, tells_empty, answer}
 use Rattle.ts_range.specs.Starts.{starts_within}
 use Rattle.ts_range.specs.Told.{rows_told}
 use Rattle.ts_range.specs.Walk.{times_of}
+use Rattle.ts_range.specs.Walking.{rows_chosen}
 
 ends-within : (g : Grid) (from to : ℕ) (first last : Option Point) → ends_between g from to first last ≡ starts_within g from to (times_of first last)
 ends-within g from to None last = refl
@@ -37,3 +39,19 @@ module _ (q : Query) (l : List Point) where
         ∙ ap (λ (b : Bool). first_ones q.count (turned q.reverse (map (bucket_row bs l (selected q l)) (if b then ends_between bs.grid q.from q.to (first_of l) (last_of l) else starts bs.grid (selected q l))))) empty
         ∙ ap (λ (xs : List ℕ). first_ones q.count (turned q.reverse (map (bucket_row bs l (selected q l)) xs)))
         (ends-within bs.grid q.from q.to (first_of l) (last_of l) ∙ ap (starts_within bs.grid q.from q.to) (sym around))
+
+  -- of each sample, or of the buckets with samples
+  chosen-rows : (o : Option Buckets) → q.buckets ≡ o → tells_empty o ≡ false → rows q l ≡ first_ones q.count (turned q.reverse (rows_chosen o l (selected q l)))
+  chosen-rows None is full = rows-single is
+  chosen-rows (Some bs) is full = rows-told bs is full
+
+  -- what a walk hands on is the answer, where the first row comes first and empty buckets are not told
+  pub walk-rows : (test : Point → Bool) → ((p : Point) → test p ≡ is_let_through q p) → q.reverse ≡ false → tells_empty q.buckets ≡ false
+      → first_ones q.count (rows_chosen q.buckets l (filter test (between q.from q.to l))) ≡ rows q l
+  walk-rows test lets forward full =
+      ap (λ (ps : List Point). first_ones q.count (rows_chosen q.buckets l ps)) (filter_agree test (is_let_through q) lets (between q.from q.to l))
+      ∙ ap (λ (b : Bool). first_ones q.count (turned b (rows_chosen q.buckets l (selected q l)))) (sym forward)
+      ∙ sym (chosen-rows q.buckets refl full)
+
+  pub no-limit : (limit : ℕ) → tells_empty q.buckets ≡ false → answer limit q l ≡ Some (rows q l)
+  no-limit limit full = ap (λ (b : Bool). if b && nat_lt limit (length (rows q l)) then None else Some (rows q l)) full

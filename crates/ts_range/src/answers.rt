@@ -47,7 +47,7 @@ fn rows(alloc: Global, query: &Query, asked: &Asked) -> Result<Vec<Row>, AllocEr
     ensures { (l : List Point) → IsAscending l → IsAskedOf query.now asked.now l
         → IfOk result (λ rows. map row_of rows.items ≡ spec.rows (query_of query.now) l) }
 {
-    let filters = Filters::of(alloc, query)?;
+    let filters = Filters::of(query)?;
     let Some(buckets) = &query.buckets else {
         return walked_rows(alloc, query, filters, &asked.rows);
     };

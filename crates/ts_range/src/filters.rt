@@ -23,7 +23,7 @@ impl Filters {
     ghost use Rattle.ts_range.specs.Filters.{passes};
 
     /// What this question lets through.
-    pub fn of(alloc: Global, query: &Query) -> Result<Filters, AllocError>
+    pub fn of(query: &Query) -> Result<Filters, AllocError>
         ensures { IfOk result (λ f. (p : Point) →
             passes f p ≡ is_let_through (query_of query.now) p) }
     {
@@ -35,7 +35,7 @@ impl Filters {
             });
         };
         Ok(Filters {
-            times: Some(sorted(alloc, times)?),
+            times: Some(sorted(*times.allocator(), times)?),
             values,
         })
     }

@@ -23,6 +23,7 @@ mod walked;
 pub use answers::answer;
 pub use fault::RangeFault;
 pub use filters::Filters;
+pub use limited::Limited;
 pub use query::{Buckets, Query};
 pub use row::{Asked, Row};
 pub use take::Take;

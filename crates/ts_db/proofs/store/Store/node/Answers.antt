@@ -1,4 +1,4 @@
-use Rattle.std.proofs.Common.{sym}
+use Rattle.std.proofs.Common.{sym, arith}
 use Rattle.ts_db.proofs.Asking.{numbered-holds, node-live}
 use Rattle.ts_db.proofs.store.Store.node.Goals as goal
 
@@ -10,3 +10,6 @@ returns-clause-holds c = λ key is. numbered-holds c.args.self.now key c.args.id
 
 pub returns-clause-kept : goal.returns-clause-kept
 returns-clause-kept c = (c.requires.store.each c.args.id.0 c.in-Some.node.now (sym c.in-Some.ensures)).kept
+
+pub returns-clause-within : goal.returns-clause-within
+returns-clause-within c = omega (arith, (c.requires.store.each c.args.id.0 c.in-Some.node.now (sym c.in-Some.ensures)).within)

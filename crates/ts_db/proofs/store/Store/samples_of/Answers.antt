@@ -1,19 +1,13 @@
-use Rattle.std.proofs.Common.{◌≡◌, ℕ, List, sym, ap, ◌∙◌, subst}
-use Rattle.std.specs.Prelude.{Option, Some}
+use Rattle.std.proofs.Common.{List, sym, ap, ◌∙◌, subst}
+use Rattle.std.specs.Prelude.{Option}
 use Rattle.std.proofs.lemmas.Result.{IfOk-weaker}
-use Rattle.ts_spec.specs.Sample.{Point, IsAscending, between, is_within, put, put_all}
+use Rattle.ts_spec.specs.Sample.{Point, IsAscending, between, is_within, put_all}
 use Rattle.ts_spec.proofs.Samples.{ascending-times, ascending-put_all}
 use Rattle.ts_spec.proofs.Settles.{times-within}
 use Rattle.ts_series.specs.History.{list_of}
 use Rattle.ts_rules.specs.Rules.{one_of}
-use Rattle.ts_db.proofs.Rows.{within-put}
+use Rattle.ts_db.proofs.Rows.{within-put, put-within}
 use Rattle.ts_db.proofs.store.Store.samples_of.Goals as goal
-
--- the samples of an interval with a row among them are those of the list with the row asked
-with-row : (from to : ℕ) (asked inside : Option Point) (row : Point) (ps : List Point) → IsAscending ps → one_of inside ≡ between from to (one_of asked) → inside ≡ Some row
-    → put row (between from to ps) ≡ between from to (put_all (one_of asked) ps)
-with-row from to asked inside row ps up is there =
-    ap (λ (o : Option Point). put_all (one_of o) (between from to ps)) (sym there) ∙ within-put from to asked inside ps up is
 
 pub returns-in-None-clause-samples : goal.returns-in-None-clause-samples
 returns-in-None-clause-samples g c = IfOk-weaker c.gather.result _ _ (λ samples is. λ key at.
@@ -23,19 +17,19 @@ returns-in-None-clause-samples g c = IfOk-weaker c.gather.result _ _ (λ samples
 
 pub returns-in-Some-clause-samples : goal.returns-in-Some-clause-samples
 returns-in-Some-clause-samples g c = IfOk-weaker c.gather_with.result _ _ (λ samples is. λ key at.
-    is ∙ with-row c.args.from c.args.to c.asked_row.result c.row_within.result c.in-Some.row (list_of c.node-node.result.now.series) c.node-node.ensures.kept.ascending c.row_within.ensures c.in-Some.is
+    is ∙ put-within c.args.from c.args.to c.asked_row.result c.row_within.result c.in-Some.row (list_of c.node-node.result.now.series) c.node-node.ensures.kept.ascending c.row_within.ensures c.in-Some.is
     ∙ ap (between c.args.from c.args.to) (sym (c.asked_row.ensures key c.node-node.result.now (c.node-node.ensures.holds key at)))) c.gather_with.ensures.gathered
 
 pub returns-in-Some-clause-ascending : goal.returns-in-Some-clause-ascending
 returns-in-Some-clause-ascending g c =
     let list : List Point = put_all (one_of c.asked_row.result) (list_of c.node-node.result.now.series) in
     IfOk-weaker c.gather_with.result _ _ (λ samples is. subst IsAscending
-    (sym (is ∙ with-row c.args.from c.args.to c.asked_row.result c.row_within.result c.in-Some.row (list_of c.node-node.result.now.series) c.node-node.ensures.kept.ascending c.row_within.ensures c.in-Some.is))
+    (sym (is ∙ put-within c.args.from c.args.to c.asked_row.result c.row_within.result c.in-Some.row (list_of c.node-node.result.now.series) c.node-node.ensures.kept.ascending c.row_within.ensures c.in-Some.is))
     (ascending-times (is_within c.args.from c.args.to) list (ascending-put_all (one_of c.asked_row.result) (list_of c.node-node.result.now.series) c.node-node.ensures.kept.ascending))) c.gather_with.ensures.gathered
 
 pub returns-in-Some-clause-within : goal.returns-in-Some-clause-within
 returns-in-Some-clause-within g c =
     let list : List Point = put_all (one_of c.asked_row.result) (list_of c.node-node.result.now.series) in
     IfOk-weaker c.gather_with.result _ _ (λ samples is.
-    let same = is ∙ with-row c.args.from c.args.to c.asked_row.result c.row_within.result c.in-Some.row (list_of c.node-node.result.now.series) c.node-node.ensures.kept.ascending c.row_within.ensures c.in-Some.is in
+    let same = is ∙ put-within c.args.from c.args.to c.asked_row.result c.row_within.result c.in-Some.row (list_of c.node-node.result.now.series) c.node-node.ensures.kept.ascending c.row_within.ensures c.in-Some.is in
     ap (between c.args.from c.args.to) same ∙ times-within (is_within c.args.from c.args.to) (is_within c.args.from c.args.to) list (λ t x. x) ∙ sym same) c.gather_with.ensures.gathered
