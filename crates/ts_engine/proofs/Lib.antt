@@ -5,6 +5,7 @@ pub mod Dropping
 pub mod Executed
 pub mod Faulted
 pub mod Finding
+pub mod Handing
 pub mod Headlines
 pub mod InfoTexts
 pub mod Items
@@ -18,7 +19,7 @@ pub mod Pipes
 pub mod Places
 pub mod Quits
 pub mod Refusals
-pub mod RowTexts
+pub mod WrittenRows
 pub mod Sessions
 pub mod Short
 pub mod Summaries

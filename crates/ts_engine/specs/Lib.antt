@@ -6,6 +6,7 @@ pub mod Going
 pub mod Headline
 pub mod Members
 pub mod Piping
+pub mod RowTexts
 pub mod Serving
 pub mod Session
 pub mod Standing

@@ -26,7 +26,9 @@ mod running;
 mod serving;
 mod session;
 mod status;
+mod texts;
 mod turn;
+mod walked;
 mod wanted;
 
 pub use execution::execute;

@@ -1,6 +1,7 @@
 // The questions about the samples of one series.
-ghost use Rattle.std.specs.Prelude.{◌≡◌, ◌+◌, ◌≤◌, List, [], length};
+ghost use Rattle.std.specs.Prelude.{◌≡◌, ◌+◌, ◌≤◌, ◌&&◌, not, List, [], length};
 ghost use Rattle.ts_spec.specs.Answer as spec;
+ghost use Rattle.ts_spec.specs.Answer.{tells_empty};
 ghost use Rattle.ts_spec.specs.Keyed.{get};
 ghost use Rattle.ts_spec.specs.Questions.{range_response, rows_response, last_response};
 ghost use Rattle.ts_spec.specs.Sample.{Point, IsAscending, between};
@@ -13,6 +14,7 @@ use crate::answers::{refusal_reply, too_many_rows};
 use crate::found::find_asked;
 use crate::room::put_no_memory;
 use crate::rows::{put_last, put_rows};
+use crate::walked::put_walked;
 use std::sync::ledger::Ledger;
 use ts_db::Db;
 use ts_range::{Asked, Query, RangeFault, answer};
@@ -21,6 +23,41 @@ use ts_sample::Steps;
 
 /// Writes the reply to TS.RANGE and TS.REVRANGE.
 pub(crate) fn put_range<L: Ledger>(
+    db: &Db,
+    key: &Word,
+    latest: bool,
+    query: &Query,
+    out: &mut Out,
+    steps: &mut Steps<L>,
+)
+    requires empty { out.old.bytes ≡ [] }
+    requires room { 128 ≤ out.old.spare }
+    ensures reply { (from : Held) → Stands db.now from
+        → IsTold (range_response from.limits from.state key.now latest (query_of query.now) (get key.now from.state)) out.new.bytes }
+    ensures room { 128 ≤ length out.new.bytes + out.new.spare }
+{
+    if is_walked(query) {
+        put_walked(db, key, latest, query, out, steps);
+    } else {
+        put_gathered(db, key, latest, query, out, steps);
+    }
+}
+
+// Whether one walk over the samples tells the rows in their order.
+fn is_walked(query: &Query) -> bool
+    ensures { result ≡ (not query.now.reverse && not (tells_empty (query_of query.now).buckets)) }
+{
+    if query.reverse {
+        return false;
+    }
+    match query.buckets {
+        None => true,
+        Some(buckets) => !buckets.empty,
+    }
+}
+
+// Writes the reply from samples that are gathered first.
+fn put_gathered<L: Ledger>(
     db: &Db,
     key: &Word,
     latest: bool,

@@ -3,7 +3,8 @@ use Rattle.std.proofs.lemmas.List.{length-map}
 use Rattle.std.specs.Fmt.{decimal}
 use Rattle.ts_range.specs.Query.{row_of}
 use Rattle.ts_spec.specs.Text.{line_text}
-use Rattle.ts_engine.proofs.RowTexts.{row_texts, rows_text}
+use Rattle.ts_engine.specs.RowTexts.{row_texts}
+use Rattle.ts_engine.proofs.WrittenRows.{rows_text}
 use Rattle.ts_engine.proofs.Short.{short_head}
 use Rattle.ts_engine.proofs.rows.put_all.Goals as goal
 

@@ -3,7 +3,7 @@ use Rattle.ts_range.specs.Query.{row_of}
 use Rattle.ts_spec.specs.Response.{Rows}
 use Rattle.ts_spec.specs.Replies.{reply_to}
 use Rattle.ts_spec.specs.Text.{text}
-use Rattle.ts_engine.proofs.RowTexts.{row_texts}
+use Rattle.ts_engine.specs.RowTexts.{row_texts}
 use Rattle.ts_engine.proofs.rows.put_all.Given as goal
 
 -- the rows that are left, after those that were written, make the text of all, and have their room

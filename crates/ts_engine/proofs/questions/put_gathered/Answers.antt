@@ -12,7 +12,7 @@ use Rattle.ts_engine.proofs.Finding.{found, range_told, asked_ascending}
 use Rattle.ts_resp.specs.Replies.{reply_of}
 use Rattle.ts_engine.proofs.Executed.{alone}
 use Rattle.ts_engine.proofs.Refusals.{lost_told}
-use Rattle.ts_engine.proofs.questions.put_range.Goals as goal
+use Rattle.ts_engine.proofs.questions.put_gathered.Goals as goal
 
 pub returns-in-Ok-clause-reply : goal.returns-in-Ok-clause-reply
 returns-in-Ok-clause-reply g c = λ from stands.

@@ -1,0 +1,122 @@
+// A question that one walk over the samples answers.
+ghost use Rattle.std.specs.Prelude.{◌≡◌, ◌+◌, ◌≤◌, false, List, [], filter, length, Some, option_map};
+ghost use Rattle.ts_spec.specs.Answer.{tells_empty, rows};
+ghost use Rattle.ts_spec.specs.Key.{Key};
+ghost use Rattle.ts_spec.specs.Keyed.{get};
+ghost use Rattle.ts_spec.specs.KeptQuestions.{kept_asked};
+ghost use Rattle.ts_spec.specs.Questions.{range_response};
+ghost use Rattle.ts_spec.specs.Response.{Rows};
+ghost use Rattle.ts_spec.specs.Sample.{Point, between};
+ghost use Rattle.ts_range.specs.Filters.{passes};
+ghost use Rattle.ts_range.specs.Query.{buckets_of, query_of};
+ghost use Rattle.ts_range.specs.Walking.{lets, rows_chosen};
+ghost use Rattle.ts_db.specs.Held.{Held, Stands, IsLive};
+ghost use Rattle.ts_engine.specs.Answering.{IsTold};
+
+use crate::answers::refusal_reply;
+use crate::room::put_no_memory;
+use crate::texts::{FIRST_ROOM, RowTexts};
+use std::sync::ledger::Ledger;
+use ts_db::{Db, DbFault, Id};
+use ts_range::{Filters, Limited, Query, Take, Walk};
+use ts_resp::{Out, Word, put};
+use ts_sample::Steps;
+
+/// Writes the reply to TS.RANGE while the samples are scanned. Empty buckets are not told.
+pub(crate) fn put_walked<L: Ledger>(
+    db: &Db,
+    key: &Word,
+    latest: bool,
+    query: &Query,
+    out: &mut Out,
+    steps: &mut Steps<L>,
+)
+    requires forward { query.now.reverse ≡ false }
+    requires full { tells_empty (query_of query.now).buckets ≡ false }
+    requires empty { out.old.bytes ≡ [] }
+    requires room { 128 ≤ out.old.spare }
+    ensures reply { (from : Held) → Stands db.now from
+        → IsTold (range_response from.limits from.state key.now latest (query_of query.now) (get key.now from.state)) out.new.bytes }
+    ensures room { 128 ≤ length out.new.bytes + out.new.spare }
+{
+    match db.id_of(key) {
+        None => put(&refusal_reply(DbFault::NoKey), out),
+        Some(id) => put_rows_of(db, id, latest, query, out, steps),
+    }
+}
+
+// Writes the rows of the key of a number.
+fn put_rows_of<L: Ledger>(
+    db: &Db,
+    id: Id,
+    latest: bool,
+    query: &Query,
+    out: &mut Out,
+    steps: &mut Steps<L>,
+)
+    requires live { IsLive db.now.ids id }
+    requires forward { query.now.reverse ≡ false }
+    requires full { tells_empty (query_of query.now).buckets ≡ false }
+    requires empty { out.old.bytes ≡ [] }
+    requires room { 128 ≤ out.old.spare }
+    ensures reply { (key : Key) → get key db.now.ids ≡ Some id
+        → IsTold (Rows (rows (query_of query.now) (kept_asked db.now.keys latest key))) out.new.bytes }
+    ensures room { 128 ≤ length out.new.bytes + out.new.spare }
+{
+    match out.reserve(FIRST_ROOM) {
+        Ok(()) => {}
+        Err(_) => {
+            put_no_memory(out);
+            return;
+        }
+    }
+    let Ok(filters) = Filters::of(query) else {
+        put_no_memory(out);
+        return;
+    };
+    let taker = Limited::new(RowTexts::begin(out.take()), query.count);
+    let taker = handed(db, id, latest, query, filters, taker, steps);
+    *out = taker.into_taker().finish();
+}
+
+// The taker to which the rows of the key of a number were handed.
+fn handed<T: Take, L: Ledger>(
+    db: &Db,
+    id: Id,
+    latest: bool,
+    query: &Query,
+    filters: Filters,
+    taker: T,
+    steps: &mut Steps<L>,
+) -> T
+    requires live { IsLive db.now.ids id }
+    requires none { T.has taker [] }
+    ensures rows { (key : Key) → get key db.now.ids ≡ Some id
+        → T.has result (rows_chosen (option_map buckets_of query.now.buckets) (kept_asked db.now.keys latest key)
+        (filter (passes filters) (between query.now.from query.now.to (kept_asked db.now.keys latest key)))) }
+    ensures limit { T.limit result ≡ T.limit taker }
+{
+    let walk = Walk::new(filters, query.buckets, taker);
+    walked(db, id, latest, query, walk, steps)
+}
+
+// The taker of a walk that has not begun, after the samples of the key of a number.
+fn walked<T: Take, L: Ledger>(
+    db: &Db,
+    id: Id,
+    latest: bool,
+    query: &Query,
+    mut walk: Walk<T>,
+    steps: &mut Steps<L>,
+) -> T
+    requires live { IsLive db.now.ids id }
+    requires none { walk.seen ≡ [] }
+    ensures rows { (key : Key) → get key db.now.ids ≡ Some id
+        → T.has result (rows_chosen walk.buckets (kept_asked db.now.keys latest key)
+        (filter (lets walk) (between query.now.from query.now.to (kept_asked db.now.keys latest key)))) }
+    ensures limit { T.limit result ≡ walk.limit }
+{
+    db.known();
+    db.visit_of(id, query.from, query.to, latest, &mut walk, steps);
+    walk.finish()
+}
