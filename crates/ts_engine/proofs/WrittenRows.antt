@@ -4,8 +4,8 @@ use Rattle.std.proofs.Math.Seq.{drop-append_seam}
 use Rattle.std.proofs.lemmas.List.{length-map}
 use Rattle.std.specs.Fmt.{decimal}
 use Rattle.ts_spec.specs.Answer.{Row}
-use Rattle.ts_spec.specs.Replies.{array, listed, row_reply}
-use Rattle.ts_spec.specs.Text.{line_text, text, texts, Array, Item, Int, Value, Empty}
+use Rattle.ts_spec.specs.Replies.{array, row_reply}
+use Rattle.ts_spec.specs.Text.{line_text, text, Array, Item, Int, Value, Empty}
 use Rattle.ts_sample.specs.declared.cell.Cell.{Cell}
 use Rattle.ts_sample.specs.declared.cell.Cell.TheVariants as cell
 use Rattle.ts_range.specs.Query.{cell_of}

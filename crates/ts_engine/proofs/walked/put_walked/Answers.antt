@@ -1,4 +1,4 @@
-use Rattle.std.proofs.Common.{◌≡◌, List, refl, sym, ◌∙◌, ap, subst}
+use Rattle.std.proofs.Common.{List, refl, sym, ◌∙◌, ap, subst}
 use Rattle.std.specs.Prelude.{⊤, is_some}
 use Rattle.ts_spec.specs.Answer.{rows}
 use Rattle.ts_spec.specs.Keyed.{get}
