@@ -1,4 +1,4 @@
-ghost use Rattle.std.specs.Prelude.{◌≡◌, ◌≤◌, ◌^◌, nat_lt, is_some, Some, IfOk};
+ghost use Rattle.std.specs.Prelude.{◌≡◌, ◌≤◌, ◌^◌, ◌⊎◌, false, nat_lt, length, is_some, Some, IfOk};
 ghost use Rattle.ts_sample.specs.Visit.{visited};
 ghost use Rattle.std.specs.Option.{ForSome};
 ghost use Rattle.ts_spec.specs.Key.{Key};
@@ -107,6 +107,18 @@ impl Db {
         ensures steps { steps.new ≡ steps.old }
     {
         self.store.visit_of(id, from, to, latest, visit, steps);
+    }
+
+    /// A time from one to another, in milliseconds, up to which the key of a number has so many samples; the later
+    /// one where it has fewer. The sample of an open bucket does not count. Takes no memory, and looks at few samples.
+    pub fn reach_of(&self, id: Id, from: u64, to: u64, count: u64) -> u64
+        requires live { IsLive self.now.ids id }
+        requires ordered { from ≤ to }
+        ensures within { (from ≤ result) × (result ≤ to) }
+        ensures reach { (key : Key) → get key self.now.ids ≡ Some id
+            → (result ≡ to) ⊎ (count ≤ length (between from result (kept_asked self.now.keys false key))) }
+    {
+        self.store.reach_of(id, from, to, count)
     }
 
     /// The last sample of the key of a number before a time, in milliseconds, if it has one; with `latest` that of

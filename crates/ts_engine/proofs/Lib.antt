@@ -18,6 +18,7 @@ pub mod OneStep
 pub mod Pipes
 pub mod Places
 pub mod Quits
+pub mod Reaching
 pub mod Refusals
 pub mod WrittenRows
 pub mod Sessions

@@ -1,5 +1,5 @@
 // A question that one walk over the samples answers.
-ghost use Rattle.std.specs.Prelude.{◌≡◌, ◌+◌, ◌≤◌, false, List, [], filter, length, Some, option_map};
+ghost use Rattle.std.specs.Prelude.{◌≡◌, ◌+◌, ◌≤◌, true, false, List, [], filter, length, None, Some, option_map};
 ghost use Rattle.ts_spec.specs.Answer.{tells_empty, rows};
 ghost use Rattle.ts_spec.specs.Key.{Key};
 ghost use Rattle.ts_spec.specs.Keyed.{get};
@@ -74,9 +74,47 @@ fn put_rows_of<L: Ledger>(
         put_no_memory(out);
         return;
     };
+    let to = last_wanted(db, id, latest, query);
     let taker = Limited::new(RowTexts::begin(out.take()), query.count);
-    let taker = handed(db, id, latest, query, filters, taker, steps);
+    let taker = handed(db, id, latest, query, to, filters, taker, steps);
     *out = taker.into_taker().finish();
+}
+
+// A time up to which the samples tell all rows that are wanted. Where single samples are told, as many as are wanted
+// are enough.
+fn last_wanted(db: &Db, id: Id, latest: bool, query: &Query) -> u64
+    requires live { IsLive db.now.ids id }
+    requires forward { query.now.reverse ≡ false }
+    ensures { (key : Key) → get key db.now.ids ≡ Some id
+        → rows (record (query_of query.now) { to = result }) (kept_asked db.now.keys latest key) ≡ rows (query_of query.now) (kept_asked db.now.keys latest key) }
+{
+    db.known();
+    let Some(count) = query.count else {
+        return query.to;
+    };
+    if latest {
+        return query.to;
+    }
+    if query.to < query.from {
+        return query.to;
+    }
+    if !tells_each(query) {
+        return query.to;
+    }
+    db.reach_of(id, query.from, query.to, count)
+}
+
+// Whether each sample of the interval is told.
+fn tells_each(query: &Query) -> bool
+    ensures { result ≡ true → (query.now.times ≡ None) × (query.now.values ≡ None) × (query.now.buckets ≡ None) }
+{
+    if query.times.is_some() {
+        return false;
+    }
+    if query.values.is_some() {
+        return false;
+    }
+    query.buckets.is_none()
 }
 
 // The taker to which the rows of the key of a number were handed.
@@ -85,6 +123,7 @@ fn handed<T: Take, L: Ledger>(
     id: Id,
     latest: bool,
     query: &Query,
+    to: u64,
     filters: Filters,
     taker: T,
     steps: &mut Steps<L>,
@@ -93,11 +132,11 @@ fn handed<T: Take, L: Ledger>(
     requires none { T.has taker [] }
     ensures rows { (key : Key) → get key db.now.ids ≡ Some id
         → T.has result (rows_chosen (option_map buckets_of query.now.buckets) (kept_asked db.now.keys latest key)
-        (filter (passes filters) (between query.now.from query.now.to (kept_asked db.now.keys latest key)))) }
+        (filter (passes filters) (between query.now.from to (kept_asked db.now.keys latest key)))) }
     ensures limit { T.limit result ≡ T.limit taker }
 {
     let walk = Walk::new(filters, query.buckets, taker);
-    walked(db, id, latest, query, walk, steps)
+    walked(db, id, latest, query.from, to, walk, steps)
 }
 
 // The taker of a walk that has not begun, after the samples of the key of a number.
@@ -105,7 +144,8 @@ fn walked<T: Take, L: Ledger>(
     db: &Db,
     id: Id,
     latest: bool,
-    query: &Query,
+    from: u64,
+    to: u64,
     mut walk: Walk<T>,
     steps: &mut Steps<L>,
 ) -> T
@@ -113,10 +153,10 @@ fn walked<T: Take, L: Ledger>(
     requires none { walk.seen ≡ [] }
     ensures rows { (key : Key) → get key db.now.ids ≡ Some id
         → T.has result (rows_chosen walk.buckets (kept_asked db.now.keys latest key)
-        (filter (lets walk) (between query.now.from query.now.to (kept_asked db.now.keys latest key)))) }
+        (filter (lets walk) (between from to (kept_asked db.now.keys latest key)))) }
     ensures limit { T.limit result ≡ walk.limit }
 {
     db.known();
-    db.visit_of(id, query.from, query.to, latest, &mut walk, steps);
+    db.visit_of(id, from, to, latest, &mut walk, steps);
     walk.finish()
 }

@@ -16,9 +16,10 @@ returns-clause-reply g c = λ key at.
     let query = c.args.query.now in
     let all : List Point = kept_asked c.args.db.now.keys c.args.latest key in
     let lets = passes c.in-Ok-of.filters in
-    let handed : List Row = rows_chosen (option_map buckets_of query.buckets) all (filter lets (between query.from query.to all)) in
+    let handed : List Row = rows_chosen (option_map buckets_of query.buckets) all (filter lets (between query.from c.last_wanted-to.result all)) in
     let count : c.handed-taker.result.count ≡ query.count = c.handed-taker.ensures.limit ∙ c.new-taker.ensures.count in
     let same : first_ones c.handed-taker.result.count handed ≡ rows (query_of query) all =
-    ap (λ (o : Option ℕ). first_ones o handed) count ∙ walk-rows (query_of query) all lets c.in-Ok-of.ensures c.requires.forward c.requires.full in
+    ap (λ (o : Option ℕ). first_ones o handed) count ∙ walk-rows (record (query_of query) { to = c.last_wanted-to.result }) all lets c.in-Ok-of.ensures c.requires.forward c.requires.full
+    ∙ c.last_wanted-to.ensures key at in
     subst (λ (rs : List Row). IsTold (Rows rs) c.finish.result.bytes) same
     (c.finish.ensures.told (first_ones c.handed-taker.result.count handed) (c.into_taker.ensures handed (c.handed-taker.ensures.rows key at)))
