@@ -1,9 +1,9 @@
 -- The first rows are told by the first samples.
 use Rattle.std.proofs.Common.{◌≡◌, ℕ, ◌≤◌, ◌⊎◌, inl, inr, Bool, true, false, not, ◌&&◌, List, ◌++◌, map, length, take, get_or, sym, ◌∙◌, ap, arith}
-use Rattle.std.specs.Prelude.{nat_le, filter, Option, None, Some}
+use Rattle.std.specs.Prelude.{nat_le, Option, None, Some}
 use Rattle.std.proofs.lemmas.Bool.Decides.{nat_tests}
 use Rattle.std.proofs.lemmas.List.{length-map, map-append, take-append-le}
-use Rattle.ts_spec.specs.Answer.{row_of, is_let_through, lets_time, lets_value, selected, rows, rows_of, turned, first_ones}
+use Rattle.ts_spec.specs.Answer.{row_of, is_let_through, lets_time, lets_value, rows, rows_of, turned, first_ones}
 use Rattle.ts_spec.specs.Command.{Query, Buckets, Span}
 use Rattle.ts_spec.specs.Sample.{Point, IsAscending, at_times, is_within, between}
 use Rattle.ts_spec.proofs.Samples.{ascending-times}

@@ -1,8 +1,7 @@
-use Rattle.std.proofs.Common.{◌≡◌, ℕ, List, sym, ap, subst}
-use Rattle.std.specs.Prelude.{Bool, false, Option, option_map}
+use Rattle.std.proofs.Common.{◌≡◌, sym, ap, subst}
+use Rattle.std.specs.Prelude.{Bool, false, option_map}
 use Rattle.ts_spec.specs.Answer.{rows}
 use Rattle.ts_spec.specs.KeptQuestions.{kept_asked}
-use Rattle.ts_spec.specs.Sample.{Point}
 use Rattle.ts_range.specs.Query.{buckets_of, query_of, span_of}
 use Rattle.ts_engine.proofs.Finding.{kept_ascending}
 use Rattle.ts_engine.proofs.Reaching.{rows-upto}
