@@ -144,6 +144,28 @@ fn stamps(rt: HostRuntime) -> Result<(), Fail> {
 }
 
 #[test]
+fn later_buckets(rt: HostRuntime) -> Result<(), Fail> {
+    let alloc = rt.alloc();
+    let four = vec![in alloc; sample(1, 1), sample(9, 1), sample(10, 1), sample(35, 1)]?;
+    let asked = query(
+        None,
+        buckets(Aggregator::Count, 0, Stamp::Low, false),
+        false,
+    );
+    let want = [row(0, 2_000_000), row(10, 1_000_000), row(30, 1_000_000)];
+    assert_eq!(rt; ask(&asked, four, 0)?.as_slice(), want.as_slice());
+    let four = vec![in alloc; sample(1, 1), sample(9, 1), sample(10, 1), sample(35, 1)]?;
+    let asked = query(
+        Some(2),
+        buckets(Aggregator::Count, 0, Stamp::Low, false),
+        true,
+    );
+    let want = [row(30, 1_000_000), row(10, 1_000_000)];
+    assert_eq!(rt; ask(&asked, four, 0)?.as_slice(), want.as_slice());
+    Ok(())
+}
+
+#[test]
 fn empty_buckets(rt: HostRuntime) -> Result<(), Fail> {
     let alloc = rt.alloc();
     for (agg, empty) in [
