@@ -47,6 +47,7 @@ impl Bucket {
     }
 
     // The bucket of a sample past this one, which is the only one in it yet.
+    #[inline]
     pub(crate) fn after(&self, grid: &Grid, sample: &Sample) -> Bucket
         requires { self.now.last < sample.now.time }
         ensures span { IsSpan grid.now self.now.start self.now.last → IsSpan grid.now result.start result.last }
@@ -65,6 +66,7 @@ impl Bucket {
     }
 
     // Its row.
+    #[inline]
     pub(crate) fn row(&self, buckets: &Buckets) -> Row
         ensures { (ps : List Point) → StandsFor self.now.running ps → 0 < length ps
             → start_of buckets.now.grid self.now.start ≡ self.now.start
@@ -94,6 +96,7 @@ fn span_of(grid: &Grid, t: u64) -> (u64, u64)
 }
 
 // The same of a time past a bucket with this last time. Mostly it is in the next bucket, which is one addition away.
+#[inline]
 fn span_past(last: u64, grid: &Grid, t: u64) -> (u64, u64)
     requires past { last < t }
     requires time { t ≤ MAX_TIME }
@@ -110,6 +113,7 @@ fn span_past(last: u64, grid: &Grid, t: u64) -> (u64, u64)
 }
 
 // The last time of the bucket that begins there. Only the first bucket may be cut short, and takes a division.
+#[inline]
 fn last_from(grid: &Grid, start: u64) -> u64
     requires { start ≤ MAX_TIME }
     ensures within { result ≤ MAX_TIME }
@@ -123,6 +127,7 @@ fn last_from(grid: &Grid, start: u64) -> u64
 }
 
 // The time that stands for the bucket that begins there.
+#[inline]
 fn stamp_of(start: u64, buckets: &Buckets) -> u64
     requires { start ≤ MAX_TIME }
     ensures time { result ≤ MAX_TIME }

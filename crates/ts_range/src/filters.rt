@@ -41,6 +41,7 @@ impl Filters {
     }
 
     // Whether both filters let a sample through.
+    #[inline]
     pub(crate) fn let_through(&self, sample: &Sample) -> bool
         ensures { result ≡ passes self.now sample.now }
     {
@@ -48,6 +49,7 @@ impl Filters {
     }
 
     // Whether the time is among those asked for.
+    #[inline]
     fn let_time(&self, time: u64) -> bool
         ensures { result ≡ lets_time (option_map (λ times. times.items) self.now.times) time }
     {
@@ -58,6 +60,7 @@ impl Filters {
     }
 
     // Whether the value is among those asked for, the ends included.
+    #[inline]
     fn let_value(&self, value: Units) -> bool
         ensures { result ≡ lets_value (option_map span_of self.now.values) value }
     {
