@@ -1,0 +1,5 @@
+pub mod Chunk
+pub mod Laws
+pub mod Numbers
+pub mod Packed
+pub mod Reading

@@ -1,0 +1,20 @@
+-- What bytes begin with.
+use Rattle.std.specs.Prelude.{◌≡◌, ℕ, ◌<◌, ◌≤◌, List, ◌++◌}
+use Rattle.ts_spec.specs.Sample.{Point}
+use Rattle.ts_sample.specs.Sample.{IsFine}
+use Rattle.ts_chunk_packed.specs.Packed.{State, number, coded}
+
+-- the bytes begin with a number below a limit
+pub record Begins (limit : ℕ) (bytes : List ℕ) : Type 0 where
+  pub value : ℕ
+  pub rest : List ℕ
+  pub is : bytes ≡ number value ++ rest
+  pub below : value < limit
+
+-- the bytes begin with a sample that is within its bounds, and no earlier than the last one
+pub record Follows (s : State) (bytes : List ℕ) : Type 0 where
+  pub sample : Point
+  pub rest : List ℕ
+  pub is : bytes ≡ coded s sample ++ rest
+  pub fine : IsFine sample
+  pub later : s.before.time ≤ sample.time

@@ -1,0 +1,93 @@
+ghost use Rattle.std.specs.Prelude.{◌≡◌, ◌≤◌, ◌-◌, pos, unwrap_or, is_some};
+ghost use Rattle.ts_spec.specs.Sample.{MAX_TIME};
+ghost use Rattle.ts_chunk_packed.specs.Laws.{IsKnown};
+ghost use Rattle.ts_chunk_packed.specs.Packed.{begin, gap, next};
+
+use std::marker::Model;
+use ts_sample::{Sample, Units};
+
+/// What is known of the samples before the next one.
+#[derive(Drop)]
+pub struct Context {
+    before: Sample,
+    step: u64,
+    begun: bool,
+}
+
+impl Model for Context {
+    ghost use Rattle.std.specs.Prelude.{◌≤◌, pos};
+    ghost use Rattle.ts_spec.specs.Sample.{MAX_TIME};
+    ghost use Rattle.ts_chunk_packed.specs.Packed.{State};
+
+    ghost Value = { State };
+
+    ghost view = { λ c. record { before = c.before; step = pos c.step; begun = c.begun } };
+
+    ghost invariant = { λ c. c.step ≤ MAX_TIME };
+}
+
+impl Context {
+    /// After samples of which this is the last, so far after the one before it.
+    pub fn new(last: Option<Sample>, step: u64) -> Context
+        requires { step ≤ MAX_TIME }
+        ensures { result ≡ record { before = unwrap_or last begin.before; step = pos step; begun = is_some last } }
+    {
+        let nothing = Sample {
+            value: Units::ZERO,
+            time: 0,
+            made: 0,
+        };
+        Context {
+            before: last.unwrap_or(nothing),
+            step,
+            begun: last.is_some(),
+        }
+    }
+
+    /// Does nothing: it tells a caller the bounds that a reference hides.
+    pub fn known(&self)
+        ensures { IsKnown self.now }
+    {
+        let _step = self.step;
+        self.before.known();
+    }
+
+    /// The last sample, or zeros.
+    pub fn before(&self) -> &Sample
+        ensures { result.now ≡ self.now.before }
+    {
+        &self.before
+    }
+
+    /// How far the last sample stands from the one before it.
+    pub fn step(&self) -> u64
+        ensures { pos result ≡ self.now.step }
+    {
+        self.step
+    }
+
+    /// After one more sample.
+    pub fn after(&self, sample: &Sample) -> Context
+        requires { self.now.before.time ≤ sample.now.time }
+        ensures { result ≡ next self.now sample.now }
+    {
+        Context {
+            before: *sample,
+            step: self.step_to(sample),
+            begun: true,
+        }
+    }
+
+    /// How far this next sample stands from the last one: 0 for the first.
+    pub fn step_to(&self, sample: &Sample) -> u64
+        requires { self.now.before.time ≤ sample.now.time }
+        ensures step { pos result ≡ (next self.now sample.now).step }
+        ensures bounded { result ≤ MAX_TIME }
+    {
+        if self.begun {
+            sample.time - self.before.time
+        } else {
+            0
+        }
+    }
+}

@@ -1,0 +1,98 @@
+// Numbers in groups of seven bits, the lowest first.
+ghost use Rattle.std.specs.Prelude.{◌≡◌, ◌+◌, ◌*◌, ◌^◌, ◌<◌, ◌≤◌, ◌++◌, drop, length, vec_len, vec_capacity};
+ghost use Rattle.ts_chunk_packed.specs.Packed.{number, number_of};
+ghost use Rattle.ts_chunk_packed.specs.Reading.{Begins};
+
+/// How many bytes a number takes.
+pub fn width(natural: u64) -> usize
+    ensures { result ≡ length (number natural) }
+{
+    let mut rest = natural;
+    let mut width = 1;
+    while rest >= 128 {
+        rest /= 128;
+        width += 1;
+    }
+    width
+}
+
+/// How many bytes a number of any size takes.
+pub fn width_wide(natural: u128) -> usize
+    ensures { result ≡ length (number natural) }
+{
+    let mut rest = natural;
+    let mut width = 0;
+    while rest >= 1 << 64 {
+        rest /= 128;
+        width += 1;
+    }
+    width + self::width(rest as u64)
+}
+
+/// Puts a number at the end. It takes no memory.
+pub fn put(bytes: &mut Vec<u8>, natural: u64)
+    requires room { vec_len bytes.old + length (number natural) ≤ vec_capacity bytes.old }
+    ensures items { bytes.new.items ≡ bytes.old.items ++ number natural }
+    ensures capacity { vec_capacity bytes.new ≡ vec_capacity bytes.old }
+{
+    let mut rest = natural;
+    while rest >= 128 {
+        bytes.push_reserved((128 + rest % 128) as u8);
+        rest /= 128;
+    }
+    bytes.push_reserved(rest as u8);
+}
+
+/// Puts a number of any size at the end. It takes no memory.
+pub fn put_wide(bytes: &mut Vec<u8>, natural: u128)
+    requires room { vec_len bytes.old + length (number natural) ≤ vec_capacity bytes.old }
+    ensures items { bytes.new.items ≡ bytes.old.items ++ number natural }
+    ensures capacity { vec_capacity bytes.new ≡ vec_capacity bytes.old }
+{
+    let mut rest = natural;
+    while rest >= 1 << 64 {
+        bytes.push_reserved((128 + rest % 128) as u8);
+        rest /= 128;
+    }
+    put(bytes, rest as u64);
+}
+
+/// The number that the bytes begin with, and the bytes after it.
+pub fn read(bytes: &[u8]) -> (u64, &[u8])
+    requires { Begins (2 ^ 64) bytes.now }
+    ensures number { result.0 ≡ (number_of bytes.now).0 }
+    ensures rest { result.1.now ≡ (number_of bytes.now).1 }
+{
+    let mut number = 0;
+    let mut weight = 1;
+    let mut at = 0;
+    while bytes[at] >= 128 {
+        number += (bytes[at] - 128) as u64 * weight;
+        weight *= 128;
+        at += 1;
+    }
+    (number + bytes[at] as u64 * weight, &bytes[at + 1..])
+}
+
+/// The number of up to seventeen bytes that the bytes begin with, and the bytes after it. One of up to nine bytes is
+/// read in 64 bits.
+pub fn read_wide(bytes: &[u8]) -> (u128, &[u8])
+    requires { Begins (2 ^ 120) bytes.now }
+    ensures number { result.0 ≡ (number_of bytes.now).0 }
+    ensures rest { result.1.now ≡ (number_of bytes.now).1 }
+{
+    let mut number: u64 = 0;
+    let mut weight: u64 = 1;
+    let mut at = 0;
+    while bytes[at] >= 128 && weight < 1 << 56 {
+        number += (bytes[at] - 128) as u64 * weight;
+        weight *= 128;
+        at += 1;
+    }
+    let last = bytes[at];
+    if last < 128 {
+        return ((number + last as u64 * weight) as u128, &bytes[at + 1..]);
+    }
+    let (higher, rest) = read(&bytes[at..]);
+    (number as u128 + higher as u128 * weight as u128, rest)
+}
