@@ -1,0 +1,28 @@
+-- Differences as natural numbers, and back.
+use Rattle.std.proofs.Common.{◌≡◌, ℕ, zero, suc, ◌+◌, ◌-◌, ◌*◌, ◌/◌, ◌%◌, ◌^◌, ◌<◌, ◌≤◌, ℤ, pos, negsuc, ◌+ℤ◌, ◌-ℤ◌, ◌≤ℤ◌, ◌<ℤ◌, true, false, nat_eq, refl, sym, ap, ◌∙◌, arith}
+use Rattle.std.proofs.lemmas.Bool.Decides.{nat_tests}
+use Rattle.std.proofs.lemmas.Int.{ints}
+use Rattle.ts_chunk_packed.specs.Packed.{zigzag, unzigzag}
+
+-- a number from 0 on, and one below 0
+pub zigzag_up : (n : ℕ) (z : ℤ) → z ≡ pos n → zigzag z ≡ 2 * n
+unfolding zigzag
+zigzag_up n z is = ap zigzag is
+
+pub zigzag_down : (n : ℕ) (z : ℤ) → z ≡ negsuc n → zigzag z ≡ 2 * n + 1
+unfolding zigzag
+zigzag_down n z is = ap zigzag is ∙ (let same : 2 * suc n - 1 ≡ 2 * n + 1 = omega arith in same)
+
+-- an even number is half of it up, and an odd one is below 0
+pub unzigzag_even : (n : ℕ) → n % 2 ≡ 0 → unzigzag n ≡ pos (n / 2)
+unfolding unzigzag
+unzigzag_even n even = let test : nat_eq (n % 2) 0 ≡ true = grind (arith, nat_tests) in rw test
+
+pub unzigzag_odd : (n : ℕ) → n % 2 ≡ 1 → unzigzag n ≡ negsuc (n / 2)
+unfolding unzigzag
+unzigzag_odd n odd = let test : nat_eq (n % 2) 0 ≡ false = grind (arith, nat_tests) in rw test
+
+pub zigzag_back : (z : ℤ) → unzigzag (zigzag z) ≡ z
+unfolding zigzag
+zigzag_back (pos n) = unzigzag_even (2 * n) (omega arith) ∙ ap pos (let half : 2 * n / 2 ≡ n = omega arith in half)
+zigzag_back (negsuc n) = unzigzag_odd (2 * suc n - 1) (omega arith) ∙ ap negsuc (let half : (2 * suc n - 1) / 2 ≡ n = omega arith in half)
