@@ -20,17 +20,17 @@ length-small n small = ap length (number-small n small)
 
 -- ---- reading
 
-small_first : (n : ℕ) (rest : List ℕ) → n < 128 → number n ++ rest ≡ n ∷ rest
+pub small_first : (n : ℕ) (rest : List ℕ) → n < 128 → number n ++ rest ≡ n ∷ rest
 small_first n rest small = ap (λ (l : List ℕ). l ++ rest) (number-small n small)
 
-large_first : (n : ℕ) (rest : List ℕ) → 128 ≤ n → number n ++ rest ≡ (128 + n % 128) ∷ (number (n / 128) ++ rest)
+pub large_first : (n : ℕ) (rest : List ℕ) → 128 ≤ n → number n ++ rest ≡ (128 + n % 128) ∷ (number (n / 128) ++ rest)
 large_first n rest large = ap (λ (l : List ℕ). l ++ rest) (number-large n large)
 
 -- the number of a byte below 128, and of one from 128 on
-last_byte : (b : ℕ) (rest : List ℕ) → b < 128 → number_of (b ∷ rest) ≡ (b, rest)
+pub last_byte : (b : ℕ) (rest : List ℕ) → b < 128 → number_of (b ∷ rest) ≡ (b, rest)
 last_byte b rest small = let test : nat_lt b 128 ≡ true = grind (arith, nat_tests) in rw test
 
-byte_more : (b : ℕ) (rest : List ℕ) → 128 ≤ b → number_of (b ∷ rest) ≡ (b - 128 + 128 * (number_of rest).0, (number_of rest).1)
+pub byte_more : (b : ℕ) (rest : List ℕ) → 128 ≤ b → number_of (b ∷ rest) ≡ (b - 128 + 128 * (number_of rest).0, (number_of rest).1)
 byte_more b rest large = let test : nat_lt b 128 ≡ false = grind (arith, nat_tests) in rw test
 
 back_within : (most n : ℕ) (rest : List ℕ) → n ≤ most → number_of (number n ++ rest) ≡ (n, rest)

@@ -1,3 +1,4 @@
 pub mod Examples
 pub mod Grouping
+pub mod Ungrouping
 pub mod Zigzags

@@ -84,14 +84,17 @@ pub fn read_wide(bytes: &[u8]) -> (u128, &[u8])
     let mut number: u64 = 0;
     let mut weight: u64 = 1;
     let mut at = 0;
-    while bytes[at] >= 128 && weight < 1 << 56 {
-        number += (bytes[at] - 128) as u64 * weight;
+    while weight <= 1 << 56 {
+        let byte = bytes[at];
+        if byte < 128 {
+            return (
+                (number + byte as u64 * weight) as u128,
+                &bytes[at + 1..],
+            );
+        }
+        number += (byte - 128) as u64 * weight;
         weight *= 128;
         at += 1;
-    }
-    let last = bytes[at];
-    if last < 128 {
-        return ((number + last as u64 * weight) as u128, &bytes[at + 1..]);
     }
     let (higher, rest) = read(&bytes[at..]);
     (number as u128 + higher as u128 * weight as u128, rest)
