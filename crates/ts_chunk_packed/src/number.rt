@@ -33,6 +33,7 @@ pub fn width_wide(natural: u128) -> usize
 pub fn put(bytes: &mut Vec<u8>, natural: u64)
     requires room { vec_len bytes.old + length (number natural) ≤ vec_capacity bytes.old }
     ensures items { bytes.new.items ≡ bytes.old.items ++ number natural }
+    ensures len { vec_len bytes.new ≡ vec_len bytes.old + length (number natural) }
     ensures capacity { vec_capacity bytes.new ≡ vec_capacity bytes.old }
 {
     let mut rest = natural;
@@ -47,6 +48,7 @@ pub fn put(bytes: &mut Vec<u8>, natural: u64)
 pub fn put_wide(bytes: &mut Vec<u8>, natural: u128)
     requires room { vec_len bytes.old + length (number natural) ≤ vec_capacity bytes.old }
     ensures items { bytes.new.items ≡ bytes.old.items ++ number natural }
+    ensures len { vec_len bytes.new ≡ vec_len bytes.old + length (number natural) }
     ensures capacity { vec_capacity bytes.new ≡ vec_capacity bytes.old }
 {
     let mut rest = natural;

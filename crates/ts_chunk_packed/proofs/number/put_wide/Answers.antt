@@ -12,6 +12,7 @@ loop-rest-preserved c = record {
   items =
       ap (λ (l : List ℕ). l ++ number (c.loop-rest.rest / 128)) c.push_reserved.ensures.items
       ∙ group_written c.loop-rest.bytes.items c.loop-rest.rest (omega arith) ∙ c.loop-rest.invariant.items;
+  len = omega (arith, length-large c.loop-rest.rest (omega arith));
   room = omega (arith, length-large c.loop-rest.rest (omega arith));
   capacity = omega arith;
 }
