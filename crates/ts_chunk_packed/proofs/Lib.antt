@@ -1,4 +1,5 @@
 pub mod Coded
+pub mod Decoding
 pub mod Examples
 pub mod Grouping
 pub mod Ungrouping

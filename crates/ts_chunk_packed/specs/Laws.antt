@@ -40,23 +40,32 @@ length-coded s p =
 between_both : (a b : ℤ) (m : ℕ) → pos 0 ≤ℤ a → a ≤ℤ pos m → pos 0 ≤ℤ b → b ≤ℤ pos m → unsigned_abs (a -ℤ b) ≤ m
 between_both a b m c d e f = omega (arith, ints)
 
+-- the numbers of a sample are bounded
+pub time_most : (s : State) (p : Point) → IsKnown s → IsFine p → s.before.time ≤ p.time → zigzag (gap s p.time -ℤ s.step) ≤ 2 * MAX_TIME
+time_most s p known fine later =
+    let low : pos 0 ≤ℤ gap s p.time = omega (arith, ints) in
+    let high : gap s p.time ≤ℤ pos MAX_TIME = omega (arith, ints, fine.time) in
+    zigzag_most (gap s p.time -ℤ s.step) MAX_TIME (between_both (gap s p.time) s.step MAX_TIME low high known.from known.to)
+
+pub value_most : (s : State) (p : Point) → IsKnown s → IsFine p → zigzag (p.value -ℤ s.before.value) ≤ 2 * (2 * bound)
+value_most s p known fine =
+    zigzag_most (p.value -ℤ s.before.value) (2 * bound) (omega (arith, apart p.value s.before.value, fine.value, known.fine.value))
+
+pub made_most : (s : State) (p : Point) → IsKnown s → IsFine p → zigzag (pos p.made -ℤ pos s.before.made) ≤ 2 * 2 ^ 32
+made_most s p known fine =
+    let here : pos p.made ≤ℤ pos (2 ^ 32) = omega (arith, ints, fine.made) in
+    let before : pos s.before.made ≤ℤ pos (2 ^ 32) = omega (arith, ints, known.fine.made) in
+    zigzag_most (pos p.made -ℤ pos s.before.made) (2 ^ 32) (between_both (pos p.made) (pos s.before.made) (2 ^ 32) (omega (arith, ints)) here (omega (arith, ints)) before)
+
 -- a sample takes 27 bytes at most
 pub most_coded : (s : State) (p : Point) → IsKnown s → IsFine p → s.before.time ≤ p.time → length (coded s p) ≤ 27
 most_coded s p known fine later =
-    let low : pos 0 ≤ℤ gap s p.time = omega (arith, ints) in
-    let high : gap s p.time ≤ℤ pos MAX_TIME = omega (arith, ints, fine.time) in
-    let time : zigzag (gap s p.time -ℤ s.step) ≤ 2 * MAX_TIME =
-    zigzag_most (gap s p.time -ℤ s.step) MAX_TIME (between_both (gap s p.time) s.step MAX_TIME low high known.from known.to) in
-    let value : zigzag (p.value -ℤ s.before.value) ≤ 2 * (2 * bound) =
-    zigzag_most (p.value -ℤ s.before.value) (2 * bound) (omega (arith, apart p.value s.before.value, fine.value, known.fine.value)) in
-    let made : zigzag (pos p.made -ℤ pos s.before.made) ≤ 2 * 2 ^ 32 =
-    zigzag_most (pos p.made -ℤ pos s.before.made) (2 ^ 32) (between_both (pos p.made) (pos s.before.made) (2 ^ 32) (omega (arith, ints)) (omega (arith, ints, fine.made)) (omega (arith, ints)) (omega (arith, ints, known.fine.made))) in
     omega (
       arith,
       length-coded s p,
-      most_bytes 9 (zigzag (gap s p.time -ℤ s.step)) (omega arith),
-      most_bytes 11 (zigzag (p.value -ℤ s.before.value)) (omega arith),
-      most_bytes 4 (zigzag (pos p.made -ℤ pos s.before.made)) (omega arith),
+      most_bytes 9 (zigzag (gap s p.time -ℤ s.step)) (omega (arith, time_most s p known fine later)),
+      most_bytes 11 (zigzag (p.value -ℤ s.before.value)) (omega (arith, value_most s p known fine)),
+      most_bytes 4 (zigzag (pos p.made -ℤ pos s.before.made)) (omega (arith, made_most s p known fine)),
     )
 
 three_each : (s : State) (ps : List Point) → 3 * length ps ≤ length (packed_from s ps)

@@ -1,7 +1,7 @@
 // A sample as bytes, by what is known of those before it.
 ghost use Rattle.std.specs.Prelude.{◌≡◌, ◌+◌, ◌≤◌, pos, ◌-ℤ◌, ◌++◌, length, vec_len, vec_capacity};
-ghost use Rattle.ts_chunk_packed.specs.Packed.{coded, gap, sample_of, zigzag};
-ghost use Rattle.ts_chunk_packed.specs.Reading.{Follows};
+ghost use Rattle.ts_chunk_packed.specs.Packed.{coded, gap, point_of, sample_of, zigzag};
+ghost use Rattle.ts_chunk_packed.specs.Reading.{Follows, StandFor};
 
 use crate::context::Context;
 use crate::number::{put, put_wide, read, read_wide, width, width_wide};
@@ -40,16 +40,10 @@ pub fn decode<'a>(context: &Context, bytes: &'a [u8]) -> (Sample, &'a [u8])
     ensures rest { result.1.now ≡ (sample_of context.now bytes.now).1 }
 {
     context.known();
-    let before = context.before();
     let (time, bytes) = read(bytes);
     let (value, bytes) = read_wide(bytes);
     let (made, bytes) = read(bytes);
-    let sample = Sample {
-        value: Units::new(ahead_wide(before.value.get(), value)).unwrap(),
-        time: before.time + ahead(context.step(), time),
-        made: ahead(before.made as u64, made) as u32,
-    };
-    (sample, bytes)
+    (sample_at(context, time, value, made), bytes)
 }
 
 // The three numbers of a sample.
@@ -73,5 +67,19 @@ fn numbers_of(context: &Context, sample: &Sample) -> Numbers
         time: apart(context.step(), sample.time - before.time),
         value: apart_wide(before.value.get(), sample.value.get()),
         made: apart(before.made as u64, sample.made as u64),
+    }
+}
+
+// The sample that has these numbers.
+fn sample_at(context: &Context, time: u64, value: u128, made: u64) -> Sample
+    requires { StandFor context.now time value made }
+    ensures { result ≡ point_of context.now time value made }
+{
+    context.known();
+    let before = context.before();
+    Sample {
+        value: Units::new(ahead_wide(before.value.get(), value)).unwrap(),
+        time: before.time + ahead(context.step(), time),
+        made: ahead(before.made as u64, made) as u32,
     }
 }
