@@ -2,5 +2,8 @@ pub mod Coded
 pub mod Decoding
 pub mod Examples
 pub mod Grouping
+pub mod Listing
+pub mod Pushing
 pub mod Ungrouping
+pub mod Walking
 pub mod Zigzags

@@ -90,6 +90,7 @@ impl Chunk for PackedChunk {
     fn fits(&self, sample: &Sample) -> bool {
         let room = self.limit as usize - self.bytes.len();
         if WIDEST <= room {
+            sample.known();
             return true;
         }
         width_of(&self.context(), sample) <= room
@@ -99,6 +100,7 @@ impl Chunk for PackedChunk {
         if !self.fits(sample) {
             return false;
         }
+        sample.known();
         let context = self.context();
         encode(&mut self.bytes, &context, sample);
         self.count += 1;
@@ -143,7 +145,7 @@ fn walk<V: Visit, L: Ledger>(
 {
     let mut context = Context::new(None, 0);
     let mut rest = bytes;
-    for _ in 0..count {
+    for _index in 0..count {
         steps.tick();
         let (sample, after) = decode(&context, rest);
         if sample.time > to {
