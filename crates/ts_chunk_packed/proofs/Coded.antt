@@ -1,5 +1,5 @@
 -- The three numbers of a sample.
-use Rattle.std.proofs.Common.{◌≡◌, ℕ, ◌+◌, List, ◌++◌, length, pos, ◌-ℤ◌, sym, ap, ◌∙◌, append_assoc, arith, length-append}
+use Rattle.std.proofs.Common.{◌≡◌, ℕ, ◌+◌, List, ◌++◌, length, pos, ◌-ℤ◌, ap, ◌∙◌, append_assoc, arith, length-append}
 use Rattle.ts_spec.specs.Sample.{Point}
 use Rattle.ts_chunk_packed.specs.Packed.{State, gap, zigzag, number, coded}
 

@@ -1,6 +1,6 @@
 -- Samples that are read back, one after another.
-use Rattle.std.proofs.Common.{◌≡◌, ℕ, zero, suc, ◌+◌, ◌<◌, ◌≤◌, Bool, true, false, pos, ◌≤ℤ◌, if◌then◌else◌, List, [], ◌∷◌, ◌++◌, length, refl, sym, ap, ◌∙◌, append_assoc, append-nil, arith}
-use Rattle.std.specs.Prelude.{⊤, Option, None, Some, unwrap_or, is_some}
+use Rattle.std.proofs.Common.{◌≡◌, ℕ, zero, suc, ◌≤◌, Bool, true, false, pos, ◌≤ℤ◌, if◌then◌else◌, List, [], ◌∷◌, ◌++◌, length, refl, sym, ap, ◌∙◌, append_assoc, append-nil, arith}
+use Rattle.std.specs.Prelude.{⊤, unwrap_or, is_some}
 use Rattle.std.proofs.lemmas.Int.{ints}
 use Rattle.ts_spec.specs.Sample.{Point, MAX_TIME, IsAfter, IsAscending, last_of, later_or}
 use Rattle.ts_sample.specs.Chunk.{AreFine, IsPast}

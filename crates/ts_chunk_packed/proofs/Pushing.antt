@@ -1,5 +1,5 @@
 -- A sample past the last one.
-use Rattle.std.proofs.Common.{◌≡◌, ℕ, ◌+◌, ◌*◌, ◌-◌, ◌<◌, ◌≤◌, Bool, true, ℤ, pos, List, [], ◌∷◌, ◌++◌, length, refl, sym, ap, ◌∙◌, subst, append_assoc, append-nil, arith, length-append}
+use Rattle.std.proofs.Common.{◌≡◌, ℕ, ◌+◌, ◌*◌, ◌-◌, ◌<◌, ◌≤◌, true, pos, List, [], ◌∷◌, ◌++◌, length, refl, sym, ap, ◌∙◌, subst, arith, length-append}
 use Rattle.std.specs.Prelude.{Option, None, Some, nat_le, unwrap_or, is_some}
 use Rattle.std.specs.Option.{option_or}
 use Rattle.std.proofs.lemmas.Bool.Decides.{nat_tests}
@@ -10,7 +10,7 @@ use Rattle.ts_sample.specs.Chunk.{AreFine, IsChunk, IsLimit, IsPast}
 use Rattle.ts_chunk_packed.specs.Chunk.{Samples, IsPacked}
 use Rattle.ts_chunk_packed.specs.Laws.{IsKnown, most_coded, three_or_more}
 use Rattle.ts_chunk_packed.specs.Packed.{State, begin, next, coded, packed, state_from, samples_of, decoded}
-use Rattle.ts_chunk_packed.proofs.Listing.{samples_back, length-samples_of, state_is, past_before, all_known, packed-push, state-push}
+use Rattle.ts_chunk_packed.proofs.Listing.{samples_back, state_is, past_before, all_known, packed-push, state-push}
 
 fine-push : (ps : List Point) (p : Point) → AreFine ps → IsFine p → AreFine (ps ++ p ∷ [])
 fine-push [] p all fine = (fine, tt)

@@ -1,5 +1,5 @@
 -- Numbers that are read byte by byte.
-use Rattle.std.proofs.Common.{◌≡◌, ◌≢◌, ℕ, zero, suc, ◌+◌, ◌-◌, ◌*◌, ◌/◌, ◌%◌, ◌^◌, ◌<◌, ◌≤◌, List, [], ◌∷◌, ◌++◌, length, get_or, take, take_all, drop, refl, sym, ap, ◌∙◌, subst, inl, inr, arith, add-one}
+use Rattle.std.proofs.Common.{◌≡◌, ℕ, ◌+◌, ◌-◌, ◌*◌, ◌/◌, ◌%◌, ◌<◌, ◌≤◌, List, [], ◌∷◌, ◌++◌, length, get_or, take, take_all, drop, refl, sym, ap, ◌∙◌, subst, inl, inr, arith, add-one}
 use Rattle.std.proofs.Math.Nat.{mul-le-mul_left}
 use Rattle.std.proofs.Math.Seq.{drop-cons}
 use Rattle.std.proofs.lemmas.Bool.{cases_lt}
@@ -39,7 +39,7 @@ not_ended limit (x ∷ xs) b = omega arith
 -- after a byte from 128 on comes the rest of the number, which is not 0
 rest_begins : (limit x : ℕ) (xs : List ℕ) → Begins limit (x ∷ xs) → 128 ≤ x → Begins limit xs × (1 ≤ (number_of xs).0)
 rest_begins limit x xs b more = elim (cases_lt b.value 128) [
-  | inl small ↦ 
+  | inl small ↦
       let same : x ∷ xs ≡ b.value ∷ b.rest = b.is ∙ small_first b.value b.rest small in
       let head : x ≡ b.value = cc in
       absurd (omega arith)

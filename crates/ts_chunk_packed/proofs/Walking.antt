@@ -1,14 +1,14 @@
 -- A walk of a visitor over the samples of bytes.
-use Rattle.std.proofs.Common.{◌≡◌, ℕ, suc, ◌+◌, ◌<◌, ◌≤◌, Bool, true, false, cond, if◌then◌else◌, List, [], ◌∷◌, ◌++◌, length, drop, get_or, refl, sym, ap, ◌∙◌, subst, arith, add-one}
-use Rattle.std.specs.Prelude.{nat_le, ◌&&◌}
-use Rattle.std.proofs.lemmas.Bool.{cases_Bool, cases_lt}
+use Rattle.std.proofs.Common.{◌≡◌, ℕ, suc, ◌+◌, ◌<◌, ◌≤◌, Bool, true, false, cond, if◌then◌else◌, List, [], ◌∷◌, length, drop, get_or, refl, sym, ap, ◌∙◌, subst, arith, add-one}
+use Rattle.std.specs.Prelude.{nat_le}
 use Rattle.std.proofs.lemmas.Bool.Decides.{nat_tests}
 use Rattle.std.proofs.Math.Seq.{drop-cons}
+use Rattle.std.proofs.lemmas.List.{drop_all}
 use Rattle.ts_spec.specs.Sample.{Point, IsAfter, IsAscending, is_within, between}
 use Rattle.ts_sample.specs.Chunk.{AreFine}
 use Rattle.ts_sample.specs.Visit.{visited}
 use Rattle.ts_chunk_packed.specs.Laws.{IsKnown, nothing_known}
-use Rattle.ts_chunk_packed.specs.Packed.{State, begin, next, coded, packed_from, packed, sample_of}
+use Rattle.ts_chunk_packed.specs.Packed.{State, begin, next, packed_from, packed, sample_of}
 use Rattle.ts_chunk_packed.specs.Reading.{Follows}
 use Rattle.ts_chunk_packed.proofs.Decoding.{sample_back}
 use Rattle.ts_chunk_packed.proofs.Listing.{StartsFrom, starts_after, starts_anywhere, known_next}
@@ -42,33 +42,39 @@ within_from : (from to t : ℕ) → t ≤ to → is_within from to t ≡ nat_le 
 within_from from to t early = grind (arith, nat_tests)
 
 module _ {V : Type 0} (step : V → Point → V) (room : V → ℕ) (lowers : (v : V) (p : Point) → room v ≤ room (step v p) + 1) (from to : ℕ) (begins : V) (all : List Point) (before : ℕ) where
-  pub begun : (left : List ℕ) → left ≡ packed all → AreFine all → IsAscending all → length (between from to all) ≤ room begins
-      → Walked step room from to begins begins all all begin left before before 0
-  begun left bytes fine rises enough = record {
-    bytes = bytes;
-    known = nothing_known;
-    fine = fine;
-    ascending = rises;
-    starts = starts_anywhere all;
-    visited = refl;
-    room = enough;
-    counted = omega arith;
-    bounded = omega arith;
-  }
+  pub begun : (left : List ℕ) (s : State) → s ≡ begin → left ≡ packed all → AreFine all → IsAscending all → length (between from to all) ≤ room begins
+      → Walked step room from to begins begins all all s left before before 0
+  begun left s first bytes fine rises enough =
+      let at_begin : Walked step room from to begins begins all all begin left before before 0 =
+      record {
+        bytes = bytes;
+        known = nothing_known;
+        fine = fine;
+        ascending = rises;
+        starts = starts_anywhere all;
+        visited = refl;
+        room = enough;
+        counted = omega arith;
+        bounded = omega arith;
+      } in
+      subst (λ (t : State). Walked step room from to begins begins all all t left before before 0) (sym first) at_begin
 
-  module _ (now : V) (p : Point) (rest : List Point) (s : State) (left : List ℕ) (steps count : ℕ) (walked : Walked step room from to begins now all (p ∷ rest) s left before steps count) where
+  -- at the sample of an index
+  module _ (i : ℕ) (now : V) (s : State) (left : List ℕ) (steps : ℕ) (inside : i < length all) (walk : Walked step room from to begins now all (drop i all) s left before steps i) where
+    abbrev pub p : Point
+    p = get_or all i begin.before
+
+    abbrev pub rest : List Point
+    rest = drop (i + 1) all
+
+    walked : Walked step room from to begins now all (p ∷ rest) s left before steps i
+    walked = subst (λ (ps : List Point). Walked step room from to begins now all ps s left before steps i) (rw (add-one) (drop-cons all i begin.before inside)) walk
+
     pub follows : Follows s left
     follows = record { sample = p; rest = packed_from (next s p) rest; is = walked.bytes; fine = walked.fine.0; later = walked.starts }
 
-    pub read : sample_of s left ≡ (p, packed_from (next s p) rest)
+    read : sample_of s left ≡ (p, packed_from (next s p) rest)
     read = ap (sample_of s) walked.bytes ∙ sample_back s p (packed_from (next s p) rest)
-
-    -- the visitor takes the sample only if it is not before the interval
-    pub some_room : p.time ≤ to → nat_le from p.time ≡ true → 1 ≤ room now
-    some_room early late =
-        let here : length (between from to (p ∷ rest)) ≡ suc (length (between from to rest)) =
-        ap (λ b. length (cond b (p ∷ between from to rest) (between from to rest))) (within_from from to p.time early ∙ late) in
-        omega (arith, walked.room)
 
     abbrev next_ones : List Point
     next_ones = between from to rest
@@ -95,9 +101,9 @@ module _ {V : Type 0} (step : V → Point → V) (room : V → ℕ) (lowers : (v
     one_longer true = omega arith
     one_longer false = omega arith
 
-    pub walked_on : p.time ≤ to → (after : V) → after ≡ (if nat_le from p.time then step now p else now) → (others : List ℕ) → others ≡ packed_from (next s p) rest
-        → Walked step room from to begins after all rest (next s p) others before (steps + 1) (count + 1)
-    walked_on early after is others bytes = record {
+    on : p.time ≤ to → (after : V) → after ≡ (if nat_le from p.time then step now p else now) → (others : List ℕ) → others ≡ packed_from (next s p) rest
+        → Walked step room from to begins after all rest (next s p) others before (steps + 1) (i + 1)
+    on early after is others bytes = record {
       bytes = bytes;
       known = known_next s p walked.known walked.fine.0 walked.starts;
       fine = walked.fine.1;
@@ -111,6 +117,39 @@ module _ {V : Type 0} (step : V → Point → V) (room : V → ℕ) (lowers : (v
       bounded = omega (arith, walked.bounded);
     }
 
--- the sample at an index stands before the rest
-pub sample_at : (ps : List Point) (i : ℕ) → i < length ps → drop i ps ≡ get_or ps i begin.before ∷ drop (i + 1) ps
-sample_at ps i inside = rw (add-one) (drop-cons ps i begin.before inside)
+    -- of the sample that is read there
+    module _ (q : Point) (others : List ℕ) (first : q ≡ (sample_of s left).0) (after : others ≡ (sample_of s left).1) where
+      q_is : q ≡ p
+      q_is = first ∙ ap (λ (r : Point × List ℕ). r.0) read
+
+      pub no_earlier : s.before.time ≤ q.time
+      no_earlier = omega (arith, walked.starts, ap (λ (r : Point). r.time) q_is)
+
+      -- there is room for it, if it is in the interval
+      pub some_room : q.time ≤ to → nat_le from q.time ≡ true → 1 ≤ room now
+      unfolding with_it
+      some_room early late =
+          let e = ap (λ (r : Point). r.time) q_is in
+          let here : length (between from to (p ∷ rest)) ≡ suc (length next_ones) =
+          ap length (whole (omega (arith, e))) ∙ ap (λ (b : Bool). length (cond b (p ∷ next_ones) next_ones)) (ap (nat_le from) (sym e) ∙ late) in
+          omega (arith, walked.room)
+
+      pub walked_on : q.time ≤ to → (v : V) → v ≡ (if nat_le from q.time then step now q else now) → (t : State) → t ≡ next s q
+          → Walked step room from to begins v all rest t others before (steps + 1) (i + 1)
+      walked_on early v is t state =
+          let seen = is ∙ ap (λ (r : Point). if nat_le from r.time then step now r else now) q_is in
+          let moved = on (omega (arith, ap (λ (r : Point). r.time) q_is)) v seen others (after ∙ ap (λ (r : Point × List ℕ). r.1) read) in
+          subst (λ (u : State). Walked step room from to begins v all rest u others before (steps + 1) (i + 1)) (sym (state ∙ ap (next s) q_is)) moved
+
+      -- a sample past the interval ends the walk
+      pub ended : to < q.time → (now ≡ visited step begins (between from to all)) × (before + length (between from to all) ≤ steps)
+      ended past =
+          let none = stopped from to p rest walked.ascending (omega (arith, ap (λ (r : Point). r.time) q_is)) in
+          (sym (ap (visited step now) none) ∙ walked.visited, omega (arith, ap length none, walked.counted))
+
+  -- and so does the end of the samples
+  pub all_walked : (i : ℕ) (now : V) (s : State) (left : List ℕ) (steps : ℕ) → length all ≤ i → Walked step room from to begins now all (drop i all) s left before steps i
+      → (now ≡ visited step begins (between from to all)) × (before + length (between from to all) ≤ steps)
+  all_walked i now s left steps past walk =
+      let none : between from to (drop i all) ≡ [] = ap (between from to) (drop_all i all past) in
+      (sym (ap (visited step now) none) ∙ walk.visited, omega (arith, ap length none, walk.counted))

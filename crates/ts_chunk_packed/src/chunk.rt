@@ -145,7 +145,7 @@ fn walk<V: Visit, L: Ledger>(
 {
     let mut context = Context::new(None, 0);
     let mut rest = bytes;
-    for _index in 0..count {
+    for _ in 0..count {
         steps.tick();
         let (sample, after) = decode(&context, rest);
         if sample.time > to {

@@ -89,10 +89,7 @@ pub fn read_wide(bytes: &[u8]) -> (u128, &[u8])
     while weight <= 1 << 56 {
         let byte = bytes[at];
         if byte < 128 {
-            return (
-                (number + byte as u64 * weight) as u128,
-                &bytes[at + 1..],
-            );
+            return ((number + byte as u64 * weight) as u128, &bytes[at + 1..]);
         }
         number += (byte - 128) as u64 * weight;
         weight *= 128;

@@ -1,8 +1,7 @@
-use Rattle.std.proofs.Common.{◌≡◌, ℕ, ◌+◌, ◌<◌, ◌^◌, sym, ap, ◌∙◌, subst, List, ◌++◌, arith, rules, length}
-use Rattle.std.proofs.lemmas.Int.{ints}
+use Rattle.std.proofs.Common.{◌≡◌, ℕ, ◌^◌, sym, ap, ◌∙◌, subst, List, ◌++◌}
 use Rattle.ts_chunk_packed.specs.Packed.{number_of, coded, point_of, sample_of}
 use Rattle.ts_chunk_packed.specs.Reading.{Begins}
-use Rattle.ts_chunk_packed.proofs.Decoding.{time_begins, value_begins, made_begins, time_read, value_read, made_read, gap_back, value_back, made_back, sample_back}
+use Rattle.ts_chunk_packed.proofs.Decoding.{time_begins, value_begins, made_begins, time_read, value_read, made_read}
 use Rattle.ts_chunk_packed.proofs.coding.decode.Goals as goal
 
 pub read-time-requires : goal.read-time-requires

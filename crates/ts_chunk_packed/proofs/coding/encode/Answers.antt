@@ -1,4 +1,4 @@
-use Rattle.std.proofs.Common.{◌≡◌, ℕ, ◌+◌, List, ◌++◌, ◌∙◌, ap, arith, length}
+use Rattle.std.proofs.Common.{ℕ, List, ◌++◌, ◌∙◌, ap, arith}
 use Rattle.ts_chunk_packed.specs.Packed.{number}
 use Rattle.ts_chunk_packed.proofs.Coded.{their_lengths, written_on}
 use Rattle.ts_chunk_packed.proofs.coding.encode.Goals as goal

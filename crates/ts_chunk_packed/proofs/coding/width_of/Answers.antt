@@ -1,4 +1,4 @@
-use Rattle.std.proofs.Common.{◌≡◌, ℕ, ◌+◌, ◌<◌, ◌^◌, arith, rules, length}
+use Rattle.std.proofs.Common.{◌<◌, ◌^◌, arith, rules}
 use Rattle.ts_chunk_packed.specs.Numbers.{most_bytes}
 use Rattle.ts_chunk_packed.proofs.Coded.{their_lengths}
 use Rattle.ts_chunk_packed.proofs.coding.width_of.Goals as goal

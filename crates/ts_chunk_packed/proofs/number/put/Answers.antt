@@ -1,4 +1,4 @@
-use Rattle.std.proofs.Common.{◌≡◌, List, ℕ, ◌/◌, ◌++◌, ◌∷◌, [], ◌∙◌, ap, sym, arith}
+use Rattle.std.proofs.Common.{List, ℕ, ◌/◌, ◌++◌, ◌∙◌, ap, sym, arith}
 use Rattle.ts_chunk_packed.specs.Numbers.{number-small, some_bytes}
 use Rattle.ts_chunk_packed.specs.Packed.{number}
 use Rattle.ts_chunk_packed.proofs.Grouping.{group_written, length-large, length-small}

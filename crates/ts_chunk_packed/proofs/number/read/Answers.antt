@@ -1,5 +1,5 @@
 use Rattle.std.proofs.Common.{◌+◌, ◌^◌, ◌∙◌, arith}
-use Rattle.ts_chunk_packed.proofs.Ungrouping.{all_left, started, within, number_done, left_after, read_on, still_within, sum_below, weight_below, last_below}
+use Rattle.ts_chunk_packed.proofs.Ungrouping.{all_left, started, within, number_done, left_after, read_on, still_within, sum_below, weight_below}
 use Rattle.ts_chunk_packed.proofs.number.read.Goals as goal
 
 pub loop-at-init : goal.loop-at-init

@@ -1,4 +1,4 @@
-use Rattle.std.proofs.Common.{◌≡◌, ◌+◌, ◌≤◌, length}
+use Rattle.std.proofs.Common.{◌≡◌, ◌+◌, length}
 use Rattle.ts_chunk_packed.specs.Packed.{number}
 use Rattle.ts_chunk_packed.proofs.number.width_wide.Given as goal
 

@@ -1,4 +1,4 @@
-use Rattle.std.proofs.Common.{◌≡◌, ◌-◌, ◌-ℤ◌, pos, negsuc, arith}
+use Rattle.std.proofs.Common.{◌-◌, ◌-ℤ◌, pos, arith}
 use Rattle.std.proofs.lemmas.Int.{ints}
 use Rattle.ts_chunk_packed.proofs.Zigzags.{zigzag_up, zigzag_down}
 use Rattle.ts_chunk_packed.proofs.zigzag.apart.Goals as goal

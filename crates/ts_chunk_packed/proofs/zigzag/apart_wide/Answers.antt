@@ -1,4 +1,4 @@
-use Rattle.std.proofs.Common.{◌≡◌, ◌-◌, ◌-ℤ◌, pos, negsuc, unsigned_abs, arith}
+use Rattle.std.proofs.Common.{◌-◌, ◌-ℤ◌, unsigned_abs, arith}
 use Rattle.std.proofs.lemmas.Int.{ints}
 use Rattle.ts_chunk_packed.proofs.Zigzags.{zigzag_up, zigzag_down}
 use Rattle.ts_chunk_packed.proofs.zigzag.apart_wide.Goals as goal

@@ -1,4 +1,4 @@
-use Rattle.std.proofs.Common.{◌∙◌, ap}
+use Rattle.std.proofs.Common.{◌∙◌}
 use Rattle.std.specs.Prelude.{vec_capacity}
 use Rattle.ts_chunk_packed.proofs.Pushing.{step_within, state}
 use Rattle.ts_chunk_packed.proofs.chunk.PackedChunk.context.Goals as goal

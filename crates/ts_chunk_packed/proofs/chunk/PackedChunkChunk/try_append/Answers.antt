@@ -1,4 +1,4 @@
-use Rattle.std.proofs.Common.{◌≡◌, ◌+◌, ◌≤◌, ◌++◌, ◌∷◌, [], ◌∙◌, ap, sym, length, rules, arith, List, ℕ}
+use Rattle.std.proofs.Common.{◌≡◌, ◌+◌, ◌++◌, ◌∷◌, [], ◌∙◌, ap, sym, length, rules, arith}
 use Rattle.std.specs.Prelude.{vec_capacity, vec_len}
 use Rattle.ts_chunk_packed.specs.Chunk.{Samples}
 use Rattle.ts_chunk_packed.specs.Packed.{State, coded, next, samples_of}
