@@ -5,10 +5,12 @@
 mod chunk;
 mod coding;
 mod context;
+mod laws;
 mod number;
 mod zigzag;
 
 pub use chunk::PackedChunk;
+pub use laws::packed_samples_read_back;
 
 #[cfg(test)]
 mod tests;
