@@ -1,4 +1,5 @@
-ghost use Rattle.std.specs.Prelude.{◌≡◌, ◌+◌, ◌≤◌, nat_le, true, if◌then◌else◌, List, [], ◌∷◌, length};
+ghost use Rattle.std.specs.Prelude.{◌≡◌, ◌+◌, ◌≤◌, nat_le, true, if◌then◌else◌, List, [], ◌∷◌, length, Some};
+ghost use Rattle.std.specs.Option.{option_or};
 ghost use Rattle.ts_sample.specs.Chunk.{AreFine};
 ghost use Rattle.ts_sample.specs.Visit.{visited};
 ghost use Rattle.ts_spec.specs.Sample.{Point, IsAscending, between};
@@ -105,7 +106,7 @@ impl Chunk for PackedChunk {
         encode(&mut self.bytes, &context, sample);
         self.count += 1;
         self.step = context.step_to(sample);
-        self.first = self.first.or(Some(*sample));
+        keep_first(&mut self.first, sample);
         self.last = Some(*sample);
         true
     }
@@ -123,6 +124,15 @@ impl PackedChunk {
         ensures { result ≡ state_from begin self.now.list }
     {
         Context::new(self.last, self.step)
+    }
+}
+
+// Keeps the first sample that there was, and else this one.
+fn keep_first(first: &mut Option<Sample>, sample: &Sample)
+    ensures { first.new ≡ option_or first.old (Some sample.now) }
+{
+    if first.is_none() {
+        *first = Some(*sample);
     }
 }
 

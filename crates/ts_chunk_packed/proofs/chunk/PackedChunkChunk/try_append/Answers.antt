@@ -53,10 +53,10 @@ invariant_of-self c =
     let fits = fits_here f.limit (vec_capacity f.bytes) f.bytes.items f.count f.step f.first f.last c.self.invariant now c.self.view_is p (sym c.fits.ensures ∙ c.if-not-fits.false) in
     let state = state_here f.limit (vec_capacity f.bytes) f.bytes.items f.count f.step f.first f.last c.self.invariant now c.self.view_is c.context-context.result c.context-context.ensures in
     packed-pushed f.limit (vec_capacity f.bytes) f.bytes.items f.count f.step f.first f.last c.self.invariant p c.known.ensures past fits
-    (vec_capacity c.encode.new.bytes) c.encode.new.bytes.items c.step_to-self-inside.result c.or-self-inside.result (omega (arith, c.encode.ensures.capacity))
+    (vec_capacity c.encode.new.bytes) c.encode.new.bytes.items c.step_to-self-inside.result c.keep_first.new.first (omega (arith, c.encode.ensures.capacity))
     (c.encode.ensures.items ∙ ap (λ (s : State). f.bytes.items ++ coded s p) state)
     (c.step_to-self-inside.ensures.step ∙ ap (λ (s : State). (next s p).step) state)
-    c.or-self-inside.ensures
+    c.keep_first.ensures
 
 pub returns-clause-list : goal.returns-clause-list
 returns-clause-list c =
