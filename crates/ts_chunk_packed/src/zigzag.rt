@@ -8,11 +8,7 @@ pub fn apart(from: u64, to: u64) -> u64
     requires to { to < 2 ^ 63 }
     ensures { result ≡ zigzag (pos to -ℤ pos from) }
 {
-    if from <= to {
-        2 * (to - from)
-    } else {
-        2 * (from - to) - 1
-    }
+    2 * to.abs_diff(from) - (to < from) as u64
 }
 
 /// The number that stands for a difference of values.
@@ -21,11 +17,7 @@ pub fn apart_wide(from: i128, to: i128) -> u128
     requires to { unsigned_abs to ≤ 10 ^ 24 }
     ensures { result ≡ zigzag (to -ℤ from) }
 {
-    if from <= to {
-        2 * (to - from) as u128
-    } else {
-        2 * (from - to) as u128 - 1
-    }
+    2 * to.abs_diff(from) - (to < from) as u128
 }
 
 /// What stands at this difference, where that is a time or a number of rules.
