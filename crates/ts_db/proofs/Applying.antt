@@ -68,7 +68,7 @@ module _ (s : Store) (store : IsInOrder s) (key : Key) (id : Id) (n changed : No
 -- ---- a node after a plan of its series
 
 module _ (s : Store) (store : IsInOrder s) (id : Id) (plan : Plan) (labels : Option (List Label)) (rules : Option (Vec Rule Global)) (planned : IsReady s id plan labels rules) (n : Node) (got : slab.get s.nodes id.0 ≡ Some n)
-    (series : History) (kept : IsKept series) (done : series ≡ record (after plan n.series) { room = series.room }) where
+    (series : History) (kept : IsKept series) (done : series ≡ record (after plan n.series) { held = series.held }) where
   -- the node after it
   abbrev pub changed : Node
   changed = record n { series = series; labels = unwrap_or labels n.labels; rules = unwrap_or rules n.rules }

@@ -14,7 +14,7 @@ use Rattle.ts_spec.specs.Step.{is_longer}
 use Rattle.ts_spec.specs.KeptStep.{kept_refused, kept_alter_at}
 use Rattle.ts_sample.specs.declared.id.Id.{Id}
 use Rattle.ts_series.specs.History.{list_of}
-use Rattle.ts_series.specs.Plan.{Plan, after, alters, options_with}
+use Rattle.ts_series.specs.Plan.{Plan, after, alters, options_with, with_change}
 use Rattle.ts_series.proofs.Counting.{times-length}
 use Rattle.ts_db.specs.declared.node.Node.{Node}
 use Rattle.ts_db.specs.declared.store.Store.{Store}
@@ -31,7 +31,7 @@ few-altered limit None old fits le = le
 few-altered limit (Some labels) old fits le = grind (arith, fits)
 
 -- a plan of new options leaves no more samples
-pub altered-within : (n : Node) (plan : Plan) (c : Change) (limit : ℕ) → plan ≡ alters (options_with c.retention c.chunk_size c.policy n.series.options) → length (list_of n.series) ≤ limit
+pub altered-within : (n : Node) (plan : Plan) (c : Change) (limit : ℕ) → plan ≡ with_change plan (alters (options_with c.retention c.chunk_size c.policy n.series.options)) → length (list_of n.series) ≤ limit
     → length (list_of (after plan n.series)) ≤ limit
 altered-within n plan c limit is le =
     let fewer : length (list_of (after (alters (options_with c.retention c.chunk_size c.policy n.series.options)) n.series)) ≤ length (list_of n.series) =
@@ -44,7 +44,7 @@ module _ (s : Store) (store : IsInOrder s) (key : Key) (id : Id) (n : Node) (hol
       ap (kept_alter_at s.limits (stock_of s).keys key c) (there s store key id n holds)
       ∙ ap (λ b. if b then kept_refused (stock_of s).keys refusal.LabelsFull else record { keys = keep_changed key (kept_altered c) (stock_of s).keys; response = Done }) long
 
-  pub alter-answers : (c : Change) (plan : Plan) (new : Stock) → is_longer s.limits.labels c.labels ≡ false → plan ≡ alters (options_with c.retention c.chunk_size c.policy n.series.options)
+  pub alter-answers : (c : Change) (plan : Plan) (new : Stock) → is_longer s.limits.labels c.labels ≡ false → plan ≡ with_change plan (alters (options_with c.retention c.chunk_size c.policy n.series.options))
       → new ≡ record (stock_of s) { keys = with_key key (kept_at s.nodes (node_after plan c.labels None n)) (stock_of s).keys }
       → kept_alter_at s.limits (stock_of s).keys key c (get key (stock_of s).keys) ≡ record { keys = new.keys; response = Done }
   alter-answers c plan new fits is applied =

@@ -14,7 +14,7 @@ use Rattle.ts_spec.specs.KeptStep.{KeptOutcome, kept_refused, kept_told, kept_me
 use Rattle.ts_spec.proofs.PlainWrite.{times-swap}
 use Rattle.ts_sample.specs.declared.id.Id.{Id}
 use Rattle.ts_series.specs.History.{History, list_of, low, IsKept}
-use Rattle.ts_series.specs.Plan.{Plan, after, cuts}
+use Rattle.ts_series.specs.Plan.{Plan, after, cuts, with_change}
 use Rattle.ts_series.proofs.Counting.{times-length}
 use Rattle.ts_rules.specs.declared.rule.Rule.{Rule}
 use Rattle.ts_db.specs.declared.fault.DbFault.{DbFault}
@@ -35,11 +35,11 @@ use Rattle.ts_db.proofs.Unplanned.{destination-refused}
 use Rattle.ts_db.proofs.Working.{changed-rules}
 
 -- a plan of a deletion leaves what is outside the interval
-cut-list : (h : History) (plan : Plan) (from to removed : ℕ) → IsKept h → plan ≡ cuts from to removed → list_of (after plan h) ≡ outside from to (list_of h)
+cut-list : (h : History) (plan : Plan) (from to removed : ℕ) → IsKept h → plan ≡ with_change plan (cuts from to removed) → list_of (after plan h) ≡ outside from to (list_of h)
 cut-list h plan from to removed k is =
     ap (λ (p : Plan). list_of (after p h)) is ∙ times-swap (nat_le (low h)) (λ t. not (is_within from to t)) h.samples ∙ ap (outside from to) k.past_edge
 
-cuts-after : (names : Id → Key) (n : Node) (plan : Plan) (rules : Vec Rule Global) (from to removed : ℕ) → IsKept n.series → plan ≡ cuts from to removed
+cuts-after : (names : Id → Key) (n : Node) (plan : Plan) (rules : Vec Rule Global) (from to removed : ℕ) → IsKept n.series → plan ≡ with_change plan (cuts from to removed)
     → AreChanged (changed_by (Delete from to) n.series) n.rules.items rules.items → kept_by names (node_after plan None (Some rules) n) ≡ kept_without from to (kept_by names n)
 cuts-after names n plan rules from to removed k is changed =
     let list : at_times (nat_le (low n.series)) (outside from to n.series.samples) ≡ outside from to n.series.samples =
@@ -49,12 +49,12 @@ cuts-after names n plan rules from to removed k is changed =
     ap (λ (p : Plan). kept_by names (node_after p None (Some rules) n)) is
     ∙ (λ i. record (kept_of n.labels n.series) { list = list i; rules = same i; source = option_map names n.source })
 
-pub cut-within : (h : History) (plan : Plan) (from to removed limit : ℕ) → IsKept h → plan ≡ cuts from to removed → length (list_of h) ≤ limit → length (list_of (after plan h)) ≤ limit
+pub cut-within : (h : History) (plan : Plan) (from to removed limit : ℕ) → IsKept h → plan ≡ with_change plan (cuts from to removed) → length (list_of h) ≤ limit → length (list_of (after plan h)) ≤ limit
 cut-within h plan from to removed limit k is le =
     let fewer : length (outside from to (list_of h)) ≤ length (list_of h) = times-length (λ t. not (is_within from to t)) (list_of h) in
     subst (λ ps. length ps ≤ limit) (sym (cut-list h plan from to removed k is)) (omega (arith, fewer, le))
 
-pub deleted-few : (h : History) (plan : Plan) (from to removed limit : ℕ) → plan ≡ cuts from to (length (between from to (list_of h))) → removed ≡ plan.removed → length (list_of h) ≤ limit → removed ≤ limit
+pub deleted-few : (h : History) (plan : Plan) (from to removed limit : ℕ) → plan ≡ with_change plan (cuts from to (length (between from to (list_of h)))) → removed ≡ plan.removed → length (list_of h) ≤ limit → removed ≤ limit
 deleted-few h plan from to removed limit is count le =
     let same : removed ≡ length (between from to (list_of h)) = count ∙ ap (λ (p : Plan). p.removed) is in
     let fewer : length (between from to (list_of h)) ≤ length (list_of h) = times-length (is_within from to) (list_of h) in
@@ -123,7 +123,7 @@ module _ (s : Store) (db : IsDb s) (key : Key) (id : Id) (n : Node) (holds : Hol
       ∙ destinations-tested s db.store key id n holds (links s db key id n holds) rows gone (kept_without from to (kept_at s.nodes n)) (record { keys = after_keys; response = Count many })
 
   -- a deletion that was planned
-  pub deleted-answers : (plan : Plan) (rules : Vec Rule Global) (removed : ℕ) (new : Stock) → plan ≡ cuts from to (length (between from to (list_of n.series))) → removed ≡ plan.removed
+  pub deleted-answers : (plan : Plan) (rules : Vec Rule Global) (removed : ℕ) (new : Stock) → plan ≡ with_change plan (cuts from to (length (between from to (list_of n.series)))) → removed ≡ plan.removed
       → AreChanged (changed_by (Delete from to) n.series) n.rules.items rules.items → full_without ≡ None
       → new ≡ record (stock_of s) { keys = keep_fed rows gone (rules_by (key_in s.nodes) n.rules.items) (with_key key (kept_at s.nodes (node_after plan None (Some rules) n)) (stock_of s).keys) }
       → kept_within_destinations s.limits (stock_of s).keys key (record { keys = keep_deleted key from to (stock_of s).keys; response = Count (length (between from to (list_of n.series))) })

@@ -1,5 +1,5 @@
 -- The destinations of rules lose their source, one after another.
-use Rattle.std.proofs.Common.{◌≡◌, List, [], ◌∷◌, length, refl, ◌∙◌, ap, arith}
+use Rattle.std.proofs.Common.{◌≡◌, List, [], ◌∷◌, refl, ◌∙◌, ap}
 use Rattle.std.specs.Prelude.{Option, None, Some}
 use Rattle.ts_spec.specs.Key.{Key}
 use Rattle.ts_spec.specs.Kept.{KeptRule}
@@ -49,8 +49,3 @@ freed-one init now new all r rest f before after elsewhere set = record {
       ∙ ap (λ (x : Stock). record x { keys = keep_freed (rules_by (key_in now.nodes) rest) x.keys }) set
       ∙ f.result;
 }
-
--- after all of them
-pub freed-all : (init now : Store) (all rest : List Rule) → Freeing init now all rest → length rest ≡ 0 → stock_of now ≡ record (stock_of init) { keys = keep_freed (rules_by (key_in init.nodes) all) (stock_of init).keys }
-freed-all init now all [] f e = f.result
-freed-all init now all (r ∷ rest) f e = absurd (omega (arith, e))

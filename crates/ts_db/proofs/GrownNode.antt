@@ -23,7 +23,7 @@ use Rattle.ts_db.proofs.StayingOpen.{grown-grids}
 use Rattle.ts_db.proofs.Working.{changed-rules, changed-live}
 
 module _ (s : Store) (store : IsInOrder s) (id : Id) (plan : Plan) (planned : IsReady s id plan None None) (n : Node) (got : slab.get s.nodes id.0 ≡ Some n)
-    (series : History) (kept : IsKept series) (done : series ≡ record (after plan n.series) { room = series.room })
+    (series : History) (kept : IsKept series) (done : series ≡ record (after plan n.series) { held = series.held })
     (p : Point) (rules : Vec Rule Global) (more : AreChanged (grown p) n.rules.items rules.items) where
   -- the node after it
   abbrev changed : Node

@@ -5,7 +5,6 @@ use Rattle.slab.specs.Slab as slab
 use Rattle.ts_spec.specs.Kept.{KeptRule}
 use Rattle.ts_spec.specs.KeptStep.{list_at}
 use Rattle.ts_spec.specs.Mending.{mended_kept}
-use Rattle.ts_sample.specs.declared.id.Id.{Id}
 use Rattle.ts_rules.specs.declared.rule.Rule.{Rule}
 use Rattle.ts_rules.specs.declared.plan.RulePlan.{RulePlan}
 use Rattle.ts_rules.specs.Rules.{IsChanged}
@@ -45,15 +44,6 @@ full-past limit nodes rows gone r rs fits = go (nat_lt limit (length (fed_list n
     go : (b : Bool) → (if b then Some r.dest else None) ≡ None → (if b then Some r.dest else first_full limit nodes rows gone rs) ≡ first_full limit nodes rows gone rs
     go true e = absurd (cc e)
     go false e = refl
-
--- at one whose destination has none
-pub full-here : (limit : ℕ) (nodes : Nodes) (rows : Rows) (gone : Gone) (r : Rule) (rs : List Rule) (id : Id) → first_full limit nodes rows gone (r ∷ []) ≡ Some id
-    → first_full limit nodes rows gone (r ∷ rs) ≡ Some id
-full-here limit nodes rows gone r rs id full = go (nat_lt limit (length (fed_list nodes rows gone r))) full
-  where
-    go : (b : Bool) → (if b then Some r.dest else None) ≡ Some id → (if b then Some r.dest else first_full limit nodes rows gone rs) ≡ Some id
-    go true e = e
-    go false e = absurd (cc e)
 
 -- one plan more
 pub fed-more : (limit : ℕ) (nodes : Nodes) (rows : Rows) (gone : Gone) (rs : List Rule) (xs : List RulePlan) (r : Rule) (x : RulePlan) → AreFedBy limit nodes rows gone rs xs

@@ -144,9 +144,6 @@ last-row p q (r ∷ ps) h is less =
 
 -- ---- the samples around a time of an interval
 
-within_before : (from to t u : ℕ) → 0 < t → t ≤ to → (is_within from to u && nat_lt u t) ≡ is_within from (t - 1) u
-within_before from to t u some upto = grind (arith, nat_tests)
-
 within_past : (from to t u : ℕ) → from ≤ t → (is_within from to u && nat_lt t u) ≡ is_within (t + 1) to u
 within_past from to t u past = grind (arith, nat_tests)
 

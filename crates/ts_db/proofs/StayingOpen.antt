@@ -66,7 +66,7 @@ pub grown-after : (s : Store) (n : Node) (plan : Plan) (t : ℕ) (v : ℤ) → W
     → kept_grown s.nodes plan (sample_of t v n.series) n ≡ kept_with t v (kept_by (key_in s.nodes) n)
 grown-after s n plan t v w o =
     let same = grown-rules n.series (sample_of t v n.series) o.append (key_in s.nodes) n.rules.items o.at in
-    λ i. record (kept_of n.labels (after (record { cut = w.cut i; removed = 0; wrote = w.wrote i; place = plan.place; options = w.options i; room = None }) n.series)) { rules = same i; source = option_map (key_in s.nodes) n.source }
+    λ i. record (kept_of n.labels (after (record { cut = w.cut i; removed = 0; encoding = plan.encoding; wrote = w.wrote i; options = w.options i; change = plan.change; room = None }) n.series)) { rules = same i; source = option_map (key_in s.nodes) n.source }
 
 -- ---- plans that leave destinations as they are
 

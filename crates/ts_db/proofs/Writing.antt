@@ -55,13 +55,13 @@ pub writes-after : (names : Id → Key) (n : Node) (plan : Plan) (rules : Vec Ru
 writes-after names n plan rules t v w changed =
     let same : rules_by names rules.items ≡ map (changed_by (Write (sample_of t v n.series)) n.series) (rules_by names n.rules.items) =
     changed-rules names (changed_by (Write (sample_of t v n.series)) n.series) n.rules.items rules.items changed in
-    λ i. record (kept_of n.labels (after (record { cut = w.cut i; removed = 0; wrote = w.wrote i; place = plan.place; options = w.options i; room = None }) n.series)) { rules = same i; source = option_map names n.source }
+    λ i. record (kept_of n.labels (after (record { cut = w.cut i; removed = 0; encoding = plan.encoding; wrote = w.wrote i; options = w.options i; change = plan.change; room = None }) n.series)) { rules = same i; source = option_map names n.source }
 
 -- a planned write leaves the list within the limit
 pub within-planned : (h : History) (plan : Plan) (limit t : ℕ) (v : ℤ) → IsKept h → IsWrite limit (sample_of t v h) h (Ok plan) → length (list_of h) ≤ limit → length (list_of (after plan h)) ≤ limit
 within-planned h plan limit t v kept a le =
     let same : list_of (after plan h) ≡ list_after (sample_of t v h) h =
-    λ i. list_of (after (record { cut = a.0.cut i; removed = 0; wrote = a.0.wrote i; place = None; options = a.0.options i; room = None }) h) in
+    λ i. list_of (after (record { cut = a.0.cut i; removed = 0; encoding = plan.encoding; wrote = a.0.wrote i; options = a.0.options i; change = plan.change; room = None }) h) in
     subst (λ ps. length ps ≤ limit) (sym same) (length-after limit (edge_of h.options.retention (raised t h.high)) (sample_of t v h) h.samples kept.ascending a.1 le)
 
 -- what a plan writes is the sample of a write, where it writes one
@@ -74,12 +74,6 @@ written-sample plan (To v) limit t h p a is = record {
   sample = some-same p (sample_of t v h) (is ∙ ap first_of a.0.wrote);
   writes = a;
 }
-
--- and else nothing is written
-pub written-nothing : (plan : Plan) (what : Merged) (limit t : ℕ) (h : History) → Answers what limit t h (Ok plan) → None ≡ first_of plan.wrote → what ≡ Keep
-written-nothing plan (Refuse r) limit t h a is = absurd a
-written-nothing plan Keep limit t h a is = refl
-written-nothing plan (To v) limit t h a is = absurd (cc (is, ap first_of a.0.wrote))
 
 module _ (s : Store) (db : IsDb s) (key : Key) (id : Id) (n : Node) (holds : Holds s key id n) where
   abbrev rows : ℕ → ℤ → Rows

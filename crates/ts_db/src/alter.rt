@@ -1,4 +1,4 @@
-ghost use Rattle.std.specs.Prelude.{◌≡◌, IfErr};
+ghost use Rattle.std.specs.Prelude.{◌≡◌, ◌≤◌, IfErr};
 ghost use Rattle.ts_spec.specs.Keyed.{get};
 ghost use Rattle.ts_spec.specs.KeptStep.{kept_alter_at};
 ghost use Rattle.ts_labels.specs.Spec.{change_of};
@@ -26,7 +26,7 @@ impl Store {
         ensures altered { KeptDone (stock_of self.old) (kept_alter_at self.old.limits (stock_of self.old).keys key.now (change_of change) (get key.now (stock_of self.old).keys)) result (stock_of self.new) }
         ensures own { IfErr result (IsOwn (stock_of self.old) key.now) }
         ensures store { IsInOrder self.new }
-        ensures steps { steps.new ≡ steps.old }
+        ensures counted { steps.old ≤ steps.new }
     {
         let Some(id) = self.keys.get(key).copied() else {
             return Err(DbFault::NoKey);

@@ -77,9 +77,9 @@ pub(crate) fn gather_with<L: Ledger>(
     requires past { from ≤ row.now.time }
     requires upto { row.now.time ≤ to }
     ensures gathered { IfOk result (λ samples. samples.items ≡ put row.now (between from to (list_of series.now))) }
-    ensures steps { steps.new ≡ steps.old }
+    ensures counted { steps.old ≤ steps.new }
 {
-    let mut gathered = Gathered::with_room(alloc, series.room_for(from, to) + 1)?;
+    let mut gathered = Gathered::with_room(alloc, series.room_for(from, to).saturating_add(1))?;
     scan_with(series, from, to, row, &mut gathered, steps);
     Ok(gathered.into_samples())
 }
@@ -97,7 +97,7 @@ pub(crate) fn scan_with<V: Visit, L: Ledger>(
     requires past { from ≤ row.now.time }
     requires upto { row.now.time ≤ to }
     ensures visited { visit.new ≡ visited V.step visit.old (put row.now (between from to (list_of series.now))) }
-    ensures steps { steps.new ≡ steps.old }
+    ensures counted { steps.old ≤ steps.new }
 {
     row.known();
     scan_before(series, from, row.time, visit, steps);
@@ -115,7 +115,7 @@ fn scan_before<V: Visit, L: Ledger>(
 )
     requires room { length (at_times (λ u. nat_lt u t) (at_times (nat_le from) (list_of series.now))) ≤ V.room visit.old }
     ensures visited { visit.new ≡ visited V.step visit.old (at_times (λ u. nat_lt u t) (at_times (nat_le from) (list_of series.now))) }
-    ensures steps { steps.new ≡ steps.old }
+    ensures counted { steps.old ≤ steps.new }
 {
     if let Some(last) = t.checked_sub(1) {
         series.scan(from, last, visit, steps);

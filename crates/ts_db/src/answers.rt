@@ -1,4 +1,4 @@
-ghost use Rattle.std.specs.Prelude.{◌≡◌, nat_lt, IfOk, IfErr};
+ghost use Rattle.std.specs.Prelude.{◌≡◌, ◌≤◌, nat_lt, IfOk, IfErr};
 ghost use Rattle.std.specs.Option.{ForSome};
 ghost use Rattle.ts_spec.specs.Keyed.{get};
 ghost use Rattle.ts_spec.specs.Questions.{asked, info_response};
@@ -25,7 +25,7 @@ impl Db {
     ) -> Result<Option<Sample>, DbFault>
         ensures last { (held : Held) → Stands self.now held → Finds (get key.now held.state) (λ last. last ≡ last_of (asked held.state latest key.now)) result }
         ensures refused { IfErr result (λ fault. fault ≡ DbFault.NoKey) }
-        ensures steps { steps.new ≡ steps.old }
+        ensures counted { steps.old ≤ steps.new }
     {
         self.store.last(key, latest, steps)
     }
@@ -43,7 +43,7 @@ impl Db {
         ensures samples { (held : Held) → Stands self.now held → Finds (get key.now held.state) (λ samples. samples.items ≡ between from to (asked held.state latest key.now)) result }
         ensures ascending { IfOk result (λ samples. IsAscending samples.items) }
         ensures within { IfOk result (λ samples. between from to samples.items ≡ samples.items) }
-        ensures steps { steps.new ≡ steps.old }
+        ensures counted { steps.old ≤ steps.new }
     {
         self.store.samples(key, from, to, latest, steps)
     }
@@ -59,7 +59,7 @@ impl Db {
     ) -> Result<Option<Sample>, DbFault>
         ensures before { (held : Held) → Stands self.now held → Finds (get key.now held.state) (λ before. before ≡ last_of (at_times (λ u. nat_lt u t) (asked held.state latest key.now))) result }
         ensures refused { IfErr result (λ fault. fault ≡ DbFault.NoKey) }
-        ensures steps { steps.new ≡ steps.old }
+        ensures counted { steps.old ≤ steps.new }
     {
         self.store.last_before(key, t, latest, steps)
     }
@@ -75,7 +75,7 @@ impl Db {
         ensures ends { (held : Held) → Stands self.now held → Finds (get key.now held.state) (λ ends. ends ≡ ends_of (asked held.state latest key.now)) result }
         ensures bounded { IfOk result (λ ends. ForSome ends AreTimes) }
         ensures refused { IfErr result (λ fault. fault ≡ DbFault.NoKey) }
-        ensures steps { steps.new ≡ steps.old }
+        ensures counted { steps.old ≤ steps.new }
     {
         self.store.ends(key, latest, steps)
     }
@@ -83,7 +83,7 @@ impl Db {
     /// What TS.INFO tells of a key. It is refused for a missing key, and for want of memory.
     pub fn info<L: Ledger>(&self, key: &Word, steps: &mut Steps<L>) -> Result<Info, DbFault>
         ensures info { (held : Held) → Stands self.now held → Finds (get key.now held.state) (λ info. Told (info_of info) ≡ info_response held.state key.now (get key.now held.state)) result }
-        ensures steps { steps.new ≡ steps.old }
+        ensures counted { steps.old ≤ steps.new }
     {
         self.store.info(key, steps)
     }

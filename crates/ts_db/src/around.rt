@@ -1,4 +1,4 @@
-ghost use Rattle.std.specs.Prelude.{◌≡◌, nat_lt, Some, IfOk, IfErr};
+ghost use Rattle.std.specs.Prelude.{◌≡◌, ◌≤◌, nat_lt, Some, IfOk, IfErr};
 ghost use Rattle.std.specs.Option.{ForSome};
 ghost use Rattle.ts_spec.specs.Keyed.{get};
 ghost use Rattle.ts_spec.specs.KeptQuestions.{kept_asked};
@@ -25,7 +25,7 @@ impl Store {
         requires { IsInOrder self.now }
         ensures before { Finds (get key.now (stock_of self.now).keys) (λ before. before ≡ last_of (at_times (λ u. nat_lt u t) (kept_asked (stock_of self.now).keys latest key.now))) result }
         ensures refused { IfErr result (λ fault. fault ≡ DbFault.NoKey) }
-        ensures steps { steps.new ≡ steps.old }
+        ensures counted { steps.old ≤ steps.new }
     {
         let Some(id) = self.keys.get(key).copied() else {
             return Err(DbFault::NoKey);
@@ -45,7 +45,7 @@ impl Store {
         ensures ends { Finds (get key.now (stock_of self.now).keys) (λ ends. ends ≡ ends_of (kept_asked (stock_of self.now).keys latest key.now)) result }
         ensures bounded { IfOk result (λ ends. ForSome ends AreTimes) }
         ensures refused { IfErr result (λ fault. fault ≡ DbFault.NoKey) }
-        ensures steps { steps.new ≡ steps.old }
+        ensures counted { steps.old ≤ steps.new }
     {
         let Some(id) = self.keys.get(key).copied() else {
             return Err(DbFault::NoKey);

@@ -35,7 +35,7 @@ impl Db {
         ensures altered { AnswersDone self.old (λ h. alter_at h.limits h.state key.now (change_of change) (get key.now h.state)) result self.new }
         ensures limits { self.new.limits ≡ self.old.limits }
         ensures own { IfErr result (IsOwn self.old key.now) }
-        ensures steps { steps.new ≡ steps.old }
+        ensures counted { steps.old ≤ steps.new }
     {
         self.store.alter(key, change, steps)
     }
@@ -56,7 +56,7 @@ impl Db {
         ensures bounded { IfOk result (λ t. t ≤ MAX_TIME) }
         ensures limits { self.new.limits ≡ self.old.limits }
         ensures own { IfErr result (IsOwn self.old key) }
-        ensures steps { steps.new ≡ steps.old }
+        ensures counted { steps.old ≤ steps.new }
     {
         self.store.add(key, time, value, on, spec, steps)
     }
@@ -76,7 +76,7 @@ impl Db {
         ensures bounded { IfOk result (λ t. t ≤ MAX_TIME) }
         ensures limits { self.new.limits ≡ self.old.limits }
         ensures own { IfErr result (IsOwn self.old key) }
-        ensures steps { steps.new ≡ steps.old }
+        ensures counted { steps.old ≤ steps.new }
     {
         self.store.incr(key, change, time, spec, steps)
     }
@@ -94,7 +94,7 @@ impl Db {
         ensures bounded { IfOk result (λ t. t ≤ MAX_TIME) }
         ensures limits { self.new.limits ≡ self.old.limits }
         ensures own { IfErr result (IsOwn self.old key.now) }
-        ensures steps { steps.new ≡ steps.old }
+        ensures counted { steps.old ≤ steps.new }
     {
         self.store.put(key, time, value, steps)
     }
@@ -113,7 +113,7 @@ impl Db {
         ensures bounded { IfOk result (λ n. n ≤ MAX_TIME) }
         ensures limits { self.new.limits ≡ self.old.limits }
         ensures own { IfErr result (IsOwn self.old key.now) }
-        ensures steps { steps.new ≡ steps.old }
+        ensures counted { steps.old ≤ steps.new }
     {
         self.store.delete_range(key, from, to, steps)
     }

@@ -96,7 +96,7 @@ impl Store {
         ensures bounded { IfOk result (λ t. t ≤ MAX_TIME) }
         ensures own { IfErr result (IsOwn (stock_of self.old) key) }
         ensures store { IsInOrder self.new }
-        ensures steps { steps.new ≡ steps.old }
+        ensures counted { steps.old ≤ steps.new }
     {
         if self.are_too_many(&spec.labels) {
             return Err(DbFault::LabelsFull);
@@ -125,7 +125,7 @@ fn begun<L: Ledger>(
     requires time { time ≤ MAX_TIME }
     ensures begun { IfOk result (λ series. kept_of [] series ≡ kept_fresh (record { options = options; labels = [] }) (record { time = time; value = value; made = 0 } ∷ []) (Some time)) }
     ensures kept { IfOk result (λ series. IsKept series) }
-    ensures steps { steps.new ≡ steps.old }
+    ensures counted { steps.old ≤ steps.new }
 {
     let mut series = Series::new(alloc, options);
     match series.put(time, value, Merge::Set, 1, steps) {

@@ -11,12 +11,12 @@ ghost use Rattle.ts_db.specs.Store.{stock_of, IsInOrder, Holds};
 use crate::store::Store;
 use ts_rules::Rule;
 use ts_sample::{Id, Sample};
-use ts_series::{Series, SeriesPlan};
+use ts_series::{Append, Series};
 
 impl Store {
-    // Does what was planned for a series to which a sample is appended, and counts the sample in the open bucket of
+    // Appends a sample to a series, and counts the sample in the open bucket of
     // each of its rules. It can't fail, and takes no memory.
-    pub(crate) fn grow(&mut self, id: Id, plan: SeriesPlan, wrote: &Sample)
+    pub(crate) fn grow(&mut self, id: Id, plan: Append, wrote: &Sample)
         requires store { IsInOrder self.old }
         requires ready { IsReady self.old id plan None None }
         requires room { (key : Key) (n : TheNode) → Holds self.old key id n → HaveRoom n.rules.items }
@@ -27,7 +27,7 @@ impl Store {
         let Some(node) = self.nodes.get_mut(id.0) else {
             unreachable!();
         };
-        node.series.commit(plan);
+        node.series.commit_append(plan);
         count_in_all(&mut node.rules, wrote);
     }
 }

@@ -37,7 +37,7 @@ impl Store {
         ensures bounded { IfOk result (λ t. t ≤ MAX_TIME) }
         ensures own { IfErr result (IsOwn (stock_of self.old) key) }
         ensures store { IsInOrder self.new }
-        ensures steps { steps.new ≡ steps.old }
+        ensures counted { steps.old ≤ steps.new }
     {
         let Some(id) = self.keys.get(&key).copied() else {
             return self.begin(key, spec, time, change, steps);

@@ -1,5 +1,5 @@
 // What is told of a series and of how it is kept.
-ghost use Rattle.std.specs.Prelude.{◌≡◌, map, option_map, Some, IfOk};
+ghost use Rattle.std.specs.Prelude.{◌≡◌, ◌≤◌, map, option_map, Some, IfOk};
 ghost use Rattle.ts_spec.specs.Key.{Key};
 ghost use Rattle.ts_spec.specs.Keyed.{get};
 ghost use Rattle.ts_spec.specs.KeptQuestions.{kept_rule_info, kept_info_response};
@@ -24,7 +24,7 @@ impl Store {
     pub(crate) fn info<L: Ledger>(&self, key: &Word, steps: &mut Steps<L>) -> Result<Info, DbFault>
         requires { IsInOrder self.now }
         ensures info { Finds (get key.now (stock_of self.now).keys) (λ info. Told (info_of info) ≡ kept_info_response (get key.now (stock_of self.now).keys)) result }
-        ensures steps { steps.new ≡ steps.old }
+        ensures counted { steps.old ≤ steps.new }
     {
         let Some(id) = self.keys.get(key).copied() else {
             return Err(DbFault::NoKey);
@@ -41,7 +41,7 @@ impl Store {
         requires live { IsLive (stock_of self.now).ids id }
         ensures told { IfOk result (λ info. (key : Key) → get key (stock_of self.now).ids ≡ Some id
             → Told (info_of info) ≡ kept_info_response (get key (stock_of self.now).keys)) }
-        ensures steps { steps.new ≡ steps.old }
+        ensures counted { steps.old ≤ steps.new }
     {
         let node = self.node(id);
         let first = node.series.first(steps);

@@ -24,7 +24,6 @@ mod node;
 mod numbered;
 mod planning;
 mod questions;
-mod reach;
 mod ruling;
 mod selection;
 mod store;

@@ -38,7 +38,7 @@ impl Db {
     /// How many samples all keys show together. Takes no memory.
     pub fn total<L: Ledger>(&self, steps: &mut Steps<L>) -> u64
         ensures total { result ≡ total_of self.now.keys }
-        ensures steps { steps.new ≡ steps.old }
+        ensures counted { steps.old ≤ steps.new }
     {
         self.store.total(steps)
     }
@@ -64,7 +64,7 @@ impl Db {
     pub fn last_of<L: Ledger>(&self, id: Id, latest: bool, steps: &mut Steps<L>) -> Option<Sample>
         requires { IsLive self.now.ids id }
         ensures last { (key : Key) → get key self.now.ids ≡ Some id → result ≡ last_of (kept_asked self.now.keys latest key) }
-        ensures steps { steps.new ≡ steps.old }
+        ensures counted { steps.old ≤ steps.new }
     {
         self.store.last_of(id, latest, steps)
     }
@@ -84,7 +84,7 @@ impl Db {
             → samples.items ≡ between from to (kept_asked self.now.keys latest key)) }
         ensures ascending { IfOk result (λ samples. IsAscending samples.items) }
         ensures within { IfOk result (λ samples. between from to samples.items ≡ samples.items) }
-        ensures steps { steps.new ≡ steps.old }
+        ensures counted { steps.old ≤ steps.new }
     {
         self.store.samples_of(id, from, to, latest, steps)
     }
@@ -104,7 +104,7 @@ impl Db {
         requires room { 10 ^ 14 ≤ V.room visit.old }
         ensures visited { (key : Key) → get key self.now.ids ≡ Some id
             → visit.new ≡ visited V.step visit.old (between from to (kept_asked self.now.keys latest key)) }
-        ensures steps { steps.new ≡ steps.old }
+        ensures counted { steps.old ≤ steps.new }
     {
         self.store.visit_of(id, from, to, latest, visit, steps);
     }
@@ -133,7 +133,7 @@ impl Db {
         requires { IsLive self.now.ids id }
         ensures before { (key : Key) → get key self.now.ids ≡ Some id
             → result ≡ last_of (at_times (λ u. nat_lt u t) (kept_asked self.now.keys latest key)) }
-        ensures steps { steps.new ≡ steps.old }
+        ensures counted { steps.old ≤ steps.new }
     {
         self.store.before_of(id, t, latest, steps)
     }
@@ -149,7 +149,7 @@ impl Db {
         requires { IsLive self.now.ids id }
         ensures ends { (key : Key) → get key self.now.ids ≡ Some id → result ≡ ends_of (kept_asked self.now.keys latest key) }
         ensures bounded { ForSome result AreTimes }
-        ensures steps { steps.new ≡ steps.old }
+        ensures counted { steps.old ≤ steps.new }
     {
         self.store.ends_of(id, latest, steps)
     }

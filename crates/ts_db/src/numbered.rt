@@ -13,7 +13,6 @@ ghost use Rattle.ts_db.specs.Held.{IsLive, AreTimes, ends_of};
 
 use crate::among::{first_with, gather_with, last_with, row_before, row_within, scan_with};
 use crate::node::Node;
-use crate::reach::reach;
 use crate::store::Store;
 use std::alloc::{AllocError, Global};
 use std::sync::ledger::Ledger;
@@ -73,7 +72,7 @@ impl Store {
         requires store { IsInOrder self.now }
         requires live { IsLive (stock_of self.now).ids id }
         ensures last { (key : Key) → get key (stock_of self.now).ids ≡ Some id → result ≡ last_of (kept_asked (stock_of self.now).keys latest key) }
-        ensures steps { steps.new ≡ steps.old }
+        ensures counted { steps.old ≤ steps.new }
     {
         let node = self.node(id);
         last_with(self.asked_row(id, node, latest), node.series.last())
@@ -95,7 +94,7 @@ impl Store {
             → samples.items ≡ between from to (kept_asked (stock_of self.now).keys latest key)) }
         ensures ascending { IfOk result (λ samples. IsAscending samples.items) }
         ensures within { IfOk result (λ samples. between from to samples.items ≡ samples.items) }
-        ensures steps { steps.new ≡ steps.old }
+        ensures counted { steps.old ≤ steps.new }
     {
         let node = self.node(id);
         match row_within(from, to, self.asked_row(id, node, latest)) {
@@ -120,7 +119,7 @@ impl Store {
         requires room { 10 ^ 14 ≤ V.room visit.old }
         ensures visited { (key : Key) → get key (stock_of self.now).ids ≡ Some id
             → visit.new ≡ visited V.step visit.old (between from to (kept_asked (stock_of self.now).keys latest key)) }
-        ensures steps { steps.new ≡ steps.old }
+        ensures counted { steps.old ≤ steps.new }
     {
         self.known();
         let node = self.node(id);
@@ -141,7 +140,7 @@ impl Store {
             → (result ≡ to) ⊎ (count ≤ length (between from result (kept_asked (stock_of self.now).keys false key))) }
     {
         let node = self.node(id);
-        reach(&node.series, from, to, count)
+        node.series.time_for(from, to, count)
     }
 
     // The last sample before a time, in milliseconds, if there is one; with `latest` that of an open bucket counts
@@ -157,7 +156,7 @@ impl Store {
         requires live { IsLive (stock_of self.now).ids id }
         ensures before { (key : Key) → get key (stock_of self.now).ids ≡ Some id
             → result ≡ last_of (at_times (λ u. nat_lt u t) (kept_asked (stock_of self.now).keys latest key)) }
-        ensures steps { steps.new ≡ steps.old }
+        ensures counted { steps.old ≤ steps.new }
     {
         let node = self.node(id);
         let row = row_before(t, self.asked_row(id, node, latest));
@@ -176,7 +175,7 @@ impl Store {
         requires live { IsLive (stock_of self.now).ids id }
         ensures ends { (key : Key) → get key (stock_of self.now).ids ≡ Some id → result ≡ ends_of (kept_asked (stock_of self.now).keys latest key) }
         ensures bounded { ForSome result AreTimes }
-        ensures steps { steps.new ≡ steps.old }
+        ensures counted { steps.old ≤ steps.new }
     {
         let node = self.node(id);
         ends(&node.series, self.asked_row(id, node, latest), steps)
@@ -195,7 +194,7 @@ fn gather<L: Ledger>(
     ensures gathered { IfOk result (λ samples. samples.items ≡ between from to (list_of series.now)) }
     ensures ascending { IfOk result (λ samples. IsAscending samples.items) }
     ensures within { IfOk result (λ samples. between from to samples.items ≡ samples.items) }
-    ensures steps { steps.new ≡ steps.old }
+    ensures counted { steps.old ≤ steps.new }
 {
     let mut gathered = Gathered::with_room(alloc, series.room_for(from, to))?;
     series.scan(from, to, &mut gathered, steps);
@@ -207,7 +206,7 @@ fn ends<L: Ledger>(series: &Series, row: Option<Sample>, steps: &mut Steps<L>) -
     requires { IsKept series.now }
     ensures ends { result ≡ ends_of (put_all (one_of row) (list_of series.now)) }
     ensures bounded { ForSome result AreTimes }
-    ensures steps { steps.new ≡ steps.old }
+    ensures counted { steps.old ≤ steps.new }
 {
     let first = first_with(row, series.first(steps));
     let last = last_with(row, series.last());

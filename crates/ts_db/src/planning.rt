@@ -38,7 +38,7 @@ impl Store {
         ensures fed { IfOk result (λ planned. AreFedBy self.now.limits.samples self.now.nodes (rows_by_work work.now source.now) (gone_by work.now source.now) rules.now planned.plans.items) }
         ensures fit { IfOk result (λ planned. first_full self.now.limits.samples self.now.nodes (rows_by_work work.now source.now) (gone_by work.now source.now) rules.now ≡ None) }
         ensures refused { IfErr result (IsUnplanned (first_full self.now.limits.samples self.now.nodes (rows_by_work work.now source.now) (gone_by work.now source.now) rules.now)) }
-        ensures steps { steps.new ≡ steps.old }
+        ensures counted { steps.old ≤ steps.new }
     {
         let mut changed = match Vec::with_capacity(self.alloc, rules.len()) {
             Ok(changed) => changed,
@@ -75,7 +75,7 @@ impl Store {
         ensures fed { IfOk result (λ plan. IsFedBy self.now.limits.samples self.now.nodes (rows_by_work work source.now) (gone_by work source.now) rule.now plan) }
         ensures fits { IfOk result (λ _. first_full self.now.limits.samples self.now.nodes (rows_by_work work source.now) (gone_by work source.now) (rule.now ∷ []) ≡ None) }
         ensures refused { IfErr result (IsUnplanned (first_full self.now.limits.samples self.now.nodes (rows_by_work work source.now) (gone_by work source.now) (rule.now ∷ []))) }
-        ensures steps { steps.new ≡ steps.old }
+        ensures counted { steps.old ≤ steps.new }
     {
         let Some(dest) = self.nodes.get(rule.dest.0) else {
             unreachable!();
@@ -112,7 +112,7 @@ fn made_plan<L: Ledger>(
     requires room { Takes work source.now rule.now }
     requires fits { length (list_of dest.now) ≤ limit }
     ensures planned { (k : Key) → IsPlannedSo limit (changed_by work source.now) (gone_by work source.now (kept_as k rule.now)) (rows_by_work work source.now dest.now.born (kept_as k rule.now)) rule.now dest.now result }
-    ensures steps { steps.new ≡ steps.old }
+    ensures counted { steps.old ≤ steps.new }
 {
     match work {
         Work::Write(wrote) => plan_put(rule, source, &wrote, dest, limit, steps),

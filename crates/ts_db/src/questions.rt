@@ -1,4 +1,4 @@
-ghost use Rattle.std.specs.Prelude.{◌≡◌, Some, IfOk, IfErr};
+ghost use Rattle.std.specs.Prelude.{◌≡◌, ◌≤◌, Some, IfOk, IfErr};
 ghost use Rattle.ts_spec.specs.Keyed.{get};
 ghost use Rattle.ts_spec.specs.KeptQuestions.{kept_asked};
 ghost use Rattle.ts_spec.specs.Sample.{IsAscending, between, last_of};
@@ -23,7 +23,7 @@ impl Store {
         requires { IsInOrder self.now }
         ensures last { Finds (get key.now (stock_of self.now).keys) (λ last. last ≡ last_of (kept_asked (stock_of self.now).keys latest key.now)) result }
         ensures refused { IfErr result (λ fault. fault ≡ DbFault.NoKey) }
-        ensures steps { steps.new ≡ steps.old }
+        ensures counted { steps.old ≤ steps.new }
     {
         let Some(id) = self.keys.get(key).copied() else {
             return Err(DbFault::NoKey);
@@ -45,7 +45,7 @@ impl Store {
         ensures samples { Finds (get key.now (stock_of self.now).keys) (λ samples. samples.items ≡ between from to (kept_asked (stock_of self.now).keys latest key.now)) result }
         ensures ascending { IfOk result (λ samples. IsAscending samples.items) }
         ensures within { IfOk result (λ samples. between from to samples.items ≡ samples.items) }
-        ensures steps { steps.new ≡ steps.old }
+        ensures counted { steps.old ≤ steps.new }
     {
         let Some(id) = self.keys.get(key).copied() else {
             return Err(DbFault::NoKey);

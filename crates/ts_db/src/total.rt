@@ -1,5 +1,5 @@
 // How many samples all keys show together.
-ghost use Rattle.std.specs.Prelude.{◌≡◌};
+ghost use Rattle.std.specs.Prelude.{◌≤◌, ◌≡◌};
 ghost use Rattle.ts_db.specs.Store.{stock_of, IsInOrder};
 ghost use Rattle.ts_db.specs.Totals.{total_of};
 
@@ -12,7 +12,7 @@ impl Store {
     pub(crate) fn total<L: Ledger>(&self, steps: &mut Steps<L>) -> u64
         requires { IsInOrder self.now }
         ensures total { result ≡ total_of (stock_of self.now).keys }
-        ensures steps { steps.new ≡ steps.old }
+        ensures counted { steps.old ≤ steps.new }
     {
         let _keys = self.limits.keys;
         let _samples = self.limits.samples;

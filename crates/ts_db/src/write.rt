@@ -38,7 +38,7 @@ impl Store {
         ensures bounded { IfOk result (λ t. t ≤ MAX_TIME) }
         ensures own { IfErr result (IsOwn (stock_of self.old) key) }
         ensures store { IsInOrder self.new }
-        ensures steps { steps.new ≡ steps.old }
+        ensures counted { steps.old ≤ steps.new }
     {
         let Some(id) = self.keys.get(&key).copied() else {
             return self.begin(key, spec, time, value, steps);
@@ -64,7 +64,7 @@ impl Store {
         ensures bounded { IfOk result (λ t. t ≤ MAX_TIME) }
         ensures own { IfErr result (IsOwn (stock_of self.old) key.now) }
         ensures store { IsInOrder self.new }
-        ensures steps { steps.new ≡ steps.old }
+        ensures counted { steps.old ≤ steps.new }
     {
         let Some(id) = self.keys.get(key).copied() else {
             return Err(DbFault::NoKey);
@@ -92,23 +92,27 @@ impl Store {
         ensures time { IfOk result (λ t. t ≡ time) }
         ensures own { (key : Key) → number_of key self.old.keys.entries ≡ Some id → IfErr result (IsOwn (stock_of self.old) key) }
         ensures store { IsInOrder self.new }
-        ensures steps { steps.new ≡ steps.old }
+        ensures counted { steps.old ≤ steps.new }
     {
         let Some(node) = self.nodes.get(id.0) else {
             unreachable!();
         };
         let limit = self.limits.samples;
+        if let Some(plan) = node.series.plan_append(time, value, limit) {
+            let wrote = plan.sample();
+            if stays_open(&node.rules, &node.series, &wrote) {
+                self.grow(id, plan, &wrote);
+                return Ok(time);
+            }
+        }
         let plan = match node.series.put(time, value, how, limit, steps) {
             Ok(plan) => plan,
             Err(fault) => return Err(fault_at(id, fault)),
         };
         let Some(wrote) = plan.wrote() else {
+            drop(plan);
             return Ok(time);
         };
-        if stays_open(&node.rules, &node.series, &wrote) {
-            self.grow(id, plan, &wrote);
-            return Ok(time);
-        }
         let work = Work::Write(wrote);
         let planned = match self.plan_rules(&node.rules, &node.series, &work, steps) {
             Ok(planned) => planned,

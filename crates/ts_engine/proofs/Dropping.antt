@@ -17,9 +17,6 @@ pub record DropsOn (all rest : List Key) (count : ℕ) (from now : Held) : Type 
   pub goes_on : drop_keys now.state count rest ≡ drop_keys from.state 0 all
   pub limits : now.limits ≡ from.limits
 
-pub drops_none : (stock : Stock) (all : List Key) → Carries stock stock (λ from now. DropsOn all all 0 from now)
-drops_none stock all = carries_none stock (λ from now. DropsOn all all 0 from now) (λ from stands. record { goes_on = refl; limits = refl })
-
 -- what is told of the next key goes on to what becomes of all of them
 next_drops : (m : State) (key : Key) (rest : List Key) (count after : ℕ) (was : Bool) → was ≡ is_some (get key m) → after ≡ (if was then count + 1 else count)
     → drop_keys (if was then dropped key m else m) after rest ≡ drop_keys m count (key ∷ rest)

@@ -32,42 +32,10 @@ pub found : {T : Type 0} (o : Option Record) (what : T → Type 0) (x : T) → F
 found None what x finds = absurd finds
 found (Some d) what x finds = finds
 
--- what follows from an answer that was found is found
-pub found_more : {T U : Type 0} (o : Option Record) (what : T → Type 0) (x : T) (other : U → Type 0) (y : U) → Finds o what (Ok x) → other y → Finds o other (Ok y)
-found_more None what x other y finds is = finds
-found_more (Some d) what x other y finds is = is
-
--- a refusal refuses each question of the key
-pub lost_too : {T U : Type 0} (o : Option Record) (what : T → Type 0) (other : U → Type 0) (fault : DbFault) → Finds o what (Err fault) → Finds o other (Err fault)
-lost_too None what other fault finds = finds
-lost_too (Some d) what other fault finds = finds
-
--- what passes a test passes it again
-filter-twice : (test : Point → Bool) (ps : List Point) → filter test (filter test ps) ≡ filter test ps
-filter-twice test [] = refl
-filter-twice test (p ∷ ps) = go (test p) refl (filter-twice test ps)
-  where
-    go : (b : Bool) → test p ≡ b → filter test (filter test ps) ≡ filter test ps → filter test (cond b (p ∷ filter test ps) (filter test ps)) ≡ cond b (p ∷ filter test ps) (filter test ps)
-    go true is ih = ap (λ (x : Bool). cond x (p ∷ filter test (filter test ps)) (filter test (filter test ps))) is ∙ ap (λ (l : List Point). p ∷ l) ih
-    go false is ih = ih
-
--- the samples of an interval lie in it
-pub between_within : (from to : ℕ) (all ps : List Point) → ps ≡ between from to all → between from to ps ≡ ps
-between_within from to all ps is = ap (between from to) is ∙ filter-twice (λ p. is_within from to p.time) all ∙ sym is
-
 -- the times of the ends, said in two ways
 pub ends_are : (ps : List Point) → ends_of ps ≡ times_of (first_of ps) (last_of ps)
 ends_are [] = refl
 ends_are (p ∷ ps) = refl
-
--- without empty buckets the interval alone is asked
-pub asked_within : (q : Query) (asked : Asked) (ps : List Point) → asked.rows.items ≡ between q.from q.to ps → ForSome q.buckets (λ bs. bs.empty ≡ false) → IsAskedOf q asked ps
-asked_within q asked ps rows full = record { rows = sym rows; around = λ bs is empty. absurd (false≢true (sym (full bs is) ∙ empty)) }
-
--- with them, on this grid, what lies around it too
-pub asked_around : (q : Query) (asked : Asked) (ps : List Point) (g : Grid) → asked.rows.items ≡ between q.from q.to ps → ForSome q.buckets (λ bs. bs.grid ≡ g)
-    → IsAroundOf q g asked ps → IsAskedOf q asked ps
-asked_around q asked ps g rows grid around = record { rows = sym rows; around = λ bs is empty. subst (λ (x : Grid). IsAroundOf q x asked ps) (sym (grid bs is)) around }
 
 -- what a key shows is ascending
 shows_ascending : (d : Record) → IsAscending d.plain → (r : Option Rule) → IsAscending (shown_by r d)

@@ -19,11 +19,6 @@ pub rows_text : (rows : List Row) (n : ℕ) → n ≡ length rows → line_text 
 rows_text rows n is =
     ap (λ (k : ℕ). line_text 42 (decimal k) ++ row_texts rows) (is ∙ sym (length-map rows row_reply) ∙ sym (count-listed (map row_reply rows)))
 
--- one more row was written
-pub row_more : (row : Row) (rows : List Row) (before after : List ℕ) → after ≡ before ++ text (row_reply row) → after ++ row_texts rows ≡ before ++ row_texts (row ∷ rows)
-row_more row rows before after is =
-    ap (λ (l : List ℕ). l ++ row_texts rows) is ∙ append_assoc before (text (row_reply row)) (row_texts rows)
-
 -- ---- rows behind a gap
 
 -- the texts of rows and of one more

@@ -7,6 +7,7 @@ use ts_engine::{Limits, top};
 use ts_io::{MemClock, MemListener, MemSink, MemSource};
 
 mod buckets;
+mod chunks;
 mod connections;
 mod day;
 mod destinations;

@@ -1,13 +1,10 @@
 -- What is planned for a rule is what is kept after the command, in each state that stands behind it.
 use Rattle.std.proofs.Common.{◌≡◌, ℕ, ℤ, ◌<◌, ◌≤◌, Bool, true, false, cond, if◌then◌else◌, List, [], ◌∷◌, map, length, Option, None, Some, option_map, refl, sym, ap, ◌∙◌, subst}
-use Rattle.std.specs.Prelude.{Ok, Err}
-use Rattle.std.proofs.lemmas.Bool.{false≢true}
 use Rattle.ts_spec.specs.declared.limits.Limits.{Limits}
 use Rattle.ts_spec.specs.Sample.{Point, between, outside, put}
 use Rattle.ts_spec.specs.Key.{Key, same}
 use Rattle.ts_spec.specs.Keyed.{get}
-use Rattle.ts_spec.specs.State as state
-use Rattle.ts_spec.specs.State.{Record, State, Link, link_to, rule_to}
+use Rattle.ts_spec.specs.State.{State, link_to, rule_to}
 use Rattle.ts_spec.specs.Rules.{is_append, shown, written, deleted}
 use Rattle.ts_spec.specs.Kept.{KeptRule, Kept, kept, kept_rule, kept_record}
 use Rattle.ts_spec.specs.KeptStep.{kept_rules_at, list_at}
@@ -21,13 +18,9 @@ use Rattle.ts_spec.proofs.KeptWritten.{kept-written}
 use Rattle.ts_spec.proofs.Deleted.{source-free, kept-deleted}
 use Rattle.ts_series.specs.History.{History, list_of}
 use Rattle.ts_rules.specs.declared.rule.Rule.{Rule}
-use Rattle.ts_rules.specs.declared.plan.RulePlan.{RulePlan}
-use Rattle.ts_rules.specs.declared.fault.RuleFault.TheVariants.{Full}
 use Rattle.ts_rules.specs.Rules.{kept_as}
-use Rattle.ts_rules.specs.Plans.{after_plan, mended_list}
-use Rattle.ts_rules.specs.PlansOfWrites.{IsPlanOfWrite}
-use Rattle.ts_rules.specs.PlansOfDeletions.{IsPlanOfDeletion}
-use Rattle.ts_rules.specs.States.{IsOfState, IsAfterPlan, IsLawOfWrites, IsLawOfDeletions}
+use Rattle.ts_rules.specs.Plans.{mended_list}
+use Rattle.ts_rules.specs.States.{IsOfState, IsLawOfWrites, IsLawOfDeletions}
 
 -- a change of rules that keeps their destinations
 changed-to : (k : Key) (f : KeptRule → KeptRule) (qs : List KeptRule) → ((q : KeptRule) → (f q).dest ≡ q.dest) → kept_rule_to k (map f qs) ≡ option_map f (kept_rule_to k qs)

@@ -1,7 +1,7 @@
 -- Samples picked by their times.
-use Rattle.std.proofs.Common.{◌≡◌, ℕ, ◌-◌, ◌<◌, ◌≤◌, Bool, true, false, not, ◌&&◌, nat_lt, nat_le, cond, List, [], ◌∷◌, ◌++◌, ◌⊎◌, inl, inr, refl, sym, ap, ◌∙◌, arith, ltb-true, lt-ltb, leb-true, le-leb}
+use Rattle.std.proofs.Common.{◌≡◌, ℕ, ◌<◌, ◌≤◌, Bool, true, false, not, ◌&&◌, nat_lt, nat_le, cond, List, [], ◌∷◌, ◌++◌, ◌⊎◌, inl, inr, refl, sym, ap, ◌∙◌, arith, ltb-true, lt-ltb, leb-true, le-leb}
 use Rattle.std.proofs.lemmas.Bool.{cases_lt, and_parts, and_from}
-use Rattle.ts_spec.specs.Sample.{Point, IsAfter, IsAscending, at_times, between, is_within}
+use Rattle.ts_spec.specs.Sample.{Point, IsAfter, IsAscending, at_times, is_within}
 use Rattle.ts_rules.specs.Spans.{from_until}
 
 -- ---- tests
@@ -94,14 +94,6 @@ parts cut (p ∷ ps) a = go (cases_lt p.time cut) (parts cut ps a.1)
         (ap (λ (qs : List Point). p ∷ qs) (all-past (nat_le cut) p.time ps a.0 (λ t h. le-leb cut t (omega arith))))))
 
 -- ---- spans
-
--- the samples before a time are those up to the one before it
-pub until-between : (from end : ℕ) (ps : List Point) → from < end → from_until from end ps ≡ between from (end - 1) ps
-until-between from end ps h =
-    times-same (λ t. nat_le from t && nat_lt t end) (is_within from (end - 1)) ps
-    (λ t. same-test (nat_le from t && nat_lt t end) (is_within from (end - 1) t)
-    (λ e. (let x : t < end = span-end from end t e in within from (end - 1) t (span-from from end t e) (omega arith)))
-    (λ e. (let x : t ≤ end - 1 = within-to from (end - 1) t e in in-span from end t (within-from from (end - 1) t e) (omega arith))))
 
 pub until-none : (from end : ℕ) (ps : List Point) → end ≤ from → from_until from end ps ≡ []
 until-none from end ps h =

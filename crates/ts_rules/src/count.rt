@@ -22,7 +22,7 @@ pub(crate) fn count_written<L: Ledger>(
     steps: &mut Steps<L>,
 ) -> Running
     ensures running { result ≡ counted_anew (kept_as [] rule.now) (start_of rule.now.grid wrote.now.time) (put wrote.now (list_of source.now)) }
-    ensures steps { steps.new ≡ steps.old }
+    ensures counted { steps.old ≤ steps.new }
 {
     source.known();
     wrote.known();
@@ -50,7 +50,7 @@ pub(crate) fn count_left<L: Ledger>(
     requires order { from ≤ to }
     requires bounded { to ≤ MAX_TIME }
     ensures running { result ≡ counted_anew (kept_as [] rule.now) start (outside from to (list_of source.now)) }
-    ensures steps { steps.new ≡ steps.old }
+    ensures counted { steps.old ≤ steps.new }
 {
     source.known();
     rule.grid.known();
@@ -71,7 +71,7 @@ fn scan_until<V: Visit, L: Ledger>(
 )
     requires { length (from_until from end (list_of source.now)) ≤ V.room visit.old }
     ensures visited { visit.new ≡ visited V.step visit.old (from_until from end (list_of source.now)) }
-    ensures steps { steps.new ≡ steps.old }
+    ensures counted { steps.old ≤ steps.new }
 {
     if from < end {
         source.scan(from, end - 1, visit, steps);

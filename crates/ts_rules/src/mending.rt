@@ -24,7 +24,7 @@ pub(crate) fn mended<L: Ledger>(
     requires within { AreWithin from to rows.now }
     requires made { AreMade dest.now.born rows.now }
     ensures mended { IsMending limit (is_within from to) rows.now dest.now result }
-    ensures steps { steps.new ≡ steps.old }
+    ensures counted { steps.old ≤ steps.new }
 {
     match dest.mend(from, to, rows, limit, steps) {
         Ok(plan) => Ok(Some(plan)),
@@ -44,7 +44,7 @@ pub(crate) fn with_row<L: Ledger>(
     requires made { AreMade dest.now.born (one_of row) }
     requires fits { length (list_of dest.now) ≤ limit }
     ensures mended { IsMending limit (λ t. false) (one_of row) dest.now result }
-    ensures steps { steps.new ≡ steps.old }
+    ensures counted { steps.old ≤ steps.new }
 {
     dest.known();
     match row {

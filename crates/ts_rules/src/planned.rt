@@ -28,7 +28,7 @@ pub fn plan_put<L: Ledger>(
     requires append { TakesAppended rule.now source.now wrote.now }
     requires fits { length (list_of dest.now) ≤ limit }
     ensures planned { IsPlanOfWrite limit rule.now source.now wrote.now dest.now result }
-    ensures steps { steps.new ≡ steps.old }
+    ensures counted { steps.old ≤ steps.new }
 {
     let (rule, row) = written(rule, source, wrote, dest.born(), steps);
     let dest = with_row(dest, row, limit, steps)?;
@@ -50,11 +50,11 @@ pub fn plan_delete<L: Ledger>(
 ) -> Result<RulePlan, RuleFault>
     requires fits { length (list_of dest.now) ≤ limit }
     ensures planned { IsPlanOfDeletion limit rule.now source.now from to dest.now result }
-    ensures steps { steps.new ≡ steps.old }
+    ensures counted { steps.old ≤ steps.new }
 {
     source.known();
     dest.known();
-    if source.room_for(from, to) == 0 {
+    if !source.has_between(from, to, steps) {
         return Ok(RulePlan {
             rule: *rule,
             dest: None,

@@ -26,7 +26,7 @@ impl Deletion<'_> {
         requires fits { length (list_of dest.now) ≤ limit }
         ensures mended { IsMending limit (is_lost self.now.rule.now self.now.source.now self.now.from self.now.to)
             (rows_left self.now.rule.now self.now.source.now self.now.from self.now.to dest.now.born) dest.now result }
-        ensures steps { steps.new ≡ steps.old }
+        ensures counted { steps.old ≤ steps.new }
     {
         self.rule.grid.known();
         self.source.known();
@@ -55,12 +55,12 @@ impl Deletion<'_> {
         requires first { first ≤ MAX_TIME }
         requires last { last ≤ MAX_TIME }
         ensures span { IfOk result (λ rows. rows.items ≡ span_left self.now.rule.now self.now.source.now self.now.from self.now.to dest.now.born first last (list_of dest.now)) }
-        ensures steps { steps.new ≡ steps.old }
+        ensures counted { steps.old ≤ steps.new }
     {
         let shown = shown(alloc, dest, first, last, steps)?;
         let mut rows = Vec::with_capacity(alloc, shown.len())?;
         push_row(&mut rows, self.row_left(first, dest.born(), steps))?;
-        self.push_stays(&mut rows, &shown)?;
+        self.push_stays(&mut rows, &shown, steps)?;
         if first != last {
             push_row(&mut rows, self.row_left(last, dest.born(), steps))?;
         }
@@ -68,12 +68,18 @@ impl Deletion<'_> {
     }
 
     // Adds the samples that do not stand for a bucket that loses one.
-    fn push_stays(&self, rows: &mut Vec<Sample>, shown: &[Sample]) -> Result<(), AllocError>
-        ensures { IfOk result (λ _. rows.new.items ≡ rows.old.items
+    fn push_stays<L: Ledger>(
+        &self,
+        rows: &mut Vec<Sample>,
+        shown: &[Sample],
+        steps: &mut Steps<L>,
+    ) -> Result<(), AllocError>
+        ensures stays { IfOk result (λ _. rows.new.items ≡ rows.old.items
             ++ at_times (λ t. not (is_lost self.now.rule.now self.now.source.now self.now.from self.now.to t)) shown.now) }
+        ensures counted { steps.old ≤ steps.new }
     {
         for sample in shown {
-            if !self.loses(sample.time) {
+            if !self.loses(sample.time, steps) {
                 rows.push(*sample)?;
             }
         }
@@ -100,7 +106,7 @@ fn shown<L: Ledger>(
     steps: &mut Steps<L>,
 ) -> Result<Vec<Sample>, AllocError>
     ensures shown { IfOk result (λ samples. samples.items ≡ between from to (list_of series.now)) }
-    ensures steps { steps.new ≡ steps.old }
+    ensures counted { steps.old ≤ steps.new }
 {
     let mut gathered = Gathered::with_room(alloc, series.room_for(from, to))?;
     series.scan(from, to, &mut gathered, steps);

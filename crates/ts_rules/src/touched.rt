@@ -17,12 +17,12 @@ impl Deletion<'_> {
     // The rule after it: the open bucket is told anew where it held a sample that goes.
     pub(crate) fn rule_left<L: Ledger>(&self, steps: &mut Steps<L>) -> Rule
         ensures rule { IsChanged (rule_left self.now.source.now self.now.from self.now.to) self.now.rule.now result }
-        ensures steps { steps.new ≡ steps.old }
+        ensures counted { steps.old ≤ steps.new }
     {
         let Some(open) = self.rule.current else {
             return *self.rule;
         };
-        if !self.touches(open) {
+        if !self.touches(open, steps) {
             return *self.rule;
         }
         self.rule.grid.known();
@@ -40,9 +40,9 @@ impl Deletion<'_> {
     ) -> Option<Sample>
         requires { start ≤ MAX_TIME }
         ensures row { one_of result ≡ row_left self.now.rule.now self.now.source.now self.now.from self.now.to born start }
-        ensures steps { steps.new ≡ steps.old }
+        ensures counted { steps.old ≤ steps.new }
     {
-        if !self.loses(start) {
+        if !self.loses(start, steps) {
             return None;
         }
         self.rule.grid.known();
@@ -51,11 +51,12 @@ impl Deletion<'_> {
     }
 
     // Whether the bucket that starts there is closed, and holds a sample that goes.
-    pub(crate) fn loses(&self, start: u64) -> bool
+    pub(crate) fn loses<L: Ledger>(&self, start: u64, steps: &mut Steps<L>) -> bool
         requires { start ≤ MAX_TIME }
-        ensures { result ≡ is_lost self.now.rule.now self.now.source.now self.now.from self.now.to start }
+        ensures lost { result ≡ is_lost self.now.rule.now self.now.source.now self.now.from self.now.to start }
+        ensures counted { steps.old ≤ steps.new }
     {
-        self.is_closed(start) && self.touches(start)
+        self.is_closed(start) && self.touches(start, steps)
     }
 
     // Whether the bucket that starts there is before the open one.
@@ -69,9 +70,10 @@ impl Deletion<'_> {
     }
 
     // Whether a bucket starts there that holds a sample that goes.
-    fn touches(&self, start: u64) -> bool
+    fn touches<L: Ledger>(&self, start: u64, steps: &mut Steps<L>) -> bool
         requires { start ≤ MAX_TIME }
-        ensures { result ≡ lies_in self.now.rule.now.grid (gone_of self.now.source.now self.now.from self.now.to) start }
+        ensures touches { result ≡ lies_in self.now.rule.now.grid (gone_of self.now.source.now self.now.from self.now.to) start }
+        ensures counted { steps.old ≤ steps.new }
     {
         self.source.known();
         self.rule.grid.known();
@@ -81,6 +83,6 @@ impl Deletion<'_> {
         }
         let from = self.from.max(start);
         let to = self.to.min(grid.last_of(start));
-        self.source.room_for(from, to) > 0
+        self.source.has_between(from, to, steps)
     }
 }

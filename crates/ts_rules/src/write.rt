@@ -1,5 +1,5 @@
 // What a write to a source comes to for a rule of it.
-ghost use Rattle.std.specs.Prelude.{◌≡◌, ◌^◌, ◌<◌, true, [], if◌then◌else◌};
+ghost use Rattle.std.specs.Prelude.{◌≡◌, ◌≤◌, ◌^◌, ◌<◌, true, [], if◌then◌else◌};
 ghost use Rattle.ts_spec.specs.Sample.{put};
 ghost use Rattle.ts_spec.specs.Bucket.{start as start_of};
 ghost use Rattle.ts_spec.specs.Aggregate.{nothing, push};
@@ -29,7 +29,7 @@ pub(crate) fn written<L: Ledger>(
     requires { TakesAppended rule.now source.now wrote.now }
     ensures rule { IsChanged (rule_after source.now wrote.now) rule.now result.0 }
     ensures row { one_of result.1 ≡ row_told source.now wrote.now born rule.now }
-    ensures steps { steps.new ≡ steps.old }
+    ensures counted { steps.old ≤ steps.new }
 {
     rule.grid.known();
     let start = rule.grid.start_of(wrote.time);
@@ -52,7 +52,7 @@ fn grown<L: Ledger>(rule: &Rule, source: &Series, wrote: &Sample, steps: &mut St
     requires { is_append wrote.now.time source.now.high ≡ true → rule.now.running.count < 10 ^ 14 }
     ensures running { result ≡ (if is_append wrote.now.time source.now.high then push rule.now.running wrote.now
         else counted_anew (kept_as [] rule.now) (start_of rule.now.grid wrote.now.time) (put wrote.now (list_of source.now))) }
-    ensures steps { steps.new ≡ steps.old }
+    ensures counted { steps.old ≤ steps.new }
 {
     if is_past(wrote.time, source.high()) {
         pushed(rule.running, wrote)

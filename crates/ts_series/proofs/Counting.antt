@@ -65,10 +65,6 @@ pub times-each : (ps : List Point) → at_times (λ t. true) ps ≡ ps
 times-each [] = refl
 times-each (p ∷ ps) = ap (λ (l : List Point). p ∷ l) (times-each ps)
 
--- at a time without a sample there is one more
-pub length-put_new : (p : Point) (ps : List Point) → at p.time ps ≡ None → length (put p ps) ≡ suc (length ps)
-length-put_new p ps none = omega (arith, length-put (λ t. true) p ps none, ap length (times-each (put p ps)), ap length (times-each ps))
-
 -- a part is no longer than the whole
 pub times-length : (test : ℕ → Bool) (ps : List Point) → length (at_times test ps) ≤ length ps
 times-length test [] = omega arith

@@ -1,9 +1,8 @@
 -- Samples that take their place in a list.
-use Rattle.std.proofs.Common.{◌≡◌, ℕ, zero, suc, ◌+◌, ◌<◌, ◌≤◌, true, false, cond, List, [], ◌∷◌, ◌++◌, length, take, drop, refl, sym, ◌∙◌, ap, subst, arith}
-use Rattle.std.specs.Prelude.{◌-◌, nat_lt, nat_le, slice_get, slice_set, Option, None, Some, IsSomeAnd}
+use Rattle.std.proofs.Common.{◌≡◌, ℕ, zero, suc, ◌+◌, ◌<◌, ◌≤◌, true, false, cond, List, [], ◌∷◌, length, drop, refl, sym, ◌∙◌, ap, arith}
+use Rattle.std.specs.Prelude.{◌-◌, nat_lt, nat_le, slice_get}
 use Rattle.std.proofs.lemmas.Bool.Decides.{nat_tests}
-use Rattle.ts_spec.specs.Sample.{Point, IsAscending, IsAfter, at, at_times, put, last_of}
-use Rattle.ts_spec.proofs.Samples.{at-time}
+use Rattle.ts_spec.specs.Sample.{Point, IsAscending, IsAfter, at_times, last_of}
 
 pub none-before : (t : ℕ) (ps : List Point) → IsAfter t ps → at_times (λ u. nat_lt u t) ps ≡ []
 none-before t [] h = refl
@@ -16,31 +15,6 @@ all-after t [] h = refl
 all-after t (p ∷ ps) h =
     let yes : nat_lt t p.time ≡ true = (let up : t < p.time = h.0 in grind (arith, nat_tests)) in
     ap (λ b. cond b (p ∷ at_times (nat_lt t) ps) (at_times (nat_lt t) ps)) yes ∙ ap (λ (l : List Point). p ∷ l) (all-after t ps h.1)
-
-after-get : (t : ℕ) (ps : List Point) (i : ℕ) (q : Point) → IsAfter t ps → slice_get ps i ≡ Some q → t < q.time
-after-get t [] i q h is = absurd (cc is)
-after-get t (p ∷ ps) zero q h is = let same : p ≡ q = cc is in subst (λ (r : Point). t < r.time) same h.0
-after-get t (p ∷ ps) (suc i) q h is = after-get t ps i q h.1 is
-
--- a sample in the place of one of its time is put there
-pub set-put : (ps : List Point) (i : ℕ) (p q : Point) → IsAscending ps → slice_get ps i ≡ Some q → q.time ≡ p.time → slice_set ps i p ≡ put p ps
-set-put [] i p q h is same = absurd (cc is)
-set-put (r ∷ ps) zero p q h is same =
-    let there : r.time ≡ p.time = (let one : r ≡ q = cc is in ap (λ (x : Point). x.time) one ∙ same) in
-    let after : IsAfter p.time ps = subst (λ t. IsAfter t ps) there h.0 in
-    let low : nat_lt r.time p.time ≡ false = grind (arith, nat_tests) in
-    let high : nat_lt p.time r.time ≡ false = grind (arith, nat_tests) in
-    sym (ap (λ b. cond b (r ∷ at_times (λ u. nat_lt u p.time) ps) (at_times (λ u. nat_lt u p.time) ps) ++ p ∷ at_times (nat_lt p.time) (r ∷ ps)) low
-    ∙ ap (λ (l : List Point). l ++ p ∷ at_times (nat_lt p.time) (r ∷ ps)) (none-before p.time ps after)
-    ∙ ap (λ b. p ∷ cond b (r ∷ at_times (nat_lt p.time) ps) (at_times (nat_lt p.time) ps)) high
-    ∙ ap (λ (l : List Point). p ∷ l) (all-after p.time ps after))
-set-put (r ∷ ps) (suc i) p q h is same =
-    let up : r.time < q.time = after-get r.time ps i q h.0 is in
-    let low : nat_lt r.time p.time ≡ true = grind (arith, nat_tests) in
-    let high : nat_lt p.time r.time ≡ false = grind (arith, nat_tests) in
-    ap (λ (l : List Point). r ∷ l) (set-put ps i p q h.1 is same)
-    ∙ sym (ap (λ b. cond b (r ∷ at_times (λ u. nat_lt u p.time) ps) (at_times (λ u. nat_lt u p.time) ps) ++ p ∷ at_times (nat_lt p.time) (r ∷ ps)) low
-    ∙ ap (λ b. r ∷ at_times (λ u. nat_lt u p.time) ps ++ p ∷ cond b (r ∷ at_times (nat_lt p.time) ps) (at_times (nat_lt p.time) ps)) high)
 
 pub drop-twice : (n m : ℕ) (ps : List Point) → drop (n + m) ps ≡ drop m (drop n ps)
 drop-twice n m ps = steps n m (n + m) ps refl
@@ -79,8 +53,3 @@ all-kept low p ps h le = sym (here ∙ ap (λ (l : List Point). p ∷ l) (later 
         let up : t < q.time = h.0 in
         let passes : nat_le low q.time ≡ true = grind (arith, nat_tests) in
         ap (λ b. cond b (q ∷ at_times (nat_le low) qs) (at_times (nat_le low) qs)) passes ∙ ap (λ (l : List Point). q ∷ l) (later low t qs h.1 le)
-
--- the same for the first of a list
-pub first-kept : (low : ℕ) (p : Point) (ps : List Point) → IsAscending ps → slice_get ps 0 ≡ Some p → low ≤ p.time → ps ≡ at_times (nat_le low) ps
-first-kept low p [] h is le = refl
-first-kept low p (q ∷ qs) h is le = let same : q ≡ p = cc is in all-kept low q qs h (subst (λ (r : Point). low ≤ r.time) (sym same) le)

@@ -1,5 +1,6 @@
+pub mod Encoded
+pub mod Held
 pub mod History
-pub mod Line
 pub mod Mend
 pub mod Plan
 pub mod Put

@@ -1,51 +1,25 @@
 -- A planned change of a series, and what it makes of the series.
-use Rattle.std.specs.Prelude.{◌≡◌, ℕ, ◌<◌, ◌≤◌, nat_le, ⊤, List, [], ◌∷◌, ◌++◌, take, drop, slice_set, length, ◌+◌, Option, None, Some}
+use Rattle.std.specs.Prelude.{◌≡◌, ℕ, ◌≤◌, nat_le, ⊤, List, [], ◌∷◌, length, ◌+◌, Option, None, Some}
 use Rattle.std.specs.Option.{unwrap_or}
+use Rattle.ts_spec.specs.declared.series.Encoding.{Encoding}
+use Rattle.ts_spec.specs.declared.series.Encoding.TheVariants.{Compressed}
 use Rattle.ts_spec.specs.declared.series.Options.{Options}
 use Rattle.ts_spec.specs.declared.series.Policy.{Policy}
-use Rattle.ts_spec.specs.Sample.{Point, IsAscending, at_times, outside, put, put_all}
+use Rattle.ts_spec.specs.Sample.{Point, at_times, outside, put_all}
 use Rattle.ts_spec.specs.State.{edge_of}
 use Rattle.ts_spec.specs.Mending.{high_with}
 use Rattle.ts_series.specs.declared.edit.Interval.{Interval}
 use Rattle.ts_series.specs.declared.edit.Rows.{Rows}
 use Rattle.ts_series.specs.declared.edit.Rows.TheVariants.{Empty, One, Many}
-use Rattle.ts_series.specs.declared.edit.Place.{Place}
-use Rattle.ts_series.specs.declared.edit.Place.TheVariants.{Over, Before}
-use Rattle.ts_series.specs.declared.edit.Edit.{Edit}
-use Rattle.ts_series.specs.declared.edit.Edit.TheVariants.{Keep, Write, Mend}
-use Rattle.ts_series.specs.History.{History, list_of}
-
--- ---- a change of the samples
+use Rattle.ts_sample.specs.Chunk.{joined}
+use Rattle.ts_series.specs.Held.{Held, Change, no_change, pieces_after, IsChangeOf, HasLimits}
+use Rattle.ts_series.specs.History.{History, list_of, low, limit_for, format_of}
 
 -- the samples of rows
 abbrev pub listed : Rows → List Point
 listed Empty = []
 listed (One p) = p ∷ []
 listed (Many v) = v.items
-
--- the samples that are written
-abbrev pub written : Edit → List Point
-written Keep = []
-written (Write place p) = p ∷ []
-written (Mend i n rows) = listed rows
-
--- the interval that is taken out, if one is
-abbrev pub cut_of : Edit → Option Interval
-cut_of Keep = None
-cut_of (Write place p) = None
-cut_of (Mend i n rows) = Some i
-
--- how many samples are taken out
-abbrev pub removed_of : Edit → ℕ
-removed_of Keep = 0
-removed_of (Write place p) = 0
-removed_of (Mend i n rows) = n
-
--- where a sample is written, if one is
-abbrev pub place_in : Edit → Option Place
-place_in Keep = None
-place_in (Write place p) = Some place
-place_in (Mend i n rows) = None
 
 -- each sample's time is from the one to the other
 abbrev pub AreWithin : (from to : ℕ) → List Point → Type 0
@@ -57,32 +31,15 @@ abbrev pub AreMade : (born : ℕ) → List Point → Type 0
 AreMade born [] = ⊤
 AreMade born (p ∷ ps) = (p.made ≤ born) × AreMade born ps
 
--- what takes the place of an interval lies in it, in ascending time
-abbrev pub IsOrdered : Edit → Type 0
-IsOrdered Keep = ⊤
-IsOrdered (Write place p) = ⊤
-IsOrdered (Mend i n rows) = IsAscending (listed rows) × AreWithin i.from i.to (listed rows)
-
--- a list with the sample at this place is the list with the sample put in
-abbrev pub IsPlaced : Place → Point → List Point → Type 0
-IsPlaced (Over i) p ps = (i < length ps) × (slice_set ps i p ≡ put p ps)
-IsPlaced (Before i) p ps = (i ≤ length ps) × (take i ps ++ p ∷ drop i ps ≡ put p ps)
-
--- a place that was found is that of the sample that is written
-abbrev pub TakesPlace : Option Place → (wrote ps : List Point) → Type 0
-TakesPlace (Some place) (p ∷ []) ps = IsPlaced place p ps
-TakesPlace place wrote ps = ⊤
-
--- ---- a plan
-
--- The interval that is taken out, with the number of samples in it, the samples that are written, the place of one that is written
--- alone, the options from then on, where they change, and for how many samples the plan brings new room, if it does.
+-- The interval that is taken out, with the number of samples in it, how the series is kept, the samples that are written, the options from then on, where
+-- they change, the change of the chunks, and for how many chunks the plan brings new room, if it does.
 pub record Plan : Type 0 where
   pub cut : Option Interval
   pub removed : ℕ
+  pub encoding : Encoding
   pub wrote : List Point
-  pub place : Option Place
   pub options : Option Options
+  pub change : Change
   pub room : Option ℕ
 
 -- a list without the interval that is taken out, if one is
@@ -105,15 +62,37 @@ after plan h = record h {
 
 -- a plan that writes this sample alone
 abbrev pub writes_one : Point → Plan
-writes_one p = record { cut = None; removed = 0; wrote = p ∷ []; place = None; options = None; room = None }
+writes_one p = record { cut = None; removed = 0; encoding = Compressed; wrote = p ∷ []; options = None; change = no_change; room = None }
 
 -- a plan that takes out an interval with so many samples
 abbrev pub cuts : (from to : ℕ) → (removed : ℕ) → Plan
-cuts from to n = record { cut = Some (record { from = from; to = to }); removed = n; wrote = []; place = None; options = None; room = None }
+cuts from to n = record { cut = Some (record { from = from; to = to }); removed = n; encoding = Compressed; wrote = []; options = None; change = no_change; room = None }
 
 -- a plan that changes the options alone
 abbrev pub alters : Options → Plan
-alters options = record { cut = None; removed = 0; wrote = []; place = None; options = Some options; room = None }
+alters options = record { cut = None; removed = 0; encoding = Compressed; wrote = []; options = Some options; change = no_change; room = None }
+
+-- a plan that puts this sample into the room of the last chunk
+abbrev pub appends : Encoding → Point → Plan
+appends encoding p = record { cut = None; removed = 0; encoding = encoding; wrote = p ∷ []; options = None; change = record no_change { appended = Some p }; room = None }
+
+-- a plan with the encoding, the change of the chunks, and the room, of another one
+abbrev pub with_change : Plan → Plan → Plan
+with_change plan p = record p { encoding = plan.encoding; change = plan.change; room = plan.room }
+
+-- the plan takes out an interval with so many samples, and no more
+pub record Cuts (from to : ℕ) (removed : ℕ) (plan : Plan) : Type 0 where
+  pub cut : plan.cut ≡ Some (record { from = from; to = to })
+  pub count : plan.removed ≡ removed
+  pub wrote : plan.wrote ≡ []
+  pub options : plan.options ≡ None
+
+-- the plan changes the options, and no more
+pub record Alters (options : Options) (plan : Plan) : Type 0 where
+  pub cut : plan.cut ≡ None
+  pub removed : plan.removed ≡ 0
+  pub wrote : plan.wrote ≡ []
+  pub altered : plan.options ≡ Some options
 
 -- options with what is given anew
 abbrev pub options_with : (retention chunk_size : Option ℕ) → Option Policy → Options → Options
@@ -124,19 +103,22 @@ options_with retention chunk_size policy old = record {
   policy = unwrap_or policy old.policy;
 }
 
--- room for so many samples: the plan's own, or that of the series
-abbrev pub HasRoom : Option ℕ → ℕ → History → Type 0
-HasRoom None n h = n ≤ length (list_of h) + h.room
-HasRoom (Some room) n h = n ≤ room
+-- how many chunks there may be once the plan's own room, if it has one, is there
+abbrev pub places_for : Option ℕ → Held → ℕ
+places_for None h = length h.pieces + h.room
+places_for (Some room) h = room
 
--- new room holds the samples of the series
-abbrev pub HoldsAll : Option ℕ → History → Type 0
-HoldsAll None h = ⊤
-HoldsAll (Some room) h = length (list_of h) ≤ room
-
--- The plan was made from a series like this one: a commit of it takes no memory, and no search for a sample that is written alone.
-pub record IsFor (plan : Plan) (h : History) : Type 0 where
-  pub holds_all : HoldsAll plan.room h
-  pub room : HasRoom plan.room (length (planned_list plan h)) h
+-- The plan was made from a series like this one, whose chunks have this format: the encoding stays, its change is for the chunks, and
+-- leaves the samples that the series has after it. A commit of it takes no memory.
+pub record IsForIn (format : List Point → List ℕ) (plan : Plan) (h : History) : Type 0 where
+  pub encoding : plan.encoding ≡ h.options.encoding
+  pub stays : (unwrap_or plan.options h.options).encoding ≡ h.options.encoding
   pub made : AreMade h.born plan.wrote
-  pub placed : TakesPlace plan.place plan.wrote (list_of h)
+  pub change : IsChangeOf format (places_for plan.room h.held) h.held.pieces h.held.limits plan.change
+  pub holds_all : length h.held.pieces ≤ places_for plan.room h.held
+  pub limits : HasLimits (limit_for h.options.chunk_size) h.held.limits plan.change
+  pub list : at_times (nat_le (low (after plan h))) (joined (pieces_after plan.change h.held.pieces)) ≡ list_of (after plan h)
+
+-- the same of a series in the format of its encoding
+abbrev pub IsFor : Plan → History → Type 0
+IsFor plan h = IsForIn (format_of h.options.encoding) plan h

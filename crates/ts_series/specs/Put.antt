@@ -1,15 +1,16 @@
 -- What a write to a series comes to.
-use Rattle.std.specs.Prelude.{◌≡◌, ℕ, ℤ, ◌<◌, ◌≤◌, nat_lt, if◌then◌else◌, ⊤, List, [], ◌∷◌, length, Option, None, Some, option_map, Result, Ok, Err}
+use Rattle.std.specs.Prelude.{◌≡◌, ℕ, ℤ, ◌<◌, ◌≤◌, nat_lt, if◌then◌else◌, ⊤, List, [], ◌∷◌, length, Option, None, Some, Result, Ok, Err}
+use Rattle.ts_spec.specs.declared.series.Encoding.{Encoding}
 use Rattle.ts_spec.specs.declared.series.Merge.{Merge}
 use Rattle.ts_spec.specs.Sample.{Point, at}
 use Rattle.ts_spec.specs.Refusal as refusal
 use Rattle.ts_spec.specs.Refusal.{Refusal}
 use Rattle.ts_spec.specs.Rules.{Merged, Refuse, Keep, To, merge}
 use Rattle.ts_spec.specs.Step.{value_at}
-use Rattle.ts_series.specs.declared.edit.Place.TheVariants.{Over}
 use Rattle.ts_series.specs.declared.plan.PutFault.{PutFault}
 use Rattle.ts_series.specs.declared.plan.PutFault.TheVariants.{TooOld, Duplicate, OutOfRange, Full, Memory}
 use Rattle.ts_series.specs.History.{History, list_of, low}
+use Rattle.ts_series.specs.Held.{no_change}
 use Rattle.ts_series.specs.Plan.{Plan, after, writes_one}
 
 -- whether a write is refused, keeps what is there, or writes a value
@@ -28,18 +29,9 @@ refusal_of (Memory e) = None
 abbrev pub sample_of : (time : ℕ) → (value : ℤ) → History → Point
 sample_of t v h = record { time = t; value = v; made = h.born }
 
--- a plan that changes nothing
-abbrev pub is_nothing : Plan
-is_nothing = record { cut = None; removed = 0; wrote = []; place = None; options = None; room = None }
-
--- a sample, if there is one, as a list
-abbrev pub one_of : Option Point → List Point
-one_of None = []
-one_of (Some p) = p ∷ []
-
--- a plan that writes this value, if there is one, over the sample at this place, which has this time
-abbrev pub rewrites : (place time : ℕ) → Option ℤ → (made : ℕ) → Plan
-rewrites i t v made = record { cut = None; removed = 0; wrote = one_of (option_map (λ (x : ℤ). record { time = t; value = x; made = made }) v); place = option_map (λ (x : ℤ). Over i) v; options = None; room = None }
+-- a plan that changes nothing of a series with this encoding
+abbrev pub nothing_in : Encoding → Plan
+nothing_in encoding = record { cut = None; removed = 0; encoding = encoding; wrote = []; options = None; change = no_change; room = None }
 
 -- a plan that writes this sample, and changes nothing else
 pub record Writes (p : Point) (plan : Plan) : Type 0 where
@@ -68,7 +60,7 @@ IsRefused r (Ok plan) = ⊥
 IsRefused r (Err fault) = refusal_of fault ≡ Some r
 
 abbrev pub IsNothing : Result Plan PutFault → Type 0
-IsNothing (Ok plan) = plan ≡ is_nothing
+IsNothing (Ok plan) = plan ≡ nothing_in plan.encoding
 IsNothing (Err fault) = ⊥
 
 abbrev pub IsFullFault : ℕ → Point → History → PutFault → Type 0

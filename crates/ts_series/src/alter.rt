@@ -1,27 +1,35 @@
-ghost use Rattle.std.specs.Prelude.{◌≡◌, IfOk};
-ghost use Rattle.ts_series.specs.Plan.{IsFor, alters, options_with};
+ghost use Rattle.std.specs.Prelude.{◌≡◌, ℕ, ◌≤◌, ◌+◌, ◌*◌, nat_le, IfOk};
+ghost use Rattle.ts_spec.specs.Sample.{at_times};
+ghost use Rattle.ts_sample.specs.Chunk.{joined};
+ghost use Rattle.ts_series.specs.Held.{longest, pieces_after, IsReady, HasLimits};
+ghost use Rattle.ts_series.specs.History.{list_of, reach};
+ghost use Rattle.ts_series.specs.Plan.{IsForIn, Alters, options_with};
 
-use crate::edit::Edit;
-use crate::plan::SeriesPlan;
-use crate::series::Series;
+use crate::change::Change;
+use crate::edge::edge_at;
+use crate::edit::Rows;
+use crate::line::Line;
+use crate::line_plan::LinePlan;
 use std::alloc::AllocError;
 use std::sync::ledger::Ledger;
-use ts_sample::Steps;
+use ts_sample::{Chunk, Steps};
 use ts_spec::{Options, Policy};
 
-impl Series {
-    /// Plans new options, where they are given: a retention in milliseconds (0 keeps samples for ever), the
-    /// bytes of a chunk, and a policy. Samples before the new edge are dropped.
-    pub fn alter<L: Ledger>(
+impl<C: Chunk> Line<C> {
+    // Plans new options, where they are given: a retention in milliseconds (0 keeps samples for ever), the
+    // bytes of a chunk, and a policy. Samples before the old or the new edge are dropped. The size of chunks
+    // is that of the chunks begun afterwards.
+    pub(crate) fn alter<L: Ledger>(
         &self,
         retention: Option<u64>,
         chunk_size: Option<u32>,
         policy: Option<Policy>,
         steps: &mut Steps<L>,
-    ) -> Result<SeriesPlan, AllocError>
-        ensures planned { IfOk result (λ plan. IsFor plan self.now) }
-        ensures options { IfOk result (λ plan. plan ≡ alters (options_with retention chunk_size policy self.now.options)) }
-        ensures steps { steps.new ≡ steps.old }
+    ) -> Result<LinePlan<C>, AllocError>
+        ensures planned { IfOk result (λ plan. IsForIn C.format plan self.now) }
+        ensures options { IfOk result (Alters (options_with retention chunk_size policy self.now.options)) }
+        ensures counted { steps.old ≤ steps.new }
+        ensures bounded { steps.new ≤ steps.old + 2 * reach self.now }
     {
         let old = self.options;
         let options = Options {
@@ -30,10 +38,37 @@ impl Series {
             chunk_size: chunk_size.unwrap_or(old.chunk_size),
             policy: policy.unwrap_or(old.policy),
         };
-        Ok(SeriesPlan {
-            edit: Edit::Keep,
+        let change = self.without_expired(edge_at(options.retention, self.high), steps)?;
+        let larger = self.chunks.larger(&change, self.alloc)?;
+        Ok(LinePlan {
+            cut: None,
+            removed: 0,
+            encoding: self.options.encoding,
+            wrote: Rows::Empty,
             options: Some(options),
-            larger: None,
+            change,
+            larger,
         })
+    }
+
+    // The chunks without the samples before the edge, where the edge is to fall.
+    fn without_expired<L: Ledger>(
+        &self,
+        edge: u64,
+        steps: &mut Steps<L>,
+    ) -> Result<Change<C>, AllocError>
+        ensures ready { IfOk result (λ c. IsReady C.format self.now.held c) }
+        ensures limits { (one : ℕ) → IfOk result (λ c. HasLimits one self.now.held.limits c) }
+        ensures list { IfOk result (λ c. at_times (nat_le edge) (joined (pieces_after c self.now.held.pieces)) ≡ at_times (nat_le edge) (list_of self.now)) }
+        ensures counted { steps.old ≤ steps.new }
+        ensures bounded { steps.new ≤ steps.old + 2 * longest self.now.held.pieces }
+    {
+        let old = self.edge();
+        if edge < old {
+            let (change, _removed) = self.chunks.without(self.alloc, 0, old - 1, steps)?;
+            Ok(change)
+        } else {
+            Ok(Change::nothing(self.alloc))
+        }
     }
 }

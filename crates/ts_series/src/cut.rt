@@ -1,33 +1,41 @@
-ghost use Rattle.std.specs.Prelude.{◌≡◌, IfOk, length};
+ghost use Rattle.std.specs.Prelude.{◌≤◌, ◌+◌, ◌*◌, IfOk, length};
 ghost use Rattle.ts_spec.specs.Sample.{between};
-ghost use Rattle.ts_series.specs.History.{list_of};
-ghost use Rattle.ts_series.specs.Plan.{IsFor, cuts};
+ghost use Rattle.ts_series.specs.History.{list_of, reach};
+ghost use Rattle.ts_series.specs.Plan.{IsForIn, Cuts};
 
-use crate::edit::{Edit, Interval, Rows};
-use crate::plan::SeriesPlan;
-use crate::series::Series;
+use crate::edit::{Interval, Rows};
+use crate::line::Line;
+use crate::line_plan::LinePlan;
 use std::alloc::AllocError;
 use std::sync::ledger::Ledger;
-use ts_sample::Steps;
+use ts_sample::{Chunk, Steps};
 
-impl Series {
-    /// Plans a deletion of the samples from one time to another, in milliseconds, both included. Where `from`
-    /// is above `to` there are none. The edge stays where it is.
-    pub fn cut<L: Ledger>(
+impl<C: Chunk> Line<C> {
+    // Plans a deletion of the samples from one time to another, in milliseconds, both included. Where `from`
+    // is above `to` there are none. The edge stays where it is.
+    pub(crate) fn cut<L: Ledger>(
         &self,
         from: u64,
         to: u64,
         steps: &mut Steps<L>,
-    ) -> Result<SeriesPlan, AllocError>
-        ensures planned { IfOk result (λ plan. IsFor plan self.now) }
-        ensures cut { IfOk result (λ plan. plan ≡ cuts from to (length (between from to (list_of self.now)))) }
-        ensures steps { steps.new ≡ steps.old }
+    ) -> Result<LinePlan<C>, AllocError>
+        ensures planned { IfOk result (λ plan. IsForIn C.format plan self.now) }
+        ensures cut { IfOk result (Cuts from to (length (between from to (list_of self.now)))) }
+        ensures counted { steps.old ≤ steps.new }
+        ensures bounded { steps.new ≤ steps.old + 3 * reach self.now }
     {
-        let removed = self.room_for(from, to) as u64;
-        Ok(SeriesPlan {
-            edit: Edit::Mend(Interval { from, to }, removed, Rows::Empty),
+        let (change, removed) = self
+            .chunks
+            .without(self.alloc, from.max(self.edge()), to, steps)?;
+        let larger = self.chunks.larger(&change, self.alloc)?;
+        Ok(LinePlan {
+            cut: Some(Interval { from, to }),
+            removed: removed as u64,
+            encoding: self.options.encoding,
+            wrote: Rows::Empty,
             options: None,
-            larger: None,
+            change,
+            larger,
         })
     }
 }

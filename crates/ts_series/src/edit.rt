@@ -1,5 +1,6 @@
+// What a plan takes out of a series, and what it writes.
 ghost use Rattle.std.specs.Prelude.{◌≡◌, IfOk};
-ghost use Rattle.ts_series.specs.Plan.{listed, written};
+ghost use Rattle.ts_series.specs.Plan.{listed};
 
 use std::alloc::{AllocError, Global};
 use std::slice;
@@ -12,32 +13,12 @@ pub(crate) struct Interval {
     pub(crate) to: u64,
 }
 
-// Where a sample goes in a list.
-#[derive(Clone, Copy)]
-pub(crate) enum Place {
-    // In the place of the sample at this index.
-    Over(usize),
-    // Before the sample at this index, or past the last one.
-    Before(usize),
-}
-
 // Samples in ascending time. One takes no memory.
 #[derive(Drop)]
 pub(crate) enum Rows {
     Empty,
     One(Sample),
     Many(Vec<Sample>),
-}
-
-// A change of a list of samples.
-#[derive(Drop)]
-pub(crate) enum Edit {
-    // The list stays.
-    Keep,
-    // This sample goes to its place.
-    Write(Place, Sample),
-    // The rows take the place of the samples of an interval, which are so many.
-    Mend(Interval, u64, Rows),
 }
 
 impl Rows {
@@ -63,19 +44,6 @@ impl Rows {
             Rows::Empty => &[],
             Rows::One(sample) => slice::from_ref(sample),
             Rows::Many(samples) => samples,
-        }
-    }
-}
-
-impl Edit {
-    // The samples that are written.
-    pub(crate) fn written(&self) -> &[Sample]
-        ensures { result.now ≡ written self.now }
-    {
-        match self {
-            Edit::Keep => &[],
-            Edit::Write(_, sample) => slice::from_ref(sample),
-            Edit::Mend(_, _, rows) => rows.as_slice(),
         }
     }
 }

@@ -3,25 +3,37 @@
 #![tactic(auto)]
 
 mod alter;
+mod append;
+mod asked;
+mod change;
+mod changes;
+mod chunks;
 mod cut;
 mod edge;
 mod edit;
-mod late;
+mod ends;
 mod line;
+mod line_plan;
 mod mend;
+mod mended;
 mod merged;
 mod plan;
+mod planned;
+mod presence;
 mod put;
 mod questions;
+mod reads;
+mod room;
 mod series;
-mod splice;
+mod time_for;
 
+pub use append::Append;
 pub use plan::{PutFault, SeriesPlan};
 pub use series::Series;
 pub use ts_spec::{Encoding, Merge, Options, Policy};
 
 #[cfg(test)]
-mod late_tests;
+mod chunk_tests;
 #[cfg(test)]
 mod mend_tests;
 #[cfg(test)]

@@ -1,141 +1,119 @@
-ghost use Rattle.std.specs.Prelude.{◌≡◌, ◌≤◌, ◌<◌, ◌+◌, ◌-◌, nat_le, ◌++◌, take, drop, length, [], vec_len, vec_capacity, None, IfOk, IfSome};
-ghost use Rattle.ts_spec.specs.Sample.{IsAscending, at, at_times, outside, put, put_all};
-ghost use Rattle.ts_series.specs.Line.{HoldsLine, room_after};
-ghost use Rattle.ts_series.specs.Plan.{AreWithin, IsOrdered, IsPlaced, TakesPlace, written, cut_of, place_in, without_cut};
+ghost use Rattle.std.specs.Prelude.{◌≡◌, ◌<◌, ◌+◌, ◌-◌, ◌^◌, [], None};
+ghost use Rattle.ts_spec.specs.Sample.{last_of};
+ghost use Rattle.ts_series.specs.History.{list_of, low, IsKeptIn};
+ghost use Rattle.ts_series.specs.Plan.{after, IsForIn};
 
-use crate::edge::expired;
-use crate::edit::{Edit, Interval, Place};
-use crate::splice::{insert, splice};
-use std::alloc::{AllocError, Global};
+use crate::chunks::Chunks;
+use crate::edge::{edge_at, high_after};
+use crate::line_plan::LinePlan;
+use std::alloc::Global;
 use std::marker::Model;
-use ts_sample::{Sample, place_of, place_past};
+use ts_sample::{Chunk, Sample};
+use ts_spec::Options;
 
-// Samples in ascending time, behind those that left from the front.
+// A list of samples in order of time, and how it is kept.
 #[derive(Drop)]
-pub(crate) struct Line {
-    samples: Vec<Sample>,
-    start: usize,
+pub(crate) struct Line<C: Chunk> {
+    pub(crate) alloc: Global,
+    pub(crate) options: Options,
+    pub(crate) chunks: Chunks<C>,
+    pub(crate) high: Option<u64>,
+    pub(crate) born: u32,
 }
 
-impl Model for Line {
-    ghost use Rattle.std.specs.Prelude.{◌≤◌, ◌-◌, drop, vec_len, vec_capacity};
-    ghost use Rattle.ts_spec.specs.Sample.{IsAscending};
-    ghost use Rattle.ts_series.specs.Line.{Points};
+impl<C: Chunk> Model for Line<C> {
+    ghost use Rattle.ts_series.specs.History.{History, IsKeptIn, history_of};
 
-    ghost Value = { Points };
+    ghost Value = { History };
 
-    ghost view = { λ l. record { list = drop l.start l.samples.items; room = vec_capacity l.samples - vec_len l.samples } };
+    ghost view = { λ s. history_of s.options s.high s.born s.chunks };
 
-    ghost invariant = { λ l. (l.start ≤ vec_len l.samples) × IsAscending (drop l.start l.samples.items) };
+    ghost invariant = { λ s. IsKeptIn C.format (history_of s.options s.high s.born s.chunks) };
 }
 
-impl Line {
-    pub(crate) fn new(alloc: Global) -> Line
-        ensures { result.list ≡ [] }
+impl<C: Chunk> Line<C> {
+    // A series without samples.
+    pub(crate) fn new(alloc: Global, options: Options) -> Line<C>
+        ensures options { result.options ≡ options }
+        ensures empty { list_of result ≡ [] }
+        ensures high { result.high ≡ None }
+        ensures born { result.born ≡ 0 }
+        ensures kept { IsKeptIn C.format result }
     {
         Line {
-            samples: Vec::new(alloc),
-            start: 0,
+            alloc,
+            options,
+            chunks: Chunks::new(alloc),
+            high: None,
+            born: 0,
         }
     }
 
-    pub(crate) fn as_slice(&self) -> &[Sample]
-        ensures list { result.now ≡ self.now.list }
-        ensures ascending { IsAscending self.now.list }
+    // How it is kept.
+    pub(crate) fn options(&self) -> Options
+        ensures { result ≡ self.now.options }
     {
-        tail(&self.samples, self.start)
+        self.options
     }
 
-    // Room for the list with so many samples more, where it has none.
-    pub(crate) fn larger(
-        &self,
-        more: usize,
-        alloc: Global,
-    ) -> Result<Option<Vec<Sample>>, AllocError>
-        ensures { IfOk result (HoldsLine more self.now) }
+    // The highest time that it ever had a sample at.
+    pub(crate) fn high(&self) -> Option<u64>
+        ensures { result ≡ self.now.high }
     {
-        if more <= self.samples.capacity() - self.samples.len() {
-            return Ok(None);
-        }
-        let len = self.as_slice().len();
-        let Some(capacity) = len.checked_add(len.max(more).max(4)) else {
-            return Err(AllocError);
-        };
-        Ok(Some(Vec::with_capacity(alloc, capacity)?))
+        self.high
     }
 
-    // Moves to new room.
-    pub(crate) fn grow(&mut self, larger: Option<Vec<Sample>>)
-        requires { IfSome larger (λ v. (v.items ≡ []) × (length self.old.list ≤ vec_capacity v)) }
-        ensures list { self.new.list ≡ self.old.list }
-        ensures room { room_after larger self.old ≤ self.new.room }
+    // How many rules were ever made on it.
+    pub(crate) fn born(&self) -> u32
+        ensures { result ≡ self.now.born }
     {
-        let Some(mut larger) = larger else {
-            return;
-        };
-        let Ok(()) = larger.extend_from_slice(self.as_slice()) else {
-            unreachable!();
-        };
-        self.samples = larger;
-        self.start = 0;
+        self.born
     }
 
-    // Does a change that it has room for.
-    pub(crate) fn edit(&mut self, edit: &Edit)
-        requires ordered { IsOrdered edit.now }
-        requires placed { TakesPlace (place_in edit.now) (written edit.now) self.old.list }
-        requires room { length (put_all (written edit.now) (without_cut (cut_of edit.now) self.old.list)) ≤ length self.old.list + self.old.room }
-        ensures { self.new.list ≡ put_all (written edit.now) (without_cut (cut_of edit.now) self.old.list) }
+    // The earliest time that it keeps, in milliseconds.
+    pub(crate) fn edge(&self) -> u64
+        ensures { result ≡ low self.now }
     {
-        match edit {
-            Edit::Keep => {}
-            Edit::Write(place, sample) => self.write(*place, *sample),
-            Edit::Mend(interval, _, rows) => self.mend(*interval, rows.as_slice()),
-        }
+        edge_at(self.options.retention, self.high)
     }
 
-    // Puts a sample at its place.
-    fn write(&mut self, place: Place, sample: Sample)
-        requires placed { IsPlaced place sample self.old.list }
-        requires room { length (put sample self.old.list) ≤ length self.old.list + self.old.room }
-        ensures { self.new.list ≡ put sample self.old.list }
+    // Its last sample.
+    pub(crate) fn last(&self) -> Option<Sample>
+        ensures { result ≡ last_of (list_of self.now) }
     {
-        match place {
-            Place::Over(index) => self.samples[self.start + index] = sample,
-            Place::Before(index) => insert(&mut self.samples, self.start + index, sample),
-        }
+        self.chunks.last()
     }
 
-    // Puts rows in the place of the samples of an interval.
-    fn mend(&mut self, interval: Interval, rows: &[Sample])
-        requires ascending { IsAscending rows.now }
-        requires within { AreWithin interval.from interval.to rows.now }
-        requires room { length (put_all rows.now (outside interval.from interval.to self.old.list)) ≤ length self.old.list + self.old.room }
-        ensures { self.new.list ≡ put_all rows.now (outside interval.from interval.to self.old.list) }
+    // Does what was planned.
+    pub(crate) fn commit(&mut self, plan: LinePlan<C>)
+        requires { IsForIn C.format plan self.old }
+        ensures done { self.new ≡ record (after plan self.old) { held = self.new.held } }
+        ensures kept { IsKeptIn C.format self.new }
     {
-        let list = tail(&self.samples, self.start);
-        let end = place_past(list, interval.to);
-        let start = place_of(&list[..end], interval.from);
-        splice(
-            &mut self.samples,
-            self.start + start,
-            self.start + end,
-            rows,
-        );
+        let LinePlan {
+            cut: _,
+            removed: _,
+            encoding: _,
+            wrote,
+            options,
+            change,
+            larger,
+        } = plan;
+        let high = high_after(wrote.as_slice(), self.high);
+        let options = options.unwrap_or(self.options);
+        self.chunks.grow(larger);
+        self.chunks.apply(change);
+        self.chunks.expire(edge_at(options.retention, high));
+        self.options = options;
+        self.high = high;
     }
 
-    // Drops the samples before this time.
-    pub(crate) fn expire(&mut self, edge: u64)
-        ensures { self.new.list ≡ at_times (nat_le edge) self.old.list }
+    // Counts one more rule that was made on it.
+    pub(crate) fn raise_born(&mut self)
+        requires { self.old.born < 2 ^ 32 - 1 }
+        ensures raised { self.new ≡ record self.old { born = self.old.born + 1 } }
+        ensures kept { IsKeptIn C.format self.new }
     {
-        self.start += expired(tail(&self.samples, self.start), edge);
+        self.born += 1;
     }
-}
-
-// The samples from `start` on.
-fn tail(samples: &[Sample], start: usize) -> &[Sample]
-    requires { start ≤ length samples.now }
-    ensures { result.now ≡ drop start samples.now }
-{
-    &samples[start..]
 }

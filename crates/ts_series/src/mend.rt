@@ -1,70 +1,118 @@
-ghost use Rattle.std.specs.Prelude.{◌≡◌, ◌+◌, nat_lt, nat_le, length, IfOk};
-ghost use Rattle.ts_spec.specs.Sample.{IsAscending, at_times};
-ghost use Rattle.ts_spec.specs.State.{edge_of};
+ghost use Rattle.std.specs.Prelude.{◌≡◌, ◌≤◌, ◌+◌, ◌*◌, nat_lt, nat_le, length, IfOk};
+ghost use Rattle.ts_spec.specs.Sample.{IsAscending, at_times, outside};
 ghost use Rattle.ts_spec.specs.Mending.{high_with};
-ghost use Rattle.ts_series.specs.Plan.{AreWithin, AreMade, IsFor};
-ghost use Rattle.ts_series.specs.Mend.{IsMend};
+ghost use Rattle.ts_series.specs.Held.{points};
+ghost use Rattle.ts_series.specs.History.{list_of, reach};
+ghost use Rattle.ts_series.specs.Plan.{AreWithin, AreMade, IsForIn, after};
+ghost use Rattle.ts_series.specs.Mend.{IsMend, mended_list};
 
-use crate::edge::{count_kept, edge_at, high_after};
-use crate::edit::{Edit, Interval, Rows};
-use crate::plan::{PutFault, SeriesPlan};
-use crate::series::Series;
+use crate::edge::{edge_at, high_after};
+use crate::edit::{Interval, Rows};
+use crate::line::Line;
+use crate::line_plan::LinePlan;
+use crate::plan::PutFault;
+use crate::room::new_limit;
+use std::alloc::AllocError;
 use std::sync::ledger::Ledger;
-use ts_sample::{Sample, Steps, places_between};
+use ts_sample::{Chunk, Sample, Steps, place_of};
 
-impl Series {
-    /// Plans that rows take the place of the samples from one time to another, in milliseconds, both included,
-    /// if the series then has at most `limit` samples. Each row lies between these times.
-    pub fn mend<L: Ledger>(
+impl<C: Chunk> Line<C> {
+    // Plans that rows take the place of the samples from one time to another, in milliseconds, both included,
+    // if the series then has at most `limit` samples. Each row lies between these times.
+    pub(crate) fn mend<L: Ledger>(
         &self,
         from: u64,
         to: u64,
         rows: &[Sample],
         limit: u32,
         steps: &mut Steps<L>,
-    ) -> Result<SeriesPlan, PutFault>
+    ) -> Result<LinePlan<C>, PutFault>
         requires ascending { IsAscending rows.now }
         requires within { AreWithin from to rows.now }
         requires made { AreMade self.now.born rows.now }
-        ensures planned { IfOk result (λ plan. IsFor plan self.now) }
+        ensures planned { IfOk result (λ plan. IsForIn C.format plan self.now) }
         ensures answer { IsMend from to rows.now limit self.now result }
-        ensures steps { steps.new ≡ steps.old }
+        ensures counted { steps.old ≤ steps.new }
+        ensures bounded { steps.new ≤ steps.old + (5 + length rows.now) * (reach self.now + length rows.now) }
     {
-        let list = self.line.as_slice();
-        let places = places_between(list, from, to);
-        let removed = places.end - places.start;
-        if self.exceeds(limit, &list[..places.start], rows, &list[places.end..]) {
+        if self.exceeds(limit, from, to, rows, steps) {
             return Err(PutFault::Full);
         }
-        let larger = match self
-            .line
-            .larger(rows.len().saturating_sub(removed), self.alloc)
-        {
-            Ok(larger) => larger,
-            Err(fault) => return Err(PutFault::Memory(fault)),
-        };
-        match Rows::of(self.alloc, rows) {
-            Ok(rows) => Ok(SeriesPlan {
-                edit: Edit::Mend(Interval { from, to }, removed as u64, rows),
-                options: None,
-                larger,
-            }),
+        match self.mended(from, to, rows, steps) {
+            Ok(plan) => Ok(plan),
             Err(fault) => Err(PutFault::Memory(fault)),
         }
     }
 
-    // Whether more than the limit of these samples are from the edge on that the rows raise.
-    fn exceeds(&self, limit: u32, before: &[Sample], rows: &[Sample], after: &[Sample]) -> bool
-        requires before { IsAscending before.now }
-        requires rows { IsAscending rows.now }
-        requires after { IsAscending after.now }
-        ensures { let low = edge_of self.now.options.retention (high_with rows.now self.now.high) in result ≡ nat_lt limit (length (at_times (nat_le low) before.now) + length (at_times (nat_le low) rows.now) + length (at_times (nat_le low) after.now)) }
+    // Plans the mending, whatever the number of samples.
+    fn mended<L: Ledger>(
+        &self,
+        from: u64,
+        to: u64,
+        rows: &[Sample],
+        steps: &mut Steps<L>,
+    ) -> Result<LinePlan<C>, AllocError>
+        requires ascending { IsAscending rows.now }
+        requires within { AreWithin from to rows.now }
+        requires made { AreMade self.now.born rows.now }
+        ensures planned { IfOk result (λ plan. IsForIn C.format plan self.now) }
+        ensures list { IfOk result (λ plan. list_of (after plan self.now) ≡ mended_list from to rows.now self.now) }
+        ensures high { IfOk result (λ plan. (after plan self.now).high ≡ high_with rows.now self.now.high) }
+        ensures options { IfOk result (λ plan. (after plan self.now).options ≡ self.now.options) }
+        ensures counted { steps.old ≤ steps.new }
+        ensures bounded { steps.new ≤ steps.old + (2 + length rows.now) * (reach self.now + length rows.now) }
     {
-        if before.len() + rows.len() + after.len() <= limit as usize {
+        let size = new_limit(self.options.chunk_size);
+        let change = self.chunks.mended(self.alloc, from, to, rows, size, steps)?;
+        let larger = self.chunks.larger(&change, self.alloc)?;
+        let wrote = Rows::of(self.alloc, rows)?;
+        Ok(LinePlan {
+            cut: Some(Interval { from, to }),
+            removed: 0,
+            encoding: self.options.encoding,
+            wrote,
+            options: None,
+            change,
+            larger,
+        })
+    }
+
+    // Whether the series would have more samples than the limit with the rows in the place of the interval's.
+    // Those before the edge that the rows raise don't count.
+    fn exceeds<L: Ledger>(
+        &self,
+        limit: u32,
+        from: u64,
+        to: u64,
+        rows: &[Sample],
+        steps: &mut Steps<L>,
+    ) -> bool
+        requires ascending { IsAscending rows.now }
+        requires within { AreWithin from to rows.now }
+        ensures exceeds { result ≡ nat_lt limit (length (mended_list from to rows.now self.now)) }
+        ensures counted { steps.old ≤ steps.new }
+        ensures bounded { steps.new ≤ steps.old + 3 * reach self.now }
+    {
+        if self.chunks.len().saturating_add(rows.len()) <= limit as usize {
             return false;
         }
         let edge = edge_at(self.options.retention, high_after(rows, self.high));
-        (limit as usize)
-            < count_kept(before, edge) + count_kept(rows, edge) + count_kept(after, edge)
+        let left = self.count_left(edge, from, to, steps);
+        let written = rows.len() - place_of(rows, edge);
+        (limit as usize) < left.saturating_add(written)
+    }
+
+    // How many samples are from an edge on, but for those from one time to another, both included.
+    fn count_left<L: Ledger>(&self, edge: u64, from: u64, to: u64, steps: &mut Steps<L>) -> usize
+        ensures left { result ≡ length (at_times (nat_le edge) (outside from to (points self.now.held))) }
+        ensures counted { steps.old ≤ steps.new }
+        ensures bounded { steps.new ≤ steps.old + 3 * reach self.now }
+    {
+        let past = to.saturating_add(1).max(edge);
+        let start = from.max(edge).min(past);
+        let gone = self.chunks.count_before(edge, steps);
+        let before = self.chunks.count_before(start, steps);
+        let upto = self.chunks.count_before(past, steps);
+        self.chunks.len() - gone - (upto - before)
     }
 }

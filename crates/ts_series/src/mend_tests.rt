@@ -4,7 +4,7 @@ ghost use Rattle.ts_spec.specs.Sample.{MAX_TIME, IsAscending};
 ghost use Rattle.ts_series.specs.Plan.{AreWithin, AreMade};
 
 use crate::plan::{PutFault, SeriesPlan};
-use crate::series::Series;
+use crate::series::{Lines, Series};
 use std::alloc::Global;
 use std::marker::Brand;
 use std::sync::ledger::{Blank, Ledger};
@@ -49,11 +49,25 @@ fn three<L: Ledger>(alloc: Global, steps: &mut Steps<L>) -> Series {
     series
 }
 
-fn time_of(list: &[Sample], place: usize) -> u64 {
-    match list.get(place) {
-        Some(sample) => sample.time,
-        None => 0,
+// Its first sample from a time on.
+fn first_from<L: Ledger>(series: &Series, from: u64, steps: &mut Steps<L>) -> Option<Sample> {
+    match &series.lines {
+        Lines::Plain(line) => line.chunks.first_from(from, steps),
+        Lines::Packed(line) => line.chunks.first_from(from, steps),
     }
+}
+
+// The times of its first four samples, with 0 where there is none.
+fn first_times<L: Ledger>(series: &Series, steps: &mut Steps<L>) -> [u64; 4] {
+    let mut times = [0; 4];
+    let mut from = series.edge();
+    for time in &mut times {
+        if let Some(sample) = first_from(series, from, steps) {
+            *time = sample.time;
+            from = sample.time.saturating_add(1);
+        }
+    }
+    times
 }
 
 // What those three come to with these rows from one time to another.
@@ -73,21 +87,14 @@ fn mended<L: Ledger>(
     match series.mend(from, to, rows, limit, steps) {
         Ok(plan) => {
             series.commit(plan);
-            let list = series.line.as_slice();
-            let times = [
-                time_of(list, 0),
-                time_of(list, 1),
-                time_of(list, 2),
-                time_of(list, 3),
-            ];
-            Came::Left(times, series.high())
+            Came::Left(first_times(&series, steps), series.high())
         }
         Err(PutFault::Full) => Came::Full,
         Err(_) => Came::Memory,
     }
 }
 
-fn mendings<L: Ledger>(alloc: Global, blank: Blank) -> [Came; 10]
+fn mendings<L: Ledger>(alloc: Global, blank: Blank) -> [Came; 12]
     requires name { blank.name ≡ L.name }
     requires parts { blank.parts ≡ L.parts }
     requires some { 0 < blank.parts }
@@ -117,6 +124,9 @@ fn mendings<L: Ledger>(alloc: Global, blank: Blank) -> [Came; 10]
         mended(alloc, &mut steps, 4, 4, &[row(4)], 3),
         mended(alloc, &mut steps, 6, 9, &[row(6), row(7)], 4),
         mended(alloc, &mut steps, 6, 9, &[row(6), row(7)], 3),
+        // No interval, with a sample too many; then one up to the greatest time, with just few enough.
+        mended(alloc, &mut steps, 9, 2, &[], 2),
+        mended(alloc, &mut steps, 2, u64::MAX, &[row(2)], 2),
     ]
 }
 
@@ -136,6 +146,8 @@ fn rows_that_take_the_place_of_samples(rt: HostRuntime) {
             Came::Full,
             Came::Left([3, 5, 6, 7], Some(7)),
             Came::Full,
+            Came::Full,
+            Came::Left([1, 2, 0, 0], Some(5)),
         ]
     );
 }
@@ -153,7 +165,9 @@ fn of_rules<L: Ledger>(alloc: Global, blank: Blank) -> Option<(u32, i128)>
         series.raise_born();
     }
     series.known();
-    let plan = series.mend(1, 1, &[row(1)], 3, &mut steps).ok()?;
+    let Ok(plan) = series.mend(1, 1, &[row(1)], 3, &mut steps) else {
+        return None;
+    };
     series.commit(plan);
     Some((series.born(), series.first(&mut steps)?.value.get()))
 }
@@ -166,5 +180,5 @@ fn rules_are_counted(rt: HostRuntime) {
 
 #[test]
 fn a_plan_is_small(rt: HostRuntime) {
-    assert!(rt; size_of::<SeriesPlan>() <= 144);
+    assert!(rt; size_of::<SeriesPlan>() <= 320);
 }

@@ -1,12 +1,14 @@
 ghost use Rattle.std.specs.Prelude.{◌≡◌};
 ghost use Rattle.ts_spec.specs.Sample.{first_of};
+ghost use Rattle.ts_spec.specs.declared.series.Encoding.TheVariants.{Compressed, Uncompressed};
 
-use crate::edit::Edit;
+use crate::line_plan::LinePlan;
 use std::alloc::AllocError;
 use std::marker::Model;
 use thiserror::Error;
+use ts_chunk_packed::PackedChunk;
+use ts_chunk_plain::PlainChunk;
 use ts_sample::Sample;
-use ts_spec::Options;
 
 /// Why a write is not planned.
 #[derive(Debug, Drop, Error)]
@@ -31,37 +33,63 @@ pub enum PutFault {
 /// A change of a series that can be committed: it has the memory that it takes.
 #[derive(Drop)]
 pub struct SeriesPlan {
-    pub(crate) edit: Edit,
-    pub(crate) options: Option<Options>,
-    pub(crate) larger: Option<Vec<Sample>>,
+    pub(crate) plans: Plans,
+}
+
+// A plan for a series of either encoding.
+#[derive(Drop)]
+pub(crate) enum Plans {
+    Plain(LinePlan<PlainChunk>),
+    Packed(LinePlan<PackedChunk>),
 }
 
 impl Model for SeriesPlan {
-    ghost use Rattle.std.specs.Prelude.{◌≡◌, IfSome, [], vec_capacity, option_map};
-    ghost use Rattle.ts_series.specs.Plan.{Plan, cut_of, removed_of, written, place_in, IsOrdered};
+    ghost use Rattle.ts_series.specs.Encoded.{plan_in, PlanHasEncoding};
+    ghost use Rattle.ts_series.specs.Plan.{Plan};
 
     ghost Value = { Plan };
 
-    ghost view = { λ p. record { cut = cut_of p.edit; removed = removed_of p.edit; wrote = written p.edit; place = place_in p.edit; options = p.options; room = option_map (λ v. vec_capacity v) p.larger } };
+    ghost view = { λ p. plan_in p.plans };
 
-    ghost invariant = { λ p. IfSome p.larger (λ v. v.items ≡ []) × IsOrdered p.edit };
+    ghost invariant = { λ p. PlanHasEncoding p.plans };
 }
 
 impl SeriesPlan {
+    pub(crate) fn plain(plan: LinePlan<PlainChunk>) -> SeriesPlan
+        requires { plan.encoding ≡ Uncompressed }
+        ensures { result ≡ plan }
+    {
+        SeriesPlan {
+            plans: Plans::Plain(plan),
+        }
+    }
+
+    pub(crate) fn packed(plan: LinePlan<PackedChunk>) -> SeriesPlan
+        requires { plan.encoding ≡ Compressed }
+        ensures { result ≡ plan }
+    {
+        SeriesPlan {
+            plans: Plans::Packed(plan),
+        }
+    }
+
     /// The first of the samples that are written, or `None` where none is.
     pub fn wrote(&self) -> Option<Sample>
         ensures { result ≡ first_of self.now.wrote }
     {
-        self.edit.written().first().copied()
+        match &self.plans {
+            Plans::Plain(plan) => plan.wrote(),
+            Plans::Packed(plan) => plan.wrote(),
+        }
     }
 
     /// How many samples a deletion takes out.
     pub fn removed(&self) -> u64
         ensures { result ≡ self.now.removed }
     {
-        match &self.edit {
-            Edit::Mend(_, removed, _) => *removed,
-            _ => 0,
+        match &self.plans {
+            Plans::Plain(plan) => plan.removed(),
+            Plans::Packed(plan) => plan.removed(),
         }
     }
 }

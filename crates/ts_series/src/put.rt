@@ -1,102 +1,209 @@
-ghost use Rattle.std.specs.Prelude.{◌≡◌, ◌≤◌, nat_lt, None, IfOk, length};
-ghost use Rattle.ts_spec.specs.Sample.{MAX_TIME, at};
-ghost use Rattle.ts_series.specs.History.{list_of};
-ghost use Rattle.ts_series.specs.Plan.{IsFor, IsPlaced};
-ghost use Rattle.ts_series.specs.declared.edit.Place.TheVariants.{Before};
-ghost use Rattle.ts_series.specs.Put.{met, Answers, IsWrite, list_after, rewrites};
+ghost use Rattle.std.specs.Prelude.{◌≡◌, ◌≢◌, ℕ, ◌≤◌, ◌<◌, ◌+◌, ◌*◌, true, false, nat_lt, None, Some, IfOk, length};
+ghost use Rattle.ts_spec.specs.Sample.{MAX_TIME, at, last_of, put};
+ghost use Rattle.ts_spec.specs.Rules.{merge};
+ghost use Rattle.ts_spec.specs.Step.{value_at};
+ghost use Rattle.ts_sample.specs.Chunk.{IsPast, joined};
+ghost use Rattle.ts_series.specs.Held.{points, longest, pieces_after, IsReady, HasLimits, IsUpTo};
+ghost use Rattle.ts_series.specs.History.{list_of, low, limit_for, reach};
+ghost use Rattle.ts_series.specs.Plan.{IsForIn};
+ghost use Rattle.ts_series.specs.Put.{met, Answers, IsWrite, Writes, Fits, list_after};
 
-use crate::edge::{edge_at, expired, raise};
-use crate::edit::{Edit, Place};
-use crate::late::find_late;
+use crate::change::Change;
+use crate::edge::{edge_at, raise};
+use crate::edit::Rows;
+use crate::line::Line;
+use crate::line_plan::LinePlan;
 use crate::merged::merged;
-use crate::plan::{PutFault, SeriesPlan};
-use crate::series::Series;
+use crate::plan::PutFault;
+use crate::room::new_limit;
+use std::alloc::AllocError;
 use std::sync::ledger::Ledger;
-use ts_sample::{Sample, Steps, Units};
+use ts_sample::{Chunk, Sample, Steps, Units};
 use ts_spec::Merge;
 
-impl Series {
-    /// Plans a write: at a time that has a sample as `how` says, and else as a new sample, if the series
-    /// then has at most `limit` samples.
-    pub fn put<L: Ledger>(
+impl<C: Chunk> Line<C> {
+    // Plans a write: at a time that has a sample as `how` says, and else as a new sample, if the series
+    // then has at most `limit` samples.
+    pub(crate) fn put<L: Ledger>(
         &self,
         time: u64,
         value: Units,
         how: Merge,
         limit: u32,
         steps: &mut Steps<L>,
-    ) -> Result<SeriesPlan, PutFault>
+    ) -> Result<LinePlan<C>, PutFault>
         requires { time ≤ MAX_TIME }
-        ensures planned { IfOk result (λ plan. IsFor plan self.now) }
+        ensures planned { IfOk result (λ plan. IsForIn C.format plan self.now) }
         ensures answer { Answers (met how time value self.now) limit time self.now result }
-        ensures steps { steps.new ≡ steps.old }
+        ensures counted { steps.old ≤ steps.new }
+        ensures bounded { steps.new ≤ steps.old + 3 * reach self.now }
+        ensures easy { length (list_of self.now) + reach self.now < limit → IsPast (last_of (list_of self.now)) time → steps.new ≡ steps.old }
     {
         if time < self.edge() {
             return Err(PutFault::TooOld);
         }
-        let list = self.line.as_slice();
-        match find_late(list, time) {
-            Ok(place) => {
-                let there = list[place];
-                let wrote = merged(how, there.value, value)?;
-                Ok(rewritten(place, time, wrote, self.born))
-            }
-            Err(place) => {
-                let made = self.born;
-                self.added(place, Sample { time, value, made }, limit)
-            }
+        let made = self.born;
+        let sample = Sample { time, value, made };
+        if self.is_late(time) {
+            return self.put_late(sample, how, limit, steps);
+        }
+        self.added(sample, limit, steps)
+    }
+
+    // Whether a time is not past the last sample.
+    pub(crate) fn is_late(&self, time: u64) -> bool
+        ensures late { result ≡ true → IsUpTo time (last_of (points self.now.held)) }
+        ensures past { result ≡ false → IsPast (last_of (points self.now.held)) time }
+    {
+        match self.chunks.last() {
+            None => false,
+            Some(last) => time <= last.time,
         }
     }
 
-    // Plans a new sample before the one at this index, at a time that has none.
-    fn added(&self, index: usize, sample: Sample, limit: u32) -> Result<SeriesPlan, PutFault>
-        requires placed { IsPlaced (Before index) sample (list_of self.now) }
-        requires absent { at sample.time (list_of self.now) ≡ None }
+    // Plans a write at a time that may have a sample.
+    fn put_late<L: Ledger>(
+        &self,
+        sample: Sample,
+        how: Merge,
+        limit: u32,
+        steps: &mut Steps<L>,
+    ) -> Result<LinePlan<C>, PutFault>
+        requires kept { low self.now ≤ sample.time }
         requires made { sample.made ≡ self.now.born }
-        ensures planned { IfOk result (λ plan. IsFor plan self.now) }
-        ensures answer { IsWrite limit sample self.now result }
+        ensures planned { IfOk result (λ plan. IsForIn C.format plan self.now) }
+        ensures answer { Answers (merge how (value_at sample.time (list_of self.now)) sample.value) limit sample.time self.now result }
+        ensures counted { steps.old ≤ steps.new }
+        ensures bounded { steps.new ≤ steps.old + 3 * longest self.now.held.pieces }
     {
-        if self.is_full(sample, limit) {
+        match self.chunks.at(sample.time, steps) {
+            None => self.added(sample, limit, steps),
+            Some(there) => self.put_over(there.value, sample, how, steps),
+        }
+    }
+
+    // Plans a write at a time that has this value.
+    fn put_over<L: Ledger>(
+        &self,
+        old: Units,
+        sample: Sample,
+        how: Merge,
+        steps: &mut Steps<L>,
+    ) -> Result<LinePlan<C>, PutFault>
+        requires there { at sample.time (list_of self.now) ≢ None }
+        requires made { sample.made ≡ self.now.born }
+        ensures planned { IfOk result (λ plan. IsForIn C.format plan self.now) }
+        ensures answer { (limit : ℕ) → Answers (merge how (Some old) sample.value) limit sample.time self.now result }
+        ensures counted { steps.old ≤ steps.new }
+        ensures bounded { steps.new ≤ steps.old + longest self.now.held.pieces }
+    {
+        let (time, made) = (sample.time, sample.made);
+        match merged(how, old, sample.value)? {
+            None => Ok(LinePlan::nothing(self.alloc, self.options.encoding)),
+            Some(value) => self.written(Sample { time, value, made }, steps),
+        }
+    }
+
+    // Plans a new sample at a time that has none.
+    fn added<L: Ledger>(
+        &self,
+        sample: Sample,
+        limit: u32,
+        steps: &mut Steps<L>,
+    ) -> Result<LinePlan<C>, PutFault>
+        requires absent { at sample.time (list_of self.now) ≡ None }
+        requires kept { low self.now ≤ sample.time }
+        requires made { sample.made ≡ self.now.born }
+        ensures planned { IfOk result (λ plan. IsForIn C.format plan self.now) }
+        ensures answer { IsWrite limit sample self.now result }
+        ensures counted { steps.old ≤ steps.new }
+        ensures bounded { steps.new ≤ steps.old + 2 * longest self.now.held.pieces }
+        ensures easy { length (points self.now.held) < limit → IsPast (last_of (points self.now.held)) sample.time → steps.new ≡ steps.old }
+    {
+        if self.is_full(sample, limit, steps) {
             return Err(PutFault::Full);
         }
-        match self.line.larger(1, self.alloc) {
-            Ok(larger) => Ok(SeriesPlan {
-                edit: Edit::Write(Place::Before(index), sample),
-                options: None,
-                larger,
-            }),
+        self.written(sample, steps)
+    }
+
+    // Whether the series would have more samples than the limit with a new one, which stays, without those
+    // before the edge after it.
+    fn is_full<L: Ledger>(&self, sample: Sample, limit: u32, steps: &mut Steps<L>) -> bool
+        requires absent { at sample.time (list_of self.now) ≡ None }
+        requires kept { low self.now ≤ sample.time }
+        ensures full { result ≡ nat_lt limit (length (list_after sample self.now)) }
+        ensures counted { steps.old ≤ steps.new }
+        ensures bounded { steps.new ≤ steps.old + longest self.now.held.pieces }
+        ensures easy { length (points self.now.held) < limit → steps.new ≡ steps.old }
+    {
+        if self.chunks.len() < limit as usize {
+            return false;
+        }
+        let edge = edge_at(self.options.retention, raise(sample.time, self.high));
+        limit as usize <= self.chunks.len() - self.chunks.count_before(edge, steps)
+    }
+
+    // Plans a sample at its time, in the place of one there or as a new one.
+    fn written<L: Ledger>(
+        &self,
+        sample: Sample,
+        steps: &mut Steps<L>,
+    ) -> Result<LinePlan<C>, PutFault>
+        requires made { sample.made ≡ self.now.born }
+        ensures planned { IfOk result (λ plan. IsForIn C.format plan self.now) }
+        ensures answer { (limit : ℕ) → Fits limit sample self.now → IsWrite limit sample self.now result }
+        ensures counted { steps.old ≤ steps.new }
+        ensures bounded { steps.new ≤ steps.old + longest self.now.held.pieces }
+        ensures easy { IsPast (last_of (points self.now.held)) sample.time → steps.new ≡ steps.old }
+    {
+        match self.with_sample(sample, steps) {
+            Ok(plan) => Ok(plan),
             Err(fault) => Err(PutFault::Memory(fault)),
         }
     }
 
-    // Whether there would be more samples than the limit, with a new one and without those before the edge
-    // after it.
-    fn is_full(&self, sample: Sample, limit: u32) -> bool
-        requires absent { at sample.time (list_of self.now) ≡ None }
-        ensures { result ≡ nat_lt limit (length (list_after sample self.now)) }
+    fn with_sample<L: Ledger>(
+        &self,
+        sample: Sample,
+        steps: &mut Steps<L>,
+    ) -> Result<LinePlan<C>, AllocError>
+        requires made { sample.made ≡ self.now.born }
+        ensures planned { IfOk result (λ plan. IsForIn C.format plan self.now) }
+        ensures writes { IfOk result (Writes sample) }
+        ensures counted { steps.old ≤ steps.new }
+        ensures bounded { steps.new ≤ steps.old + longest self.now.held.pieces }
+        ensures easy { IsPast (last_of (points self.now.held)) sample.time → steps.new ≡ steps.old }
     {
-        let list = self.line.as_slice();
-        if list.len() < limit as usize {
-            return false;
-        }
-        let edge = edge_at(self.options.retention, raise(sample.time, self.high));
-        let stays = if edge <= sample.time { 1 } else { 0 };
-        (limit as usize) < list.len() - expired(list, edge) + stays
+        let change = self.put_change(&sample, steps)?;
+        let larger = self.chunks.larger(&change, self.alloc)?;
+        Ok(LinePlan {
+            cut: None,
+            removed: 0,
+            encoding: self.options.encoding,
+            wrote: Rows::One(sample),
+            options: None,
+            change,
+            larger,
+        })
     }
-}
 
-// The plan of a write of this value, if there is one, over the sample at this index, which has this time.
-fn rewritten(index: usize, time: u64, value: Option<Units>, made: u32) -> SeriesPlan
-    requires { time ≤ MAX_TIME }
-    ensures { result ≡ rewrites index time value made }
-{
-    let edit = match value {
-        None => Edit::Keep,
-        Some(value) => Edit::Write(Place::Over(index), Sample { time, value, made }),
-    };
-    SeriesPlan {
-        edit,
-        options: None,
-        larger: None,
+    // The change of the chunks that puts a sample into them.
+    fn put_change<L: Ledger>(
+        &self,
+        sample: &Sample,
+        steps: &mut Steps<L>,
+    ) -> Result<Change<C>, AllocError>
+        ensures ready { IfOk result (λ c. IsReady C.format self.now.held c) }
+        ensures limits { IfOk result (λ c. HasLimits (limit_for self.now.options.chunk_size) self.now.held.limits c) }
+        ensures list { IfOk result (λ c. joined (pieces_after c self.now.held.pieces) ≡ put sample.now (points self.now.held)) }
+        ensures counted { steps.old ≤ steps.new }
+        ensures bounded { steps.new ≤ steps.old + longest self.now.held.pieces }
+        ensures easy { IsPast (last_of (points self.now.held)) sample.now.time → steps.new ≡ steps.old }
+    {
+        if self.is_late(sample.time) {
+            return self.chunks.inserted(self.alloc, sample, steps);
+        }
+        let size = new_limit(self.options.chunk_size);
+        self.chunks.appended(self.alloc, sample, size)
     }
 }

@@ -1,88 +1,92 @@
-ghost use Rattle.std.specs.Prelude.{◌≡◌, ◌≤◌, nat_lt, length};
+ghost use Rattle.std.specs.Prelude.{◌≡◌, ◌≤◌, ◌+◌, ◌*◌, nat_lt, length};
 ghost use Rattle.ts_spec.specs.Sample.{MAX_TIME, at, at_times, between, first_of, last_of};
 ghost use Rattle.ts_sample.specs.Visit.{visited};
 ghost use Rattle.ts_spec.specs.Valid.{Every};
-ghost use Rattle.ts_series.specs.History.{list_of, IsKept};
+ghost use Rattle.ts_series.specs.History.{list_of, reach, IsKeptIn};
 
-use crate::series::Series;
+use crate::line::Line;
 use std::sync::ledger::Ledger;
-use ts_sample::{Sample, Steps, Visit, find, place_of, places_between};
+use ts_sample::{Chunk, Sample, Steps, Visit};
 
-impl Series {
-    /// Does nothing: it tells a caller what holds of every series, which a reference hides.
-    pub fn known(&self)
-        ensures kept { IsKept self.now }
+impl<C: Chunk> Line<C> {
+    // Does nothing: it tells a caller what holds of every series, which a reference hides.
+    pub(crate) fn known(&self)
+        ensures kept { IsKeptIn C.format self.now }
         ensures times { Every (λ p. p.time ≤ MAX_TIME) (list_of self.now) }
     {
-        if let Some(last) = self.line.as_slice().last() {
+        if let Some(last) = self.chunks.last() {
             last.known();
         }
     }
 
-    /// Its first sample.
-    pub fn first<L: Ledger>(&self, steps: &mut Steps<L>) -> Option<Sample>
+    // Its first sample.
+    pub(crate) fn first<L: Ledger>(&self, steps: &mut Steps<L>) -> Option<Sample>
         ensures first { result ≡ first_of (list_of self.now) }
-        ensures steps { steps.new ≡ steps.old }
+        ensures counted { steps.old ≤ steps.new }
+        ensures bounded { steps.new ≤ steps.old + reach self.now }
     {
-        self.line.as_slice().first().copied()
+        self.chunks.first_from(self.edge(), steps)
     }
 
-    /// How many samples it has.
-    pub fn len<L: Ledger>(&self, steps: &mut Steps<L>) -> usize
+    // How many samples it has.
+    pub(crate) fn len<L: Ledger>(&self, steps: &mut Steps<L>) -> usize
         ensures len { result ≡ length (list_of self.now) }
-        ensures steps { steps.new ≡ steps.old }
+        ensures counted { steps.old ≤ steps.new }
+        ensures bounded { steps.new ≤ steps.old + reach self.now }
     {
-        self.line.as_slice().len()
+        self.chunks.len() - self.chunks.count_before(self.edge(), steps)
     }
 
-    /// Its sample at this time, in milliseconds.
-    pub fn at<L: Ledger>(&self, t: u64, steps: &mut Steps<L>) -> Option<Sample>
+    // Its sample at this time, in milliseconds.
+    pub(crate) fn at<L: Ledger>(&self, t: u64, steps: &mut Steps<L>) -> Option<Sample>
         ensures at { result ≡ at t (list_of self.now) }
-        ensures steps { steps.new ≡ steps.old }
+        ensures counted { steps.old ≤ steps.new }
+        ensures bounded { steps.new ≤ steps.old + reach self.now }
     {
-        let list = self.line.as_slice();
-        match find(list, t) {
-            Ok(place) => Some(list[place]),
-            Err(_) => None,
+        if t < self.edge() {
+            None
+        } else {
+            self.chunks.at(t, steps)
         }
     }
 
-    /// Its last sample before this time, in milliseconds.
-    pub fn before<L: Ledger>(&self, t: u64, steps: &mut Steps<L>) -> Option<Sample>
+    // Its last sample before this time, in milliseconds.
+    pub(crate) fn before<L: Ledger>(&self, t: u64, steps: &mut Steps<L>) -> Option<Sample>
         ensures before { result ≡ last_of (at_times (λ u. nat_lt u t) (list_of self.now)) }
-        ensures steps { steps.new ≡ steps.old }
+        ensures counted { steps.old ≤ steps.new }
+        ensures bounded { steps.new ≤ steps.old + reach self.now }
     {
-        let list = self.line.as_slice();
-        list[..place_of(list, t)].last().copied()
+        let last = self.chunks.last_before(t, steps)?;
+        if last.time < self.edge() {
+            None
+        } else {
+            Some(last)
+        }
     }
 
-    /// How many samples it has from one time to another, in milliseconds, both included.
-    pub fn room_for(&self, from: u64, to: u64) -> usize
-        ensures { result ≡ length (between from to (list_of self.now)) }
+    // Room for the samples from one time to another, in milliseconds, both included: at least as many as they
+    // are, and no more than two chunks hold above that. Nothing is decoded.
+    pub(crate) fn room_for(&self, from: u64, to: u64) -> usize
+        ensures least { length (between from to (list_of self.now)) ≤ result }
+        ensures most { result ≤ length (between from to (list_of self.now)) + 2 * reach self.now }
     {
-        let places = places_between(self.line.as_slice(), from, to);
-        places.end - places.start
+        self.chunks.count_near(from.max(self.edge()), to)
     }
 
-    /// Takes a visitor over the samples from one time to another, in milliseconds, both included, in their
-    /// order.
-    pub fn scan<V: Visit, L: Ledger>(&self, from: u64, to: u64, visit: &mut V, steps: &mut Steps<L>)
+    // Takes a visitor over the samples from one time to another, in milliseconds, both included, in their
+    // order.
+    pub(crate) fn scan<V: Visit, L: Ledger>(
+        &self,
+        from: u64,
+        to: u64,
+        visit: &mut V,
+        steps: &mut Steps<L>,
+    )
         requires room { length (between from to (list_of self.now)) ≤ V.room visit.old }
         ensures visited { visit.new ≡ visited V.step visit.old (between from to (list_of self.now)) }
-        ensures steps { steps.new ≡ steps.old }
+        ensures counted { steps.old + length (between from to (list_of self.now)) ≤ steps.new }
+        ensures bounded { steps.new ≤ steps.old + length (between from to (list_of self.now)) + 2 * reach self.now }
     {
-        let list = self.line.as_slice();
-        let places = places_between(list, from, to);
-        walk(&list[places.start..places.end], visit);
-    }
-}
-
-// Takes a visitor over all samples of a list.
-fn walk<V: Visit>(list: &[Sample], visit: &mut V)
-    requires { length list.now ≤ V.room visit.old }
-    ensures { visit.new ≡ visited V.step visit.old list.now }
-{
-    for sample in list {
-        visit.sample(sample);
+        self.chunks.scan(from.max(self.edge()), to, visit, steps);
     }
 }

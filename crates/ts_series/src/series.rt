@@ -3,32 +3,37 @@ ghost use Rattle.ts_spec.specs.Sample.{last_of};
 ghost use Rattle.ts_series.specs.History.{list_of, low, IsKept};
 ghost use Rattle.ts_series.specs.Plan.{after, IsFor};
 
-use crate::edge::{edge_at, high_after};
 use crate::line::Line;
-use crate::plan::SeriesPlan;
+use crate::plan::{Plans, SeriesPlan};
 use std::alloc::Global;
 use std::marker::Model;
+use ts_chunk_packed::PackedChunk;
+use ts_chunk_plain::PlainChunk;
 use ts_sample::Sample;
-use ts_spec::Options;
+use ts_spec::{Encoding, Options};
 
 /// A list of samples in order of time, and how it is kept.
 #[derive(Drop)]
 pub struct Series {
-    pub(crate) alloc: Global,
-    pub(crate) options: Options,
-    pub(crate) line: Line,
-    pub(crate) high: Option<u64>,
-    pub(crate) born: u32,
+    pub(crate) lines: Lines,
+}
+
+// A series of either encoding.
+#[derive(Drop)]
+pub(crate) enum Lines {
+    Plain(Line<PlainChunk>),
+    Packed(Line<PackedChunk>),
 }
 
 impl Model for Series {
-    ghost use Rattle.ts_series.specs.History.{History, IsKept};
+    ghost use Rattle.ts_series.specs.Encoded.{history_in, HasEncoding};
+    ghost use Rattle.ts_series.specs.History.{History};
 
     ghost Value = { History };
 
-    ghost view = { λ s. record { options = s.options; samples = s.line.list; high = s.high; born = s.born; room = s.line.room } };
+    ghost view = { λ s. history_in s.lines };
 
-    ghost invariant = { λ s. IsKept (record { options = s.options; samples = s.line.list; high = s.high; born = s.born; room = s.line.room }) };
+    ghost invariant = { λ s. HasEncoding s.lines };
 }
 
 impl Series {
@@ -40,68 +45,81 @@ impl Series {
         ensures born { result.born ≡ 0 }
         ensures kept { IsKept result }
     {
-        Series {
-            alloc,
-            options,
-            line: Line::new(alloc),
-            high: None,
-            born: 0,
-        }
+        let lines = match options.encoding {
+            Encoding::Uncompressed => Lines::Plain(Line::new(alloc, options)),
+            Encoding::Compressed => Lines::Packed(Line::new(alloc, options)),
+        };
+        Series { lines }
     }
 
     /// How it is kept.
     pub fn options(&self) -> Options
         ensures { result ≡ self.now.options }
     {
-        self.options
+        match &self.lines {
+            Lines::Plain(line) => line.options(),
+            Lines::Packed(line) => line.options(),
+        }
     }
 
     /// The highest time that it ever had a sample at.
     pub fn high(&self) -> Option<u64>
         ensures { result ≡ self.now.high }
     {
-        self.high
+        match &self.lines {
+            Lines::Plain(line) => line.high(),
+            Lines::Packed(line) => line.high(),
+        }
     }
 
     /// How many rules were ever made on it.
     pub fn born(&self) -> u32
         ensures { result ≡ self.now.born }
     {
-        self.born
+        match &self.lines {
+            Lines::Plain(line) => line.born(),
+            Lines::Packed(line) => line.born(),
+        }
     }
 
     /// The earliest time that it keeps, in milliseconds.
     pub fn edge(&self) -> u64
         ensures { result ≡ low self.now }
     {
-        edge_at(self.options.retention, self.high)
+        match &self.lines {
+            Lines::Plain(line) => line.edge(),
+            Lines::Packed(line) => line.edge(),
+        }
     }
 
     /// Its last sample.
     pub fn last(&self) -> Option<Sample>
         ensures { result ≡ last_of (list_of self.now) }
     {
-        self.line.as_slice().last().copied()
+        match &self.lines {
+            Lines::Plain(line) => line.last(),
+            Lines::Packed(line) => line.last(),
+        }
     }
 
     /// Does what was planned.
     pub fn commit(&mut self, plan: SeriesPlan)
         requires { IsFor plan self.old }
-        ensures done { self.new ≡ record (after plan self.old) { room = self.new.room } }
+        ensures done { self.new ≡ record (after plan self.old) { held = self.new.held } }
         ensures kept { IsKept self.new }
     {
-        let SeriesPlan {
-            edit,
-            options,
-            larger,
-        } = plan;
-        let high = high_after(edit.written(), self.high);
-        let options = options.unwrap_or(self.options);
-        self.line.grow(larger);
-        self.line.edit(&edit);
-        self.line.expire(edge_at(options.retention, high));
-        self.options = options;
-        self.high = high;
+        match &mut self.lines {
+            Lines::Plain(line) => {
+                if let Plans::Plain(plan) = plan.plans {
+                    line.commit(plan);
+                }
+            }
+            Lines::Packed(line) => {
+                if let Plans::Packed(plan) = plan.plans {
+                    line.commit(plan);
+                }
+            }
+        }
     }
 
     /// Counts one more rule that was made on it.
@@ -110,6 +128,9 @@ impl Series {
         ensures raised { self.new ≡ record self.old { born = self.old.born + 1 } }
         ensures kept { IsKept self.new }
     {
-        self.born += 1;
+        match &mut self.lines {
+            Lines::Plain(line) => line.raise_born(),
+            Lines::Packed(line) => line.raise_born(),
+        }
     }
 }

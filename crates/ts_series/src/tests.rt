@@ -128,12 +128,14 @@ fn retentions<L: Ledger>(alloc: Global, blank: Blank) -> Option<(u64, u64, Came)
     let mut steps = Steps::<L>::new(blank);
     let mut series = Series::new(alloc, options(5));
     let _ = put(&mut series, 10, 1, Merge::Set, &mut steps);
-    let longer = series.alter(Some(0), None, None, &mut steps).ok()?;
+    let Ok(longer) = series.alter(Some(0), None, None, &mut steps) else {
+        return None;
+    };
     series.commit(longer);
     let wrote = put(&mut series, 4, 1, Merge::Set, &mut steps);
-    let shorter = series
-        .alter(Some(3), Some(48), Some(Policy::Last), &mut steps)
-        .ok()?;
+    let Ok(shorter) = series.alter(Some(3), Some(48), Some(Policy::Last), &mut steps) else {
+        return None;
+    };
     if shorter.wrote() != None || shorter.removed() != 0 {
         return None;
     }
@@ -172,13 +174,14 @@ fn questions<L: Ledger>(alloc: Global, blank: Blank) -> Option<([u64; 4], [usize
     let room = series.room_for(3, 9);
     let mut gathered = Gathered::with_room(alloc, room).ok()?;
     series.scan(3, 9, &mut gathered, &mut steps);
+    let seen = gathered.into_samples();
     let times = [
         series.first(&mut steps)?.time,
         series.at(3, &mut steps)?.time,
         series.before(5, &mut steps)?.time,
-        gathered.into_samples().last()?.time,
+        seen.last()?.time,
     ];
-    Some((times, [series.len(&mut steps), room]))
+    Some((times, [series.len(&mut steps), seen.len()]))
 }
 
 #[test]
@@ -195,7 +198,9 @@ fn deletion<L: Ledger>(alloc: Global, blank: Blank) -> Option<(u64, u64, Option<
 {
     let mut steps = Steps::<L>::new(blank);
     let mut series = three(alloc, &mut steps);
-    let plan = series.cut(3, 5, &mut steps).ok()?;
+    let Ok(plan) = series.cut(3, 5, &mut steps) else {
+        return None;
+    };
     let removed = plan.removed();
     series.commit(plan);
     Some((removed, series.last()?.time, series.high()))

@@ -1,6 +1,7 @@
 use Rattle.std.proofs.Common.{refl, sym, ◌∙◌, ap}
 use Rattle.ts_spec.specs.KeptStep.{kept_alter_at}
 use Rattle.ts_labels.specs.Spec.{change_of}
+use Rattle.ts_series.proofs.Effects.{alters-is}
 use Rattle.ts_db.specs.Held.{Stock}
 use Rattle.ts_db.specs.Store.{stock_of, Holds, IsNode}
 use Rattle.ts_db.proofs.Storing.{missing}
@@ -26,7 +27,7 @@ apply-requires-clause-ready g c =
       node = c.in-Some-get.node.now;
       holds = record { number = sym (c.in-Some.ensures ∙ c.get.ensures.value); node = sym c.in-Some-get.ensures };
       ready = c.in-Ok.ensures.planned;
-      within = altered-within c.in-Some-get.node.now c.in-Ok.plan (change_of c.args.change) c.args.self.now.limits.samples c.in-Ok.ensures.options fits.within;
+      within = altered-within c.in-Some-get.node.now c.in-Ok.plan (change_of c.args.change) c.args.self.now.limits.samples (alters-is _ c.in-Ok.plan c.in-Ok.ensures.options) fits.within;
       few = few-altered c.args.self.now.limits.labels c.args.change.labels c.in-Some-get.node.now.labels (sym c.are_too_many.ensures ∙ c.if-are_too_many.false) fits.labels;
       live = (c.requires.live c.in-Some.id.0 c.in-Some-get.node.now (sym c.in-Some-get.ensures)).rules;
       grids = fits.grids;
@@ -36,6 +37,6 @@ pub returns-in-Ok-clause-altered : goal.returns-in-Ok-clause-altered
 returns-in-Ok-clause-altered g c =
     let holds : Holds c.args.self.now c.args.key.now c.in-Some.id c.in-Some-get.node.now = record { number = sym (c.in-Some.ensures ∙ c.get.ensures.value); node = sym c.in-Some-get.ensures } in (
       alter-answers c.args.self.now c.requires c.args.key.now c.in-Some.id c.in-Some-get.node.now holds (change_of c.args.change) c.in-Ok.plan (stock_of c.apply.new.self)
-          (sym c.are_too_many.ensures ∙ c.if-are_too_many.false) c.in-Ok.ensures.options (c.apply.ensures.applied c.args.key.now c.in-Some-get.node.now holds),
+          (sym c.are_too_many.ensures ∙ c.if-are_too_many.false) (alters-is _ c.in-Ok.plan c.in-Ok.ensures.options) (c.apply.ensures.applied c.args.key.now c.in-Some-get.node.now holds),
       ap (λ (x : Stock). x.limits) (c.apply.ensures.applied c.args.key.now c.in-Some-get.node.now holds),
     )

@@ -3,7 +3,8 @@ use Rattle.std.specs.Prelude.{None, Some}
 use Rattle.ts_spec.specs.Sample.{between}
 use Rattle.ts_spec.proofs.Tidy.{some-same}
 use Rattle.ts_series.specs.History.{list_of}
-use Rattle.ts_series.specs.Plan.{cuts}
+use Rattle.ts_series.specs.Plan.{cuts, with_change}
+use Rattle.ts_series.proofs.Effects.{cuts-is}
 use Rattle.ts_db.specs.declared.node.Node.{Node}
 use Rattle.ts_db.specs.declared.work.Work.TheVariants.{Delete}
 use Rattle.ts_db.specs.Held.{Stock}
@@ -48,7 +49,7 @@ apply-requires-clause-ready g c =
       node = node;
       holds = record { number = c.requires.there.holds.number; node = sym c.in-Some.ensures };
       ready = c.in-Ok.ensures.planned;
-      within = cut-within node.series c.in-Ok.plan c.args.from c.args.to (length (between c.args.from c.args.to (list_of node.series))) c.args.self.now.limits.samples fits.kept c.in-Ok.ensures.cut fits.within;
+      within = cut-within node.series c.in-Ok.plan c.args.from c.args.to (length (between c.args.from c.args.to (list_of node.series))) c.args.self.now.limits.samples fits.kept (cuts-is c.args.from c.args.to (length (between c.args.from c.args.to (list_of node.series))) c.in-Ok.plan c.in-Ok.ensures.cut) fits.within;
       few = fits.labels;
       live = changed-live c.args.self.now (changed_by work node.series) node.rules.items c.in-Ok-plan_rules.planned.rules.items planned.changed
           (c.requires.db.store.live c.args.id.0 node (sym c.in-Some.ensures)).rules;
@@ -72,8 +73,9 @@ returns-clause-deleted g c key n holds =
     let planned : ArePlanned c.args.self.now work n.series n.rules.items c.in-Ok-plan_rules.planned.rules.items c.in-Ok-plan_rules.planned.plans.items =
     planned-for c.args.self.now work work c.in-Some.node.now n c.deref.result.now c.in-Ok-plan_rules.planned.rules.items c.in-Ok-plan_rules.planned.plans.items refl it c.deref.ensures.value
     (record { changed = c.in-Ok-plan_rules.ensures.rules; fed = c.in-Ok-plan_rules.ensures.fed; fit = c.in-Ok-plan_rules.ensures.fit }) in
-    let cut : c.in-Ok.plan ≡ cuts c.args.from c.args.to (length (between c.args.from c.args.to (list_of n.series))) =
-    subst (λ (x : Node). c.in-Ok.plan ≡ cuts c.args.from c.args.to (length (between c.args.from c.args.to (list_of x.series)))) it c.in-Ok.ensures.cut in
+    let cut : c.in-Ok.plan ≡ with_change c.in-Ok.plan (cuts c.args.from c.args.to (length (between c.args.from c.args.to (list_of n.series)))) =
+    subst (λ (x : Node). c.in-Ok.plan ≡ with_change c.in-Ok.plan (cuts c.args.from c.args.to (length (between c.args.from c.args.to (list_of x.series))))) it
+    (cuts-is c.args.from c.args.to (length (between c.args.from c.args.to (list_of c.in-Some.node.now.series))) c.in-Ok.plan c.in-Ok.ensures.cut) in
     let done = worked c.args.self.now c.requires.db key c.args.id n holds c.apply.new.self c.apply.ensures.elsewhere (rows_by_work work n.series) (gone_by work n.series)
     (kept_at c.args.self.now.nodes (node_after c.in-Ok.plan None (Some c.in-Ok-plan_rules.planned.rules) n)) (stock_of c.feed.new.self) (c.apply.ensures.applied key n holds)
     (c.feed.ensures.fed (rows_by_work work n.series) (gone_by work n.series) n.rules.items
@@ -87,5 +89,6 @@ pub returns-clause-bounded : goal.returns-clause-bounded
 returns-clause-bounded g c =
     let fits : IsNode c.args.self.now.limits c.in-Some.node.now = c.requires.db.store.each c.args.id.0 c.in-Some.node.now (sym c.in-Some.ensures) in
     let few : c.removed-removed.result ≤ c.args.self.now.limits.samples =
-    deleted-few c.in-Some.node.now.series c.in-Ok.plan c.args.from c.args.to c.removed-removed.result c.args.self.now.limits.samples c.in-Ok.ensures.cut c.removed-removed.ensures fits.within in
+    deleted-few c.in-Some.node.now.series c.in-Ok.plan c.args.from c.args.to c.removed-removed.result c.args.self.now.limits.samples
+    (cuts-is c.args.from c.args.to (length (between c.args.from c.args.to (list_of c.in-Some.node.now.series))) c.in-Ok.plan c.in-Ok.ensures.cut) c.removed-removed.ensures fits.within in
     omega (arith, few, c.requires.db.store.bounded)

@@ -6,11 +6,11 @@ use Rattle.ts_db.proofs.store.Store.grow.Goals as goal
 
 pub returns-clause-store : goal.returns-clause-store
 returns-clause-store c =
-    store-grown c.args.self.now c.requires.store c.args.id c.args.plan c.requires.ready c.in-Some.node.now (sym c.in-Some.ensures.value) c.commit.new.self c.commit.ensures.kept c.commit.ensures.done
+    store-grown c.args.self.now c.requires.store c.args.id c.args.plan c.requires.ready c.in-Some.node.now (sym c.in-Some.ensures.value) c.commit_append.new.self c.commit_append.ensures.kept c.commit_append.ensures.done
     c.args.wrote.now c.count_in_all.new.rules c.count_in_all.ensures
 
 pub returns-clause-grown : goal.returns-clause-grown
 returns-clause-grown c key n holds =
     ap (λ (m : Keeping). record (stock_of c.args.self.now) { keys = m })
-    (keys-grown c.args.self.now c.requires.store c.args.id c.args.plan c.requires.ready c.in-Some.node.now (sym c.in-Some.ensures.value) c.commit.new.self c.commit.ensures.kept c.commit.ensures.done
+    (keys-grown c.args.self.now c.requires.store c.args.id c.args.plan c.requires.ready c.in-Some.node.now (sym c.in-Some.ensures.value) c.commit_append.new.self c.commit_append.ensures.kept c.commit_append.ensures.done
     c.args.wrote.now c.count_in_all.new.rules c.count_in_all.ensures key n holds)

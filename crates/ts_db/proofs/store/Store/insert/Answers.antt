@@ -60,3 +60,8 @@ returns-clause-added c =
     ∙ ap (λ (d : Kept). with_key c.args.key d (collected c.reserve.new.self c.args.self.now.keys.entries)) (bare-kept c.insert_reserved.new.self node c.new.ensures.items refl)
     ∙ ap (with_key c.args.key (kept_of c.args.labels c.args.series))
     (collected-slots c.args.self.now.nodes c.reserve.new.self c.args.self.now.keys.entries (ap (λ (s : slab.Slab Node). s.slots) c.reserve.ensures.rest_kept))
+
+pub returns-in-Err-reserve-clause-unchanged : goal.returns-in-Err-reserve-clause-unchanged
+returns-in-Err-reserve-clause-unchanged c =
+    ap (λ (m : Keeping). record { limits = c.args.self.now.limits; keys = m; ids = ids_of c.args.self.now.keys.entries })
+    (collected-slots c.args.self.now.nodes c.reserve.new.self c.args.self.now.keys.entries (ap (λ (s : slab.Slab Node). s.slots) c.in-Err-reserve.ensures.rest_kept))

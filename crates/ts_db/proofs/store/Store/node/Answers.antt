@@ -11,5 +11,9 @@ returns-clause-holds c = λ key is. numbered-holds c.args.self.now key c.args.id
 pub returns-clause-kept : goal.returns-clause-kept
 returns-clause-kept c = (c.requires.store.each c.args.id.0 c.in-Some.node.now (sym c.in-Some.ensures)).kept
 
+pub returns-clause-few : goal.returns-clause-few
+returns-clause-few c =
+    omega (arith, (c.requires.store.each c.args.id.0 c.in-Some.node.now (sym c.in-Some.ensures)).within, c.requires.store.some_samples, c.requires.store.bounded)
+
 pub returns-clause-within : goal.returns-clause-within
 returns-clause-within c = omega (arith, (c.requires.store.each c.args.id.0 c.in-Some.node.now (sym c.in-Some.ensures)).within)

@@ -27,3 +27,6 @@ returns-in-Err-Full-clause-refused g c = (
       c.in-Err-Full.field-0-is
       (c.in-Err-Full.ensures.planned (key_in c.args.self.now.nodes c.args.rule.now.dest))),
 )
+
+pub made_plan-requires-clause-fits : goal.made_plan-requires-clause-fits
+made_plan-requires-clause-fits g c = (c.requires.store.each c.args.rule.now.dest.0 c.in-Some.dest.now (sym c.in-Some.ensures)).within

@@ -14,9 +14,6 @@ plan_rule-requires-clause-live g c =
     ∙ ap (λ (r : Rule). r ∷ drop (c.loop-rule.rule-index + 1) c.args.rules.now) (sym c.rule-item.is))
     c.loop-rule.invariant.live).0
 
-pub returns-in_err-plan-clause-steps : goal.returns-in_err-plan-clause-steps
-returns-in_err-plan-clause-steps g c = c.plan_rule.ensures.steps ∙ c.loop-rule.invariant.steps
-
 pub loop-rule-preserved : goal.loop-rule-preserved
 loop-rule-preserved g c =
     let limit = c.args.self.now.limits.samples in
@@ -43,5 +40,5 @@ loop-rule-preserved g c =
       many = omega (arith, c.push_reserved-in-loop-rule.ensures.len, c.loop-rule.invariant.many);
       room_changed = omega (arith, c.push_reserved.ensures.capacity, c.loop-rule.invariant.room_changed);
       room = omega (arith, c.push_reserved-in-loop-rule.ensures.capacity, c.loop-rule.invariant.room);
-      steps = c.plan_rule.ensures.steps ∙ c.loop-rule.invariant.steps;
+      counted = omega (arith, c.plan_rule.ensures.counted, c.loop-rule.invariant.counted);
     }

@@ -16,5 +16,5 @@ invariant-loop-rule g l = record {
   many : vec_len l.plans ≡ l.rule-index;
   room_changed : length l.rules ≤ vec_capacity l.changed;
   room : length l.rules ≤ vec_capacity l.plans;
-  steps : l.steps ≡ l.initial.steps;
+  counted : l.initial.steps ≤ l.steps;
 }

@@ -5,5 +5,5 @@ use Rattle.ts_db.proofs.store.Store.reach_of.Goals as goal
 
 pub returns-clause-reach : goal.returns-clause-reach
 returns-clause-reach c = λ key at.
-    subst (λ (ps : List Point). (c.reach.result ≡ c.args.to) ⊎ (c.args.count ≤ length (between c.args.from c.reach.result ps)))
-    (sym (asked-plain c.args.self.now c.requires.store key c.args.id c.node-node.result.now (c.node-node.ensures.holds key at))) c.reach.ensures.reach
+    subst (λ (ps : List Point). (c.time_for.result ≡ c.args.to) ⊎ (c.args.count ≤ length (between c.args.from c.time_for.result ps)))
+    (sym (asked-plain c.args.self.now c.requires.store key c.args.id c.node-node.result.now (c.node-node.ensures.holds key at))) c.time_for.ensures.reach

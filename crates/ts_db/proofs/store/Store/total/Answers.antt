@@ -1,4 +1,4 @@
-use Rattle.std.proofs.Common.{◌≡◌, ◌+◌, ◌<◌, ◌^◌, length, refl, sym, ◌∙◌, ap, subst, arith, rules}
+use Rattle.std.proofs.Common.{◌≡◌, ◌+◌, ◌<◌, ◌^◌, length, sym, ◌∙◌, ap, subst, arith, rules}
 use Rattle.ts_series.specs.History.{list_of}
 use Rattle.ts_db.specs.Totals.{samples_in}
 use Rattle.ts_db.proofs.Selecting.{HaveNodes, listing, listing-entries, all-there}
@@ -14,7 +14,7 @@ loop-key-init g c =
       sum = omega (arith, given);
       there = subst (HaveNodes c.args.self.now.nodes) (sym all)
           (all-there c.args.self.now.nodes c.args.self.now.keys.entries c.args.self.now.keys.entries c.requires.stored c.iter-key-items.ensures.found);
-      steps = refl;
+      counted = omega arith;
     }
 
 pub overflow_add-total : goal.overflow_add-total

@@ -1,4 +1,4 @@
-use Rattle.std.proofs.Common.{◌≡◌, ◌+◌}
+use Rattle.std.proofs.Common.{◌≡◌, ◌≤◌, ◌+◌}
 use Rattle.ts_db.specs.Totals.{samples_in}
 use Rattle.ts_db.proofs.Selecting.{HaveNodes, listing}
 use Rattle.ts_db.proofs.store.Store.total.Given as goal
@@ -8,5 +8,5 @@ abbrev pub invariant-loop-key : goal.invariant-loop-key
 invariant-loop-key g l = record {
   sum : l.total + samples_in (listing l.self.nodes l._key-iterator) ≡ samples_in (listing l.self.nodes l.self.keys.entries);
   there : HaveNodes l.self.nodes l._key-iterator;
-  steps : l.steps ≡ l.fn.steps;
+  counted : l.fn.steps ≤ l.steps;
 }

@@ -1,11 +1,12 @@
 use Rattle.std.proofs.Common.{◌≡◌, refl, sym, ◌∙◌, ap, subst}
 use Rattle.std.specs.Prelude.{None, Some, Ok, Err}
-use Rattle.ts_spec.specs.Sample.{Point}
+use Rattle.ts_spec.specs.Sample.{Point, first_of}
 use Rattle.ts_spec.specs.Keyed.{with_key}
 use Rattle.ts_spec.specs.Response.{Count}
 use Rattle.ts_spec.specs.KeptStep.{kept_write_merged}
 use Rattle.ts_spec.specs.Rules.{Merged}
 use Rattle.ts_spec.proofs.Tidy.{some-same}
+use Rattle.ts_series.specs.Plan.{Plan}
 use Rattle.ts_series.specs.Put.{Answers, met, sample_of}
 use Rattle.ts_db.specs.declared.node.Node.{Node}
 use Rattle.ts_db.specs.declared.work.Work.TheVariants.{Write}
@@ -115,14 +116,14 @@ pub grow-requires-clause-ready : goal.grow-requires-clause-ready
 grow-requires-clause-ready g c =
     let node : Node = c.in-Some.node.now in
     let fits : IsNode c.args.self.now.limits node = c.requires.db.store.each c.args.id.0 node (sym c.in-Some.ensures) in
-    let p : IsWritten c.args.self.now.limits.samples (met c.args.how c.args.time c.args.value node.series) c.args.time node.series c.in-Some-wrote.wrote c.in-Ok.plan =
-    written-sample c.in-Ok.plan (met c.args.how c.args.time c.args.value node.series) c.args.self.now.limits.samples c.args.time node.series c.in-Some-wrote.wrote c.in-Ok.ensures.answer c.in-Some-wrote.ensures in
+    let p : IsWritten c.args.self.now.limits.samples (met c.args.how c.args.time c.args.value node.series) c.args.time node.series c.sample-wrote.result c.in-Some-plan_append.plan =
+    written-sample c.in-Some-plan_append.plan (met c.args.how c.args.time c.args.value node.series) c.args.self.now.limits.samples c.args.time node.series c.sample-wrote.result (c.in-Some-plan_append.ensures.answer c.args.how) (sym (ap (λ (q : Plan). first_of q.wrote) c.sample-wrote.ensures)) in
     record {
       key = c.requires.there.key;
       node = node;
       holds = record { number = c.requires.there.holds.number; node = sym c.in-Some.ensures };
-      ready = c.in-Ok.ensures.planned;
-      within = within-planned node.series c.in-Ok.plan c.args.self.now.limits.samples c.args.time p.value fits.kept p.writes fits.within;
+      ready = c.in-Some-plan_append.ensures.planned;
+      within = within-planned node.series c.in-Some-plan_append.plan c.args.self.now.limits.samples c.args.time p.value fits.kept p.writes fits.within;
       few = fits.labels;
       live = (c.requires.db.store.live c.args.id.0 node (sym c.in-Some.ensures)).rules;
       grids = fits.grids;
@@ -131,28 +132,28 @@ grow-requires-clause-ready g c =
 pub grow-requires-clause-room : goal.grow-requires-clause-room
 grow-requires-clause-room g c key n holds =
     let it : c.in-Some.node.now ≡ n = some-same c.in-Some.node.now n (c.in-Some.ensures ∙ holds.node) in
-    open-room n.series c.in-Some-wrote.wrote n.rules.items (open-for c.in-Some-wrote.wrote c.in-Some-wrote.wrote c.in-Some.node.now n c.deref.result.now refl it c.deref.ensures.value (c.stays_open.ensures c.if-stays_open.true))
-    (takes c.args.self.now c.requires.db key c.args.id n holds c.in-Some-wrote.wrote)
+    open-room n.series c.sample-wrote.result n.rules.items (open-for c.sample-wrote.result c.sample-wrote.result c.in-Some.node.now n c.deref.result.now refl it c.deref.ensures.value (c.stays_open.ensures c.if-stays_open.true))
+    (takes c.args.self.now c.requires.db key c.args.id n holds c.sample-wrote.result)
 
 pub returns-then-stays_open-clause-written : goal.returns-then-stays_open-clause-written
 returns-then-stays_open-clause-written g c key n holds =
     let it : c.in-Some.node.now ≡ n = some-same c.in-Some.node.now n (c.in-Some.ensures ∙ holds.node) in
-    let p : IsWritten c.args.self.now.limits.samples (met c.args.how c.args.time c.args.value n.series) c.args.time n.series c.in-Some-wrote.wrote c.in-Ok.plan =
-    written-sample c.in-Ok.plan (met c.args.how c.args.time c.args.value n.series) c.args.self.now.limits.samples c.args.time n.series c.in-Some-wrote.wrote
-    (subst (λ (x : Node). Answers (met c.args.how c.args.time c.args.value x.series) c.args.self.now.limits.samples c.args.time x.series (Ok c.in-Ok.plan)) it c.in-Ok.ensures.answer) c.in-Some-wrote.ensures in
+    let p : IsWritten c.args.self.now.limits.samples (met c.args.how c.args.time c.args.value n.series) c.args.time n.series c.sample-wrote.result c.in-Some-plan_append.plan =
+    written-sample c.in-Some-plan_append.plan (met c.args.how c.args.time c.args.value n.series) c.args.self.now.limits.samples c.args.time n.series c.sample-wrote.result
+    (subst (λ (x : Node). Answers (met c.args.how c.args.time c.args.value x.series) c.args.self.now.limits.samples c.args.time x.series (Ok c.in-Some-plan_append.plan)) it (c.in-Some-plan_append.ensures.answer c.args.how)) (sym (ap (λ (q : Plan). first_of q.wrote) c.sample-wrote.ensures)) in
     let sample : Point = sample_of c.args.time p.value n.series in
     let open_there : StaysOpen n.series sample n.rules.items =
-    open-for c.in-Some-wrote.wrote sample c.in-Some.node.now n c.deref.result.now p.sample it c.deref.ensures.value (c.stays_open.ensures c.if-stays_open.true) in
+    open-for c.sample-wrote.result sample c.in-Some.node.now n c.deref.result.now p.sample it c.deref.ensures.value (c.stays_open.ensures c.if-stays_open.true) in
     let rules = (c.requires.db.store.live c.args.id.0 n holds.node).rules in
     let fed = still-fed c.args.self.now c.requires.db key c.args.id n holds c.grow.new.self c.grow.ensures.elsewhere (rows_by_work (Write sample) n.series) (gone_by (Write sample) n.series) (no_plans n.rules.items)
     (none-fed c.args.self.now c.requires.db.store n.series sample open_there.append n.rules.items open_there.at rules) in
     let done = worked c.args.self.now c.requires.db key c.args.id n holds c.grow.new.self c.grow.ensures.elsewhere (rows_by_work (Write sample) n.series) (gone_by (Write sample) n.series)
-    (kept_grown c.args.self.now.nodes c.in-Ok.plan sample n) (stock_of c.grow.new.self)
-    (c.grow.ensures.grown key n holds ∙ ap (λ (q : Point). record (stock_of c.args.self.now) { keys = with_key key (kept_grown c.args.self.now.nodes c.in-Ok.plan q n) (stock_of c.args.self.now).keys }) p.sample)
+    (kept_grown c.args.self.now.nodes c.in-Some-plan_append.plan sample n) (stock_of c.grow.new.self)
+    (c.grow.ensures.grown key n holds ∙ ap (λ (q : Point). record (stock_of c.args.self.now) { keys = with_key key (kept_grown c.args.self.now.nodes c.in-Some-plan_append.plan q n) (stock_of c.args.self.now).keys }) p.sample)
     (fed-nothing c.grow.new.self c.grow.ensures.store (rows_by_work (Write sample) n.series) (gone_by (Write sample) n.series) n.rules.items n.rules.items fed
     (distinct c.args.self.now n.rules.items (links c.args.self.now c.requires.db key c.args.id n holds).apart)) in (
       subst (λ (what : Merged). kept_write_merged c.args.self.now.limits (stock_of c.args.self.now).keys key c.args.time what ≡ record { keys = (stock_of c.grow.new.self).keys; response = Count c.args.time }) (sym p.sets)
-          (planned-answers c.args.self.now c.requires.db key c.args.id n holds c.in-Ok.plan (kept_grown c.args.self.now.nodes c.in-Ok.plan sample n) c.args.time p.value (stock_of c.grow.new.self) p.writes
-          (grown-after c.args.self.now n c.in-Ok.plan c.args.time p.value p.writes.0 open_there) (none-full c.args.self.now c.requires.db.store n.series sample open_there.append n.rules.items open_there.at rules) done),
+          (planned-answers c.args.self.now c.requires.db key c.args.id n holds c.in-Some-plan_append.plan (kept_grown c.args.self.now.nodes c.in-Some-plan_append.plan sample n) c.args.time p.value (stock_of c.grow.new.self) p.writes
+          (grown-after c.args.self.now n c.in-Some-plan_append.plan c.args.time p.value p.writes.0 open_there) (none-full c.args.self.now c.requires.db.store n.series sample open_there.append n.rules.items open_there.at rules) done),
       ap (λ (x : Stock). x.limits) done,
     )

@@ -11,4 +11,4 @@ pub count_left-running-requires-clause-begins : goal.count_left-running-requires
 count_left-running-requires-clause-begins g c =
     touched-start c.args.self.now.rule.now.grid c.args.self.now.from c.args.self.now.to c.args.start (list_of c.args.self.now.source.now) c.known.ensures
     (and_parts (is_past c.args.self.now.rule.now.current c.args.start) (lies_in c.args.self.now.rule.now.grid (gone_of c.args.self.now.source.now c.args.self.now.from c.args.self.now.to) c.args.start)
-    (sym c.loses.ensures ∙ c.if-not-loses.false)).1
+    (sym c.loses.ensures.lost ∙ c.if-not-loses.false)).1

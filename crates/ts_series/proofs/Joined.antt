@@ -1,0 +1,90 @@
+-- Lists that are joined, and the one at a place among them.
+use Rattle.std.proofs.Common.{◌≡◌, ◌≢◌, ℕ, zero, suc, ◌<◌, ◌≤◌, List, [], ◌∷◌, ◌++◌, length, get_or, take, drop, map, refl, sym, ◌∙◌, ap, arith, append_assoc}
+use Rattle.ts_spec.specs.Sample.{Point, IsAfter, IsAscending}
+use Rattle.ts_sample.specs.Chunk.{IsChunk, joined}
+use Rattle.ts_series.specs.Held.{AreChunks, longest}
+
+pub joined-append : (pss qss : List (List Point)) → joined (pss ++ qss) ≡ joined pss ++ joined qss
+joined-append [] qss = refl
+joined-append (ps ∷ pss) qss = ap (λ (l : List Point). ps ++ l) (joined-append pss qss) ∙ sym (append_assoc ps (joined pss) (joined qss))
+
+-- the list at a place, between those before it and those after it
+pub joined-at : (i : ℕ) (pss : List (List Point)) → i < length pss → joined pss ≡ joined (take i pss) ++ (get_or pss i [] ++ joined (drop (suc i) pss))
+joined-at i [] within = absurd (omega arith)
+joined-at zero (ps ∷ pss) within = refl
+joined-at (suc i) (ps ∷ pss) within = ap (λ (l : List Point). ps ++ l) (joined-at i pss (omega arith)) ∙ sym (append_assoc ps (joined (take i pss)) (get_or pss i [] ++ joined (drop (suc i) pss)))
+
+-- those before a place, and those from it on
+pub joined-parts : (i : ℕ) (pss : List (List Point)) → joined pss ≡ joined (take i pss) ++ joined (drop i pss)
+joined-parts zero pss = refl
+joined-parts (suc i) [] = refl
+joined-parts (suc i) (ps ∷ pss) = ap (λ (l : List Point). ps ++ l) (joined-parts i pss) ∙ sym (append_assoc ps (joined (take i pss)) (joined (drop i pss)))
+
+pub after-left : (t : ℕ) (ps qs : List Point) → IsAfter t (ps ++ qs) → IsAfter t ps
+after-left t [] qs h = _
+after-left t (p ∷ ps) qs h = (h.0, after-left t ps qs h.1)
+
+pub after-right : (t : ℕ) (ps qs : List Point) → IsAfter t (ps ++ qs) → IsAfter t qs
+after-right t [] qs h = h
+after-right t (p ∷ ps) qs h = after-right t ps qs h.1
+
+-- parts of an ascending list are ascending
+pub ascending-left : (ps qs : List Point) → IsAscending (ps ++ qs) → IsAscending ps
+ascending-left [] qs h = _
+ascending-left (p ∷ ps) qs h = (after-left p.time ps qs h.0, ascending-left ps qs h.1)
+
+pub ascending-right : (ps qs : List Point) → IsAscending (ps ++ qs) → IsAscending qs
+ascending-right [] qs h = h
+ascending-right (p ∷ ps) qs h = ascending-right ps qs h.1
+
+pub longest-at : (i : ℕ) (pss : List (List Point)) → length (get_or pss i []) ≤ longest pss
+longest-at i [] = omega arith
+longest-at zero (ps ∷ pss) = omega arith
+longest-at (suc i) (ps ∷ pss) = omega (arith, longest-at i pss)
+
+-- what holds of the chunk at a place
+pub chunk-at : (format : List Point → List ℕ) (i : ℕ) (pss : List (List Point)) (ns : List ℕ) → AreChunks format pss ns → i < length pss → IsChunk format (get_or ns i 0) (get_or pss i [])
+chunk-at format i [] ns h within = absurd (omega arith)
+chunk-at format i (ps ∷ pss) [] h within = absurd h
+chunk-at format zero (ps ∷ pss) (n ∷ ns) h within = h.0
+chunk-at format (suc i) (ps ∷ pss) (n ∷ ns) h within = chunk-at format i pss ns h.1.1 (omega arith)
+
+pub filled-at : (format : List Point → List ℕ) (i : ℕ) (pss : List (List Point)) (ns : List ℕ) → AreChunks format pss ns → i < length pss → get_or pss i [] ≢ []
+filled-at format i [] ns h within = absurd (omega arith)
+filled-at format i (ps ∷ pss) [] h within = absurd h
+filled-at format zero (ps ∷ pss) (n ∷ ns) h within = h.1.0
+filled-at format (suc i) (ps ∷ pss) (n ∷ ns) h within = filled-at format i pss ns h.1.1 (omega arith)
+
+-- as many limits as pieces
+pub chunks-length : (format : List Point → List ℕ) (pss : List (List Point)) (ns : List ℕ) → AreChunks format pss ns → length pss ≡ length ns
+chunks-length format [] [] h = refl
+chunks-length format [] (n ∷ ns) h = absurd h
+chunks-length format (ps ∷ pss) [] h = absurd h
+chunks-length format (ps ∷ pss) (n ∷ ns) h = ap suc (chunks-length format pss ns h.1.1)
+
+-- a part of chunks are chunks
+pub chunks-take : (format : List Point → List ℕ) (i : ℕ) (pss : List (List Point)) (ns : List ℕ) → AreChunks format pss ns → AreChunks format (take i pss) (take i ns)
+chunks-take format zero pss ns h = _
+chunks-take format (suc i) [] [] h = _
+chunks-take format (suc i) [] (n ∷ ns) h = absurd h
+chunks-take format (suc i) (ps ∷ pss) [] h = absurd h
+chunks-take format (suc i) (ps ∷ pss) (n ∷ ns) h = (h.0, (h.1.0, chunks-take format i pss ns h.1.1))
+
+pub chunks-drop : (format : List Point → List ℕ) (i : ℕ) (pss : List (List Point)) (ns : List ℕ) → AreChunks format pss ns → AreChunks format (drop i pss) (drop i ns)
+chunks-drop format zero pss ns h = h
+chunks-drop format (suc i) [] [] h = _
+chunks-drop format (suc i) [] (n ∷ ns) h = absurd h
+chunks-drop format (suc i) (ps ∷ pss) [] h = absurd h
+chunks-drop format (suc i) (ps ∷ pss) (n ∷ ns) h = chunks-drop format i pss ns h.1.1
+
+pub chunks-append : (format : List Point → List ℕ) (pss qss : List (List Point)) (ns ms : List ℕ) → AreChunks format pss ns → AreChunks format qss ms → AreChunks format (pss ++ qss) (ns ++ ms)
+chunks-append format [] qss [] ms h k = k
+chunks-append format [] qss (n ∷ ns) ms h k = absurd h
+chunks-append format (ps ∷ pss) qss [] ms h k = absurd h
+chunks-append format (ps ∷ pss) qss (n ∷ ns) ms h k = (h.0, (h.1.0, chunks-append format pss qss ns ms h.1.1 k))
+
+-- a mapped list at a place
+pub map-at : {X Y : Type 0} (f : X → Y) (i : ℕ) (xs : List X) (d : X) (e : Y) → i < length xs → get_or (map f xs) i e ≡ f (get_or xs i d)
+map-at f i [] d e within = absurd (omega arith)
+map-at f zero (x ∷ xs) d e within = refl
+map-at f (suc i) (x ∷ xs) d e within = map-at f i xs d e (omega arith)

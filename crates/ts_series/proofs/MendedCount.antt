@@ -1,0 +1,145 @@
+-- How many samples a series has once rows stand in the place of those of an interval.
+use Rattle.std.proofs.Common.{◌≡◌, ℕ, ◌+◌, ◌-◌, ◌*◌, ◌^◌, ◌<◌, ◌≤◌, Bool, true, false, not, ◌&&◌, List, [], ◌∷◌, ◌++◌, length, drop, refl, sym, ◌∙◌, ap, subst, arith, ltb-true, length-drop}
+use Rattle.std.specs.Prelude.{nat_lt, nat_le, max, min, Option, None, Some}
+use Rattle.std.proofs.lemmas.Bool.Decides.{nat_tests}
+use Rattle.ts_spec.specs.Sample.{Point, IsAscending, MAX_TIME, is_within, at_times, outside, put_all}
+use Rattle.ts_spec.specs.State.{edge_of}
+use Rattle.ts_spec.specs.Mending.{high_with}
+use Rattle.ts_sample.specs.Chunk.{AreFine, joined}
+use Rattle.ts_sample.proofs.Between.{filter-filter}
+use Rattle.ts_spec.specs.declared.series.Encoding.{Encoding}
+use Rattle.ts_series.specs.Held.{Change, points, pieces_after, AreChunks, IsReady, HasLimits}
+use Rattle.ts_series.specs.History.{History, low, limit_for, IsKeptIn}
+use Rattle.ts_series.specs.Plan.{Plan, AreWithin, AreMade, places_for, IsForIn}
+use Rattle.ts_series.specs.Mend.{mended_list}
+use Rattle.ts_series.proofs.Counting.{one_if, length-cons_if, times-length}
+use Rattle.ts_series.proofs.Mending.{count-mended}
+use Rattle.ts_series.proofs.Edges.{from-edge}
+use Rattle.ts_series.proofs.Ready.{Shows, edge-with, is-for, written-list}
+
+-- ---- all samples of chunks are within their bounds
+
+fine-append : (ps qs : List Point) → AreFine ps → AreFine qs → AreFine (ps ++ qs)
+fine-append [] qs f g = g
+fine-append (p ∷ ps) qs f g = (f.0, fine-append ps qs f.1 g)
+
+pub fine-joined : (format : List Point → List ℕ) (pss : List (List Point)) (ns : List ℕ) → AreChunks format pss ns → AreFine (joined pss)
+fine-joined format [] ns h = tt
+fine-joined format (ps ∷ pss) [] h = absurd h
+fine-joined format (ps ∷ pss) (n ∷ ns) h = fine-append ps (joined pss) h.0.fine (fine-joined format pss ns h.1.1)
+
+-- ---- those before a time, and those of an interval
+
+-- more are before a later time
+pub before-later : (t u : ℕ) (ps : List Point) → t ≤ u → length (at_times (λ v. nat_lt v t) ps) ≤ length (at_times (λ v. nat_lt v u) ps)
+before-later t u [] le = omega arith
+before-later t u (p ∷ ps) le =
+    let first : one_if (nat_lt p.time t) ≤ one_if (nat_lt p.time u) = one (nat_lt p.time t) (nat_lt p.time u) refl refl in
+    omega (
+      arith,
+      first,
+      before-later t u ps le,
+      length-cons_if (nat_lt p.time t) p (at_times (λ v. nat_lt v t) ps),
+      length-cons_if (nat_lt p.time u) p (at_times (λ v. nat_lt v u) ps),
+    )
+  where
+    one : (b c : Bool) → nat_lt p.time t ≡ b → nat_lt p.time u ≡ c → one_if b ≤ one_if c
+    one true true e f = omega arith
+    one true false e f = absurd (let less : p.time < t = ltb-true p.time t e in let not_less : u ≤ p.time = grind (arith, nat_tests) in omega arith)
+    one false c e f = omega arith
+
+module _ (edge from to past start : ℕ) (past_is : past ≡ max (min (to + 1) (2 ^ 64 - 1)) edge) (start_is : start ≡ min (max from edge) past) where
+  -- a time from the edge on that is not in the interval
+  abbrev is_left : ℕ → Bool
+  is_left t = not (is_within from to t) && nat_le edge t
+
+  left-one : (t : ℕ) → t ≤ MAX_TIME → one_if (is_left t) + one_if (nat_lt t edge) + one_if (nat_lt t past) ≡ one_if (nat_lt t start) + 1
+  left-one t fine = grind (arith, nat_tests, past_is, start_is)
+
+  counts : (ps : List Point) → AreFine ps
+      → length (at_times is_left ps) + length (at_times (λ t. nat_lt t edge) ps) + length (at_times (λ t. nat_lt t past) ps) ≡ length (at_times (λ t. nat_lt t start) ps) + length ps
+  counts [] fine = omega arith
+  counts (p ∷ ps) fine =
+      omega (
+        arith,
+        counts ps fine.1,
+        left-one p.time fine.0.time,
+        length-cons_if (is_left p.time) p (at_times is_left ps),
+        length-cons_if (nat_lt p.time edge) p (at_times (λ t. nat_lt t edge) ps),
+        length-cons_if (nat_lt p.time past) p (at_times (λ t. nat_lt t past) ps),
+        length-cons_if (nat_lt p.time start) p (at_times (λ t. nat_lt t start) ps),
+      )
+
+  -- those from the edge on without the interval, those before the edge and those up to the end of the interval
+  pub count-left : (ps : List Point) → AreFine ps
+      → length (at_times (nat_le edge) (outside from to ps)) + length (at_times (λ t. nat_lt t edge) ps) + length (at_times (λ t. nat_lt t past) ps) ≡ length (at_times (λ t. nat_lt t start) ps) + length ps
+  count-left ps fine = omega (arith, counts ps fine, ap length (filter-filter (λ (p : Point). nat_le edge p.time) (λ (p : Point). not (is_within from to p.time)) ps))
+
+-- ---- a mended list, by all samples of the chunks
+
+module _ (from to : ℕ) (rows : List Point) (h : History) (shown : Shows h) (ascending : IsAscending (points h.held)) (rises : IsAscending rows) (within : AreWithin from to rows) where
+  abbrev pub edge : ℕ
+  edge = edge_of h.options.retention (high_with rows h.high)
+
+  pub mended-all : mended_list from to rows h ≡ at_times (nat_le edge) (put_all rows (outside from to (points h.held)))
+  mended-all =
+      ap (λ (l : List Point). at_times (nat_le edge) (put_all rows (outside from to l))) shown
+      ∙ sym (from-edge (low h) edge rows (Some (record { from = from; to = to })) (points h.held) (edge-with h.options.retention rows h.high) ascending)
+
+  -- it has the rows from the edge on, and what is left from there on
+  pub mended-count : length (mended_list from to rows h) ≡ length (at_times (nat_le edge) rows) + length (at_times (nat_le edge) (outside from to (points h.held)))
+  mended-count = ap length mended-all ∙ count-mended (nat_le edge) from to rows (points h.held) rises within
+
+  pub mended-most : length (mended_list from to rows h) ≤ length rows + length (points h.held)
+  mended-most =
+      omega (
+        arith,
+        mended-count,
+        times-length (nat_le edge) rows,
+        times-length (nat_le edge) (outside from to (points h.held)),
+        times-length (λ t. not (is_within from to t)) (points h.held),
+      )
+
+  -- whether it is longer than a limit
+  pub mended-exceeds : (limit low kept place : ℕ) → low ≡ edge → drop place rows ≡ at_times (nat_le low) rows → kept ≡ length (at_times (nat_le low) (outside from to (points h.held))) → limit < 2 ^ 32
+      → nat_lt limit (min (kept + (length rows - place)) (2 ^ 64 - 1)) ≡ nat_lt limit (length (mended_list from to rows h))
+  mended-exceeds limit low kept place is after left small =
+      let count : kept + (length rows - place) ≡ length (mended_list from to rows h) =
+      omega (
+        arith,
+        mended-count,
+        left,
+        ap length after,
+        length-drop place rows,
+        ap (λ e. length (at_times (nat_le e) rows)) is,
+        ap (λ e. length (at_times (nat_le e) (outside from to (points h.held)))) is,
+      ) in
+      capped (kept + (length rows - place)) ∙ ap (nat_lt limit) count
+    where
+      capped : (n : ℕ) → nat_lt limit (min n (2 ^ 64 - 1)) ≡ nat_lt limit n
+      capped n = grind (arith, nat_tests)
+
+-- ---- the plan
+
+-- a plan that puts rows in the place of the samples of an interval
+abbrev pub mends : Encoding → (from to : ℕ) → (rows : List Point) → Change → (room : Option ℕ) → Plan
+mends encoding from to rows change room = record { cut = Some (record { from = from; to = to }); removed = 0; encoding = encoding; wrote = rows; options = None; change = change; room = room }
+
+-- it is for the series, of which `h` is the view
+pub mends-for : {format : List Point → List ℕ} (from to : ℕ) (rows wrote : List Point) (change : Change) (room : Option ℕ) (h k : History) → h ≡ k → Shows h → IsKeptIn format h → AreMade k.born rows → wrote ≡ rows
+    → IsReady format h.held change → length h.held.pieces + length change.pieces ≤ places_for room h.held → HasLimits (limit_for h.options.chunk_size) h.held.limits change
+    → joined (pieces_after change h.held.pieces) ≡ put_all rows (outside from to (points h.held)) → IsForIn format (mends h.options.encoding from to wrote change room) k
+mends-for {format} from to rows wrote change room h k view shown kept made same ready enough limits list =
+    let encoding = h.options.encoding in
+    subst (λ (l : List Point). IsForIn format (mends encoding from to l change room) k) (sym same)
+    (subst (IsForIn format (mends encoding from to rows change room)) view
+    (is-for (mends encoding from to rows change room) h refl refl (subst (λ (x : History). AreMade x.born rows) (sym view) made) ready enough limits
+    (written-list (mends encoding from to rows change room) h refl shown kept.chunks.ascending list)))
+
+-- ---- steps
+
+pub more-steps : (n a b : ℕ) → a ≤ b → (2 + n) * (a + n) ≤ (2 + n) * (b + n)
+more-steps n a b le = grind arith
+
+pub all-steps : (n most : ℕ) → 3 * most + (2 + n) * (most + n) ≤ (5 + n) * (most + n)
+all-steps n most = grind arith

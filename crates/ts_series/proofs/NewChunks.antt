@@ -1,0 +1,96 @@
+-- Chunks made anew of what a chunk is cut into.
+use Rattle.std.proofs.Common.{◌≡◌, ◌≢◌, inl, inr, ℕ, zero, suc, ◌<◌, ◌≤◌, Bool, true, false, cond, List, [], ◌∷◌, ◌++◌, length, get_or, map, refl, sym, ap, subst, arith, length-append}
+use Rattle.std.specs.Prelude.{nat_lt, max}
+use Rattle.std.specs.List.{All}
+use Rattle.std.proofs.lemmas.List.Elements.{All-head, All-tail}
+use Rattle.ts_spec.specs.Sample.{Point, IsAscending, at_times, outside, put}
+use Rattle.ts_sample.specs.Chunk.{IsLimit, IsChunk, IsCut, Fits, HaveLimit, AreFine, joined}
+use Rattle.ts_sample.specs.Sample.{IsFine}
+use Rattle.ts_sample.proofs.Cuts.{joined-cut, cut-some, cut-fits}
+use Rattle.ts_series.specs.Held.{AreChunks, IsAmong, AreAmong, longest}
+use Rattle.ts_series.proofs.Joined.{ascending-left, ascending-right, longest-at}
+use Rattle.ts_series.proofs.TakenOut.{kept-less}
+
+-- ---- the longest piece
+
+pub longest-joined : (pss : List (List Point)) → longest pss ≤ length (joined pss)
+longest-joined [] = omega arith
+longest-joined (ps ∷ pss) = omega (arith, longest-joined pss, length-append ps (joined pss))
+
+pub longest-append : (pss qss : List (List Point)) → longest (pss ++ qss) ≡ max (longest pss) (longest qss)
+longest-append [] qss = omega arith
+longest-append (ps ∷ pss) qss = omega (arith, longest-append pss qss)
+
+pub longest-cut : (i : ℕ) (pss new : List (List Point)) (from to : ℕ) → joined new ≡ outside from to (get_or pss i []) → longest new ≤ longest pss
+longest-cut i pss new from to is = omega (arith, longest-joined new, ap length is, kept-less from to (get_or pss i []), longest-at i pss)
+
+pub longest-both : (pss qss : List (List Point)) (n : ℕ) → longest pss ≤ n → longest qss ≤ n → longest (pss ++ qss) ≤ n
+longest-both pss qss n h k = omega (arith, longest-append pss qss)
+
+-- ---- samples within their bounds
+
+fine-left : (ps qs : List Point) → AreFine (ps ++ qs) → AreFine ps
+fine-left [] qs h = tt
+fine-left (p ∷ ps) qs h = (h.0, fine-left ps qs h.1)
+
+fine-right : (ps qs : List Point) → AreFine (ps ++ qs) → AreFine qs
+fine-right [] qs h = h
+fine-right (p ∷ ps) qs h = fine-right ps qs h.1
+
+fine-append : (ps qs : List Point) → AreFine ps → AreFine qs → AreFine (ps ++ qs)
+fine-append [] qs h k = k
+fine-append (p ∷ ps) qs h k = (h.0, fine-append ps qs h.1 k)
+
+pub fine-times : (test : ℕ → Bool) (ps : List Point) → AreFine ps → AreFine (at_times test ps)
+fine-times test [] h = tt
+fine-times test (p ∷ ps) h = go (test p.time) (fine-times test ps h.1)
+  where
+    go : (b : Bool) → AreFine (at_times test ps) → AreFine (cond b (p ∷ at_times test ps) (at_times test ps))
+    go true ih = (h.0, ih)
+    go false ih = ih
+
+pub fine-put : (p : Point) (ps : List Point) → IsFine p → AreFine ps → AreFine (put p ps)
+fine-put p ps fine h =
+    fine-append (at_times (λ u. nat_lt u p.time) ps) (p ∷ at_times (nat_lt p.time) ps) (fine-times (λ u. nat_lt u p.time) ps h) (fine, fine-times (nat_lt p.time) ps h)
+
+-- ---- new chunks
+
+module _ {X : Type 0} (format : List Point → List ℕ) (list : X → List Point) (most : X → ℕ) (n : ℕ) (bounds : IsLimit n) where
+  chunks-of : (cs : List X) → HaveLimit most n cs → IsAscending (joined (map list cs)) → AreFine (joined (map list cs)) → All (λ ps. ps ≢ []) (map list cs) → All (Fits format n) (map list cs)
+      → AreChunks format (map list cs) (map most cs)
+  chunks-of [] same rises fine some fit = tt
+  chunks-of (c ∷ cs) same rises fine some fit = (
+    subst (λ m. IsChunk format m (list c)) (sym same.0) (record {
+      bounds = bounds;
+      ascending = ascending-left (list c) (joined (map list cs)) rises;
+      fine = fine-left (list c) (joined (map list cs)) fine;
+      fits = All-head (Fits format n) (list c) (map list cs) fit;
+    }),
+    (
+      All-head (λ ps. ps ≢ []) (list c) (map list cs) some,
+      chunks-of cs same.1 (ascending-right (list c) (joined (map list cs)) rises) (fine-right (list c) (joined (map list cs)) fine)
+          (All-tail (λ ps. ps ≢ []) (list c) (map list cs) some) (All-tail (Fits format n) (list c) (map list cs) fit),
+    ),
+  )
+
+  pub cut-chunks : (ps : List Point) (cs : List X) → IsCut format n ps (map list cs) → HaveLimit most n cs → IsAscending ps → AreFine ps → AreChunks format (map list cs) (map most cs)
+  cut-chunks ps cs cut same rises fine =
+      let is : joined (map list cs) ≡ ps = joined-cut format n ps (map list cs) cut in
+      chunks-of cs same (subst IsAscending (sym is) rises) (subst AreFine (sym is) fine) (cut-some format n ps (map list cs) cut) (cut-fits format n ps (map list cs) cut)
+
+pub among-one : (one : ℕ) (ms : List ℕ) → IsAmong one ms one
+among-one one [] = refl
+among-one one (m ∷ ms) = inr (among-one one ms)
+
+pub among-at : (one i : ℕ) (ms : List ℕ) → i < length ms → IsAmong one ms (get_or ms i 0)
+among-at one i [] within = absurd (omega arith)
+among-at one zero (m ∷ ms) within = inl refl
+among-at one (suc i) (m ∷ ms) within = inr (among-at one i ms (omega arith))
+
+pub among-all : {X : Type 0} (most : X → ℕ) (one n : ℕ) (ms : List ℕ) (cs : List X) → IsAmong one ms n → HaveLimit most n cs → AreAmong one ms (map most cs)
+among-all most one n ms [] h same = tt
+among-all most one n ms (c ∷ cs) h same = (subst (IsAmong one ms) (sym same.0) h, among-all most one n ms cs h same.1)
+
+pub among-append : (one : ℕ) (ms ns ks : List ℕ) → AreAmong one ms ns → AreAmong one ms ks → AreAmong one ms (ns ++ ks)
+among-append one ms [] ks h k = k
+among-append one ms (n ∷ ns) ks h k = (h.0, among-append one ms ns ks h.1 k)

@@ -1,0 +1,12 @@
+use Rattle.std.proofs.Common.{subst}
+use Rattle.ts_spec.specs.Sample.{IsAscending}
+use Rattle.ts_series.specs.Held.{Held, points}
+use Rattle.ts_series.proofs.Meeting.{meets}
+use Rattle.ts_series.proofs.chunks.Chunks.meeting.Goals as goal
+
+pub returns : goal.returns
+returns g c =
+    let rises : IsAscending (points c.args.self.now) = subst (λ (k : Held). IsAscending (points k)) c.self.view_is c.self.invariant.ascending in
+    let b = c.before-start.ensures in
+    let u = c.upto.ensures in
+    meets c.args.from c.args.to c.args.self.now.pieces c.before-start.result c.upto.result c.max.result rises c.max.ensures b.within u.within b.earlier b.reached u.later u.begun

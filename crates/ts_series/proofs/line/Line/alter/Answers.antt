@@ -1,0 +1,42 @@
+use Rattle.std.proofs.Common.{◌≡◌, ◌+◌, ◌≤◌, [], length, ◌∙◌, ap, subst, arith, refl}
+use Rattle.std.specs.Prelude.{nat_le, option_map, None, Some}
+use Rattle.std.specs.VecDeque.{deque_capacity}
+use Rattle.ts_spec.specs.declared.series.Options.{Options}
+use Rattle.ts_spec.specs.State.{edge_of}
+use Rattle.ts_spec.specs.Sample.{at_times}
+use Rattle.ts_sample.specs.Chunk.{joined}
+use Rattle.ts_series.specs.Held.{pieces_after}
+use Rattle.ts_series.specs.History.{History, limit_for, list_of, IsKeptIn}
+use Rattle.ts_series.specs.Plan.{Plan, places_for}
+use Rattle.ts_series.proofs.Reach.{within-reach}
+use Rattle.ts_series.proofs.Ready.{is-for}
+use Rattle.ts_series.proofs.line.Line.alter.Goals as goal
+
+pub returns-in_err-change-clause-bounded : goal.returns-in_err-change-clause-bounded
+returns-in_err-change-clause-bounded g c = omega (arith, c.without_expired.ensures.bounded, within-reach g.met.C.Chunk.at_least (subst (IsKeptIn g.C.Chunk.format) c.self.view_is c.self.invariant) refl)
+
+pub returns-in_err-larger-clause-bounded : goal.returns-in_err-larger-clause-bounded
+returns-in_err-larger-clause-bounded g c = omega (arith, c.without_expired.ensures.bounded, within-reach g.met.C.Chunk.at_least (subst (IsKeptIn g.C.Chunk.format) c.self.view_is c.self.invariant) refl)
+
+pub returns-clause-bounded : goal.returns-clause-bounded
+returns-clause-bounded g c = omega (arith, c.without_expired.ensures.bounded, within-reach g.met.C.Chunk.at_least (subst (IsKeptIn g.C.Chunk.format) c.self.view_is c.self.invariant) refl)
+
+pub returns-clause-planned : goal.returns-clause-planned
+returns-clause-planned g c =
+    let h = c.args.self.now in
+    let change = c.in_ok-change.change in
+    let enough = subst (λ (x : History). length x.held.pieces + length change.pieces ≤ places_for (option_map (λ q. deque_capacity q) c.in_ok-larger.larger) x.held) c.self.view_is
+    c.in_ok-larger.ensures.enough in
+    let options : Options = record { retention = c.unwrap_or.result; encoding = c.self.inside.options.encoding; chunk_size = c.unwrap_or-2.result; policy = c.unwrap_or-3.result } in
+    let plan : Plan = record {
+      cut = None;
+      removed = 0;
+      encoding = c.self.inside.options.encoding;
+      wrote = [];
+      options = Some options;
+      change = change;
+      room = option_map (λ q. deque_capacity q) c.in_ok-larger.larger;
+    } in
+    let edge : c.edge_at.result ≡ edge_of options.retention h.high = c.edge_at.ensures ∙ ap (λ (x : History). edge_of options.retention x.high) c.self.view_is in
+    is-for plan h (ap (λ (x : History). x.options.encoding) c.self.view_is) (ap (λ (x : History). x.options.encoding) c.self.view_is) tt c.in_ok-change.ensures.ready enough (c.in_ok-change.ensures.limits (limit_for h.options.chunk_size))
+    (subst (λ t. at_times (nat_le t) (joined (pieces_after change h.held.pieces)) ≡ at_times (nat_le t) (list_of h)) edge c.in_ok-change.ensures.list)

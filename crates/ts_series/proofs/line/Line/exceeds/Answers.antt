@@ -1,0 +1,37 @@
+use Rattle.std.proofs.Common.{◌≡◌, nat_lt, length, le-ltb, refl, sym, ◌∙◌, ap, subst, arith}
+use Rattle.ts_spec.specs.State.{edge_of}
+use Rattle.ts_spec.specs.Mending.{high_with}
+use Rattle.ts_series.specs.Held.{points}
+use Rattle.ts_series.specs.History.{History, IsKeptIn}
+use Rattle.ts_series.specs.Mend.{mended_list}
+use Rattle.ts_series.proofs.MendedCount.{mended-most, mended-exceeds}
+use Rattle.ts_series.proofs.Ready.{Shows}
+use Rattle.ts_series.proofs.line.Line.exceeds.Goals as goal
+
+pub returns-then-saturating_add-limit-clause-exceeds : goal.returns-then-saturating_add-limit-clause-exceeds
+returns-then-saturating_add-limit-clause-exceeds g c =
+    let h = c.args.self.now in
+    let rows = c.args.rows.now in
+    let kept : IsKeptIn g.C.Chunk.format h = subst (IsKeptIn g.C.Chunk.format) c.self.view_is c.self.invariant in
+    sym (le-ltb c.args.limit (length (mended_list c.args.from c.args.to rows h))
+    (omega (
+      arith,
+      mended-most c.args.from c.args.to rows h (subst Shows c.self.view_is refl) kept.chunks.ascending c.requires.ascending c.requires.within,
+      c.if-saturating_add-limit.true,
+      c.saturating_add.ensures,
+      c.len.ensures,
+      c.ranges.limit,
+      ap (λ (k : History). length (points k.held)) c.self.view_is,
+    )))
+
+pub returns-clause-exceeds : goal.returns-clause-exceeds
+returns-clause-exceeds g c =
+    let h = c.args.self.now in
+    let rows = c.args.rows.now in
+    let kept : IsKeptIn g.C.Chunk.format h = subst (IsKeptIn g.C.Chunk.format) c.self.view_is c.self.invariant in
+    let edge : c.edge_at-edge.result ≡ edge_of h.options.retention (high_with rows h.high) =
+    c.edge_at-edge.ensures ∙ ap (edge_of c.self.inside.options.retention) c.high_after.ensures
+    ∙ ap (λ (k : History). edge_of k.options.retention (high_with rows k.high)) c.self.view_is in
+    ap (nat_lt c.args.limit) c.saturating_add-2.ensures
+    ∙ mended-exceeds c.args.from c.args.to rows h (subst Shows c.self.view_is refl) kept.chunks.ascending c.requires.ascending c.requires.within
+    c.args.limit c.edge_at-edge.result c.count_left-left.result c.place_of.result edge c.place_of.ensures.after c.count_left-left.ensures.left (omega (arith, c.ranges.limit))

@@ -1,0 +1,28 @@
+use Rattle.std.proofs.Common.{length, refl, subst, arith}
+use Rattle.ts_series.specs.Held.{HasLimits}
+use Rattle.ts_series.specs.History.{history_of}
+use Rattle.ts_series.proofs.MendedCount.{mends-for, more-steps}
+use Rattle.ts_series.proofs.Reach.{within-reach}
+use Rattle.ts_series.proofs.line.Line.mended.Goals as goal
+
+pub returns-clause-planned : goal.returns-clause-planned
+returns-clause-planned g c =
+    let change = c.in_ok-change.change in
+    mends-for c.args.from c.args.to c.args.rows.now _ change _ (history_of c.self.inside.options c.self.inside.high c.self.inside.born c.self.inside.chunks) c.args.self.now c.self.view_is refl c.self.invariant c.requires.made c.in_ok-wrote.ensures c.in_ok-change.ensures.ready
+    c.in_ok-larger.ensures.enough (subst (λ n. HasLimits n c.self.inside.chunks.limits change) c.new_limit-size.ensures.limit c.in_ok-change.ensures.limits) c.in_ok-change.ensures.list
+
+pub returns-clause-bounded : goal.returns-clause-bounded
+returns-clause-bounded g c =
+    omega (arith, c.in_ok-change.ensures.bounded, more-steps (length c.args.rows.now) _ _ (within-reach g.met.C.Chunk.at_least c.self.invariant c.self.view_is))
+
+pub returns-in_err-change-clause-bounded : goal.returns-in_err-change-clause-bounded
+returns-in_err-change-clause-bounded g c =
+    omega (arith, c.mended.ensures.bounded, more-steps (length c.args.rows.now) _ _ (within-reach g.met.C.Chunk.at_least c.self.invariant c.self.view_is))
+
+pub returns-in_err-larger-clause-bounded : goal.returns-in_err-larger-clause-bounded
+returns-in_err-larger-clause-bounded g c =
+    omega (arith, c.mended.ensures.bounded, more-steps (length c.args.rows.now) _ _ (within-reach g.met.C.Chunk.at_least c.self.invariant c.self.view_is))
+
+pub returns-in_err-wrote-clause-bounded : goal.returns-in_err-wrote-clause-bounded
+returns-in_err-wrote-clause-bounded g c =
+    omega (arith, c.mended.ensures.bounded, more-steps (length c.args.rows.now) _ _ (within-reach g.met.C.Chunk.at_least c.self.invariant c.self.view_is))

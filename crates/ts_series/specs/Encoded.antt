@@ -1,0 +1,29 @@
+-- A series, and a plan, of either encoding.
+use Rattle.std.specs.Prelude.{◌≡◌}
+use Rattle.ts_spec.specs.declared.series.Encoding.TheVariants.{Compressed, Uncompressed}
+use Rattle.ts_series.specs.declared.series.Lines.{Lines}
+use Rattle.ts_series.specs.declared.series.Lines.TheVariants.{Plain, Packed}
+use Rattle.ts_series.specs.declared.plan.Plans.{Plans}
+use Rattle.ts_series.specs.declared.plan.Plans.TheVariants as plans
+use Rattle.ts_series.specs.History.{History}
+use Rattle.ts_series.specs.Plan.{Plan}
+
+-- what a caller sees of the series
+abbrev pub history_in : Lines → History
+history_in (Plain h) = h
+history_in (Packed h) = h
+
+-- its encoding is that of its chunks
+abbrev pub HasEncoding : Lines → Type 0
+HasEncoding (Plain h) = h.options.encoding ≡ Uncompressed
+HasEncoding (Packed h) = h.options.encoding ≡ Compressed
+
+-- what a caller sees of the plan
+abbrev pub plan_in : Plans → Plan
+plan_in (plans.Plain p) = p
+plan_in (plans.Packed p) = p
+
+-- the encoding that it is for is that of its chunks
+abbrev pub PlanHasEncoding : Plans → Type 0
+PlanHasEncoding (plans.Plain p) = p.encoding ≡ Uncompressed
+PlanHasEncoding (plans.Packed p) = p.encoding ≡ Compressed

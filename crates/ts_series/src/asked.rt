@@ -1,0 +1,136 @@
+// Questions on the chunks of a series. Each decodes one chunk at most, but a scan.
+ghost use Rattle.std.specs.Prelude.{◌≡◌, ◌+◌, ◌*◌, ◌≤◌, nat_lt, nat_le, [], length, take, slice_index_or};
+ghost use Rattle.ts_spec.specs.Sample.{at, at_times, between, first_of, last_of};
+ghost use Rattle.ts_sample.specs.Chunk.{joined};
+ghost use Rattle.ts_sample.specs.Visit.{visited};
+ghost use Rattle.ts_series.specs.Held.{points, longest};
+
+use crate::chunks::Chunks;
+use crate::ends::Ends;
+use std::ops::Range;
+use std::sync::ledger::Ledger;
+use ts_sample::{Chunk, Sample, Steps, Visit};
+
+impl<C: Chunk> Chunks<C> {
+    // Takes a visitor over the samples from one time to another, both included, in their order.
+    pub(crate) fn scan<V: Visit, L: Ledger>(
+        &self,
+        from: u64,
+        to: u64,
+        visit: &mut V,
+        steps: &mut Steps<L>,
+    )
+        requires room { length (between from to (points self.now)) ≤ V.room visit.old }
+        ensures visited { visit.new ≡ visited V.step visit.old (between from to (points self.now)) }
+        ensures counted { steps.old + length (between from to (points self.now)) ≤ steps.new }
+        ensures bounded { steps.new ≤ steps.old + length (between from to (points self.now)) + 2 * longest self.now.pieces }
+    {
+        let Range { start, end } = self.meeting(from, to);
+        for place in start..end {
+            self.chunks[place].scan(from, to, visit, steps);
+        }
+    }
+
+    // The sample at this time.
+    pub(crate) fn at<L: Ledger>(&self, time: u64, steps: &mut Steps<L>) -> Option<Sample>
+        ensures at { result ≡ at time (points self.now) }
+        ensures counted { steps.old ≤ steps.new }
+        ensures bounded { steps.new ≤ steps.old + longest self.now.pieces }
+    {
+        let chunk = self.chunks.get(self.before(time))?;
+        let mut ends = Ends::new();
+        chunk.scan(time, time, &mut ends, steps);
+        ends.last
+    }
+
+    // The last sample before this time.
+    pub(crate) fn last_before<L: Ledger>(&self, time: u64, steps: &mut Steps<L>) -> Option<Sample>
+        ensures before { result ≡ last_of (at_times (λ t. nat_lt t time) (points self.now)) }
+        ensures counted { steps.old ≤ steps.new }
+        ensures bounded { steps.new ≤ steps.old + longest self.now.pieces }
+    {
+        // Does nothing: where a field is read, the order of the chunks is known.
+        let _ = &self.chunks;
+        let place = self.before(time);
+        match self.earlier_at(place, time, steps).last {
+            Some(last) => Some(last),
+            None => self.last_of_first(place),
+        }
+    }
+
+    // The first sample from this time on.
+    pub(crate) fn first_from<L: Ledger>(&self, time: u64, steps: &mut Steps<L>) -> Option<Sample>
+        ensures first { result ≡ first_of (at_times (nat_le time) (points self.now)) }
+        ensures counted { steps.old ≤ steps.new }
+        ensures bounded { steps.new ≤ steps.old + longest self.now.pieces }
+    {
+        let chunk = self.chunks.get(self.before(time))?;
+        let first = chunk.first()?;
+        if time <= first.time {
+            return Some(first);
+        }
+        let mut ends = Ends::new();
+        chunk.scan(time, u64::MAX, &mut ends, steps);
+        ends.first
+    }
+
+    // How many samples are before this time. Where the first is not, that costs nothing.
+    pub(crate) fn count_before<L: Ledger>(&self, time: u64, steps: &mut Steps<L>) -> usize
+        ensures count { result ≡ length (at_times (λ t. nat_lt t time) (points self.now)) }
+        ensures counted { steps.old ≤ steps.new }
+        ensures bounded { steps.new ≤ steps.old + longest self.now.pieces }
+    {
+        let all = self.len();
+        let place = self.before(time);
+        if place == self.chunks.len() {
+            return all;
+        }
+        let mut count = 0;
+        for earlier in 0..place {
+            count += self.chunks[earlier].len();
+        }
+        count + self.earlier_at(place, time, steps).count
+    }
+
+    // The samples before a time in the chunk at a place, if there is one.
+    fn earlier_at<L: Ledger>(&self, place: usize, time: u64, steps: &mut Steps<L>) -> Ends
+        ensures last { result.last ≡ last_of (at_times (λ t. nat_lt t time) (slice_index_or self.now.pieces place [])) }
+        ensures count { result.count ≡ length (at_times (λ t. nat_lt t time) (slice_index_or self.now.pieces place [])) }
+        ensures counted { steps.old ≤ steps.new }
+        ensures bounded { steps.new ≤ steps.old + longest self.now.pieces }
+    {
+        match self.chunks.get(place) {
+            None => Ends::new(),
+            Some(chunk) => earlier_in(chunk, time, steps),
+        }
+    }
+
+    // The last sample of so many chunks, the first ones.
+    fn last_of_first(&self, count: usize) -> Option<Sample>
+        requires within { count ≤ length self.now.pieces }
+        ensures last { result ≡ last_of (joined (take count self.now.pieces)) }
+    {
+        if count == 0 {
+            return None;
+        }
+        self.chunks[count - 1].last()
+    }
+}
+
+// The samples of a chunk before a time. Where the first is not, nothing is decoded.
+fn earlier_in<C: Chunk, L: Ledger>(chunk: &C, time: u64, steps: &mut Steps<L>) -> Ends
+    ensures last { result.last ≡ last_of (at_times (λ t. nat_lt t time) (C.list chunk.now)) }
+    ensures count { result.count ≡ length (at_times (λ t. nat_lt t time) (C.list chunk.now)) }
+    ensures counted { steps.old ≤ steps.new }
+    ensures bounded { steps.new ≤ steps.old + length (C.list chunk.now) }
+{
+    chunk.known();
+    let mut ends = Ends::new();
+    let Some(first) = chunk.first() else {
+        return ends;
+    };
+    if first.time < time {
+        chunk.scan(0, time - 1, &mut ends, steps);
+    }
+    ends
+}

@@ -1,0 +1,204 @@
+// Changes of the chunks of a series, planned with the memory that they take.
+ghost use Rattle.std.specs.Prelude.{◌≡◌, ℕ, ◌≤◌, ◌<◌, ◌+◌, ◌*◌, ◌^◌, [], ◌∷◌, length, IfOk, map, take, slice_range, None};
+ghost use Rattle.ts_spec.specs.Sample.{between, last_of, outside, put};
+ghost use Rattle.ts_sample.specs.Chunk.{IsLimit, IsChunk, IsPast, joined};
+ghost use Rattle.ts_series.specs.Held.{points, longest, pieces_after, IsMeeting, IsReady, AreChunks, AreAmong, HasLimits, IsUpTo};
+
+use crate::change::Change;
+use crate::chunks::Chunks;
+use std::alloc::{AllocError, Global};
+use std::sync::ledger::Ledger;
+use ts_sample::{Chunk, Sample, Steps};
+
+impl<C: Chunk> Chunks<C> {
+    // A sample past the last one: into the room of the last chunk, or into a new chunk of this size.
+    pub(crate) fn appended(
+        &self,
+        alloc: Global,
+        sample: &Sample,
+        chunk_size: u32,
+    ) -> Result<Change<C>, AllocError>
+        requires size { IsLimit chunk_size }
+        requires past { IsPast (last_of (points self.now)) sample.now.time }
+        ensures ready { IfOk result (λ c. IsReady C.format self.now c) }
+        ensures limits { IfOk result (λ c. HasLimits chunk_size self.now.limits c) }
+        ensures list { IfOk result (λ c. joined (pieces_after c self.now.pieces) ≡ put sample.now (points self.now)) }
+    {
+        self.past(alloc, self.chunks.len(), sample, chunk_size)
+    }
+
+    // The chunks before a place, and no others, with a sample past theirs: it goes into the room of the last of
+    // them, or into a new chunk of this size.
+    pub(crate) fn past(
+        &self,
+        alloc: Global,
+        start: usize,
+        sample: &Sample,
+        chunk_size: u32,
+    ) -> Result<Change<C>, AllocError>
+        requires size { IsLimit chunk_size }
+        requires within { start ≤ length self.now.pieces }
+        requires past { IsPast (last_of (joined (take start self.now.pieces))) sample.now.time }
+        ensures ready { IfOk result (λ c. IsReady C.format self.now c) }
+        ensures limits { IfOk result (λ c. HasLimits chunk_size self.now.limits c) }
+        ensures list { IfOk result (λ c. joined (pieces_after c self.now.pieces) ≡ put sample.now (joined (take start self.now.pieces))) }
+    {
+        let end = self.chunks.len();
+        let mut chunks = Vec::new(alloc);
+        if start > 0 && self.chunks[start - 1].fits(sample) {
+            return Ok(Change {
+                start,
+                end,
+                chunks,
+                appended: Some(*sample),
+            });
+        }
+        chunks.push(begun(alloc, sample, chunk_size)?)?;
+        Ok(Change {
+            start,
+            end,
+            chunks,
+            appended: None,
+        })
+    }
+
+    // A sample at a time that is not past the last one.
+    pub(crate) fn inserted<L: Ledger>(
+        &self,
+        alloc: Global,
+        sample: &Sample,
+        steps: &mut Steps<L>,
+    ) -> Result<Change<C>, AllocError>
+        requires late { IsUpTo sample.now.time (last_of (points self.now)) }
+        ensures ready { IfOk result (λ c. IsReady C.format self.now c) }
+        ensures limits { (one : ℕ) → IfOk result (λ c. HasLimits one self.now.limits c) }
+        ensures list { IfOk result (λ c. joined (pieces_after c self.now.pieces) ≡ put sample.now (points self.now)) }
+        ensures counted { steps.old ≤ steps.new }
+        ensures bounded { steps.new ≤ steps.old + longest self.now.pieces }
+    {
+        sample.known();
+        let place = self.before(sample.time);
+        let chunks = self.chunks[place].upsert(alloc, sample, steps)?;
+        Ok(Change {
+            start: place,
+            end: place + 1,
+            chunks,
+            appended: None,
+        })
+    }
+
+    // The list without the samples of an interval, and how many these are.
+    pub(crate) fn without<L: Ledger>(
+        &self,
+        alloc: Global,
+        from: u64,
+        to: u64,
+        steps: &mut Steps<L>,
+    ) -> Result<(Change<C>, usize), AllocError>
+        ensures ready { IfOk result (λ r. IsReady C.format self.now r.0) }
+        ensures limits { (one : ℕ) → IfOk result (λ r. HasLimits one self.now.limits r.0) }
+        ensures list { IfOk result (λ r. joined (pieces_after r.0 self.now.pieces) ≡ outside from to (points self.now)) }
+        ensures removed { IfOk result (λ r. r.1 ≡ length (between from to (points self.now))) }
+        ensures place { IfOk result (λ r. IsMeeting from to self.now.pieces r.0.start r.0.end) }
+        ensures nothing_appended { IfOk result (λ r. r.0.appended ≡ None) }
+        ensures lengths { IfOk result (λ r. longest r.0.pieces ≤ longest self.now.pieces) }
+        ensures counted { steps.old ≤ steps.new }
+        ensures bounded { steps.new ≤ steps.old + 2 * longest self.now.pieces }
+    {
+        // Does nothing: where a field is read, the order of the chunks is known.
+        let _ = &self.chunks;
+        let places = self.meeting(from, to);
+        let (start, end) = (places.start, places.end);
+        let chunks = self.left_between(alloc, start, end, from, to, steps)?;
+        let removed = self.count_of(start, end) - count_in(&chunks);
+        Ok((
+            Change {
+                start,
+                end,
+                chunks,
+                appended: None,
+            },
+            removed,
+        ))
+    }
+
+    // What the chunks that meet an interval are without its samples. Only the first and the last of them have others.
+    fn left_between<L: Ledger>(
+        &self,
+        alloc: Global,
+        start: usize,
+        end: usize,
+        from: u64,
+        to: u64,
+        steps: &mut Steps<L>,
+    ) -> Result<Vec<C>, AllocError>
+        requires { IsMeeting from to self.now.pieces start end }
+        ensures list { IfOk result (λ v. joined (map C.list v.items) ≡ outside from to (joined (slice_range self.now.pieces start end))) }
+        ensures chunks { IfOk result (λ v. AreChunks C.format (map C.list v.items) (map C.most v.items)) }
+        ensures limits { (one : ℕ) → IfOk result (λ v. AreAmong one self.now.limits (map C.most v.items)) }
+        ensures lengths { IfOk result (λ v. longest (map C.list v.items) ≤ longest self.now.pieces) }
+        ensures counted { steps.old ≤ steps.new }
+        ensures bounded { steps.new ≤ steps.old + 2 * longest self.now.pieces }
+    {
+        if start == end {
+            return Ok(Vec::new(alloc));
+        }
+        let mut chunks = self.chunks[start].without(alloc, from, to, steps)?;
+        if start + 1 == end {
+            return Ok(chunks);
+        }
+        let mut rest = self.chunks[end - 1].without(alloc, from, to, steps)?;
+        chunks.append(&mut rest)?;
+        Ok(chunks)
+    }
+
+    // At least as many samples as an interval has: those of all chunks that may have some of them.
+    pub(crate) fn count_near(&self, from: u64, to: u64) -> usize
+        ensures least { length (between from to (points self.now)) ≤ result }
+        ensures most { result ≤ length (between from to (points self.now)) + 2 * longest self.now.pieces }
+    {
+        let places = self.meeting(from, to);
+        self.count_of(places.start, places.end)
+    }
+
+    // How many samples the chunks from one place up to another have.
+    fn count_of(&self, start: usize, end: usize) -> usize
+        requires ordered { start ≤ end }
+        requires within { end ≤ length self.now.pieces }
+        ensures { result ≡ length (joined (slice_range self.now.pieces start end)) }
+    {
+        // Does nothing: it tells that all samples together can be counted.
+        let _all = self.len();
+        let mut count = 0;
+        for place in start..end {
+            count += self.chunks[place].len();
+        }
+        count
+    }
+}
+
+// A chunk of this limit with one sample.
+pub(crate) fn begun<C: Chunk>(alloc: Global, sample: &Sample, limit: u32) -> Result<C, AllocError>
+    requires { IsLimit limit }
+    ensures list { IfOk result (λ c. C.list c ≡ sample.now ∷ []) }
+    ensures limit { IfOk result (λ c. C.most c ≡ limit) }
+    ensures chunk { IfOk result (λ c. IsChunk C.format (C.most c) (C.list c)) }
+{
+    sample.known();
+    let mut chunk = C::new(alloc, limit)?;
+    let _fits = chunk.try_append(sample);
+    chunk.known();
+    Ok(chunk)
+}
+
+// How many samples these chunks have.
+fn count_in<C: Chunk>(chunks: &[C]) -> usize
+    requires { length (joined (map C.list chunks.now)) < 2 ^ 64 }
+    ensures { result ≡ length (joined (map C.list chunks.now)) }
+{
+    let mut count = 0;
+    for chunk in chunks {
+        count += chunk.len();
+    }
+    count
+}

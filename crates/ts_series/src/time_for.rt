@@ -1,0 +1,62 @@
+// A time up to which there are so many samples.
+ghost use Rattle.std.specs.Prelude.{◌≡◌, ◌≤◌, ◌⊎◌, nat_lt, [], length, drop};
+ghost use Rattle.ts_spec.specs.Sample.{at_times, between};
+ghost use Rattle.ts_sample.specs.Chunk.{joined};
+ghost use Rattle.ts_series.specs.Held.{points};
+ghost use Rattle.ts_series.specs.History.{list_of};
+
+use crate::chunks::Chunks;
+use crate::line::Line;
+use ts_sample::Chunk;
+
+impl<C: Chunk> Chunks<C> {
+    // How many chunks have a sample before this time.
+    fn begun_before(&self, time: u64) -> usize
+        ensures within { result ≤ length self.now.pieces }
+        ensures later { at_times (λ t. nat_lt t time) (joined (drop result self.now.pieces)) ≡ [] }
+    {
+        if time == 0 {
+            return 0;
+        }
+        self.upto(time - 1)
+    }
+
+    // A time from one to another up to which there are so many samples, or the later one. Nothing is decoded.
+    pub(crate) fn time_for(&self, from: u64, to: u64, count: u64) -> u64
+        requires { from ≤ to }
+        ensures within { (from ≤ result) × (result ≤ to) }
+        ensures reach { (result ≡ to) ⊎ (count ≤ length (between from result (points self.now))) }
+    {
+        // Does nothing: it tells that all samples together can be counted.
+        let _all = self.len();
+        let start = self.begun_before(from);
+        let mut found = 0;
+        for place in start..self.chunks.len() {
+            let chunk = &self.chunks[place];
+            found += chunk.len();
+            if count <= found as u64 {
+                return match chunk.last() {
+                    None => to,
+                    Some(last) => last.time.min(to),
+                };
+            }
+        }
+        to
+    }
+}
+
+impl<C: Chunk> Line<C> {
+    // A time from one to another, in milliseconds, up to which it has so many samples, or the later one. Nothing is
+    // decoded.
+    pub(crate) fn time_for(&self, from: u64, to: u64, count: u64) -> u64
+        requires { from ≤ to }
+        ensures within { (from ≤ result) × (result ≤ to) }
+        ensures reach { (result ≡ to) ⊎ (count ≤ length (between from result (list_of self.now))) }
+    {
+        let start = from.max(self.edge());
+        if to < start {
+            return to;
+        }
+        self.chunks.time_for(start, to, count)
+    }
+}
