@@ -1,11 +1,11 @@
 -- A sample that bytes begin with is read back.
-use Rattle.std.proofs.Common.{◌≡◌, ℕ, ◌^◌, ◌≤◌, pos, ◌+ℤ◌, ◌-ℤ◌, unsigned_abs, List, [], ◌++◌, ap, ◌∙◌, append_assoc, arith}
+use Rattle.std.proofs.Common.{◌≡◌, ℕ, ◌^◌, ◌≤◌, pos, ◌+ℤ◌, ◌-ℤ◌, unsigned_abs, List, ◌++◌, sym, ap, ◌∙◌, subst, append_assoc, arith}
 use Rattle.std.proofs.lemmas.Int.{ints}
 use Rattle.ts_spec.specs.Sample.{Point}
 use Rattle.ts_sample.specs.Sample.{IsFine}
 use Rattle.ts_chunk_packed.specs.Laws.{IsKnown, time_most, value_most, made_most}
 use Rattle.ts_chunk_packed.specs.Packed.{State, gap, zigzag, unzigzag, number, number_of, coded, point_of, sample_of}
-use Rattle.ts_chunk_packed.specs.Reading.{Begins, StandFor}
+use Rattle.ts_chunk_packed.specs.Reading.{Begins, Follows}
 use Rattle.ts_chunk_packed.proofs.Grouping.{number_back}
 use Rattle.ts_chunk_packed.proofs.Zigzags.{zigzag_back}
 
@@ -72,16 +72,37 @@ module _ (s : State) (p : Point) (rest : List ℕ) where
   made_begins known fine =
       record { value = made_number; rest = rest; is = ap (λ (r : ℕ × List ℕ). r.1) value_read; below = omega (arith, made_most s p known fine) }
 
--- numbers that stand for a sample
-module _ (s : State) (time value made : ℕ) (n : StandFor s time value made) where
-  pub gap_of : s.step +ℤ unzigzag time ≡ gap s n.sample.time
-  gap_of = ap (λ (m : ℕ). s.step +ℤ unzigzag m) n.of_time ∙ gap_back s n.sample []
+-- what the bytes of a sample stand for, number by number
+module _ (s : State) (bytes : List ℕ) (f : Follows s bytes) where
+  abbrev pub after_time : List ℕ
+  after_time = (number_of bytes).1
 
-  pub value_of : s.before.value +ℤ unzigzag value ≡ n.sample.value
-  value_of = ap (λ (m : ℕ). s.before.value +ℤ unzigzag m) n.of_value ∙ value_back s n.sample []
+  abbrev pub after_value : List ℕ
+  after_value = (number_of after_time).1
 
-  pub made_of : pos s.before.made +ℤ unzigzag made ≡ pos n.sample.made
-  made_of = ap (λ (m : ℕ). pos s.before.made +ℤ unzigzag m) n.of_made ∙ made_back s n.sample []
+  pub gap_of : s.step +ℤ unzigzag (number_of bytes).0 ≡ gap s f.sample.time
+  gap_of =
+      ap (λ (l : List ℕ). s.step +ℤ unzigzag (number_of l).0) f.is ∙ ap (λ (r : ℕ × List ℕ). s.step +ℤ unzigzag r.0) (time_read s f.sample f.rest)
+      ∙ gap_back s f.sample f.rest
 
-  pub point_stands : point_of s time value made ≡ n.sample
-  point_stands = (λ i. point_of s (n.of_time i) (n.of_value i) (n.of_made i)) ∙ point_back s n.sample []
+  pub value_of : s.before.value +ℤ unzigzag (number_of after_time).0 ≡ f.sample.value
+  value_of =
+      ap (λ (l : List ℕ). s.before.value +ℤ unzigzag (number_of (number_of l).1).0) f.is
+      ∙ ap (λ (r : ℕ × List ℕ). s.before.value +ℤ unzigzag r.0) (value_read s f.sample f.rest) ∙ value_back s f.sample f.rest
+
+  pub made_of : pos s.before.made +ℤ unzigzag (number_of after_value).0 ≡ pos f.sample.made
+  made_of =
+      ap (λ (l : List ℕ). pos s.before.made +ℤ unzigzag (number_of (number_of (number_of l).1).1).0) f.is
+      ∙ ap (λ (r : ℕ × List ℕ). pos s.before.made +ℤ unzigzag r.0) (made_read s f.sample f.rest) ∙ made_back s f.sample f.rest
+
+  pub all_read : sample_of s bytes ≡ (f.sample, f.rest)
+  all_read = ap (sample_of s) f.is ∙ sample_back s f.sample f.rest
+
+  pub begins_time : IsKnown s → Begins (2 ^ 64) bytes
+  begins_time known = subst (Begins (2 ^ 64)) (sym f.is) (time_begins s f.sample f.rest known f.fine f.later)
+
+  pub begins_value : IsKnown s → Begins (2 ^ 120) after_time
+  begins_value known = subst (λ (l : List ℕ). Begins (2 ^ 120) (number_of l).1) (sym f.is) (value_begins s f.sample f.rest known f.fine)
+
+  pub begins_made : IsKnown s → Begins (2 ^ 64) after_value
+  begins_made known = subst (λ (l : List ℕ). Begins (2 ^ 64) (number_of (number_of l).1).1) (sym f.is) (made_begins s f.sample f.rest known f.fine)

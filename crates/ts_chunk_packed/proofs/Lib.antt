@@ -1,9 +1,15 @@
+pub mod Appending
 pub mod Coded
 pub mod Decoding
 pub mod Examples
 pub mod Grouping
+pub mod Joining
+pub mod Late
 pub mod Listing
+pub mod Marking
 pub mod Pushing
+pub mod Resting
+pub mod Starting
 pub mod Ungrouping
 pub mod Walking
 pub mod Zigzags

@@ -1,12 +1,13 @@
 -- Samples that are read back, one after another.
 use Rattle.std.proofs.Common.{◌≡◌, ℕ, zero, suc, ◌≤◌, Bool, true, false, pos, ◌≤ℤ◌, if◌then◌else◌, List, [], ◌∷◌, ◌++◌, length, refl, sym, ap, ◌∙◌, append_assoc, append-nil, arith}
-use Rattle.std.specs.Prelude.{⊤, unwrap_or, is_some}
+use Rattle.std.specs.Prelude.{unwrap_or, is_some}
 use Rattle.std.proofs.lemmas.Int.{ints}
 use Rattle.ts_spec.specs.Sample.{Point, MAX_TIME, IsAfter, IsAscending, last_of, later_or}
 use Rattle.ts_sample.specs.Chunk.{AreFine, IsPast}
 use Rattle.ts_sample.specs.Sample.{IsFine}
 use Rattle.ts_chunk_packed.specs.Laws.{IsKnown, nothing_known}
 use Rattle.ts_chunk_packed.specs.Packed.{State, begin, gap, next, coded, packed_from, packed, state_from, sample_of, decoded_from, decoded, samples_of}
+use Rattle.ts_chunk_packed.specs.Reading.{StartsFrom}
 use Rattle.ts_chunk_packed.proofs.Decoding.{sample_back}
 
 -- ---- the law of the format
@@ -14,7 +15,7 @@ use Rattle.ts_chunk_packed.proofs.Decoding.{sample_back}
 after_first : State → ℕ → Point × List ℕ → List Point × List ℕ
 after_first s n first = (first.0 ∷ (decoded_from (next s first.0) n first.1).0, (decoded_from (next s first.0) n first.1).1)
 
-back_from : (s : State) (ps : List Point) (rest : List ℕ) → decoded_from s (length ps) (packed_from s ps ++ rest) ≡ (ps, rest)
+pub back_from : (s : State) (ps : List Point) (rest : List ℕ) → decoded_from s (length ps) (packed_from s ps ++ rest) ≡ (ps, rest)
 unfolding after_first
 back_from s [] rest = refl
 back_from s (p ∷ ps) rest =
@@ -32,7 +33,7 @@ pub samples_back : (ps : List Point) → samples_of (length ps) (packed ps) ≡ 
 unfolding samples_of
 samples_back ps = ap (λ (l : List ℕ). (decoded (length ps) l).0) (sym (append-nil (packed ps))) ∙ ap (λ (r : List Point × List ℕ). r.0) (law ps [])
 
-length_from : (s : State) (n : ℕ) (bytes : List ℕ) → length (decoded_from s n bytes).0 ≡ n
+pub length_from : (s : State) (n : ℕ) (bytes : List ℕ) → length (decoded_from s n bytes).0 ≡ n
 length_from s zero bytes = refl
 length_from s (suc n) bytes = ap suc (length_from (next s (sample_of s bytes).0) n (sample_of s bytes).1)
 
@@ -59,11 +60,6 @@ state_is (p ∷ ps) = λ i. record { before = sym (ends_of begin p ps) i; step =
 pub past_before : (ps : List Point) (t : ℕ) → IsPast (last_of ps) t → (state_from begin ps).before.time ≤ t
 past_before [] t past = omega arith
 past_before (p ∷ ps) t past = omega (arith, ap (λ (q : Point). q.time) (ends_of begin p ps), past)
-
--- the first of the samples is no earlier
-abbrev pub StartsFrom : ℕ → List Point → Type 0
-StartsFrom t [] = ⊤
-StartsFrom t (p ∷ ps) = t ≤ p.time
 
 pub starts_after : (t : ℕ) (ps : List Point) → IsAfter t ps → StartsFrom t ps
 starts_after t [] after = tt

@@ -122,3 +122,14 @@ module _ (limit : ℕ) (bytes : List ℕ) (i sum weight : ℕ) (inside : i < len
         let worth = ap (λ (r : ℕ × List ℕ). weight * r.0) (value_is limit (drop i bytes) reading.begins) in
         absurd (omega (arith, reading.worth, reading.below))
   ]
+
+-- after a first or a second byte from 128 on there is one more
+module _ (limit : ℕ) (bytes : List ℕ) (b : Begins limit bytes) (first : 128 ≤ get_or bytes 0 0) where
+  from_second : IsReading limit bytes (drop 1 bytes) (0 + (get_or bytes 0 0 - 128) * 1) (1 * 128)
+  from_second = read_on limit bytes 0 0 1 (not_ended limit bytes b) (started limit bytes b) first
+
+  pub second_there : 1 < length bytes
+  second_there = still_within limit bytes 0 0 1 (not_ended limit bytes b) (started limit bytes b) first
+
+  pub third_there : 128 ≤ get_or bytes 1 0 → 2 < length bytes
+  third_there second = still_within limit bytes 1 (0 + (get_or bytes 0 0 - 128) * 1) (1 * 128) second_there from_second second

@@ -7,11 +7,12 @@ use Rattle.std.proofs.lemmas.List.{drop_all}
 use Rattle.ts_spec.specs.Sample.{Point, IsAfter, IsAscending, is_within, between}
 use Rattle.ts_sample.specs.Chunk.{AreFine}
 use Rattle.ts_sample.specs.Visit.{visited}
-use Rattle.ts_chunk_packed.specs.Laws.{IsKnown, nothing_known}
-use Rattle.ts_chunk_packed.specs.Packed.{State, begin, next, packed_from, packed, sample_of}
-use Rattle.ts_chunk_packed.specs.Reading.{Follows}
+use Rattle.ts_chunk_packed.specs.Laws.{IsKnown}
+use Rattle.ts_chunk_packed.specs.Packed.{State, begin, next, packed_from, sample_of}
+use Rattle.ts_chunk_packed.specs.Reading.{Follows, StartsFrom}
+use Rattle.ts_chunk_packed.specs.Rest.{IsLeft, samples_from}
 use Rattle.ts_chunk_packed.proofs.Decoding.{sample_back}
-use Rattle.ts_chunk_packed.proofs.Listing.{StartsFrom, starts_after, starts_anywhere, known_next}
+use Rattle.ts_chunk_packed.proofs.Listing.{starts_after, known_next}
 
 -- What holds after some samples: the bytes that are left are those of the rest, and the walk goes on over it as it went over all, with a
 -- step for each sample so far.
@@ -42,22 +43,19 @@ within_from : (from to t : ℕ) → t ≤ to → is_within from to t ≡ nat_le 
 within_from from to t early = grind (arith, nat_tests)
 
 module _ {V : Type 0} (step : V → Point → V) (room : V → ℕ) (lowers : (v : V) (p : Point) → room v ≤ room (step v p) + 1) (from to : ℕ) (begins : V) (all : List Point) (before : ℕ) where
-  pub begun : (left : List ℕ) (s : State) → s ≡ begin → left ≡ packed all → AreFine all → IsAscending all → length (between from to all) ≤ room begins
+  pub begun : (s : State) (count : ℕ) (left : List ℕ) → IsLeft s count left → samples_from s count left ≡ all → length (between from to all) ≤ room begins
       → Walked step room from to begins begins all all s left before before 0
-  begun left s first bytes fine rises enough =
-      let at_begin : Walked step room from to begins begins all all begin left before before 0 =
-      record {
-        bytes = bytes;
-        known = nothing_known;
-        fine = fine;
-        ascending = rises;
-        starts = starts_anywhere all;
-        visited = refl;
-        room = enough;
-        counted = omega arith;
-        bounded = omega arith;
-      } in
-      subst (λ (t : State). Walked step room from to begins begins all all t left before before 0) (sym first) at_begin
+  begun s count left is list enough = record {
+    bytes = is.bytes ∙ ap (packed_from s) list;
+    known = is.known;
+    fine = subst AreFine list is.fine;
+    ascending = subst IsAscending list is.ascending;
+    starts = subst (StartsFrom s.before.time) list is.starts;
+    visited = refl;
+    room = enough;
+    counted = omega arith;
+    bounded = omega arith;
+  }
 
   -- at the sample of an index
   module _ (i : ℕ) (now : V) (s : State) (left : List ℕ) (steps : ℕ) (inside : i < length all) (walk : Walked step room from to begins now all (drop i all) s left before steps i) where

@@ -68,7 +68,7 @@ most_coded s p known fine later =
       most_bytes 4 (zigzag (pos p.made -ℤ pos s.before.made)) (omega (arith, made_most s p known fine)),
     )
 
-three_each : (s : State) (ps : List Point) → 3 * length ps ≤ length (packed_from s ps)
+pub three_each : (s : State) (ps : List Point) → 3 * length ps ≤ length (packed_from s ps)
 three_each s [] = omega arith
 three_each s (p ∷ ps) =
     omega (

@@ -1,5 +1,7 @@
 pub mod Chunk
 pub mod Laws
+pub mod Marks
 pub mod Numbers
 pub mod Packed
 pub mod Reading
+pub mod Rest

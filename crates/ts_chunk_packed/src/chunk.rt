@@ -1,12 +1,14 @@
-ghost use Rattle.std.specs.Prelude.{◌≡◌, ◌+◌, ◌≤◌, nat_le, true, if◌then◌else◌, List, [], ◌∷◌, length, Some};
-ghost use Rattle.std.specs.Option.{option_or};
-ghost use Rattle.ts_sample.specs.Chunk.{AreFine};
-ghost use Rattle.ts_sample.specs.Visit.{visited};
-ghost use Rattle.ts_spec.specs.Sample.{Point, IsAscending, between};
-ghost use Rattle.ts_chunk_packed.specs.Packed.{begin, state_from, packed, samples_of};
+// A chunk in the packed format.
+ghost use Rattle.std.specs.Prelude.{◌≡◌, ◌<◌};
 
-use crate::coding::{WIDEST, decode, encode, width_of};
-use crate::context::Context;
+mod parts;
+
+use crate::coding::{WIDEST, encode, width_of};
+use crate::context::no_sample;
+use crate::late_marks::LateMarks;
+use crate::mark::Place;
+use crate::splicing::take_over;
+use crate::walk::walk;
 use std::alloc::{AllocError, Global};
 use std::marker::Model;
 use std::sync::ledger::Ledger;
@@ -19,20 +21,21 @@ pub struct PackedChunk {
     bytes: Vec<u8>,
     count: u32,
     step: u64,
-    first: Option<Sample>,
+    first: Sample,
     last: Option<Sample>,
+    marks: LateMarks,
 }
 
 impl Model for PackedChunk {
     ghost use Rattle.std.specs.Prelude.{vec_capacity};
-    ghost use Rattle.ts_chunk_packed.specs.Chunk.{Samples, IsPacked};
+    ghost use Rattle.ts_chunk_packed.specs.Chunk.{Samples, IsMarked};
     ghost use Rattle.ts_chunk_packed.specs.Packed.{samples_of};
 
     ghost Value = { Samples };
 
     ghost view = { λ c. record { limit = c.limit; list = samples_of c.count c.bytes.items } };
 
-    ghost invariant = { λ c. IsPacked c.limit (vec_capacity c.bytes) c.bytes.items c.count c.step c.first c.last };
+    ghost invariant = { λ c. IsMarked c.limit (vec_capacity c.bytes) c.bytes.items c.count c.step c.first c.last c.marks };
 }
 
 impl Chunk for PackedChunk {
@@ -51,8 +54,9 @@ impl Chunk for PackedChunk {
             bytes: Vec::with_capacity(alloc, limit as usize)?,
             count: 0,
             step: 0,
-            first: None,
+            first: no_sample(),
             last: None,
+            marks: LateMarks::new(),
         })
     }
 
@@ -69,7 +73,10 @@ impl Chunk for PackedChunk {
     }
 
     fn first(&self) -> Option<Sample> {
-        self.first
+        if self.count == 0 {
+            return None;
+        }
+        Some(self.first)
     }
 
     fn last(&self) -> Option<Sample> {
@@ -85,7 +92,7 @@ impl Chunk for PackedChunk {
     }
 
     fn scan<V: Visit, L: Ledger>(&self, from: u64, to: u64, visit: &mut V, steps: &mut Steps<L>) {
-        walk(&self.bytes, self.count, from, to, visit, steps);
+        walk(self.rest_from(from), from, to, visit, steps);
     }
 
     fn fits(&self, sample: &Sample) -> bool {
@@ -103,12 +110,39 @@ impl Chunk for PackedChunk {
         }
         sample.known();
         let context = self.context();
+        let place = Place {
+            at: self.bytes.len() as u32,
+            count: self.count,
+        };
+        self.marks.set(&context, place);
         encode(&mut self.bytes, &context, sample);
+        keep_first(&mut self.first, self.count, sample);
         self.count += 1;
         self.step = context.step_to(sample);
-        keep_first(&mut self.first, sample);
         self.last = Some(*sample);
         true
+    }
+
+    fn spliced<L: Ledger>(
+        &self,
+        alloc: Global,
+        sample: &Sample,
+        steps: &mut Steps<L>,
+    ) -> Result<Option<PackedChunk>, AllocError> {
+        self.known();
+        sample.known();
+        let mut rest = self.rest_from(sample.time);
+        let count = rest.len();
+        let mut chunk = self.front(alloc, sample.time, &mut rest)?;
+        if !chunk.try_append(sample) {
+            return Ok(None);
+        }
+        rest.pass_before(sample.time + 1);
+        if !take_over(&mut chunk, &mut rest, self) {
+            return Ok(None);
+        }
+        steps.add((count - rest.len()) as u64);
+        Ok(Some(chunk))
     }
 
     ghost at_least = { three_or_more };
@@ -118,61 +152,12 @@ impl Chunk for PackedChunk {
     ghost one_fits = { one_within };
 }
 
-impl PackedChunk {
-    // What is known of its samples.
-    fn context(&self) -> Context
-        ensures { result ≡ state_from begin self.now.list }
-    {
-        Context::new(self.last, self.step)
-    }
-}
-
-// Keeps the first sample that there was, and else this one.
-fn keep_first(first: &mut Option<Sample>, sample: &Sample)
-    ensures { first.new ≡ option_or first.old (Some sample.now) }
+// Keeps the first of so many samples, and this one where there was none.
+fn keep_first(first: &mut Sample, count: u32, sample: &Sample)
+    ensures none { count ≡ 0 → first.new ≡ sample.now }
+    ensures some { 0 < count → first.new ≡ first.old }
 {
-    if first.is_none() {
-        *first = Some(*sample);
-    }
-}
-
-// Takes a visitor over the samples of an interval, which are the first so many of the bytes.
-fn walk<V: Visit, L: Ledger>(
-    bytes: &[u8],
-    count: u32,
-    from: u64,
-    to: u64,
-    visit: &mut V,
-    steps: &mut Steps<L>,
-)
-    requires packed { bytes.now ≡ packed (samples_of count bytes.now) }
-    requires ascending { IsAscending (samples_of count bytes.now) }
-    requires fine { AreFine (samples_of count bytes.now) }
-    requires room { length (between from to (samples_of count bytes.now)) ≤ V.room visit.old }
-    ensures visited { visit.new ≡ visited V.step visit.old (between from to (samples_of count bytes.now)) }
-    ensures counted { steps.old + length (between from to (samples_of count bytes.now)) ≤ steps.new }
-    ensures bounded { steps.new ≤ steps.old + count }
-{
-    let mut context = Context::new(None, 0);
-    let mut rest = bytes;
-    for _ in 0..count {
-        steps.tick();
-        let (sample, after) = decode(&context, rest);
-        if sample.time > to {
-            return;
-        }
-        offer(&sample, from, visit);
-        context = context.after(&sample);
-        rest = after;
-    }
-}
-
-// Gives a visitor a sample that is not before this time.
-fn offer<V: Visit>(sample: &Sample, from: u64, visit: &mut V)
-    requires { nat_le from sample.now.time ≡ true → 1 ≤ V.room visit.old }
-    ensures { visit.new ≡ (if nat_le from sample.now.time then V.step visit.old sample.now else visit.old) }
-{
-    if from <= sample.time {
-        visit.sample(sample);
+    if count == 0 {
+        *first = *sample;
     }
 }

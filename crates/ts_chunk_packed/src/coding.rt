@@ -1,11 +1,13 @@
 // A sample as bytes, by what is known of those before it.
-ghost use Rattle.std.specs.Prelude.{◌≡◌, ◌+◌, ◌≤◌, pos, ◌-ℤ◌, ◌++◌, length, vec_len, vec_capacity};
-ghost use Rattle.ts_chunk_packed.specs.Packed.{coded, gap, point_of, sample_of, zigzag};
-ghost use Rattle.ts_chunk_packed.specs.Reading.{Follows, StandFor};
+ghost use Rattle.std.specs.Prelude.{◌≡◌, ◌+◌, ◌^◌, ◌≤◌, pos, ◌+ℤ◌, ◌-ℤ◌, ◌≤ℤ◌, ◌<ℤ◌, ◌++◌, length, unsigned_abs, vec_len, vec_capacity};
+ghost use Rattle.ts_spec.specs.Sample.{MAX_TIME};
+ghost use Rattle.ts_spec.specs.Value.{bound};
+ghost use Rattle.ts_chunk_packed.specs.Packed.{coded, gap, number_of, sample_of, zigzag, unzigzag};
+ghost use Rattle.ts_chunk_packed.specs.Reading.{Begins, Follows};
 
 use crate::context::Context;
-use crate::number::{put, put_wide, read, read_wide, width, width_wide};
-use crate::zigzag::{ahead, ahead_wide, apart, apart_wide};
+use crate::number::{put, put_wide, read, width, width_wide};
+use crate::zigzag::{ahead, ahead_near, ahead_wide, apart, apart_wide};
 use ts_sample::{Sample, Units};
 
 /// The most bytes that a sample takes.
@@ -34,16 +36,19 @@ pub fn encode(bytes: &mut Vec<u8>, context: &Context, sample: &Sample)
 }
 
 /// The sample that the bytes begin with, and the bytes after it.
+#[inline(always)]
 pub fn decode<'a>(context: &Context, bytes: &'a [u8]) -> (Sample, &'a [u8])
     requires { Follows context.now bytes.now }
     ensures sample { result.0 ≡ (sample_of context.now bytes.now).0 }
     ensures rest { result.1.now ≡ (sample_of context.now bytes.now).1 }
 {
     context.known();
-    let (time, bytes) = read(bytes);
-    let (value, bytes) = read_wide(bytes);
-    let (made, bytes) = read(bytes);
-    (sample_at(context, time, value, made), bytes)
+    let before = context.before();
+    let (time, bytes) = time_after(context, bytes);
+    let (value, bytes) = value_after(before.value.get(), bytes);
+    let (made, bytes) = made_after(before.made, bytes);
+    let value = Units::of_millionths(value);
+    (Sample { value, time, made }, bytes)
 }
 
 // The three numbers of a sample.
@@ -70,16 +75,86 @@ fn numbers_of(context: &Context, sample: &Sample) -> Numbers
     }
 }
 
-// The sample that has these numbers.
-fn sample_at(context: &Context, time: u64, value: u128, made: u64) -> Sample
-    requires { StandFor context.now time value made }
-    ensures { result ≡ point_of context.now time value made }
+// The time by the number that the bytes begin with, and the bytes after it.
+#[inline(always)]
+fn time_after<'a>(context: &Context, bytes: &'a [u8]) -> (u64, &'a [u8])
+    requires begins { Begins (2 ^ 64) bytes.now }
+    requires least { pos 0 ≤ℤ (context.now.step +ℤ unzigzag (number_of bytes.now).0) }
+    requires most { (pos context.now.before.time +ℤ (context.now.step +ℤ unzigzag (number_of bytes.now).0)) ≤ℤ pos MAX_TIME }
+    ensures time { pos result.0 ≡ pos context.now.before.time +ℤ (context.now.step +ℤ unzigzag (number_of bytes.now).0) }
+    ensures rest { result.1.now ≡ (number_of bytes.now).1 }
 {
-    context.known();
-    let before = context.before();
-    Sample {
-        value: Units::new(ahead_wide(before.value.get(), value)).unwrap(),
-        time: before.time + ahead(context.step(), time),
-        made: ahead(before.made as u64, made) as u32,
+    let (number, rest) = read(bytes);
+    let gap = ahead(context.step(), number);
+    (context.before().time + gap, rest)
+}
+
+// The value by the number that the bytes begin with, and the bytes after it. One of up to three bytes is read without
+// a loop.
+#[inline(always)]
+fn value_after(from: i128, bytes: &[u8]) -> (i128, &[u8])
+    requires from { unsigned_abs from ≤ bound }
+    requires begins { Begins (2 ^ 120) bytes.now }
+    ensures value { result.0 ≡ from +ℤ unzigzag (number_of bytes.now).0 }
+    ensures rest { result.1.now ≡ (number_of bytes.now).1 }
+{
+    let first = bytes[0];
+    if first < 128 {
+        return (ahead_near(from, first as u64), &bytes[1..]);
     }
+    let lowest = (first - 128) as u64;
+    let second = bytes[1];
+    if second < 128 {
+        let number = lowest + second as u64 * 128;
+        return (ahead_near(from, number), &bytes[2..]);
+    }
+    let lower = lowest + (second - 128) as u64 * 128;
+    let third = bytes[2];
+    if third < 128 {
+        let number = lower + third as u64 * 16_384;
+        return (ahead_near(from, number), &bytes[3..]);
+    }
+    value_after_long(from, bytes)
+}
+
+// The same, byte by byte. One of up to nine bytes is read in 64 bits.
+#[inline(always)]
+fn value_after_long(from: i128, bytes: &[u8]) -> (i128, &[u8])
+    requires from { unsigned_abs from ≤ bound }
+    requires begins { Begins (2 ^ 120) bytes.now }
+    ensures value { result.0 ≡ from +ℤ unzigzag (number_of bytes.now).0 }
+    ensures rest { result.1.now ≡ (number_of bytes.now).1 }
+{
+    let mut number: u64 = 0;
+    let mut weight: u64 = 1;
+    let mut at = 0;
+    while weight <= 1 << 56 {
+        let byte = bytes[at];
+        if byte < 128 {
+            let near = number + byte as u64 * weight;
+            return (ahead_near(from, near), &bytes[at + 1..]);
+        }
+        number += (byte - 128) as u64 * weight;
+        weight *= 128;
+        at += 1;
+    }
+    let (higher, rest) = read(&bytes[at..]);
+    let far = number as u128 + higher as u128 * weight as u128;
+    (ahead_wide(from, far), rest)
+}
+
+// The number of rules by the number that the bytes begin with, and the bytes after it. It is mostly the same.
+#[inline(always)]
+fn made_after(from: u32, bytes: &[u8]) -> (u32, &[u8])
+    requires begins { Begins (2 ^ 64) bytes.now }
+    requires least { pos 0 ≤ℤ (pos from +ℤ unzigzag (number_of bytes.now).0) }
+    requires most { (pos from +ℤ unzigzag (number_of bytes.now).0) <ℤ pos (2 ^ 32) }
+    ensures made { pos result.0 ≡ pos from +ℤ unzigzag (number_of bytes.now).0 }
+    ensures rest { result.1.now ≡ (number_of bytes.now).1 }
+{
+    if bytes[0] == 0 {
+        return (from, &bytes[1..]);
+    }
+    let (number, rest) = read(bytes);
+    (ahead(from as u64, number) as u32, rest)
 }

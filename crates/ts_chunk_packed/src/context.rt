@@ -1,4 +1,4 @@
-ghost use Rattle.std.specs.Prelude.{◌≡◌, ◌≤◌, ◌-◌, pos, unwrap_or, is_some};
+ghost use Rattle.std.specs.Prelude.{◌≡◌, ◌≤◌, ◌-◌, pos, unwrap_or, is_some, if◌then◌else◌, None, Some};
 ghost use Rattle.ts_spec.specs.Sample.{MAX_TIME};
 ghost use Rattle.ts_chunk_packed.specs.Laws.{IsKnown};
 ghost use Rattle.ts_chunk_packed.specs.Packed.{begin, gap, next};
@@ -28,23 +28,20 @@ impl Model for Context {
 
 impl Context {
     /// After samples of which this is the last, so far after the one before it.
+    #[inline(always)]
     pub fn new(last: Option<Sample>, step: u64) -> Context
         requires { step ≤ MAX_TIME }
         ensures { result ≡ record { before = unwrap_or last begin.before; step = pos step; begun = is_some last } }
     {
-        let nothing = Sample {
-            value: Units::ZERO,
-            time: 0,
-            made: 0,
-        };
         Context {
-            before: last.unwrap_or(nothing),
+            before: last.unwrap_or(no_sample()),
             step,
             begun: last.is_some(),
         }
     }
 
     /// Does nothing: it tells a caller the bounds that a reference hides.
+    #[inline(always)]
     pub fn known(&self)
         ensures { IsKnown self.now }
     {
@@ -53,13 +50,22 @@ impl Context {
     }
 
     /// The last sample, or zeros.
+    #[inline(always)]
     pub fn before(&self) -> &Sample
         ensures { result.now ≡ self.now.before }
     {
         &self.before
     }
 
+    /// The last sample, if there was one.
+    pub fn last(&self) -> Option<Sample>
+        ensures { result ≡ (if self.now.begun then Some self.now.before else None) }
+    {
+        if self.begun { Some(self.before) } else { None }
+    }
+
     /// How far the last sample stands from the one before it.
+    #[inline(always)]
     pub fn step(&self) -> u64
         ensures { pos result ≡ self.now.step }
     {
@@ -67,6 +73,7 @@ impl Context {
     }
 
     /// After one more sample.
+    #[inline(always)]
     pub fn after(&self, sample: &Sample) -> Context
         requires { self.now.before.time ≤ sample.now.time }
         ensures { result ≡ next self.now sample.now }
@@ -79,6 +86,7 @@ impl Context {
     }
 
     /// How far this next sample stands from the last one: 0 for the first.
+    #[inline(always)]
     pub fn step_to(&self, sample: &Sample) -> u64
         requires { self.now.before.time ≤ sample.now.time }
         ensures step { pos result ≡ (next self.now sample.now).step }
@@ -89,5 +97,17 @@ impl Context {
         } else {
             0
         }
+    }
+}
+
+/// What stands for a sample where there is none.
+#[inline(always)]
+pub fn no_sample() -> Sample
+    ensures { result ≡ begin.before }
+{
+    Sample {
+        value: Units::ZERO,
+        time: 0,
+        made: 0,
     }
 }

@@ -5,8 +5,14 @@
 mod chunk;
 mod coding;
 mod context;
+mod late_marks;
 mod laws;
+mod mark;
+mod marks;
 mod number;
+mod rest;
+mod splicing;
+mod walk;
 mod zigzag;
 
 pub use chunk::PackedChunk;

@@ -59,8 +59,23 @@ pub fn put_wide(bytes: &mut Vec<u8>, natural: u128)
     put(bytes, rest as u64);
 }
 
-/// The number that the bytes begin with, and the bytes after it.
+/// The number that the bytes begin with, and the bytes after it. One of one byte is read without a loop.
+#[inline(always)]
 pub fn read(bytes: &[u8]) -> (u64, &[u8])
+    requires { Begins (2 ^ 64) bytes.now }
+    ensures number { result.0 ≡ (number_of bytes.now).0 }
+    ensures rest { result.1.now ≡ (number_of bytes.now).1 }
+{
+    let first = bytes[0];
+    if first < 128 {
+        return (first as u64, &bytes[1..]);
+    }
+    read_long(bytes)
+}
+
+// The same, byte by byte.
+#[inline(always)]
+fn read_long(bytes: &[u8]) -> (u64, &[u8])
     requires { Begins (2 ^ 64) bytes.now }
     ensures number { result.0 ≡ (number_of bytes.now).0 }
     ensures rest { result.1.now ≡ (number_of bytes.now).1 }
@@ -74,27 +89,4 @@ pub fn read(bytes: &[u8]) -> (u64, &[u8])
         at += 1;
     }
     (number + bytes[at] as u64 * weight, &bytes[at + 1..])
-}
-
-/// The number of up to seventeen bytes that the bytes begin with, and the bytes after it. One of up to nine bytes is
-/// read in 64 bits.
-pub fn read_wide(bytes: &[u8]) -> (u128, &[u8])
-    requires { Begins (2 ^ 120) bytes.now }
-    ensures number { result.0 ≡ (number_of bytes.now).0 }
-    ensures rest { result.1.now ≡ (number_of bytes.now).1 }
-{
-    let mut number: u64 = 0;
-    let mut weight: u64 = 1;
-    let mut at = 0;
-    while weight <= 1 << 56 {
-        let byte = bytes[at];
-        if byte < 128 {
-            return ((number + byte as u64 * weight) as u128, &bytes[at + 1..]);
-        }
-        number += (byte - 128) as u64 * weight;
-        weight *= 128;
-        at += 1;
-    }
-    let (higher, rest) = read(&bytes[at..]);
-    (number as u128 + higher as u128 * weight as u128, rest)
 }

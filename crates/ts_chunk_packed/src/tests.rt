@@ -3,10 +3,11 @@ ghost use Rattle.std.specs.Prelude.{◌≡◌, ◌<◌, true};
 ghost use Rattle.ts_sample.specs.Chunk.{IsPast};
 ghost use Rattle.ts_spec.specs.Sample.{last_of};
 
+mod long;
 mod rows;
 
 use super::*;
-use rows::LISTS;
+use rows::{LATE, LISTS, SIX};
 use std::alloc::{AllocError, Global};
 use std::marker::Brand;
 use std::process::Abort;
@@ -132,5 +133,58 @@ fn a_changed_chunk_is_cut_by_halves(rt: HostRuntime) -> Result<(), AllocError> {
     assert!(rt; with[0].bytes() == 26 && with[1].bytes() == 28);
     assert!(rt; without.len() == 1 && without[0].len() == 2);
     assert!(rt; without[0].last() == chunk.last());
+    Ok(())
+}
+
+// A chunk of this limit with the six samples.
+fn six(rt: &impl Abort, alloc: Global, limit: u32) -> Result<PackedChunk, AllocError> {
+    assert!(rt; 48 <= limit && limit <= 1_048_576);
+    let mut chunk = PackedChunk::new(alloc, limit)?;
+    for (time, value, made) in SIX {
+        assert!(rt; append(rt, &mut chunk, &sample(rt, time, value, made)));
+    }
+    Ok(chunk)
+}
+
+// What a chunk comes to with a late sample: as one chunk, and by the rule.
+fn with_late<L: Ledger>(
+    alloc: Global,
+    blank: Blank,
+    chunk: &PackedChunk,
+    late: &Sample,
+) -> Result<(Option<PackedChunk>, Vec<PackedChunk>), AllocError>
+    requires name { blank.name ≡ L.name }
+    requires parts { blank.parts ≡ L.parts }
+    requires some { 0 < blank.parts }
+{
+    let mut steps: Steps<L> = Steps::new(blank);
+    let one = chunk.spliced(alloc, late, &mut steps)?;
+    let all = chunk.upsert(alloc, late, &mut steps)?;
+    Ok((one, all))
+}
+
+#[test]
+fn a_late_sample_leaves_the_other_bytes(rt: HostRuntime) -> Result<(), AllocError> {
+    let chunk = six(&rt, rt.alloc(), 128)?;
+    for ((time, value, made), bytes) in LATE {
+        let late = sample(&rt, time, value, made);
+        let (one, all) = with_late::<Brand>(rt.alloc(), Blank::new(1), &chunk, &late)?;
+        let one = one.expect(&rt, "it fits");
+        assert_eq!(rt; one.raw(), bytes);
+        assert!(rt; all.len() == 1 && all[0].raw() == bytes && one.limit() == 128);
+        let seen = between::<Brand>(rt.alloc(), Blank::new(1), &one, 0, MAX_TIME)?;
+        assert!(rt; seen.len() == one.len());
+        assert!(rt; seen.first().copied() == one.first() && seen.last().copied() == one.last());
+    }
+    Ok(())
+}
+
+#[test]
+fn a_late_sample_that_does_not_fit(rt: HostRuntime) -> Result<(), AllocError> {
+    let chunk = six(&rt, rt.alloc(), 48)?;
+    let late = sample(&rt, 1005, 1_000_000_000_000_000_000_000_000, 0);
+    let (one, all) = with_late::<Brand>(rt.alloc(), Blank::new(1), &chunk, &late)?;
+    assert!(rt; one.is_none() && all.len() == 2);
+    assert!(rt; all[0].len() == 3 && all[1].len() == 4);
     Ok(())
 }

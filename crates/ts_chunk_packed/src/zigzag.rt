@@ -8,7 +8,12 @@ pub fn apart(from: u64, to: u64) -> u64
     requires to { to < 2 ^ 63 }
     ensures { result ≡ zigzag (pos to -ℤ pos from) }
 {
-    2 * to.abs_diff(from) - (to < from) as u64
+    let difference = to as i64 - from as i64;
+    if difference < 0 {
+        2 * (-(difference + 1)) as u64 + 1
+    } else {
+        2 * difference as u64
+    }
 }
 
 /// The number that stands for a difference of values.
@@ -17,10 +22,16 @@ pub fn apart_wide(from: i128, to: i128) -> u128
     requires to { unsigned_abs to ≤ 10 ^ 24 }
     ensures { result ≡ zigzag (to -ℤ from) }
 {
-    2 * to.abs_diff(from) - (to < from) as u128
+    let difference = to - from;
+    if difference < 0 {
+        2 * (-(difference + 1)) as u128 + 1
+    } else {
+        2 * difference as u128
+    }
 }
 
 /// What stands at this difference, where that is a time or a number of rules.
+#[inline(always)]
 pub fn ahead(from: u64, difference: u64) -> u64
     requires least { pos 0 ≤ℤ (pos from +ℤ unzigzag difference) }
     requires most { (pos from +ℤ unzigzag difference) <ℤ pos (2 ^ 63) }
@@ -34,7 +45,26 @@ pub fn ahead(from: u64, difference: u64) -> u64
     }
 }
 
+/// The value that stands at this difference, of up to 64 bits.
+#[inline(always)]
+pub fn ahead_near(from: i128, difference: u64) -> i128
+    requires { unsigned_abs from ≤ 10 ^ 24 }
+    ensures { result ≡ from +ℤ unzigzag difference }
+{
+    from + signed(difference) as i128
+}
+
+// The difference that a number stands for.
+#[inline(always)]
+fn signed(number: u64) -> i64
+    ensures { result ≡ unzigzag number }
+{
+    let half = (number / 2) as i64;
+    if number % 2 == 0 { half } else { -half - 1 }
+}
+
 /// The value that stands at this difference.
+#[inline(always)]
 pub fn ahead_wide(from: i128, difference: u128) -> i128
     requires from { unsigned_abs from ≤ 10 ^ 24 }
     requires difference { difference < 2 ^ 120 }

@@ -2,4 +2,5 @@ pub mod Coding
 pub mod Examples
 pub mod Pushing
 pub mod Scanning
+pub mod Splicing
 pub mod Walking

@@ -10,7 +10,7 @@ use Rattle.ts_chunk_plain.specs.Laws.{length-bytes_of, length-plain}
 use Rattle.ts_chunk_plain.specs.Plain.{bytes_of, plain, decoded, samples_of}
 use Rattle.ts_chunk_plain.proofs.Coding.{samples_back}
 
-plain-append : (ps qs : List Point) → plain (ps ++ qs) ≡ plain ps ++ plain qs
+pub plain-append : (ps qs : List Point) → plain (ps ++ qs) ≡ plain ps ++ plain qs
 plain-append [] qs = refl
 plain-append (p ∷ ps) qs = ap (λ (l : List ℕ). bytes_of p ++ l) (plain-append ps qs) ∙ sym (append_assoc (bytes_of p) (plain ps) (plain qs))
 

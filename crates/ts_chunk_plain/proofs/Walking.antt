@@ -1,5 +1,5 @@
 -- A walk of a visitor over the pieces of samples.
-use Rattle.std.proofs.Common.{◌≡◌, ℕ, suc, ◌+◌, ◌<◌, ◌≤◌, Bool, true, false, not, cond, List, [], ◌∷◌, length, map, drop, get_or, refl, sym, ap, ◌∙◌, subst, arith, add-one}
+use Rattle.std.proofs.Common.{◌≡◌, ℕ, suc, ◌+◌, ◌<◌, ◌≤◌, Bool, true, false, not, cond, List, [], ◌∷◌, length, map, take, drop, get_or, refl, sym, ap, ◌∙◌, subst, arith, add-one}
 use Rattle.std.specs.Prelude.{nat_lt, nat_le, filter}
 use Rattle.std.specs.List.Sorted.{IsPartitionPoint, IsNonDecreasingBy}
 use Rattle.std.proofs.lemmas.List.{get_or-map, length-map}
@@ -84,6 +84,23 @@ from_place t bs i point within =
     ap (map sample_of) (parted (λ b. nat_lt (sample_of b).time t) bs i point within).1
     ∙ filter-map sample_of (λ (p : Point). not (nat_lt p.time t)) bs
     ∙ filter_alike (λ (p : Point). not (nat_lt p.time t)) (λ (p : Point). nat_le t p.time) (λ p. not_before t p.time) (map sample_of bs)
+
+not_past : (t n : ℕ) → not (nat_le n t) ≡ nat_lt t n
+not_past t n = grind (arith, nat_tests)
+
+-- and those before t before it
+pub before_place : (t : ℕ) (bs : List (List ℕ)) (i : ℕ) → IsPartitionPoint (λ b. nat_lt (sample_of b).time t ≡ true) (λ b. nat_lt (sample_of b).time t ≡ false) bs i → i ≤ length bs
+    → map sample_of (take i bs) ≡ at_times (λ n. nat_lt n t) (map sample_of bs)
+before_place t bs i point within =
+    ap (map sample_of) (parted (λ b. nat_lt (sample_of b).time t) bs i point within).0 ∙ filter-map sample_of (λ (p : Point). nat_lt p.time t) bs
+
+-- the place where the times pass t has the samples past t behind it
+pub past_place : (t : ℕ) (bs : List (List ℕ)) (i : ℕ) → IsPartitionPoint (λ b. nat_le (sample_of b).time t ≡ true) (λ b. nat_le (sample_of b).time t ≡ false) bs i → i ≤ length bs
+    → map sample_of (drop i bs) ≡ at_times (nat_lt t) (map sample_of bs)
+past_place t bs i point within =
+    ap (map sample_of) (parted (λ b. nat_le (sample_of b).time t) bs i point within).1
+    ∙ filter-map sample_of (λ (p : Point). not (nat_le p.time t)) bs
+    ∙ filter_alike (λ (p : Point). not (nat_le p.time t)) (λ (p : Point). nat_lt t p.time) (λ p. not_past t p.time) (map sample_of bs)
 
 -- the piece at an index stands before the rest
 pub piece_at : (bs : List (List ℕ)) (i : ℕ) → i < length bs → map sample_of (drop i bs) ≡ sample_of (get_or bs i []) ∷ map sample_of (drop (i + 1) bs)

@@ -1,8 +1,8 @@
-ghost use Rattle.std.specs.Prelude.{◌≡◌, ◌+◌, ◌≤◌, nat_le, List, map, drop, length};
-ghost use Rattle.ts_chunk_plain.specs.Plain.{sample_of};
+ghost use Rattle.std.specs.Prelude.{◌≡◌, ◌+◌, ◌≤◌, nat_lt, nat_le, List, [], ◌∷◌, ◌++◌, map, take, drop, length, IfOk, vec_capacity};
+ghost use Rattle.ts_chunk_plain.specs.Plain.{bytes_of, plain, sample_of};
 ghost use Rattle.ts_sample.specs.Chunk.{AreFine};
 ghost use Rattle.ts_sample.specs.Visit.{visited};
-ghost use Rattle.ts_spec.specs.Sample.{Point, IsAscending, at_times};
+ghost use Rattle.ts_spec.specs.Sample.{Point, IsAscending, at_times, first_of, last_of};
 
 use crate::piece::{WIDTH, decode, encode, time_of};
 use std::alloc::{AllocError, Global};
@@ -33,7 +33,6 @@ impl Model for PlainChunk {
 
 impl Chunk for PlainChunk {
     ghost use Rattle.ts_chunk_plain.specs.Laws.{three_or_more, no_fewer, one_within};
-    ghost use Rattle.ts_chunk_plain.specs.Plain.{plain};
 
     ghost list = { λ c. c.list };
 
@@ -99,6 +98,28 @@ impl Chunk for PlainChunk {
         true
     }
 
+    fn spliced<L: Ledger>(
+        &self,
+        alloc: Global,
+        sample: &Sample,
+        _steps: &mut Steps<L>,
+    ) -> Result<Option<PlainChunk>, AllocError> {
+        let limit = self.limit;
+        let pieces = self.pieces();
+        let start = place_of(pieces, sample.time);
+        let end = place_past(pieces, sample.time);
+        if (start + 1 + (pieces.len() - end)) * WIDTH > limit as usize {
+            return Ok(None);
+        }
+        sample.known();
+        Ok(Some(PlainChunk {
+            limit,
+            bytes: joined(alloc, limit, self.before(start), sample, self.past(end))?,
+            first: self.first_with(start, sample),
+            last: self.last_with(end, sample),
+        }))
+    }
+
     ghost at_least = { three_or_more };
 
     ghost grows = { no_fewer };
@@ -116,15 +137,83 @@ impl PlainChunk {
         let (pieces, _) = self.bytes.as_slice().as_chunks::<WIDTH>();
         pieces
     }
+
+    // The bytes of the first so many of its samples.
+    fn before(&self, count: usize) -> &[u8]
+        requires { count ≤ length self.now.list }
+        ensures { result.now ≡ plain (take count self.now.list) }
+    {
+        self.bytes.split_at(count * WIDTH).0
+    }
+
+    // The bytes of its samples but for the first so many.
+    fn past(&self, count: usize) -> &[u8]
+        requires { count ≤ length self.now.list }
+        ensures { result.now ≡ plain (drop count self.now.list) }
+    {
+        self.bytes.split_at(count * WIDTH).1
+    }
+
+    // The first of the first so many of its samples and this one.
+    fn first_with(&self, count: usize, sample: &Sample) -> Option<Sample>
+        requires { count ≤ length self.now.list }
+        ensures { result ≡ first_of (take count self.now.list ++ sample.now ∷ []) }
+    {
+        if count == 0 {
+            Some(*sample)
+        } else {
+            self.first
+        }
+    }
+
+    // The last of this sample and its own but for the first so many.
+    fn last_with(&self, count: usize, sample: &Sample) -> Option<Sample>
+        requires { count ≤ length self.now.list }
+        ensures { result ≡ last_of (sample.now ∷ drop count self.now.list) }
+    {
+        if count == self.len() {
+            Some(*sample)
+        } else {
+            self.last
+        }
+    }
+}
+
+// The bytes of a sample between other bytes, with room for a limit.
+fn joined(
+    alloc: Global,
+    limit: u32,
+    before: &[u8],
+    sample: &Sample,
+    after: &[u8],
+) -> Result<Vec<u8>, AllocError>
+    ensures items { IfOk result (λ v. v.items ≡ before.now ++ (bytes_of sample.now ++ after.now)) }
+    ensures room { IfOk result (λ v. limit ≤ vec_capacity v) }
+{
+    let mut bytes = Vec::with_capacity(alloc, limit as usize)?;
+    bytes.extend_from_slice(before)?;
+    bytes.extend_from_slice(&encode(sample))?;
+    bytes.extend_from_slice(after)?;
+    Ok(bytes)
 }
 
 // How many of the samples are before this time. It reads times alone.
 fn place_of(pieces: &[[u8; WIDTH]], time: u64) -> usize
     requires { IsAscending (map sample_of pieces.now) }
     ensures within { result ≤ length pieces.now }
+    ensures before { map sample_of (take result pieces.now) ≡ at_times (λ t. nat_lt t time) (map sample_of pieces.now) }
     ensures after { map sample_of (drop result pieces.now) ≡ at_times (nat_le time) (map sample_of pieces.now) }
 {
     pieces.partition_point(|piece| time_of(piece) < time)
+}
+
+// How many of the samples are up to this time. It reads times alone.
+fn place_past(pieces: &[[u8; WIDTH]], time: u64) -> usize
+    requires { IsAscending (map sample_of pieces.now) }
+    ensures within { result ≤ length pieces.now }
+    ensures past { map sample_of (drop result pieces.now) ≡ at_times (nat_lt time) (map sample_of pieces.now) }
+{
+    pieces.partition_point(|piece| time_of(piece) <= time)
 }
 
 // Takes a visitor over the samples up to a time.

@@ -25,6 +25,9 @@ pub(crate) fn with_sample<C: Chunk, L: Ledger>(
     ensures bounded { steps.new ≤ steps.old + length (C.list chunk.now) }
 {
     chunk.known();
+    if let Some(spliced) = chunk.spliced(alloc, sample, steps)? {
+        return alone(alloc, spliced);
+    }
     let mut samples = decoded(chunk, alloc, steps)?;
     put_at_its_time(&mut samples, sample)?;
     cut_into(alloc, chunk.limit(), &samples)
@@ -47,6 +50,18 @@ pub(crate) fn without_interval<C: Chunk, L: Ledger>(
     let mut samples = decoded(chunk, alloc, steps)?;
     take_out(&mut samples, from, to);
     cut_into(alloc, chunk.limit(), &samples)
+}
+
+// A list of this chunk alone, which has samples.
+fn alone<C: Chunk>(alloc: Global, chunk: C) -> Result<Vec<C>, AllocError>
+    requires { 0 < length (C.list chunk) }
+    ensures cut { IfOk result (λ v. IsCut C.format (C.most chunk) (C.list chunk) (map C.list v.items)) }
+    ensures limits { IfOk result (λ v. HaveLimit C.most (C.most chunk) v.items) }
+{
+    chunk.known();
+    let mut chunks = Vec::new(alloc);
+    chunks.push(chunk)?;
+    Ok(chunks)
 }
 
 // The samples of a chunk, in a list that has room for one more.

@@ -1,4 +1,4 @@
-ghost use Rattle.std.specs.Prelude.{◌≡◌, ℕ, ◌+◌, ◌*◌, ◌≤◌, nat_le, if◌then◌else◌, List, [], ◌∷◌, ◌++◌, length, map, IfOk};
+ghost use Rattle.std.specs.Prelude.{◌≡◌, ℕ, ◌+◌, ◌*◌, ◌<◌, ◌≤◌, nat_le, if◌then◌else◌, List, [], ◌∷◌, ◌++◌, length, map, IfOk, IfSome, IfNone};
 ghost use Rattle.ts_spec.specs.Sample.{Point, between, outside, put, first_of, last_of};
 ghost use Rattle.ts_sample.specs.Chunk.{IsLimit, IsChunk, IsPast, IsCut, HaveLimit, least_limit};
 ghost use Rattle.ts_sample.specs.Sample.{IsFine};
@@ -75,6 +75,22 @@ pub trait Chunk: Drop {
         ensures fits { result ≡ nat_le (length (format (list self.old ++ sample.now ∷ []))) (most self.old) }
         ensures list { list self.new ≡ (if result then list self.old ++ sample.now ∷ [] else list self.old) }
         ensures limit { most self.new ≡ most self.old };
+
+    /// One new chunk of the same limit with the sample at its time, in the place of one there or as a new one:
+    /// none where it would not fit. The bytes that the sample leaves as they are are moved. Each sample that is
+    /// decoded for such a chunk is a step.
+    fn spliced<L: Ledger>(
+        &self,
+        alloc: Global,
+        sample: &Sample,
+        steps: &mut Steps<L>,
+    ) -> Result<Option<Self>, AllocError>
+        ensures list { IfOk result (λ o. IfSome o (λ c. list c ≡ put sample.now (list self.now))) }
+        ensures limit { IfOk result (λ o. IfSome o (λ c. most c ≡ most self.now)) }
+        ensures full { IfOk result (λ o. IfNone o (most self.now < length (format (put sample.now (list self.now))))) }
+        ensures counted { steps.old ≤ steps.new }
+        ensures bounded { steps.new ≤ steps.old + length (list self.now) }
+        ensures without { IfOk result (λ o. IfNone o (steps.new ≡ steps.old)) };
 
     /// New chunks with the sample at its time, in the place of one there or as a new one.
     final fn upsert<L: Ledger>(

@@ -3,7 +3,7 @@ ghost use Rattle.std.specs.Prelude.{◌≡◌, ℕ, ◌+◌, ◌<◌};
 use std::marker::Model;
 use std::sync::ledger::{Blank, Book, Ledger, Share};
 
-/// How many steps were taken. It takes no bytes, and only `tick` changes it.
+/// How many steps were taken. It takes no bytes, and only `tick` and `add` change it.
 #[derive(Drop)]
 pub struct Steps<L: Ledger> {
     book: Book<L>,
@@ -28,6 +28,13 @@ impl<L: Ledger> Steps<L> {
     {
         let (book, share) = blank.open::<L>();
         Steps { book, share }
+    }
+
+    /// Counts so many steps at once.
+    pub fn add(&mut self, count: u64)
+        ensures { self.new ≡ self.old + count }
+    {
+        self.book.add(&mut self.share, count);
     }
 
     /// Counts one step.

@@ -44,6 +44,14 @@ impl Units {
         }
     }
 
+    /// The value of so many millionths, which are in range.
+    pub fn of_millionths(millionths: i128) -> Units
+        requires { unsigned_abs millionths ≤ bound }
+        ensures { result ≡ millionths }
+    {
+        Units { millionths }
+    }
+
     /// The number of millionths.
     pub fn get(self) -> i128
         ensures value { result ≡ self }
@@ -51,6 +59,7 @@ impl Units {
     {
         self.millionths
     }
+
     /// The value with the other sign. Zero stays.
     pub fn negated(self) -> Units
         ensures { result ≡ neg_ℤ self }

@@ -1,19 +1,16 @@
-use Rattle.std.proofs.Common.{◌≡◌, ◌-◌, ◌-ℤ◌, pos, true, false, nat_lt, inl, inr, arith}
-use Rattle.std.proofs.lemmas.Bool.{cases_lt}
-use Rattle.std.proofs.lemmas.Bool.Decides.{nat_tests}
+use Rattle.std.proofs.Common.{◌≡◌, ◌+ℤ◌, ◌-ℤ◌, negsuc, pos, unsigned_abs, arith}
 use Rattle.std.proofs.lemmas.Int.{ints}
 use Rattle.ts_chunk_packed.proofs.Zigzags.{zigzag_up, zigzag_down}
 use Rattle.ts_chunk_packed.proofs.zigzag.apart.Goals as goal
 
-pub returns : goal.returns
-returns c =
-    let a = c.args.from in
-    let b = c.args.to in
-    elim (cases_lt b a) [
-      | inl below ↦
-          let test : nat_lt b a ≡ true = grind (arith, nat_tests) in
-          rw test (omega (arith, c.abs_diff.ensures, zigzag_down (a - b - 1) (pos b -ℤ pos a) (omega (arith, ints))))
-      | inr above ↦
-          let test : nat_lt b a ≡ false = grind (arith, nat_tests) in
-          rw test (omega (arith, c.abs_diff.ensures, zigzag_up (b - a) (pos b -ℤ pos a) (omega (arith, ints))))
-    ]
+pub returns-then-difference-lt0 : goal.returns-then-difference-lt0
+returns-then-difference-lt0 c =
+    let d = pos c.args.to -ℤ pos c.args.from in
+    let below : d ≡ negsuc (unsigned_abs (d +ℤ pos 1)) = omega (arith, ints) in
+    omega (arith, ints, zigzag_down (unsigned_abs (d +ℤ pos 1)) d below)
+
+pub returns-else-difference-lt0 : goal.returns-else-difference-lt0
+returns-else-difference-lt0 c =
+    let d = pos c.args.to -ℤ pos c.args.from in
+    let above : d ≡ pos (unsigned_abs d) = omega (arith, ints) in
+    omega (arith, ints, zigzag_up (unsigned_abs d) d above)

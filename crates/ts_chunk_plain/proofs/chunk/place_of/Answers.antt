@@ -2,7 +2,7 @@ use Rattle.std.proofs.Common.{List, ℕ, rules}
 use Rattle.std.specs.Prelude.{nat_lt}
 use Rattle.std.proofs.lemmas.List.Sorted.{IsPartitionedBy-ltb, IsPartitionPoint-from_clause}
 use Rattle.ts_chunk_plain.specs.Plain.{sample_of}
-use Rattle.ts_chunk_plain.proofs.Walking.{rising_of, from_place}
+use Rattle.ts_chunk_plain.proofs.Walking.{rising_of, before_place, from_place}
 use Rattle.ts_chunk_plain.proofs.chunk.place_of.Goals as goal
 
 pub returns-clause-after : goal.returns-clause-after
@@ -11,3 +11,10 @@ returns-clause-after c =
     let sorted = IsPartitionedBy-ltb (λ (b : List ℕ). (sample_of b).time) bs c.args.time (rising_of bs c.requires) in
     let point = IsPartitionPoint-from_clause (λ (b : List ℕ). nat_lt (sample_of b).time c.args.time) bs c.partition_point.result c.partition_point.ensures.partitioned sorted (λ a r f h. search rules) in
     from_place c.args.time bs c.partition_point.result point c.partition_point.ensures.bound
+
+pub returns-clause-before : goal.returns-clause-before
+returns-clause-before c =
+    let bs = c.args.pieces.now in
+    let sorted = IsPartitionedBy-ltb (λ (b : List ℕ). (sample_of b).time) bs c.args.time (rising_of bs c.requires) in
+    let point = IsPartitionPoint-from_clause (λ (b : List ℕ). nat_lt (sample_of b).time c.args.time) bs c.partition_point.result c.partition_point.ensures.partitioned sorted (λ a r f h. search rules) in
+    before_place c.args.time bs c.partition_point.result point c.partition_point.ensures.bound

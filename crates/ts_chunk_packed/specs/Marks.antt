@@ -1,0 +1,33 @@
+-- Places in a chunk where decoding may begin.
+use Rattle.std.specs.Prelude.{◌≡◌, ℕ, ◌≤◌, List, [], Option, None, Some, take, length, All}
+use Rattle.std.specs.Global.{Box}
+use Rattle.ts_spec.specs.Sample.{Point}
+use Rattle.ts_chunk_packed.specs.Packed.{State, begin, packed, state_from}
+
+pub record Marked : Type 0 where
+  -- what is known of the samples before
+  pub state : State
+  -- how many bytes they take
+  pub at : ℕ
+  -- how many they are
+  pub count : ℕ
+
+-- a mark stands after the first so many of the samples
+pub record IsMark (ps : List Point) (m : Marked) : Type 0 where
+  pub within : m.count ≤ length ps
+  pub state : m.state ≡ state_from begin (take m.count ps)
+  pub bytes : m.at ≡ length (packed (take m.count ps))
+
+-- and so do all of them
+abbrev pub AreMarks : List Point → List Marked → Type 0
+AreMarks ps ms = All (IsMark ps) ms
+
+-- so many bytes and samples are those of a list
+pub record EndsAt (ps : List Point) (at count : ℕ) : Type 0 where
+  pub bytes : at ≡ length (packed ps)
+  pub samples : count ≡ length ps
+
+-- the marks there are, where there is room for any
+abbrev pub marks_of : Option (Box (List Marked)) → List Marked
+marks_of None = []
+marks_of (Some ms) = ms.value

@@ -1,0 +1,133 @@
+// Parts of a chunk: what is left of it from a time on, what stands before, and the rest of another.
+ghost use Rattle.std.specs.Prelude.{◌≡◌, ◌<◌, nat_lt, nat_le, if◌then◌else◌, ◌++◌, length, IfOk};
+ghost use Rattle.ts_spec.specs.Sample.{IsAscending, at_times};
+ghost use Rattle.ts_chunk_packed.specs.Marks.{AreMarks, EndsAt};
+ghost use Rattle.ts_chunk_packed.specs.Packed.{begin, state_from, packed};
+ghost use Rattle.ts_chunk_packed.specs.Rest.{IsRestOf, IsRestFrom};
+
+use super::PackedChunk;
+use crate::context::Context;
+use crate::late_marks::LateMarks;
+use crate::mark::Place;
+use crate::rest::Rest;
+use std::alloc::{AllocError, Global};
+
+impl PackedChunk {
+    // What is known of its samples.
+    pub(super) fn context(&self) -> Context
+        ensures { result ≡ state_from begin self.now.list }
+    {
+        Context::new(self.last, self.step)
+    }
+
+    // The samples past the last mark before a time.
+    pub(super) fn rest_from(&self, time: u64) -> Rest<'_>
+        ensures { IsRestFrom time self.now.list result }
+    {
+        let Some(mark) = self.marks.before(time) else {
+            return Rest::new(Context::new(None, 0), &self.bytes, self.count);
+        };
+        let bytes = &self.bytes[mark.at() as usize..];
+        Rest::new(mark.context(), bytes, self.count - mark.count())
+    }
+
+    // Passes the samples before a time, and gives all that are before it in a chunk of the same limit.
+    pub(super) fn front(
+        &self,
+        alloc: Global,
+        time: u64,
+        rest: &mut Rest<'_>,
+    ) -> Result<PackedChunk, AllocError>
+        requires { IsRestFrom time self.now.list rest.old }
+        ensures list { IfOk result (λ c. c.list ≡ at_times (λ t. nat_lt t time) self.now.list) }
+        ensures limit { IfOk result (λ c. c.limit ≡ self.now.limit) }
+        ensures rest { IfOk result (λ _. rest.new.list ≡ at_times (nat_le time) self.now.list) }
+        ensures state { IfOk result (λ _. rest.new.state ≡ state_from begin (at_times (λ t. nat_lt t time) self.now.list)) }
+    {
+        let mut marks = self.marks_before(alloc, rest)?;
+        self.pass_before(time, rest, &mut marks);
+        let mut bytes = Vec::with_capacity(alloc, self.limit as usize)?;
+        let (before, _) = self.bytes.split_at(self.bytes.len() - rest.bytes().len());
+        bytes.extend_from_slice(before)?;
+        let count = self.count - rest.len();
+        let context = rest.context();
+        Ok(PackedChunk {
+            limit: self.limit,
+            bytes,
+            count,
+            step: context.step(),
+            first: self.first,
+            last: context.last(),
+            marks,
+        })
+    }
+
+    // Its marks before what is left of it, with room for more.
+    fn marks_before(&self, alloc: Global, rest: &Rest<'_>) -> Result<LateMarks, AllocError>
+        requires { IsRestOf self.now.list rest.now }
+        ensures { IfOk result (λ ms. (of : IsRestOf self.now.list rest.now) → AreMarks of.front ms) }
+    {
+        let mut marks = LateMarks::with_room(alloc, self.limit)?;
+        let place = self.place_of(rest);
+        marks.keep_first(&self.marks, place.count);
+        Ok(marks)
+    }
+
+    // Passes the samples before a time, and sets the marks past them that are due.
+    fn pass_before(&self, time: u64, rest: &mut Rest<'_>, marks: &mut LateMarks)
+        requires rest { IsRestFrom time self.now.list rest.old }
+        requires marks { (from : IsRestFrom time self.now.list rest.old) → AreMarks from.rest.front marks.old }
+        ensures list { rest.new.list ≡ at_times (nat_le time) self.now.list }
+        ensures state { rest.new.state ≡ state_from begin (at_times (λ t. nat_lt t time) self.now.list) }
+        ensures marks { AreMarks (at_times (λ t. nat_lt t time) self.now.list) marks.new }
+    {
+        while rest.pass(time) {
+            let place = self.place_of(rest);
+            marks.set(rest.context(), place);
+        }
+    }
+
+    // Where the samples begin that are left of it.
+    fn place_of(&self, rest: &Rest<'_>) -> Place
+        requires { IsRestOf self.now.list rest.now }
+        ensures { (of : IsRestOf self.now.list rest.now) → EndsAt of.front result.at result.count }
+    {
+        Place {
+            at: (self.bytes.len() - rest.bytes().len()) as u32,
+            count: self.count - rest.len(),
+        }
+    }
+
+    /// Puts the samples that are left of another chunk past its own, as they are coded there, where they fit, and
+    /// says whether they did. It takes no memory.
+    pub(crate) fn try_append_rest(&mut self, rest: &Rest<'_>, other: &PackedChunk) -> bool
+        requires some { 0 < length self.old.list }
+        requires ascending { IsAscending (self.old.list ++ rest.now.list) }
+        requires alike { 0 < length rest.now.list → state_from begin self.old.list ≡ rest.now.state }
+        requires of { IsRestOf other.now.list rest.now }
+        ensures fits { result ≡ nat_le (length (packed (self.old.list ++ rest.now.list))) self.old.limit }
+        ensures list { self.new.list ≡ (if result then self.old.list ++ rest.now.list else self.old.list) }
+        ensures limit { self.new.limit ≡ self.old.limit }
+    {
+        let room = self.limit as usize - self.bytes.len();
+        rest.known();
+        let bytes = rest.bytes();
+        if bytes.is_empty() {
+            return true;
+        }
+        if bytes.len() > room {
+            return false;
+        }
+        let from = other.place_of(rest);
+        let to = Place {
+            at: self.bytes.len() as u32,
+            count: self.count,
+        };
+        self.bytes.extend_from_slice(bytes).unwrap();
+        self.count += rest.len();
+        self.step = other.step;
+        self.last = other.last;
+        self.marks.keep_moved(&other.marks, from, to);
+        true
+    }
+}

@@ -1,0 +1,92 @@
+// The marks of a chunk that late samples come to. A chunk that only grows at its end has none, and no room for any.
+ghost use Rattle.std.specs.Prelude.{◌≡◌, ◌<◌, ◌≤◌, List, ◌++◌, take, length, IfOk, IfSome};
+ghost use Rattle.ts_spec.specs.Sample.{Point};
+ghost use Rattle.ts_chunk_packed.specs.Marks.{IsMark, AreMarks, EndsAt};
+ghost use Rattle.ts_chunk_packed.specs.Packed.{begin, state_from};
+
+use crate::context::Context;
+use crate::mark::{Mark, Place};
+use crate::marks::Marks;
+use std::alloc::{AllocError, Global};
+use std::marker::Model;
+
+/// The marks of a chunk, if there is room for any. Without room they take 16 bytes.
+#[derive(Drop)]
+pub struct LateMarks {
+    marks: Option<Box<Marks>>,
+}
+
+impl Model for LateMarks {
+    ghost use Rattle.std.specs.Prelude.{List};
+    ghost use Rattle.ts_chunk_packed.specs.Marks.{Marked, marks_of};
+
+    ghost Value = { List Marked };
+
+    ghost view = { λ l. marks_of l.marks };
+}
+
+impl LateMarks {
+    /// None, and no room for any.
+    pub fn new() -> LateMarks
+        ensures { (ps : List Point) → AreMarks ps result }
+    {
+        LateMarks { marks: None }
+    }
+
+    /// None yet, and room for those of a chunk of so many bytes.
+    pub fn with_room(alloc: Global, limit: u32) -> Result<LateMarks, AllocError>
+        ensures { IfOk result (λ ms. (ps : List Point) → AreMarks ps ms) }
+    {
+        let marks = Box::new(alloc, Marks::new(alloc, limit)?)?;
+        Ok(LateMarks { marks: Some(marks) })
+    }
+
+    /// Sets a mark past all samples of a chunk, if there is room and one is due. It takes no memory.
+    #[inline(always)]
+    pub fn set(&mut self, context: &Context, place: Place)
+        ensures { (ps : List Point) → context.now ≡ state_from begin ps → EndsAt ps place.at place.count → AreMarks ps self.old → AreMarks ps self.new }
+    {
+        let Some(marks) = &mut self.marks else {
+            return;
+        };
+        marks.set(context, place);
+    }
+
+    /// The last mark past which no sample before this time is left out, if there is one.
+    pub fn before(&self, time: u64) -> Option<&Mark>
+        ensures mark { (ps : List Point) → AreMarks ps self.now → IfSome result (λ m. IsMark ps m.now) }
+        ensures early { IfSome result (λ m. m.now.state.before.time < time) }
+    {
+        match &self.marks {
+            Some(marks) => marks.before(time),
+            None => None,
+        }
+    }
+
+    /// Keeps those of other marks that stand past no more than so many samples.
+    pub fn keep_first(&mut self, others: &LateMarks, count: u32)
+        ensures { (ps : List Point) → AreMarks ps others.now → count ≤ length ps → AreMarks (take count ps) self.old → AreMarks (take count ps) self.new }
+    {
+        let Some(others) = &others.marks else {
+            return;
+        };
+        let Some(marks) = &mut self.marks else {
+            return;
+        };
+        marks.keep_first(others, count);
+    }
+
+    /// Keeps those of other marks that stand past the first samples of a list, moved to where others come to stand
+    /// before the rest of it.
+    pub fn keep_moved(&mut self, others: &LateMarks, from: Place, to: Place)
+        ensures { (ps qs rest : List Point) → EndsAt ps from.at from.count → EndsAt qs to.at to.count → state_from begin ps ≡ state_from begin qs → AreMarks (ps ++ rest) others.now → AreMarks (qs ++ rest) self.old → AreMarks (qs ++ rest) self.new }
+    {
+        let Some(others) = &others.marks else {
+            return;
+        };
+        let Some(marks) = &mut self.marks else {
+            return;
+        };
+        marks.keep_moved(others, from, to);
+    }
+}

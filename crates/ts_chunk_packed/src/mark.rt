@@ -1,0 +1,106 @@
+// A place in a chunk where decoding may begin.
+ghost use Rattle.std.specs.Prelude.{◌≡◌, ◌+◌, ◌≤◌, IfSome};
+
+use crate::context::Context;
+use std::marker::Model;
+use ts_sample::Sample;
+
+/// How many bytes and how many samples stand before a place in a chunk.
+#[derive(Clone, Copy)]
+pub struct Place {
+    pub at: u32,
+    pub count: u32,
+}
+
+/// A place past some samples, and what is known of these. It takes 48 bytes.
+#[derive(Drop)]
+pub struct Mark {
+    last: Sample,
+    step: u64,
+    place: Place,
+}
+
+impl Model for Mark {
+    ghost use Rattle.std.specs.Prelude.{◌≤◌, pos, true};
+    ghost use Rattle.ts_spec.specs.Sample.{MAX_TIME};
+    ghost use Rattle.ts_chunk_packed.specs.Marks.{Marked};
+
+    ghost Value = { Marked };
+
+    ghost view = { λ m. record { state = record { before = m.last; step = pos m.step; begun = true }; at = m.place.at; count = m.place.count } };
+
+    ghost invariant = { λ m. m.step ≤ MAX_TIME };
+}
+
+impl Mark {
+    /// At this place, past samples of which so much is known: none where there are no samples.
+    pub fn after(context: &Context, place: Place) -> Option<Mark>
+        ensures state { IfSome result (λ m. m.state ≡ context.now) }
+        ensures at { IfSome result (λ m. m.at ≡ place.at) }
+        ensures count { IfSome result (λ m. m.count ≡ place.count) }
+    {
+        context.known();
+        let last = context.last()?;
+        let step = context.step();
+        Some(Mark { last, step, place })
+    }
+
+    /// What is known of the samples before.
+    pub fn context(&self) -> Context
+        ensures { result ≡ self.now.state }
+    {
+        Context::new(Some(self.last), self.step)
+    }
+
+    /// The time of the last sample before.
+    pub fn time(&self) -> u64
+        ensures { result ≡ self.now.state.before.time }
+    {
+        self.last.time
+    }
+
+    /// How many bytes stand before.
+    pub fn at(&self) -> u32
+        ensures { result ≡ self.now.at }
+    {
+        self.place.at
+    }
+
+    /// How many samples stand before.
+    pub fn count(&self) -> u32
+        ensures { result ≡ self.now.count }
+    {
+        self.place.count
+    }
+
+    /// The same mark.
+    pub fn copy(&self) -> Mark
+        ensures { result ≡ self.now }
+    {
+        Mark {
+            last: self.last,
+            step: self.step,
+            place: self.place,
+        }
+    }
+
+    /// The mark as far past one place as this one is past another: none where it isn't past that.
+    pub fn moved(&self, from: Place, to: Place) -> Option<Mark>
+        ensures state { IfSome result (λ m. m.state ≡ self.now.state) }
+        ensures past { IfSome result (λ _. from.count ≤ self.now.count) }
+        ensures at { IfSome result (λ m. m.at + from.at ≡ self.now.at + to.at) }
+        ensures count { IfSome result (λ m. m.count + from.count ≡ self.now.count + to.count) }
+    {
+        let at = self.place.at.checked_sub(from.at)?.checked_add(to.at)?;
+        let count = self
+            .place
+            .count
+            .checked_sub(from.count)?
+            .checked_add(to.count)?;
+        Some(Mark {
+            last: self.last,
+            step: self.step,
+            place: Place { at, count },
+        })
+    }
+}

@@ -1,0 +1,117 @@
+// The marks of a chunk: a few places past some of its samples, so that decoding needn't begin at the front. Nothing
+// but speed depends on which there are.
+ghost use Rattle.std.specs.Prelude.{◌≡◌, ◌<◌, ◌≤◌, List, ◌++◌, take, length, IfOk, IfSome};
+ghost use Rattle.ts_spec.specs.Sample.{Point};
+ghost use Rattle.ts_chunk_packed.specs.Marks.{Marked, IsMark, AreMarks, EndsAt};
+ghost use Rattle.ts_chunk_packed.specs.Packed.{begin, state_from};
+
+use crate::context::Context;
+use crate::mark::{Mark, Place};
+use std::alloc::{AllocError, Global};
+use std::marker::Model;
+
+/// How many bytes there are between two marks at least. The marks of a chunk of 4,096 bytes are four, and take 192.
+const SPACING: u32 = 832;
+
+/// The marks of a chunk, in the order of their places, all with room reserved.
+#[derive(Drop)]
+pub struct Marks {
+    list: Vec<Mark>,
+    // So many bytes make the next mark due.
+    due: u32,
+}
+
+impl Model for Marks {
+    ghost use Rattle.std.specs.Prelude.{List};
+    ghost use Rattle.ts_chunk_packed.specs.Marks.{Marked};
+
+    ghost Value = { List Marked };
+
+    ghost view = { λ m. m.list.items };
+}
+
+impl Marks {
+    /// None yet, and room for those of a chunk of so many bytes.
+    pub fn new(alloc: Global, limit: u32) -> Result<Marks, AllocError>
+        ensures { IfOk result (λ ms. (ps : List Point) → AreMarks ps ms) }
+    {
+        Ok(Marks {
+            list: Vec::with_capacity(alloc, (limit / SPACING) as usize)?,
+            due: SPACING,
+        })
+    }
+
+    // Keeps one more mark, if it is due and there is room.
+    fn keep(&mut self, mark: Mark)
+        ensures { (ps : List Point) → AreMarks ps self.old → IsMark ps mark → AreMarks ps self.new }
+    {
+        let at = mark.at();
+        if at < self.due || self.list.len() == self.list.capacity() {
+            return;
+        }
+        self.list.push_reserved(mark);
+        self.due = at.saturating_add(SPACING);
+    }
+
+    /// Sets a mark past all samples of a chunk, if one is due. It takes no memory.
+    #[inline(always)]
+    pub fn set(&mut self, context: &Context, place: Place)
+        ensures { (ps : List Point) → context.now ≡ state_from begin ps → EndsAt ps place.at place.count → AreMarks ps self.old → AreMarks ps self.new }
+    {
+        if self.due <= place.at {
+            if let Some(mark) = Mark::after(context, place) {
+                self.keep(mark);
+            }
+        }
+    }
+
+    /// The last mark past which no sample before this time is left out, if there is one.
+    pub fn before(&self, time: u64) -> Option<&Mark>
+        ensures mark { (ps : List Point) → AreMarks ps self.now → IfSome result (λ m. IsMark ps m.now) }
+        ensures early { IfSome result (λ m. m.now.state.before.time < time) }
+    {
+        let index = self.list.partition_point(|mark| mark.time() < time);
+        if index == 0 {
+            return None;
+        }
+        let mark = &self.list[index - 1];
+        if mark.time() < time { Some(mark) } else { None }
+    }
+
+    /// Keeps those of other marks that stand past no more than so many samples.
+    pub fn keep_first(&mut self, others: &Marks, count: u32)
+        ensures { (ps : List Point) → AreMarks ps others.now → count ≤ length ps → AreMarks (take count ps) self.old → AreMarks (take count ps) self.new }
+    {
+        for index in 0..others.list.len() {
+            self.keep_within(&others.list[index], count);
+        }
+    }
+
+    // Keeps a mark like this one, if it stands past no more than so many samples.
+    fn keep_within(&mut self, mark: &Mark, count: u32)
+        ensures { (ps : List Point) → IsMark ps mark.now → count ≤ length ps → AreMarks (take count ps) self.old → AreMarks (take count ps) self.new }
+    {
+        if mark.count() <= count {
+            self.keep(mark.copy());
+        }
+    }
+
+    /// Keeps those of other marks that stand past the first samples of a list, moved to where others come to stand
+    /// before the rest of it.
+    pub fn keep_moved(&mut self, others: &Marks, from: Place, to: Place)
+        ensures { (ps qs rest : List Point) → EndsAt ps from.at from.count → EndsAt qs to.at to.count → state_from begin ps ≡ state_from begin qs → AreMarks (ps ++ rest) others.now → AreMarks (qs ++ rest) self.old → AreMarks (qs ++ rest) self.new }
+    {
+        for index in 0..others.list.len() {
+            self.keep_past(&others.list[index], from, to);
+        }
+    }
+
+    // Keeps a mark like this one, if it is past the one place, as far past the other.
+    fn keep_past(&mut self, mark: &Mark, from: Place, to: Place)
+        ensures { (ps qs rest : List Point) → EndsAt ps from.at from.count → EndsAt qs to.at to.count → state_from begin ps ≡ state_from begin qs → IsMark (ps ++ rest) mark.now → AreMarks (qs ++ rest) self.old → AreMarks (qs ++ rest) self.new }
+    {
+        if let Some(moved) = mark.moved(from, to) {
+            self.keep(moved);
+        }
+    }
+}

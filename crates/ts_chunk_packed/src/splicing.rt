@@ -1,0 +1,48 @@
+// Samples that are taken over from one chunk into another.
+ghost use Rattle.std.specs.Prelude.{◌≡◌, ◌<◌, ◌≤◌, nat_le, true, ◌++◌, take, drop, length};
+ghost use Rattle.ts_spec.specs.Sample.{IsAscending};
+ghost use Rattle.ts_chunk_packed.specs.Packed.{packed, state_from};
+ghost use Rattle.ts_chunk_packed.specs.Rest.{IsRestOf};
+
+use crate::chunk::PackedChunk;
+use crate::rest::Rest;
+use ts_sample::Chunk;
+
+/// How many samples are coded anew where others come to stand before them. What is known after two samples doesn't
+/// depend on those before.
+const ANEW: u32 = 2;
+
+/// Puts the samples that are left of another chunk past those of this one, where they fit, and says whether they
+/// did. The bytes of all but the first few stay as they are.
+pub fn take_over(chunk: &mut PackedChunk, rest: &mut Rest<'_>, other: &PackedChunk) -> bool
+    requires some { 0 < length chunk.old.list }
+    requires ascending { IsAscending (chunk.old.list ++ rest.old.list) }
+    requires of { IsRestOf other.now.list rest.old }
+    ensures fits { result ≡ nat_le (length (packed (chunk.old.list ++ rest.old.list))) chunk.old.limit }
+    ensures list { result ≡ true → chunk.new.list ≡ chunk.old.list ++ rest.old.list }
+    ensures limit { chunk.new.limit ≡ chunk.old.limit }
+    ensures shorter { length rest.new.list ≤ length rest.old.list }
+{
+    for _ in 0..ANEW {
+        if !take_next(chunk, rest) {
+            return false;
+        }
+    }
+    chunk.try_append_rest(rest, other)
+}
+
+// Puts the next sample past those of the chunk, coded anew, where it fits, and says whether it did.
+fn take_next(chunk: &mut PackedChunk, rest: &mut Rest<'_>) -> bool
+    requires ascending { IsAscending (chunk.old.list ++ rest.old.list) }
+    ensures fits { result ≡ nat_le (length (packed (chunk.old.list ++ take 1 rest.old.list))) chunk.old.limit }
+    ensures list { result ≡ true → chunk.new.list ≡ chunk.old.list ++ take 1 rest.old.list }
+    ensures limit { chunk.new.limit ≡ chunk.old.limit }
+    ensures rest { rest.new.list ≡ drop 1 rest.old.list }
+    ensures state { rest.new.state ≡ state_from rest.old.state (take 1 rest.old.list) }
+{
+    chunk.known();
+    match rest.next() {
+        Some(sample) => chunk.try_append(&sample),
+        None => true,
+    }
+}

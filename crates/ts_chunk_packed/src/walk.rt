@@ -1,0 +1,45 @@
+// A walk of a visitor over samples.
+ghost use Rattle.std.specs.Prelude.{◌≡◌, ◌+◌, ◌≤◌, nat_le, true, if◌then◌else◌, length};
+ghost use Rattle.ts_sample.specs.Visit.{visited};
+ghost use Rattle.ts_spec.specs.Sample.{between};
+
+use crate::coding::decode;
+use crate::rest::Rest;
+use std::sync::ledger::Ledger;
+use ts_sample::{Sample, Steps, Visit};
+
+/// Takes a visitor over the samples of an interval among those that are left of a chunk.
+pub fn walk<V: Visit, L: Ledger>(
+    rest: Rest<'_>,
+    from: u64,
+    to: u64,
+    visit: &mut V,
+    steps: &mut Steps<L>,
+)
+    requires room { length (between from to rest.list) ≤ V.room visit.old }
+    ensures visited { visit.new ≡ visited V.step visit.old (between from to rest.entry.list) }
+    ensures counted { steps.old + length (between from to rest.entry.list) ≤ steps.new }
+    ensures bounded { steps.new ≤ steps.old + length rest.entry.list }
+{
+    let (mut context, mut bytes, count) = rest.into_parts();
+    for _ in 0..count {
+        steps.tick();
+        let (sample, after) = decode(&context, bytes);
+        if sample.time > to {
+            return;
+        }
+        offer(&sample, from, visit);
+        context = context.after(&sample);
+        bytes = after;
+    }
+}
+
+// Gives a visitor a sample that is not before this time.
+fn offer<V: Visit>(sample: &Sample, from: u64, visit: &mut V)
+    requires { nat_le from sample.now.time ≡ true → 1 ≤ V.room visit.old }
+    ensures { visit.new ≡ (if nat_le from sample.now.time then V.step visit.old sample.now else visit.old) }
+{
+    if from <= sample.time {
+        visit.sample(sample);
+    }
+}
