@@ -1,5 +1,5 @@
 -- The text that stands in a room, from its parts.
-use Rattle.std.proofs.Common.{◌≡◌, ℕ, ◌+◌, ◌-◌, ◌/◌, ◌%◌, ◌^◌, ◌≤◌, false, List, ◌++◌, length, take, drop, refl, sym, ◌∙◌, ap, length-append, length-drop, arith}
+use Rattle.std.proofs.Common.{◌≡◌, ℕ, ◌+◌, ◌-◌, ◌/◌, ◌%◌, ◌^◌, ◌≤◌, false, List, ◌++◌, length, take, drop, refl, sym, ◌∙◌, ap, arith}
 use Rattle.std.specs.Prelude.{ℤ, pos, negsuc, unsigned_abs, int_lt}
 use Rattle.std.proofs.Math.Seq.{take-append-add, drop-append_seam}
 use Rattle.std.proofs.lemmas.List.{drop-take, length-take}
@@ -18,17 +18,17 @@ tail_text before after tail place end within reaches e =
     ∙ ap (λ n. drop n (take place before ++ tail)) (sym front)
     ∙ drop-append_seam (take place before) tail
 
-pub printed : (room0 room1 room2 room3 sign whole part : List ℕ) (start place end : ℕ) → length room0 ≡ 32 → length room1 ≡ 32 → length room3 ≡ 32
-    → take end room1 ≡ take 20 room0 ++ part → drop place room2 ≡ whole ++ drop 20 room1 → drop start room3 ≡ sign ++ drop place room2
-    → 20 ≤ end → start ≤ 20 → take (end - start) (drop start room3) ≡ sign ++ (whole ++ part)
-printed room0 room1 room2 room3 sign whole part start place end size0 size1 size3 fraction digits minus from to =
-    let all : drop start room3 ≡ sign ++ (whole ++ drop 20 room1) = minus ∙ ap (λ t. sign ++ t) digits in
-    let sizes : length (drop start room3) ≡ length (sign ++ (whole ++ drop 20 room1)) = ap length all in
-    let lengths = simp (length-append, length-drop) at sizes in
-    let count : end - start ≡ length sign + (length whole + (end - 20)) = omega arith in
+-- the sign and the whole part that end at the point, and the fraction from there on
+pub printed : (room0 room1 room2 room3 sign whole part : List ℕ) (start place point end : ℕ) → point ≤ length room0 → point ≤ end
+    → start + length sign ≡ place → place + length whole ≡ point
+    → take end room1 ≡ take point room0 ++ part → drop place room2 ≡ whole ++ drop point room1 → drop start room3 ≡ sign ++ drop place room2
+    → take (end - start) (drop start room3) ≡ sign ++ (whole ++ part)
+printed room0 room1 room2 room3 sign whole part start place point end within from before_place before_point fraction digits minus =
+    let all : drop start room3 ≡ sign ++ (whole ++ drop point room1) = minus ∙ ap (λ t. sign ++ t) digits in
+    let count : end - start ≡ length sign + (length whole + (end - point)) = omega arith in
     rw (all, count)
-    (take-append-add sign (whole ++ drop 20 room1) (length whole + (end - 20))
-    ∙ ap (λ t. sign ++ t) (take-append-add whole (drop 20 room1) (end - 20) ∙ ap (λ t. whole ++ t) (tail_text room0 room1 part 20 end (omega arith) from fraction)))
+    (take-append-add sign (whole ++ drop point room1) (length whole + (end - point))
+    ∙ ap (λ t. sign ++ t) (take-append-add whole (drop point room1) (end - point) ∙ ap (λ t. whole ++ t) (tail_text room0 room1 part point end within from fraction)))
 
 pub shown_value-parts : (z : ℤ) → shown_value z ≡ sign_text (int_lt z (pos 0)) ++ (shown_whole (unsigned_abs z / 10 ^ 6) ++ shown_fraction (unsigned_abs z % 10 ^ 6))
 unfolding shown_value

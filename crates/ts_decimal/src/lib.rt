@@ -14,7 +14,7 @@ mod short;
 mod sign;
 
 pub use laws::{decimal_is_spelled, printed_reads_back, value_is_nearest};
-pub use printing::print;
+pub use printing::{print, put_value};
 pub use reading::parse;
 pub use rounding::{clamp, div_round};
 pub use ts_spec::ValueFault;

@@ -1,36 +1,41 @@
-ghost use Rattle.std.specs.Prelude.{◌≡◌, ◌^◌, ◌<◌, ◌≤◌, ◌++◌, length, drop, take};
-ghost use Rattle.ts_spec.specs.Value.{shown_value, shown_whole, shown_fraction};
+// The text of a value, put together around the place of its point.
+ghost use Rattle.std.specs.Prelude.{◌≡◌, ◌+◌, ◌/◌, ◌%◌, ◌^◌, ◌<◌, ◌≤◌, ◌++◌, ◌∷◌, [], length, drop, take, slice_range};
+ghost use Rattle.ts_spec.specs.Value.{places, shown_value, shown_fraction};
 ghost use Rattle.ts_decimal.specs.Printing.{sign_text};
 
+use itoa::write_digits;
+use std::ops::Range;
 use ts_sample::Units;
 
 /// The place in the room where the whole part of a printed value ends.
 const POINT: usize = 20;
 
-/// Writes the digits of the whole part so that they end at the point, and gives the place of the first one.
-fn put_whole(whole: u64, room: &mut [u8; 32]) -> usize
-    requires { whole < 10 ^ 19 }
-    ensures text { drop result room.new ≡ shown_whole whole ++ drop 20 room.old }
-    ensures from { 1 ≤ result }
-    ensures to { result ≤ 20 }
+/// The whole part of a magnitude in millionths, and the millionths after it.
+#[inline]
+fn split_magnitude(magnitude: u128) -> (u64, u32)
+    requires { magnitude ≤ 10 ^ 24 }
+    ensures whole { result.0 ≡ magnitude / 10 ^ 6 }
+    ensures part { result.1 ≡ magnitude % 10 ^ 6 }
+    ensures small { result.0 ≤ 10 ^ 18 }
 {
-    let mut rest = whole / 10;
-    let mut start = POINT - 1;
-    room[start] = b'0' + (whole % 10) as u8;
-    while rest > 0 {
-        start -= 1;
-        room[start] = b'0' + (rest % 10) as u8;
-        rest /= 10;
+    if magnitude <= u64::MAX as u128 {
+        let few = magnitude as u64;
+        return (few / 1_000_000, (few % 1_000_000) as u32);
     }
-    start
+    (
+        (magnitude / 1_000_000) as u64,
+        (magnitude % 1_000_000) as u32,
+    )
 }
 
 /// Writes a minus before the place, if the value is negative, and gives the place where the text then begins.
-fn put_sign(negative: bool, place: usize, room: &mut [u8; 32]) -> usize
+#[inline]
+fn put_sign(negative: bool, place: usize, room: &mut [u8]) -> usize
     requires from { 1 ≤ place }
-    requires to { place ≤ 20 }
+    requires to { place ≤ length room.old }
     ensures text { drop result room.new ≡ sign_text negative ++ drop place room.old }
-    ensures to { result ≤ 20 }
+    ensures start { result + length (sign_text negative) ≡ place }
+    ensures before { place ≤ result + 1 }
 {
     if negative {
         room[place - 1] = b'-';
@@ -40,27 +45,88 @@ fn put_sign(negative: bool, place: usize, room: &mut [u8; 32]) -> usize
     }
 }
 
+/// Writes two digits at the place.
+#[inline]
+fn put_two(number: u32, room: &mut [u8], place: usize)
+    requires small { number < 100 }
+    requires fits { place + 2 ≤ length room.old }
+    ensures text { take (place + 2) room.new ≡ take place room.old ++ (48 + number / 10) ∷ (48 + number % 10) ∷ [] }
+{
+    room[place] = b'0' + (number / 10) as u8;
+    room[place + 1] = b'0' + (number % 10) as u8;
+}
+
+/// Writes the last two of the places at the place, without zeros at their end, and gives the place after them.
+#[inline]
+fn put_last_two(number: u32, room: &mut [u8], place: usize) -> usize
+    requires small { number < 100 }
+    requires fits { place + 2 ≤ length room.old }
+    ensures text { take result room.new ≡ take place room.old ++ places 2 number }
+    ensures from { place ≤ result }
+    ensures to { result ≤ place + 2 }
+{
+    put_two(number, room, place);
+    if number % 10 != 0 {
+        return place + 2;
+    }
+    if number != 0 { place + 1 } else { place }
+}
+
+/// Writes the last four of the places at the place, without zeros at their end, and gives the place after them.
+#[inline]
+fn put_last_four(number: u32, room: &mut [u8], place: usize) -> usize
+    requires small { number < 10000 }
+    requires fits { place + 4 ≤ length room.old }
+    ensures text { take result room.new ≡ take place room.old ++ places 4 number }
+    ensures from { place ≤ result }
+    ensures to { result ≤ place + 4 }
+{
+    let rest = number % 100;
+    if rest == 0 {
+        return put_last_two(number / 100, room, place);
+    }
+    put_two(number / 100, room, place);
+    put_last_two(rest, room, place + 2)
+}
+
 /// Writes the fraction from the point on, if it is not 0, and gives the place after its last digit.
-fn put_fraction(millionths: u32, room: &mut [u8; 32]) -> usize
-    requires { millionths < 10 ^ 6 }
-    ensures text { take result room.new ≡ take 20 room.old ++ shown_fraction millionths }
-    ensures from { 20 ≤ result }
-    ensures to { result ≤ 27 }
+#[inline]
+fn put_fraction(millionths: u32, room: &mut [u8], point: usize) -> usize
+    requires small { millionths < 10 ^ 6 }
+    requires fits { point + 7 ≤ length room.old }
+    ensures text { take result room.new ≡ take point room.old ++ shown_fraction millionths }
+    ensures from { point ≤ result }
+    ensures to { result ≤ point + 7 }
 {
     if millionths == 0 {
-        return POINT;
+        return point;
     }
-    room[POINT] = b'.';
-    let mut rest = millionths;
-    let mut power = 100_000;
-    let mut end = POINT + 1;
-    while rest > 0 {
-        room[end] = b'0' + (rest / power) as u8;
-        rest %= power;
-        power /= 10;
-        end += 1;
+    room[point] = b'.';
+    let rest = millionths % 10_000;
+    if rest == 0 {
+        return put_last_two(millionths / 10_000, room, point + 1);
     }
-    end
+    put_two(millionths / 10_000, room, point + 1);
+    put_last_four(rest, room, point + 3)
+}
+
+/// Writes the text of a value into the room, so that its whole part ends at the point, and gives where it stands.
+#[inline]
+pub fn put_value(value: Units, room: &mut [u8], point: usize) -> Range<usize>
+    requires before { 20 ≤ point }
+    requires after { point + 7 ≤ length room.old }
+    ensures text { slice_range room.new result.start result.end ≡ shown_value value }
+    ensures from { point ≤ result.start + 20 }
+    ensures start { result.start ≤ point }
+    ensures end { point ≤ result.end }
+    ensures to { result.end ≤ point + 7 }
+{
+    let number = value.get();
+    let (whole, millionths) = split_magnitude(number.unsigned_abs());
+    let end = put_fraction(millionths, room, point);
+    let place = write_digits(whole, room, point);
+    let start = put_sign(number < 0, place, room);
+    start..end
 }
 
 /// The text of a value, in the room: a `-` if it is negative, the whole part without zeros in front, and where
@@ -69,10 +135,6 @@ pub fn print(value: Units, room: &mut [u8; 32]) -> &[u8]
     ensures text { result.now ≡ shown_value value }
     ensures short { length result.now ≤ 27 }
 {
-    let number = value.get();
-    let magnitude = number.unsigned_abs();
-    let end = put_fraction((magnitude % 1_000_000) as u32, room);
-    let place = put_whole((magnitude / 1_000_000) as u64, room);
-    let start = put_sign(number < 0, place, room);
-    &room[start..end]
+    let place = put_value(value, room, POINT);
+    &room[place.start..place.end]
 }

@@ -5,4 +5,5 @@ pub mod WordLemmas
 pub mod WrittenLines
 pub mod ReplyLemmas
 mod OrderLemmas
+pub mod PairLemmas
 mod PartLemmas

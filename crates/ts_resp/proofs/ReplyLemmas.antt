@@ -1,5 +1,5 @@
 -- The text of an array, and its length.
-use Rattle.std.proofs.Common.{◌≡◌, ℕ, suc, ◌+◌, ◌≤◌, List, [], ◌∷◌, ◌++◌, length, drop, refl, sym, ap, ◌∙◌, append_assoc, append-nil, length-append, arith}
+use Rattle.std.proofs.Common.{◌≡◌, ℕ, suc, ◌+◌, ◌≤◌, List, [], ◌∷◌, ◌++◌, length, drop, refl, ap, ◌∙◌, length-append, arith}
 use Rattle.std.proofs.Math.ListN.{drop_of_length-le}
 use Rattle.std.specs.Fmt.{decimal}
 use Rattle.ts_spec.specs.Text.{Array, CRLF, count_of, line_text, text, texts}
@@ -25,8 +25,3 @@ length-array replies =
 -- no text is left after the last reply
 pub texts-drop : (replies : List Reply) (at : ℕ) → length replies ≤ at → texts (all_of (drop at replies)) ≡ []
 texts-drop replies at h = ap (λ rest. texts (all_of rest)) (drop_of_length-le replies h)
-
--- three parts behind what was there
-pub three_parts : (a x y z : List ℕ) → ((a ++ x) ++ y) ++ z ≡ a ++ (x ++ (y ++ (z ++ [])))
-three_parts a x y z =
-    append_assoc (a ++ x) y z ∙ append_assoc a x (y ++ z) ∙ ap (λ (l : List ℕ). a ++ (x ++ (y ++ l))) (sym (append-nil z))

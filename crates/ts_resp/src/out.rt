@@ -1,5 +1,5 @@
 // The room that a reply is written into.
-ghost use Rattle.std.specs.Prelude.{◌≡◌, ◌+◌, ◌<◌, ◌≤◌, [], ◌++◌, length, drop, IfOk, OnOk, OnErr};
+ghost use Rattle.std.specs.Prelude.{◌≡◌, ◌+◌, ◌<◌, ◌≤◌, [], ◌++◌, length, take, drop, IfOk, OnOk, OnErr};
 ghost use Rattle.ts_spec.specs.Text.{line_text};
 
 use crate::gap::write_line;
@@ -97,5 +97,19 @@ impl Out {
         ensures room { self.new.spare + length bytes.now ≡ self.old.spare }
     {
         self.bytes.extend_reserved(bytes);
+    }
+
+    // Adds the first so many of bytes, for all of which there is room.
+    #[inline]
+    pub(crate) fn add_front(&mut self, bytes: &[u8], len: usize)
+        requires room { length bytes.now ≤ self.old.spare }
+        requires front { len ≤ length bytes.now }
+        ensures bytes { self.new.bytes ≡ self.old.bytes ++ take len bytes.now }
+        ensures room { self.new.spare + len ≡ self.old.spare }
+        ensures total { length self.new.bytes + self.new.spare ≡ length self.old.bytes + self.old.spare }
+    {
+        let end = self.bytes.len() + len;
+        self.bytes.extend_reserved(bytes);
+        self.bytes.truncate(end);
     }
 }

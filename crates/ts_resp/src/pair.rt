@@ -1,15 +1,22 @@
 // The pair of a number and a value, as which a reply shows a sample.
-ghost use Rattle.std.specs.Prelude.{◌≡◌, ◌+◌, ◌≤◌, ◌++◌, length, pos};
-ghost use Rattle.ts_spec.specs.Text.{Int, Value, Array, Item, Empty, text};
+ghost use Rattle.std.specs.Prelude.{◌≡◌, ◌+◌, ◌≤◌, ◌++◌, length, take, drop, pos, slice_range};
+ghost use Rattle.ts_spec.specs.Text.{CRLF, Int, Value, Array, Item, Empty, shown_cell, text};
 ghost use Rattle.ts_resp.specs.Replies.{value_of};
 
 use crate::Out;
-use crate::reply::{put_line, shown};
-use itoa::Buffer;
+use itoa::write_digits;
+use std::ops::Range;
+use ts_decimal::put_value;
 use ts_sample::Cell;
 
 /// The most bytes that the text of a pair has.
 pub const PAIR: usize = 64;
+
+// The bytes of the block in which a pair's text is put together, with room for a copy of PAIR bytes from where it begins.
+const BLOCK: usize = 128;
+
+// The place in the block where the whole part of the value ends.
+const POINT: usize = 56;
 
 /// Writes the text of the reply `[number, value]` into room that was reserved for it. Takes no memory.
 pub fn put_pair(number: u64, cell: Cell, out: &mut Out)
@@ -18,8 +25,50 @@ pub fn put_pair(number: u64, cell: Cell, out: &mut Out)
     ensures room { out.old.spare ≤ out.new.spare + 64 }
     ensures total { length out.new.bytes + out.new.spare ≡ length out.old.bytes + out.old.spare }
 {
-    out.add(b"*2\r\n");
-    let mut buffer = Buffer::new();
-    put_line(b':', buffer.format(number).as_bytes(), out);
-    put_line(b'+', shown(cell, &mut [0; 32]), out);
+    let mut block = [0; BLOCK];
+    let value = put_cell(cell, &mut block);
+    put_line_end(value.end, &mut block);
+    let start = put_before(b"\r\n+", value.start, &mut block);
+    let start = write_digits(number, &mut block, start);
+    let start = put_before(b"*2\r\n:", start, &mut block);
+    // (a copy of a fixed length takes a few moves)
+    out.add_front(&block[start..start + PAIR], value.end + 2 - start);
+}
+
+// Writes the text of a value, or `NaN` where there is none, and gives where it stands.
+#[inline]
+fn put_cell(cell: Cell, block: &mut [u8; BLOCK]) -> Range<usize>
+    ensures text { slice_range block.new result.start result.end ≡ shown_cell (value_of cell) }
+    ensures from { 36 ≤ result.start }
+    ensures start { result.start ≤ 56 }
+    ensures end { 56 ≤ result.end }
+    ensures to { result.end ≤ 63 }
+{
+    match cell {
+        Cell::Number(value) => put_value(value, block, POINT),
+        Cell::Nan => put_before(b"NaN", POINT, block)..POINT,
+    }
+}
+
+// Writes the end of a line at the place.
+#[inline]
+fn put_line_end(place: usize, block: &mut [u8; BLOCK])
+    requires { place ≤ 126 }
+    ensures { take (place + 2) block.new ≡ take place block.old ++ CRLF }
+{
+    block[place] = b'\r';
+    block[place + 1] = b'\n';
+}
+
+// Writes bytes so that they end at the place, and gives where they start.
+#[inline]
+fn put_before(bytes: &[u8], place: usize, block: &mut [u8; BLOCK]) -> usize
+    requires from { length bytes.now ≤ place }
+    requires to { place ≤ 128 }
+    ensures text { drop result block.new ≡ bytes.now ++ drop place block.old }
+    ensures start { result + length bytes.now ≡ place }
+{
+    let start = place - bytes.len();
+    block[start..place].copy_from_slice(bytes);
+    start
 }

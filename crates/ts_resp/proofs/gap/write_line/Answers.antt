@@ -1,4 +1,4 @@
-use Rattle.std.proofs.Common.{◌∷◌, ◌++◌, List, ℕ, ◌+◌, ◌-◌, length, drop, sym, ◌∙◌, ap, append_assoc, arith}
+use Rattle.std.proofs.Common.{◌∷◌, List, ℕ, ◌+◌, ◌-◌, length, drop, sym, ◌∙◌, ap, append_assoc, arith}
 use Rattle.std.specs.Prelude.{slice_set}
 use Rattle.ts_spec.specs.Text.{CRLF}
 use Rattle.ts_resp.proofs.WrittenLines.{written}
