@@ -1,3 +1,4 @@
 pub mod Results
 pub mod Pushes
 pub mod Counts
+pub mod Tallies

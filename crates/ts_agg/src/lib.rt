@@ -1,15 +1,19 @@
 //! What is told of the samples of a bucket, over a list that grows at its end. Nothing here takes memory.
 #![tactic(auto)]
 
+mod amounts;
 mod counted;
 mod fault;
 mod names;
 mod running;
+mod tally;
 
+pub use amounts::{Amount, Total};
 pub use counted::Counted;
 pub use fault::AggFault;
 pub use names::{is_name, name, named, read_aggregator};
 pub use running::Running;
+pub use tally::Tally;
 pub use ts_spec::Aggregator;
 
 #[cfg(test)]

@@ -87,7 +87,7 @@ impl Running {
     pub fn result(&self, agg: Aggregator) -> Option<Units>
         ensures value { (ps : List Point) → StandsFor self.now ps → 0 < length ps
             → result ≡ Some (aggregate agg ps) }
-        ensures told { 0 < self.now.count → result ≡ Some (result_of agg self.now) }
+        ensures of_summary { 0 < self.now.count → result ≡ Some (result_of agg self.now) }
         ensures none { IsNone result ↔ (self.now.count ≡ 0) }
     {
         if self.count == 0 {
@@ -116,14 +116,16 @@ impl Running {
 }
 
 // The lesser of two values.
-fn lesser(old: Units, new: Units) -> Units
+#[inline]
+pub(crate) fn lesser(old: Units, new: Units) -> Units
     ensures { result ≡ (if int_lt new old then new else old) }
 {
     if new < old { new } else { old }
 }
 
 // The greater of two values.
-fn greater(old: Units, new: Units) -> Units
+#[inline]
+pub(crate) fn greater(old: Units, new: Units) -> Units
     ensures { result ≡ (if int_lt old new then new else old) }
 {
     if old < new { new } else { old }

@@ -37,7 +37,7 @@ fn names(rt: HostRuntime) {
 }
 
 // What is told of so many millionths.
-fn told(values: &[i128]) -> [Option<i128>; 8]
+fn results(values: &[i128]) -> [Option<i128>; 8]
     requires { length values.now ≤ 100 }
 {
     let mut running = Running::new();
@@ -54,18 +54,18 @@ fn told(values: &[i128]) -> [Option<i128>; 8]
 #[test]
 fn lists(rt: HostRuntime) {
     const MOST: i128 = 1_000_000_000_000_000_000_000_000;
-    assert!(rt; told(&[]) == [None; 8]);
-    assert!(rt; told(&[5, -2, 4]) == [2, 7, -2, 5, 7, 3_000_000, 5, 4].map(Some));
+    assert!(rt; results(&[]) == [None; 8]);
+    assert!(rt; results(&[5, -2, 4]) == [2, 7, -2, 5, 7, 3_000_000, 5, 4].map(Some));
     assert!(rt;
-        told(&[1_000_000, 0, 0])
+        results(&[1_000_000, 0, 0])
             == [
                 333_333, 1_000_000, 0, 1_000_000, 1_000_000, 3_000_000, 1_000_000, 0
             ]
             .map(Some)
     );
-    assert!(rt; told(&[-1, 0]) == [-1, -1, -1, 0, 1, 2_000_000, -1, 0].map(Some));
+    assert!(rt; results(&[-1, 0]) == [-1, -1, -1, 0, 1, 2_000_000, -1, 0].map(Some));
     assert!(rt;
-        told(&[MOST, MOST, -MOST])
+        results(&[MOST, MOST, -MOST])
             == [
                 333_333_333_333_333_333_333_333,
                 MOST,
@@ -77,6 +77,48 @@ fn lists(rt: HostRuntime) {
                 -MOST
             ]
             .map(Some)
+    );
+}
+
+fn sample(millionths: i128) -> Sample {
+    Sample {
+        time: 0,
+        value: ts_decimal::clamp(millionths),
+        made: 0,
+    }
+}
+
+// What a tally tells of three values, for each aggregator.
+fn tallied(values: [i128; 3]) -> [i128; 8] {
+    let [first, second, third] = values;
+    ALL.map(|agg| {
+        let mut tally = Tally::of(agg, &sample(first));
+        tally.push(&sample(second));
+        tally.push(&sample(third));
+        tally.value().get()
+    })
+}
+
+#[test]
+fn tallies(rt: HostRuntime) {
+    const MOST: i128 = 1_000_000_000_000_000_000_000_000;
+    let alone = ALL.map(|agg| Tally::of(agg, &sample(-7)).value().get());
+    assert!(rt; alone == [-7, -7, -7, -7, 0, 1_000_000, -7, -7]);
+    assert!(rt; tallied([5, -2, 4]) == [2, 7, -2, 5, 7, 3_000_000, 5, 4]);
+    assert!(rt; tallied([-1, 0, -1]) == [-1, -2, -1, 0, 1, 3_000_000, -1, -1]);
+    assert!(rt; tallied([2, 9, 6]) == [6, 17, 2, 9, 7, 3_000_000, 2, 6]);
+    assert!(rt;
+        tallied([-MOST, -MOST, MOST])
+            == [
+                -333_333_333_333_333_333_333_333,
+                -MOST,
+                -MOST,
+                MOST,
+                MOST,
+                3_000_000,
+                -MOST,
+                MOST
+            ]
     );
 }
 

@@ -2,18 +2,17 @@
 use Rattle.std.proofs.Common.{◌≡◌, ℕ, ◌<◌, ◌≤◌, Bool, true, cond, List, [], ◌∷◌, ◌++◌, length, refl, sym, ◌∙◌, ap, subst, append_assoc, arith}
 use Rattle.std.specs.Prelude.{filter}
 use Rattle.std.specs.List.{All}
-use Rattle.std.proofs.lemmas.List.{length-append}
 use Rattle.std.proofs.lemmas.List.Elements.{All-nil, All-cons, All-head, All-weaker, All-append, filter-append}
+use Rattle.ts_spec.specs.declared.bucket.Aggregator.{Aggregator}
 use Rattle.ts_spec.specs.Sample.{Point, MAX_TIME, IsAfter, IsAscending}
-use Rattle.ts_spec.specs.Bucket.{Grid, start, stamp}
-use Rattle.ts_spec.specs.Aggregate.{aggregate}
-use Rattle.ts_spec.specs.Answer.{Row, Number}
+use Rattle.ts_spec.specs.Bucket.{Grid, start}
+use Rattle.ts_spec.specs.Answer.{Row}
 use Rattle.ts_spec.proofs.Buckets.{start-le}
-use Rattle.ts_agg.specs.Running.{StandsFor}
+use Rattle.ts_agg.specs.Tally.{Tells}
 use Rattle.ts_range.specs.declared.query.Buckets.{Buckets}
 use Rattle.ts_range.specs.declared.bucket.Bucket.{Bucket}
 use Rattle.ts_range.specs.Query.{buckets_of}
-use Rattle.ts_range.specs.Told.{rows_told}
+use Rattle.ts_range.specs.Told.{row_with, rows_told}
 use Rattle.ts_range.specs.Spans.{IsSpan}
 use Rattle.ts_range.specs.Cutting.{IsOpenAt}
 use Rattle.ts_range.proofs.Groups.{one_row, rows-append, rows-one}
@@ -37,35 +36,35 @@ not-before g some b (q ∷ qs) p few all h =
     let past = past-others q.time qs p h.0 in
     omega arith
 
-one-row : (bs : Buckets) (b : ℕ) (here : List Point) (row : Row) → 0 < length here → row ≡ record { time = stamp bs.grid b bs.stamp; value = Number (aggregate bs.agg here) } → one_row (buckets_of bs) b here ≡ row ∷ []
-one-row bs b [] row some is = absurd (omega arith)
-one-row bs b (p ∷ ps) row some is = ap (λ (r : Row). r ∷ []) (sym is)
+one-row : (bs : Buckets) (b : ℕ) (here : List Point) → 0 < length here → one_row (buckets_of bs) b here ≡ row_with (buckets_of bs) b here ∷ []
+one-row bs b [] some = absurd (omega arith)
+one-row bs b (p ∷ ps) some = refl
 
 module _ (has : List Row → Type 0) (bs : Buckets) (o : Bucket) (ps : List Point) (is : IsOpenAt has bs o ps) where
   some : 0 < bs.grid.duration
   some = omega (arith, is.span.grid.some)
 
   -- the row of the bucket is handed on
-  pub closed : (has' : List Row → Type 0) (row : Row) → ((rows : List Row) → has rows → has' (rows ++ row ∷ []))
-      → ((qs : List Point) → StandsFor o.running qs → 0 < length qs → start bs.grid o.start ≡ o.start → row ≡ record { time = stamp bs.grid o.start bs.stamp; value = Number (aggregate bs.agg qs) })
+  pub closed : (has' : List Row → Type 0)
+      → ((qs : List Point) → Tells bs.agg o.tally qs → start bs.grid o.start ≡ o.start → (rows : List Row) → has rows → has' (rows ++ row_with (buckets_of bs) o.start qs ∷ []))
       → (asked : List Point) → has' (rows_told (buckets_of bs) asked ps)
-  closed has' row takes its asked =
-      let told : rows_told (buckets_of bs) asked ps ≡ rows_told (buckets_of bs) asked is.early ++ row ∷ [] =
+  closed has' told asked =
+      let more : rows_told (buckets_of bs) asked ps ≡ rows_told (buckets_of bs) asked is.early ++ row_with (buckets_of bs) o.start is.here ∷ [] =
       ap (rows_told (buckets_of bs) asked) is.parts
       ∙ rows-append (buckets_of bs) asked o.start is.early is.here is.before
       (All-weaker (λ (p : Point). start bs.grid p.time ≡ o.start) (λ (p : Point). o.start ≤ start bs.grid p.time) (λ p e. omega arith) is.here is.inside)
-      ∙ ap (λ (rs : List Row). rows_told (buckets_of bs) asked is.early ++ rs) (rows-one (buckets_of bs) asked o.start is.here is.inside ∙ one-row bs o.start is.here row is.some (its is.here is.stands is.some is.span.begins)) in
-      subst has' (sym told) (takes (rows_told (buckets_of bs) asked is.early) (is.taken asked))
+      ∙ ap (λ (rs : List Row). rows_told (buckets_of bs) asked is.early ++ rs) (rows-one (buckets_of bs) asked o.start is.here is.inside ∙ one-row bs o.start is.here is.tells.some) in
+      subst has' (sym more) (told is.here is.tells is.span.begins (rows_told (buckets_of bs) asked is.early) (is.taken asked))
 
   module _ (p : Point) (rises : IsAscending (ps ++ p ∷ [])) where
     here-rises : IsAscending (is.here ++ p ∷ [])
     here-rises = back-ascends is.early (is.here ++ p ∷ []) (subst IsAscending (ap (λ (l : List Point). l ++ p ∷ []) is.parts ∙ append_assoc is.early is.here (p ∷ [])) rises)
 
     from : o.start ≤ p.time
-    from = not-before bs.grid some o.start is.here p is.some is.inside here-rises
+    from = not-before bs.grid some o.start is.here p is.tells.some is.inside here-rises
 
     -- it is in the bucket that is open
-    pub same : p.time ≤ o.last → (new : Bucket) → new.start ≡ o.start → new.last ≡ o.last → ((qs : List Point) → StandsFor o.running qs → StandsFor new.running (qs ++ p ∷ []))
+    pub same : p.time ≤ o.last → (new : Bucket) → new.start ≡ o.start → new.last ≡ o.last → ((agg : Aggregator) (qs : List Point) → Tells agg o.tally qs → Tells agg new.tally (qs ++ p ∷ []))
         → IsOpenAt has bs new (ps ++ p ∷ [])
     same upto new begins ends pushed =
         let b : start bs.grid p.time ≡ o.start = inside bs.grid some o.start o.last is.span.begins is.span.ends p.time from upto in
@@ -73,21 +72,20 @@ module _ (has : List Row → Type 0) (bs : Buckets) (o : Bucket) (ps : List Poin
           early = is.early;
           here = is.here ++ p ∷ [];
           parts = ap (λ (l : List Point). l ++ p ∷ []) is.parts ∙ append_assoc is.early is.here (p ∷ []);
-          some = omega (arith, length-append is.here (p ∷ []));
           span = subst (λ (t : ℕ). IsSpan bs.grid new.start t) (sym ends) (subst (λ (t : ℕ). IsSpan bs.grid t o.last) (sym begins) is.span);
           before = subst (λ (t : ℕ). All (λ (q : Point). start bs.grid q.time < t) is.early) (sym begins) is.before;
           inside = subst (λ (t : ℕ). All (λ (q : Point). start bs.grid q.time ≡ t) (is.here ++ p ∷ [])) (sym begins)
               (All-append (λ (q : Point). start bs.grid q.time ≡ o.start) is.here (p ∷ []) is.inside (All-cons (λ (q : Point). start bs.grid q.time ≡ o.start) p [] b (All-nil (λ (q : Point). start bs.grid q.time ≡ o.start))));
-          stands = pushed is.here is.stands;
+          tells = pushed bs.agg is.here is.tells;
           taken = is.taken;
         }
 
     -- it is past that bucket, whose row is handed on
-    pub next : o.last < p.time → p.time ≤ MAX_TIME → (new : Bucket) → (IsSpan bs.grid o.start o.last → IsSpan bs.grid new.start new.last) → (IsSpan bs.grid o.start o.last → new.start ≡ start bs.grid p.time) → StandsFor new.running (p ∷ [])
-        → (has' : List Row → Type 0) (row : Row) → ((rows : List Row) → has rows → has' (rows ++ row ∷ []))
-        → ((qs : List Point) → StandsFor o.running qs → 0 < length qs → start bs.grid o.start ≡ o.start → row ≡ record { time = stamp bs.grid o.start bs.stamp; value = Number (aggregate bs.agg qs) })
+    pub next : o.last < p.time → p.time ≤ MAX_TIME → (new : Bucket) → (IsSpan bs.grid o.start o.last → IsSpan bs.grid new.start new.last) → (IsSpan bs.grid o.start o.last → new.start ≡ start bs.grid p.time) → Tells bs.agg new.tally (p ∷ [])
+        → (has' : List Row → Type 0)
+        → ((qs : List Point) → Tells bs.agg o.tally qs → start bs.grid o.start ≡ o.start → (rows : List Row) → has rows → has' (rows ++ row_with (buckets_of bs) o.start qs ∷ []))
         → IsOpenAt has' bs new (ps ++ p ∷ [])
-    next past time new spans begins stands has' row takes its =
+    next past time new spans begins tells has' told =
         let span = spans is.span in
         let at = begins is.span in
         let later : o.start < start bs.grid p.time = late bs.grid some o.start o.last is.span.begins is.span.ends p.time time past in
@@ -95,29 +93,27 @@ module _ (has : List Row → Type 0) (bs : Buckets) (o : Bucket) (ps : List Poin
           early = ps;
           here = p ∷ [];
           parts = refl;
-          some = omega arith;
           span = span;
           before = subst (λ (l : List Point). All (λ (q : Point). start bs.grid q.time < new.start) l) (sym is.parts)
               (All-append (λ (q : Point). start bs.grid q.time < new.start) is.early is.here
               (All-weaker (λ (q : Point). start bs.grid q.time < o.start) (λ (q : Point). start bs.grid q.time < new.start) (λ q less. omega arith) is.early is.before)
               (All-weaker (λ (q : Point). start bs.grid q.time ≡ o.start) (λ (q : Point). start bs.grid q.time < new.start) (λ q e. omega arith) is.here is.inside));
           inside = All-cons (λ (q : Point). start bs.grid q.time ≡ new.start) p [] (sym at) (All-nil (λ (q : Point). start bs.grid q.time ≡ new.start));
-          stands = stands;
-          taken = closed has' row takes its;
+          tells = tells;
+          taken = closed has' told;
         }
 
 -- it is the first one
-pub first : (has : List Row → Type 0) (bs : Buckets) (ps : List Point) (p : Point) → ps ≡ [] → has [] → (new : Bucket) → IsSpan bs.grid new.start new.last → new.start ≡ start bs.grid p.time → StandsFor new.running (p ∷ [])
+pub first : (has : List Row → Type 0) (bs : Buckets) (ps : List Point) (p : Point) → ps ≡ [] → has [] → (new : Bucket) → IsSpan bs.grid new.start new.last → new.start ≡ start bs.grid p.time → Tells bs.agg new.tally (p ∷ [])
     → IsOpenAt has bs new (ps ++ p ∷ [])
-first has bs ps p none empty new span at stands = record {
+first has bs ps p none empty new span at tells = record {
   early = [];
   here = p ∷ [];
   parts = ap (λ (l : List Point). l ++ p ∷ []) none;
-  some = omega arith;
   span = span;
   before = All-nil (λ (q : Point). start bs.grid q.time < new.start);
   inside = All-cons (λ (q : Point). start bs.grid q.time ≡ new.start) p [] (sym at) (All-nil (λ (q : Point). start bs.grid q.time ≡ new.start));
-  stands = stands;
+  tells = tells;
   taken = λ asked. empty;
 }
 

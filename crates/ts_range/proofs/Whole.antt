@@ -1,6 +1,6 @@
 -- The rows of a question, by what it asks of buckets.
 use Rattle.std.proofs.Common.{◌≡◌, ℕ, Bool, true, false, if◌then◌else◌, List, map, refl, sym, ◌∙◌, ap}
-use Rattle.std.specs.Prelude.{◌&&◌, nat_lt, length, filter, Option, None, Some}
+use Rattle.std.specs.Prelude.{◌&&◌, nat_lt, length, filter, reverse, Option, None, Some}
 use Rattle.std.proofs.lemmas.List.Elements.{filter_agree}
 use Rattle.ts_spec.specs.Sample.{Point, between, first_of, last_of}
 use Rattle.ts_spec.specs.Bucket.{Grid, starts}
@@ -51,6 +51,14 @@ module _ (q : Query) (l : List Point) where
   walk-rows test lets forward full =
       ap (λ (ps : List Point). first_ones q.count (rows_chosen q.buckets l ps)) (filter_agree test (is_let_through q) lets (between q.from q.to l))
       ∙ ap (λ (b : Bool). first_ones q.count (turned b (rows_chosen q.buckets l (selected q l)))) (sym forward)
+      ∙ sym (chosen-rows q.buckets refl full)
+
+  -- the same where the last row comes first
+  pub walk-rows-back : (test : Point → Bool) → ((p : Point) → test p ≡ is_let_through q p) → q.reverse ≡ true → tells_empty q.buckets ≡ false
+      → first_ones q.count (reverse (rows_chosen q.buckets l (filter test (between q.from q.to l)))) ≡ rows q l
+  walk-rows-back test lets backward full =
+      ap (λ (ps : List Point). first_ones q.count (reverse (rows_chosen q.buckets l ps))) (filter_agree test (is_let_through q) lets (between q.from q.to l))
+      ∙ ap (λ (b : Bool). first_ones q.count (turned b (rows_chosen q.buckets l (selected q l)))) (sym backward)
       ∙ sym (chosen-rows q.buckets refl full)
 
   pub no-limit : (limit : ℕ) → tells_empty q.buckets ≡ false → answer limit q l ≡ Some (rows q l)

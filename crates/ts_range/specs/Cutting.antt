@@ -1,11 +1,11 @@
 -- Samples that are cut into buckets one after another.
-use Rattle.std.specs.Prelude.{◌≡◌, ◌<◌, ◌≤◌, ℕ, List, [], ◌++◌, length, Option, None, Some}
+use Rattle.std.specs.Prelude.{◌≡◌, ◌<◌, ◌≤◌, ℕ, List, [], ◌++◌, Option, None, Some}
 use Rattle.std.specs.List.{All}
 use Rattle.std.specs.Option.{ForSome}
 use Rattle.ts_spec.specs.Sample.{Point}
 use Rattle.ts_spec.specs.Bucket.{start}
 use Rattle.ts_spec.specs.Answer.{Row}
-use Rattle.ts_agg.specs.Running.{StandsFor}
+use Rattle.ts_agg.specs.Tally.{Tells, counted}
 use Rattle.ts_range.specs.declared.query.Buckets.{Buckets}
 use Rattle.ts_range.specs.declared.bucket.Bucket.{Bucket}
 use Rattle.ts_range.specs.Query.{buckets_of}
@@ -17,11 +17,10 @@ pub record IsOpenAt (has : List Row → Type 0) (bs : Buckets) (o : Bucket) (ps 
   pub early : List Point
   pub here : List Point
   pub parts : ps ≡ early ++ here
-  pub some : 0 < length here
   pub span : IsSpan bs.grid o.start o.last
   pub before : All (λ p. start bs.grid p.time < o.start) early
   pub inside : All (λ p. start bs.grid p.time ≡ o.start) here
-  pub stands : StandsFor o.running here
+  pub tells : Tells bs.agg o.tally here
   pub taken : (asked : List Point) → has (rows_told (buckets_of bs) asked early)
 
 -- the bucket of the last of these samples is open, if there are any
@@ -29,6 +28,6 @@ abbrev pub IsCut : (has : List Row → Type 0) → Buckets → Option Bucket →
 IsCut has bs None ps = (ps ≡ []) × has []
 IsCut has bs (Some o) ps = IsOpenAt has bs o ps
 
--- an open bucket has at most so many samples
+-- an open bucket has counted at most so many samples
 abbrev pub HasAtMost : ℕ → Option Bucket → Type 0
-HasAtMost n current = ForSome current (λ o. o.running.count ≤ n)
+HasAtMost n current = ForSome current (λ o. counted o.tally ≤ n)

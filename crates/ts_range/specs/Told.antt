@@ -1,16 +1,20 @@
 -- What is told of the samples of buckets.
-use Rattle.std.specs.Prelude.{ℤ, List, [], ◌∷◌, map, Option, None, Some}
+use Rattle.std.specs.Prelude.{ℕ, ℤ, List, [], ◌∷◌, map, Option, None, Some}
 use Rattle.ts_spec.specs.declared.bucket.Aggregator.{Aggregator}
 use Rattle.ts_spec.specs.Sample.{Point}
-use Rattle.ts_spec.specs.Bucket.{starts}
+use Rattle.ts_spec.specs.Bucket.{starts, stamp}
 use Rattle.ts_spec.specs.Aggregate.{aggregate}
 use Rattle.ts_spec.specs.Command.{Buckets}
-use Rattle.ts_spec.specs.Answer.{Row, bucket_row}
+use Rattle.ts_spec.specs.Answer.{Row, Number, bucket_row}
 
 -- what an aggregator tells of these samples, if there are any
 abbrev pub told_of : Aggregator → List Point → Option ℤ
 told_of a [] = None
 told_of a (p ∷ ps) = Some (aggregate a (p ∷ ps))
+
+-- the row of a bucket that begins there and has these samples
+abbrev pub row_with : Buckets → ℕ → List Point → Row
+row_with bs b ps = record { time = stamp bs.grid b bs.stamp; value = Number (aggregate bs.agg ps) }
 
 -- the rows of the buckets of these samples
 abbrev pub rows_told : Buckets → (asked chosen : List Point) → List Row

@@ -48,7 +48,7 @@ abbrev pub AreWalked : (has : List Row → Type 0) → Option Cutter → List Po
 AreWalked has None ps = has (map row_of ps)
 AreWalked has (Some c) ps = IsCut has c.buckets c.current ps
 
--- the bucket that is open has at most so many samples
+-- the bucket that is open has counted at most so many samples
 abbrev pub HasFew : ℕ → Option Cutter → Type 0
 HasFew n cut = ForSome cut (λ c. HasAtMost n c.current)
 

@@ -7,7 +7,8 @@ ghost use Rattle.ts_range.specs.Spans.{IsSpan};
 
 use crate::query::Buckets;
 use crate::row::Row;
-use ts_agg::Running;
+use crate::take::Take;
+use ts_agg::Tally;
 use ts_bucket::{Grid, Stamp};
 use ts_sample::{Cell, MAX_TIME, Sample};
 
@@ -16,70 +17,65 @@ pub(crate) struct Bucket {
     // Its first and its last time, in milliseconds.
     pub(crate) start: u64,
     pub(crate) last: u64,
-    pub(crate) running: Running,
+    // What its samples come to.
+    pub(crate) tally: Tally,
     ghost start_fits: { start ≤ MAX_TIME },
     ghost last_fits: { last ≤ MAX_TIME },
 }
 
 impl Bucket {
-    ghost use Rattle.std.specs.Prelude.{List, [], ◌∷◌, length};
+    ghost use Rattle.std.specs.Prelude.{List, [], ◌∷◌, ◌++◌};
     ghost use Rattle.ts_spec.specs.Sample.{Point};
-    ghost use Rattle.ts_spec.specs.Aggregate.{aggregate};
-    ghost use Rattle.ts_spec.specs.Answer.{Number};
-    ghost use Rattle.ts_agg.specs.Running.{StandsFor};
-    ghost use Rattle.ts_range.specs.Query.{row_of};
+    ghost use Rattle.ts_spec.specs.Answer.{Row as TheRow};
+    ghost use Rattle.ts_agg.specs.Tally.{Tells, counted};
+    ghost use Rattle.ts_range.specs.Query.{buckets_of};
+    ghost use Rattle.ts_range.specs.Told.{row_with};
 
     // The bucket of a sample, which is the only one in it yet.
-    pub(crate) fn of(grid: &Grid, sample: &Sample) -> Bucket
-        ensures span { IsSpan grid.now result.start result.last }
-        ensures start { result.start ≡ start_of grid.now sample.now.time }
-        ensures stands { StandsFor result.running (sample.now ∷ []) }
-        ensures one { result.running.count ≤ 1 }
+    pub(crate) fn of(buckets: &Buckets, sample: &Sample) -> Bucket
+        ensures span { IsSpan buckets.now.grid result.start result.last }
+        ensures start { result.start ≡ start_of buckets.now.grid sample.now.time }
+        ensures tells { Tells buckets.now.agg result.tally (sample.now ∷ []) }
+        ensures one { counted result.tally ≤ 1 }
     {
-        let (start, last) = span_of(grid, sample.time);
-        let mut running = Running::new();
-        running.push(sample);
+        let (start, last) = span_of(&buckets.grid, sample.time);
         Bucket {
             start,
             last,
-            running,
+            tally: Tally::of(buckets.agg, sample),
         }
     }
 
     // The bucket of a sample past this one, which is the only one in it yet.
     #[inline]
-    pub(crate) fn after(&self, grid: &Grid, sample: &Sample) -> Bucket
+    pub(crate) fn after(&self, buckets: &Buckets, sample: &Sample) -> Bucket
         requires { self.now.last < sample.now.time }
-        ensures span { IsSpan grid.now self.now.start self.now.last → IsSpan grid.now result.start result.last }
-        ensures start { IsSpan grid.now self.now.start self.now.last → result.start ≡ start_of grid.now sample.now.time }
-        ensures stands { StandsFor result.running (sample.now ∷ []) }
-        ensures one { result.running.count ≤ 1 }
+        ensures span { IsSpan buckets.now.grid self.now.start self.now.last → IsSpan buckets.now.grid result.start result.last }
+        ensures start { IsSpan buckets.now.grid self.now.start self.now.last → result.start ≡ start_of buckets.now.grid sample.now.time }
+        ensures tells { Tells buckets.now.agg result.tally (sample.now ∷ []) }
+        ensures one { counted result.tally ≤ 1 }
     {
-        let (start, last) = span_past(self.last, grid, sample.time);
-        let mut running = Running::new();
-        running.push(sample);
+        let (start, last) = span_past(self.last, &buckets.grid, sample.time);
         Bucket {
             start,
             last,
-            running,
+            tally: Tally::of(buckets.agg, sample),
         }
     }
 
-    // Its row.
+    // Hands on its row.
     #[inline]
-    pub(crate) fn row(&self, buckets: &Buckets) -> Row
-        ensures { (ps : List Point) → StandsFor self.now.running ps → 0 < length ps
+    pub(crate) fn tell<T: Take>(&self, buckets: &Buckets, taker: &mut T)
+        ensures limit { T.limit taker.new ≡ T.limit taker.old }
+        ensures row { (ps : List Point) → Tells buckets.now.agg self.now.tally ps
             → start_of buckets.now.grid self.now.start ≡ self.now.start
-            → row_of result ≡ record { time = stamp buckets.now.grid self.now.start buckets.now.stamp; value = Number (aggregate buckets.now.agg ps) } }
+            → (rows : List TheRow) → T.has taker.old rows
+            → T.has taker.new (rows ++ row_with (buckets_of buckets.now) self.now.start ps ∷ []) }
     {
-        let value = match self.running.result(buckets.agg) {
-            Some(value) => Cell::Number(value),
-            None => Cell::Nan,
-        };
-        Row {
+        taker.row(Row {
             time: stamp_of(self.start, buckets),
-            value,
-        }
+            value: Cell::Number(self.tally.value()),
+        });
     }
 }
 

@@ -8,7 +8,7 @@ use ts_agg::{Aggregator, Running};
 use ts_sample::{Sample, Units};
 
 // What an aggregator tells of the samples that are let through, if there are any.
-pub(crate) fn told(filters: &Filters, agg: Aggregator, samples: &[Sample]) -> Option<Units>
+pub(crate) fn bucket_value(filters: &Filters, agg: Aggregator, samples: &[Sample]) -> Option<Units>
     requires { length samples.now ≤ 10 ^ 14 }
     ensures { result ≡ told_of agg (filter (passes filters.now) samples.now) }
 {

@@ -15,6 +15,7 @@ impl Cutter {
     ghost use Rattle.std.specs.Prelude.{◌≡◌, ◌<◌, ◌+◌, ◌^◌, ℕ, List, [], ◌∷◌, ◌++◌, None};
     ghost use Rattle.std.specs.Option.{ForSome};
     ghost use Rattle.ts_spec.specs.Sample.{Point, IsAscending};
+    ghost use Rattle.ts_agg.specs.Tally.{counted};
     ghost use Rattle.ts_range.specs.Query.{buckets_of};
     ghost use Rattle.ts_range.specs.Told.{rows_told};
     ghost use Rattle.ts_range.specs.Cutting.{IsCut, HasAtMost};
@@ -33,7 +34,7 @@ impl Cutter {
     // the one before. Within a bucket nothing is divided.
     #[inline]
     pub(crate) fn push<T: Take>(&mut self, sample: &Sample, taker: &mut T)
-        requires few { ForSome self.old.current (λ b. b.running.count < 10 ^ 14) }
+        requires few { ForSome self.old.current (λ b. counted b.tally < 10 ^ 14) }
         ensures buckets { self.new.buckets ≡ self.old.buckets }
         ensures limit { T.limit taker.new ≡ T.limit taker.old }
         ensures few { (n : ℕ) → HasAtMost n self.old.current → HasAtMost (n + 1) self.new.current }
@@ -41,14 +42,14 @@ impl Cutter {
             → IsCut (T.has taker.new) self.old.buckets self.new.current (ps ++ sample.now ∷ []) }
     {
         match &mut self.current {
-            None => self.current = Some(Bucket::of(&self.buckets.grid, sample)),
+            None => self.current = Some(Bucket::of(&self.buckets, sample)),
             Some(bucket) => {
                 if sample.time <= bucket.last {
-                    bucket.running.push(sample);
+                    bucket.tally.push(sample);
                     return;
                 }
-                taker.row(bucket.row(&self.buckets));
-                *bucket = bucket.after(&self.buckets.grid, sample);
+                bucket.tell(&self.buckets, taker);
+                *bucket = bucket.after(&self.buckets, sample);
             }
         }
     }
@@ -59,7 +60,7 @@ impl Cutter {
         ensures closed { (ps asked : List Point) → IsCut (T.has taker.old) self.now.buckets self.now.current ps → T.has taker.new (rows_told (buckets_of self.now.buckets) asked ps) }
     {
         if let Some(bucket) = &self.current {
-            taker.row(bucket.row(&self.buckets));
+            bucket.tell(&self.buckets, taker);
         }
     }
 }

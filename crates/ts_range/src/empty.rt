@@ -9,7 +9,7 @@ ghost use Rattle.ts_range.specs.Filters.{passes};
 ghost use Rattle.ts_range.specs.Starts.{starts_within};
 ghost use Rattle.ts_range.specs.Walk.{IsAroundOf, IsAskedOf};
 
-use crate::cells::told;
+use crate::cells::bucket_value;
 use crate::cut::cut;
 use crate::filters::Filters;
 use crate::query::{Buckets, Query};
@@ -31,7 +31,7 @@ pub(crate) fn are_too_many(query: &Query, asked: &Asked, limit: u32) -> bool
     if !buckets.empty {
         return false;
     }
-    match Starts::told(query, &buckets.grid, asked.ends) {
+    match Starts::over(query, &buckets.grid, asked.ends) {
         None => false,
         Some(starts) => u64::from(limit) < starts.wanted(query.count),
     }
@@ -55,7 +55,7 @@ pub(crate) fn all_rows(
         (map (spec.bucket_row (buckets_of buckets.now) l (filter (passes filters.now) asked.now.rows.items))
         (starts_within buckets.now.grid query.now.from query.now.to asked.now.ends)))) }
 {
-    let Some(starts) = Starts::told(query, &buckets.grid, asked.ends) else {
+    let Some(starts) = Starts::over(query, &buckets.grid, asked.ends) else {
         return Ok(Vec::new(alloc));
     };
     buckets.grid.known();
@@ -88,7 +88,7 @@ fn cell(
     requires ascending { IsAscending asked.now.rows.items }
     ensures { cell_of result ≡ cell_told agg (filter (passes filters.now) samples.now) (known_before first start asked.now) }
 {
-    match told(filters, agg, samples) {
+    match bucket_value(filters, agg, samples) {
         Some(value) => Cell::Number(value),
         None => empty_cell(agg, asked, start, first),
     }

@@ -1,4 +1,4 @@
-ghost use Rattle.std.specs.Prelude.{◌≡◌, ℕ, IfOk, option_map};
+ghost use Rattle.std.specs.Prelude.{◌≡◌, ℕ, None, IfOk, IsTrue, option_map};
 ghost use Rattle.std.specs.Option.{ForSome};
 ghost use Rattle.std.specs.List.Sorted.{IsNonDecreasing};
 ghost use Rattle.ts_spec.specs.Answer.{is_listed};
@@ -13,7 +13,11 @@ pub struct Filters {
     // In ascending order.
     times: Option<Vec<u64>>,
     values: Option<(Units, Units)>,
+    // Whether there is neither, so that no sample need be looked at.
+    lets_all: bool,
     ghost times_rise: { ForSome times (λ times. IsNonDecreasing times.items) },
+    ghost lets_all_times: { IsTrue lets_all → times ≡ None },
+    ghost lets_all_values: { IsTrue lets_all → values ≡ None },
 }
 
 impl Filters {
@@ -32,11 +36,13 @@ impl Filters {
             return Ok(Filters {
                 times: None,
                 values,
+                lets_all: values.is_none(),
             });
         };
         Ok(Filters {
             times: Some(sorted(*times.allocator(), times)?),
             values,
+            lets_all: false,
         })
     }
 
@@ -45,6 +51,9 @@ impl Filters {
     pub(crate) fn let_through(&self, sample: &Sample) -> bool
         ensures { result ≡ passes self.now sample.now }
     {
+        if self.lets_all {
+            return true;
+        }
         self.let_time(sample.time) && self.let_value(sample.value)
     }
 

@@ -24,10 +24,12 @@ pub use answers::answer;
 pub use fault::RangeFault;
 pub use filters::Filters;
 pub use limited::Limited;
+pub use list::RowList;
 pub use query::{Buckets, Query};
 pub use row::{Asked, Row};
 pub use take::Take;
 pub use walk::Walk;
+pub use walked::turned;
 
 #[cfg(test)]
 mod tests;

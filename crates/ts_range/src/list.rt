@@ -10,16 +10,17 @@ use crate::take::Take;
 use std::alloc::{AllocError, Global};
 use ts_sample::Cell;
 
+/// The rows that it was handed, in their order.
 #[derive(Drop)]
-pub(crate) struct RowList {
+pub struct RowList {
     rows: Vec<Row>,
     // Whether there was no memory for a row.
     lost: bool,
 }
 
 impl RowList {
-    // No rows yet, and room for so many.
-    pub(crate) fn with_room(alloc: Global, count: usize) -> Result<RowList, AllocError>
+    /// No rows yet, and room for so many.
+    pub fn with_room(alloc: Global, count: usize) -> Result<RowList, AllocError>
         ensures { IfOk result (λ t. IsListOf t.lost t.rows.items []) }
     {
         Ok(RowList {
@@ -28,8 +29,8 @@ impl RowList {
         })
     }
 
-    // The rows that it took.
-    pub(crate) fn into_rows(self) -> Result<Vec<Row>, AllocError>
+    /// The rows that it took.
+    pub fn into_rows(self) -> Result<Vec<Row>, AllocError>
         ensures { (rows : List TheRow) → IsListOf self.lost self.rows.items rows
             → IfOk result (λ taken. map row_of taken.items ≡ rows) }
     {

@@ -28,7 +28,7 @@ impl Starts {
 
     // Those from the bucket of the first time asked to that of the last one, of samples whose first and last
     // times these are.
-    pub(crate) fn told(query: &Query, grid: &Grid, ends: Option<(u64, u64)>) -> Option<Starts>
+    pub(crate) fn over(query: &Query, grid: &Grid, ends: Option<(u64, u64)>) -> Option<Starts>
         ensures { starts_if result ≡ starts_within grid.now query.now.from query.now.to ends }
     {
         let (first, last) = ends?;

@@ -28,11 +28,11 @@ fn sample(time: u64, millionths: i128) -> Sample
 fn row(time: u64, millionths: i128) -> Row
     requires { time ≤ MAX_TIME }
 {
-    told(time, Some(millionths))
+    row_of_cell(time, Some(millionths))
 }
 
 // A row with a value, or without one.
-fn told(time: u64, millionths: Option<i128>) -> Row
+fn row_of_cell(time: u64, millionths: Option<i128>) -> Row
     requires { time ≤ MAX_TIME }
 {
     let value = match millionths {
@@ -175,7 +175,12 @@ fn empty_buckets(rt: HostRuntime) -> Result<(), Fail> {
     ] {
         let asked = query(None, buckets(agg, 0, Stamp::Low, true), false);
         let two = vec![in alloc; sample(1, 2), sample(35, 4)]?;
-        let want = [row(0, 2), told(10, empty), told(20, empty), row(30, 4)];
+        let want = [
+            row(0, 2),
+            row_of_cell(10, empty),
+            row_of_cell(20, empty),
+            row(30, 4),
+        ];
         assert_eq!(rt; ask(&asked, two, 4)?.as_slice(), want.as_slice());
     }
     let two = vec![in alloc; sample(1, 2), sample(35, 4)]?;
@@ -198,7 +203,7 @@ fn samples_before_empty_buckets(rt: HostRuntime) -> Result<(), Fail> {
     let mut asked = query(None, buckets(Aggregator::Last, 0, Stamp::Low, true), true);
     asked.values = Some((units(3), units(9)));
     let two = vec![in alloc; sample(1, 2), sample(35, 4)]?;
-    let want = [row(30, 4), row(20, 2), row(10, 2), told(0, None)];
+    let want = [row(30, 4), row(20, 2), row(10, 2), row_of_cell(0, None)];
     assert_eq!(rt; ask(&asked, two, 4)?.as_slice(), want.as_slice());
     let asked = query(
         Some(2),

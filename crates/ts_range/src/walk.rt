@@ -1,6 +1,8 @@
 ghost use Rattle.std.specs.Prelude.{◌≡◌, ◌<◌, ◌+◌, ◌^◌, ℕ, List, [], ◌∷◌, ◌++◌, filter, option_map};
 ghost use Rattle.std.specs.Option.{ForSome};
 ghost use Rattle.ts_spec.specs.Sample.{Point, IsAscending};
+ghost use Rattle.ts_spec.specs.Answer.{Row as TheRow, row_of};
+ghost use Rattle.ts_agg.specs.Tally.{counted};
 ghost use Rattle.ts_range.specs.Filters.{passes};
 ghost use Rattle.ts_range.specs.Walking.{AreWalked, HasFew};
 
@@ -109,7 +111,7 @@ impl<T: Take> Visit for Walk<T> {
 // Hands on the row that a sample makes, or that it ends, if the filters let it through.
 #[inline]
 fn take_sample<T: Take>(filters: &Filters, cut: &mut Option<Cutter>, taker: &mut T, sample: &Sample)
-    requires { ForSome cut.old (λ c. ForSome c.current (λ b. b.running.count < 10 ^ 14)) }
+    requires { ForSome cut.old (λ c. ForSome c.current (λ b. counted b.tally < 10 ^ 14)) }
     ensures buckets { option_map (λ c. c.buckets) cut.new ≡ option_map (λ c. c.buckets) cut.old }
     ensures limit { T.limit taker.new ≡ T.limit taker.old }
     ensures few { (n : ℕ) → HasFew n cut.old → HasFew (n + 1) cut.new }
@@ -120,10 +122,19 @@ fn take_sample<T: Take>(filters: &Filters, cut: &mut Option<Cutter>, taker: &mut
         return;
     }
     match cut {
-        None => taker.row(Row {
-            time: sample.time,
-            value: Cell::Number(sample.value),
-        }),
+        None => tell(sample, taker),
         Some(cutter) => cutter.push(sample, taker),
     }
+}
+
+// Hands on the row of a sample.
+#[inline]
+fn tell<T: Take>(sample: &Sample, taker: &mut T)
+    ensures limit { T.limit taker.new ≡ T.limit taker.old }
+    ensures row { (rows : List TheRow) → T.has taker.old rows → T.has taker.new (rows ++ row_of sample.now ∷ []) }
+{
+    taker.row(Row {
+        time: sample.time,
+        value: Cell::Number(sample.value),
+    });
 }

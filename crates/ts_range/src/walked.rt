@@ -38,8 +38,8 @@ pub(crate) fn walked_rows(
     Ok(turned(rows, query.count))
 }
 
-// The last row first, and so many of them.
-fn turned(mut rows: Vec<Row>, count: Option<u64>) -> Vec<Row>
+/// The last row first, and so many of them.
+pub fn turned(mut rows: Vec<Row>, count: Option<u64>) -> Vec<Row>
     ensures { map row_of result.items ≡ spec.first_ones count (reverse (map row_of rows.items)) }
 {
     rows.reverse();

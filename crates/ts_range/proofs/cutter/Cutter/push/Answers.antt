@@ -9,11 +9,11 @@ use Rattle.ts_range.proofs.cutter.Cutter.push.Goals as goal
 pub returns-then-sample-bucket-clause-cut : goal.returns-then-sample-bucket-clause-cut
 returns-then-sample-bucket-clause-cut g c = λ ps rises is.
     same (g.T.Take.has c.args.taker.now) c.args.self.now.buckets c.in-Some.bucket ps (subst (λ (o : Option Bucket). IsCut (g.T.Take.has c.args.taker.now) c.args.self.now.buckets o ps) c.in-Some.is is) c.args.sample.now rises
-    (omega (arith, ap (λ (p : Point). p.time) c.sample.view_is, c.if-sample-bucket.true)) _ refl refl c.push.ensures.stands
+    (omega (arith, ap (λ (p : Point). p.time) c.sample.view_is, c.if-sample-bucket.true)) _ refl refl c.push.ensures.tells
 
 pub returns-else-sample-bucket-clause-cut : goal.returns-else-sample-bucket-clause-cut
 returns-else-sample-bucket-clause-cut g c = λ ps rises is.
     next (g.T.Take.has c.args.taker.now) c.args.self.now.buckets c.in-Some.bucket ps (subst (λ (o : Option Bucket). IsCut (g.T.Take.has c.args.taker.now) c.args.self.now.buckets o ps) c.in-Some.is is) c.args.sample.now rises
     (omega (arith, ap (λ (p : Point). p.time) c.sample.view_is, c.if-sample-bucket.false)) (omega (arith, ap (λ (p : Point). p.time) c.sample.view_is, c.sample.invariant))
-    c.after.result c.after.ensures.span c.after.ensures.start c.after.ensures.stands
-    (g.T.Take.has c.row-in-Some.new.self) _ c.row-in-Some.ensures.taken c.row.ensures
+    c.after.result c.after.ensures.span c.after.ensures.start c.after.ensures.tells
+    (g.T.Take.has c.tell.new.taker) c.tell.ensures.row

@@ -2,7 +2,7 @@ use Rattle.std.proofs.Common.{◌≡◌, [], ◌∷◌, ◌++◌, length, refl, 
 use Rattle.ts_spec.specs.Sample.{Point}
 use Rattle.ts_spec.specs.Aggregate.{Summary}
 use Rattle.ts_spec.proofs.Aggregates.{summary-count}
-use Rattle.ts_agg.proofs.tests.told.Goals as goal
+use Rattle.ts_agg.proofs.tests.results.Goals as goal
 
 pub loop-millionths-init : goal.loop-millionths-init
 loop-millionths-init c = ([], c.new-running.ensures, refl)

@@ -1,7 +1,7 @@
 use Rattle.std.proofs.Common.{◌≡◌, List, length}
 use Rattle.ts_spec.specs.Sample.{Point}
 use Rattle.ts_agg.specs.Running.{StandsFor}
-use Rattle.ts_agg.proofs.tests.told.Given as goal
+use Rattle.ts_agg.proofs.tests.results.Given as goal
 
 -- it stands for as many samples as have been taken
 abbrev pub invariant-loop-millionths : goal.invariant-loop-millionths

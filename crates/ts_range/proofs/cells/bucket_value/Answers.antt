@@ -3,8 +3,8 @@ use Rattle.ts_spec.specs.Sample.{Point}
 use Rattle.ts_agg.specs.Running.{StandsFor}
 use Rattle.ts_range.specs.Filters.{passes}
 use Rattle.ts_range.proofs.Aggregates.{few, one_pushed, none_pushed, told-is}
-use Rattle.ts_range.proofs.cells.told.Goals as goal
-use Rattle.ts_range.proofs.cells.told.Goals.{then-let_through, else-let_through}
+use Rattle.ts_range.proofs.cells.bucket_value.Goals as goal
+use Rattle.ts_range.proofs.cells.bucket_value.Goals.{then-let_through, else-let_through}
 
 pub push-requires : goal.push-requires
 push-requires c =

@@ -1,0 +1,87 @@
+// What a single aggregator keeps of the samples of a bucket, one sample after another.
+ghost use Rattle.std.specs.Prelude.{◌≡◌, ◌<◌, ◌≤◌, ◌+◌, ◌^◌, List, [], ◌∷◌, ◌++◌};
+ghost use Rattle.ts_spec.specs.Sample.{Point};
+ghost use Rattle.ts_spec.specs.Aggregate.{aggregate};
+ghost use Rattle.ts_agg.specs.Tally.{Tells, counted};
+
+use crate::amounts::{Amount, Total};
+use crate::running::{greater, lesser};
+use ts_sample::{Sample, Units};
+use ts_spec::Aggregator;
+
+/// What one aggregator needs of a list of samples that isn't empty, and no more.
+#[derive(Clone, Copy, Debug, PartialEq, Eq)]
+pub enum Tally {
+    Avg(Total),
+    Sum(Total),
+    /// The least value.
+    Min(Units),
+    /// The greatest value.
+    Max(Units),
+    /// The least and the greatest value.
+    Range(Units, Units),
+    Count(Amount),
+    First(Units),
+    Last(Units),
+}
+
+impl Tally {
+    /// For this aggregator, of one sample.
+    #[inline]
+    pub fn of(agg: Aggregator, first: &Sample) -> Tally
+        ensures tells { Tells agg result (first.now ∷ []) }
+        ensures one { counted result ≤ 1 }
+    {
+        let value = first.value;
+        match agg {
+            Aggregator::Avg => Tally::Avg(Total::of(value)),
+            Aggregator::Sum => Tally::Sum(Total::of(value)),
+            Aggregator::Min => Tally::Min(value),
+            Aggregator::Max => Tally::Max(value),
+            Aggregator::Range => Tally::Range(value, value),
+            Aggregator::Count => Tally::Count(Amount::one()),
+            Aggregator::First => Tally::First(value),
+            Aggregator::Last => Tally::Last(value),
+        }
+    }
+
+    /// Adds a sample at the end. Where samples are counted, it takes 10^14 at most.
+    #[inline]
+    pub fn push(&mut self, s: &Sample)
+        requires { counted self.old < 10 ^ 14 }
+        ensures tells { (agg : Aggregator) (ps : List Point) → Tells agg self.old ps
+            → Tells agg self.new (ps ++ s.now ∷ []) }
+        ensures few { counted self.new ≤ counted self.old + 1 }
+    {
+        match self {
+            Tally::Avg(total) => total.add(s.value),
+            Tally::Sum(total) => total.add(s.value),
+            Tally::Min(least) => *least = lesser(*least, s.value),
+            Tally::Max(greatest) => *greatest = greater(*greatest, s.value),
+            Tally::Range(least, greatest) => {
+                *least = lesser(*least, s.value);
+                *greatest = greater(*greatest, s.value);
+            }
+            Tally::Count(amount) => amount.increase(),
+            Tally::First(_) => {}
+            Tally::Last(last) => *last = s.value,
+        }
+    }
+
+    /// What its aggregator tells of the samples.
+    pub fn value(&self) -> Units
+        ensures { (agg : Aggregator) (ps : List Point) → Tells agg self.now ps
+            → result ≡ aggregate agg ps }
+    {
+        match self {
+            Tally::Avg(total) => total.mean(),
+            Tally::Sum(total) => total.sum(),
+            Tally::Min(least) => *least,
+            Tally::Max(greatest) => *greatest,
+            Tally::Range(least, greatest) => ts_decimal::clamp(greatest.get() - least.get()),
+            Tally::Count(amount) => amount.value(),
+            Tally::First(first) => *first,
+            Tally::Last(last) => *last,
+        }
+    }
+}
