@@ -1,10 +1,12 @@
 -- What becomes of chunks when new ones take the place of others, and how many samples they can have.
-use Rattle.std.proofs.Common.{◌≡◌, ℕ, ◌+◌, ◌-◌, ◌^◌, ◌≤◌, List, [], ◌∷◌, ◌++◌, length, take, drop, map, refl, sym, ◌∙◌, ap, subst, arith, append_assoc, length-append}
-use Rattle.std.proofs.lemmas.List.{map-append, take-map, drop-map, take_at, drop_at, take-append-drop, drop-append-le, drop-drop, length-drop, length-map}
+use Rattle.std.proofs.Common.{◌≡◌, ℕ, ◌+◌, ◌-◌, ◌^◌, ◌≤◌, List, [], ◌∷◌, ◌++◌, length, take, drop, map, sym, ◌∙◌, ap, subst, arith, append_assoc, length-append}
+use Rattle.std.specs.Prelude.{slice_range}
+use Rattle.std.proofs.lemmas.List.{map-append, take-map, drop-map, take_at, drop_at}
 use Rattle.ts_spec.specs.Sample.{Point, IsAfter, IsAscending, MAX_TIME}
 use Rattle.ts_sample.specs.Chunk.{AreFine, joined}
 use Rattle.ts_series.specs.Held.{AreChunks, AreKept, replaced}
 use Rattle.ts_series.proofs.Joined.{chunks-take, chunks-drop, chunks-append}
+use Rattle.ts_series.proofs.PieceCounts.{three-parts, joined-replaced}
 
 -- ---- how many samples there can be
 
@@ -29,34 +31,6 @@ few (p ∷ ps) fine up = omega (arith, spread p.time ps fine.1 up.0 up.1 fine.0.
 pub few-kept : (format : List Point → List ℕ) (pss : List (List Point)) (ns : List ℕ) (count : ℕ) → AreKept format pss ns count → count ≤ 2 ^ 63
 few-kept format pss ns count kept = omega (arith, kept.counted, few (joined pss) (fine-joined format pss ns kept.chunks) kept.ascending)
 
--- ---- how many samples chunks have
-
-many-append : {X : Type 0} (list : X → List Point) (xs ys : List X) → length (joined (map list (xs ++ ys))) ≡ length (joined (map list xs)) + length (joined (map list ys))
-many-append list [] ys = omega arith
-many-append list (x ∷ xs) ys =
-    omega (arith, many-append list xs ys, length-append (list x) (joined (map list (xs ++ ys))), length-append (list x) (joined (map list xs)))
-
-pub many-turned : {X : Type 0} (list : X → List Point) (n : ℕ) (xs : List X) → length (joined (map list (drop n xs ++ take n xs))) ≡ length (joined (map list xs))
-many-turned {X = X} list n xs =
-    omega (
-      arith,
-      many-append list (drop n xs) (take n xs),
-      many-append list (take n xs) (drop n xs),
-      ap (λ (l : List X). length (joined (map list l))) (take-append-drop n xs),
-    )
-
--- a chunk and those past it are a part of all
-pub many-next : {X : Type 0} (list : X → List Point) (xs : List X) (x : X) (ys all : List X) → (xs ++ x ∷ []) ++ ys ≡ all
-    → length (joined (map list ys)) + length (list x) ≤ length (joined (map list all))
-many-next list xs x ys all is =
-    omega (
-      arith,
-      ap (λ ks. length (joined (map list ks))) is,
-      many-append list (xs ++ x ∷ []) ys,
-      many-append list xs (x ∷ []),
-      length-append (list x) [],
-    )
-
 -- ---- new chunks in the place of others
 
 pub map-replaced : {X Y : Type 0} (f : X → Y) (start end : ℕ) (new old : List X) → map f (replaced start end new old) ≡ replaced start end (map f new) (map f old)
@@ -76,15 +50,6 @@ turned-back {X = X} start n firsts news rest items is long many =
     ∙ ap (λ (l : List X). l ++ take (n - start) ((news ++ rest) ++ firsts)) (drop_at (news ++ rest) firsts (n - start) place)
     ∙ ap (λ (l : List X). firsts ++ l) (take_at (news ++ rest) firsts (n - start) place)
     ∙ sym (append_assoc firsts news rest)
-
--- what is left of a turned list once the chunks up to a place went
-pub left-past : {X : Type 0} (start end counter : ℕ) (all turned left : List X) → turned ≡ drop start all ++ take start all → left ≡ drop (counter - start) turned → counter ≡ end
-    → start ≤ end → end ≤ length all → left ≡ drop end all ++ take start all
-left-past {X = X} start end counter all turned left is-turned is-left past ordered within =
-    is-left
-    ∙ ap (drop (counter - start)) is-turned
-    ∙ drop-append-le (counter - start) (drop start all) (take start all) (omega (arith, length-drop start all))
-    ∙ ap (λ (l : List X). l ++ take start all) (drop-drop (counter - start) start all ∙ ap (λ n. drop n all) (let same : start + (counter - start) ≡ end = omega arith in same))
 
 chunks-replaced : (format : List Point → List ℕ) (start end : ℕ) (new old : List (List Point)) (ms ns : List ℕ) → AreChunks format new ms → AreChunks format old ns
     → AreChunks format (replaced start end new old) (replaced start end ms ns)
@@ -109,37 +74,35 @@ kept-replaced format list most start end new old items count before is counted c
       counted = counted;
     }
 
--- the new chunks and then the turned rest are as many samples
-many-replaced : {X : Type 0} (list : X → List Point) (start end : ℕ) (new old : List X)
-    → length (joined (map list (new ++ (drop end old ++ take start old)))) ≡ length (joined (map list (replaced start end new old)))
-many-replaced list start end new old =
-    omega (
-      arith,
-      many-append list new (drop end old ++ take start old),
-      many-append list (drop end old) (take start old),
-      many-append list (take start old ++ new) (drop end old),
-      many-append list (take start old) new,
+-- how many samples there are, counted by those that went and came
+pub count-replaced : {X : Type 0} (list : X → List Point) (start end : ℕ) (new old items : List X) (before removed added : ℕ) → start ≤ end → items ≡ replaced start end new old
+    → before ≡ length (joined (map list old)) → removed ≡ length (joined (slice_range (map list old) start end)) → added ≡ length (joined (map list new))
+    → (removed ≤ before) × (before - removed + added ≡ length (joined (map list items)))
+count-replaced {X} list start end new old items before removed added ordered is all gone come =
+    let front = joined (take start (map list old)) in
+    let between = joined (slice_range (map list old) start end) in
+    let rest = joined (drop end (map list old)) in
+    let one : before ≡ length front + removed + length rest = omega (arith, gone, all, ap length (three-parts start end (map list old) ordered), length-append front (between ++ rest), length-append between rest) in (
+      omega (arith, one),
+      omega (
+        arith,
+        one,
+        come,
+        ap (λ (ks : List X). length (joined (map list ks))) is,
+        ap (λ (pss : List (List Point)). length (joined pss)) (map-replaced list start end new old),
+        ap length (joined-replaced start end (map list new) (map list old)),
+        length-append front (joined (map list new) ++ rest),
+        length-append (joined (map list new)) rest,
+      ),
     )
 
--- which can be counted
-pub few-replaced : {X : Type 0} (format : List Point → List ℕ) (list : X → List Point) (most : X → ℕ) (start end : ℕ) (new old left : List X) (count : ℕ) → left ≡ drop end old ++ take start old
-    → AreChunks format (map list new) (map most new) → IsAscending (joined (replaced start end (map list new) (map list old))) → AreKept format (map list old) (map most old) count
-    → length (joined (map list (new ++ left))) ≤ 2 ^ 63
-few-replaced {X = X} format list most start end new old left count is chunks up kept =
-    let all = replaced start end new old in
-    let few = few-kept format (map list all) (map most all) (length (joined (map list all))) (kept-replaced format list most start end new old all (length (joined (map list all))) count refl refl chunks up kept) in
-    omega (arith, few, many-replaced list start end new old, ap (λ (ks : List X). length (joined (map list (new ++ ks)))) is)
-
--- how many chunks there are then
-pub length-replaced : {X Y : Type 0} (f : X → Y) (start end : ℕ) (new old left : List X) → left ≡ drop end old ++ take start old
-    → length (replaced start end (map f new) (map f old)) ≡ length new + length left
-length-replaced f start end new old left is =
+-- the new ones have no more samples than all then
+pub new-in : {X : Type 0} (list : X → List Point) (start end : ℕ) (new old : List X) → length (joined (map list new)) ≤ length (joined (map list (replaced start end new old)))
+new-in list start end new old =
     omega (
       arith,
-      ap length is,
-      ap length (map-replaced f start end new old),
-      length-map (replaced start end new old) f,
-      length-append (take start old ++ new) (drop end old),
-      length-append (take start old) new,
-      length-append (drop end old) (take start old),
+      ap (λ (pss : List (List Point)). length (joined pss)) (map-replaced list start end new old),
+      ap length (joined-replaced start end (map list new) (map list old)),
+      length-append (joined (take start (map list old))) (joined (map list new) ++ joined (drop end (map list old))),
+      length-append (joined (map list new)) (joined (drop end (map list old))),
     )

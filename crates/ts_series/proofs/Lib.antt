@@ -21,7 +21,6 @@ pub mod PutBetween
 pub mod TakenOut
 pub mod NewChunks
 pub mod PlannedPieces
-pub mod RowInChunks
 pub mod MendedPieces
 pub mod FirstUpTo
 pub mod Effects
@@ -32,3 +31,8 @@ pub mod Putting
 pub mod TakenFromEdge
 pub mod MendedCount
 pub mod TimeFor
+pub mod Limits
+pub mod InPlace
+pub mod FilledChunks
+pub mod TimeFrom
+pub mod OneRow

@@ -1,14 +1,14 @@
 -- How many samples a series has once rows stand in the place of those of an interval.
-use Rattle.std.proofs.Common.{◌≡◌, ℕ, ◌+◌, ◌-◌, ◌*◌, ◌^◌, ◌<◌, ◌≤◌, Bool, true, false, not, ◌&&◌, List, [], ◌∷◌, ◌++◌, length, drop, refl, sym, ◌∙◌, ap, subst, arith, ltb-true, length-drop}
-use Rattle.std.specs.Prelude.{nat_lt, nat_le, max, min, Option, None, Some}
+use Rattle.std.proofs.Common.{◌≡◌, ℕ, ◌+◌, ◌-◌, ◌^◌, ◌<◌, ◌≤◌, Bool, not, ◌&&◌, List, [], ◌∷◌, length, drop, refl, sym, ◌∙◌, ap, subst, arith, length-drop}
+use Rattle.std.specs.Prelude.{nat_lt, nat_le, min, Option, None, Some}
 use Rattle.std.proofs.lemmas.Bool.Decides.{nat_tests}
-use Rattle.ts_spec.specs.Sample.{Point, IsAscending, MAX_TIME, is_within, at_times, outside, put_all}
+use Rattle.ts_spec.specs.Sample.{Point, IsAscending, is_within, at_times, between, outside, put_all}
 use Rattle.ts_spec.specs.State.{edge_of}
 use Rattle.ts_spec.specs.Mending.{high_with}
-use Rattle.ts_sample.specs.Chunk.{AreFine, joined}
+use Rattle.ts_sample.specs.Chunk.{joined}
 use Rattle.ts_sample.proofs.Between.{filter-filter}
 use Rattle.ts_spec.specs.declared.series.Encoding.{Encoding}
-use Rattle.ts_series.specs.Held.{Change, points, pieces_after, AreChunks, IsReady, HasLimits}
+use Rattle.ts_series.specs.Held.{Change, points, pieces_after, IsReady, HasLimits}
 use Rattle.ts_series.specs.History.{History, low, limit_for, IsKeptIn}
 use Rattle.ts_series.specs.Plan.{Plan, AreWithin, AreMade, places_for, IsForIn}
 use Rattle.ts_series.specs.Mend.{mended_list}
@@ -17,63 +17,54 @@ use Rattle.ts_series.proofs.Mending.{count-mended}
 use Rattle.ts_series.proofs.Edges.{from-edge}
 use Rattle.ts_series.proofs.Ready.{Shows, edge-with, is-for, written-list}
 
--- ---- all samples of chunks are within their bounds
+-- ---- those from an edge on that are not in an interval
 
-fine-append : (ps qs : List Point) → AreFine ps → AreFine qs → AreFine (ps ++ qs)
-fine-append [] qs f g = g
-fine-append (p ∷ ps) qs f g = (f.0, fine-append ps qs f.1 g)
-
-pub fine-joined : (format : List Point → List ℕ) (pss : List (List Point)) (ns : List ℕ) → AreChunks format pss ns → AreFine (joined pss)
-fine-joined format [] ns h = tt
-fine-joined format (ps ∷ pss) [] h = absurd h
-fine-joined format (ps ∷ pss) (n ∷ ns) h = fine-append ps (joined pss) h.0.fine (fine-joined format pss ns h.1.1)
-
--- ---- those before a time, and those of an interval
-
--- more are before a later time
-pub before-later : (t u : ℕ) (ps : List Point) → t ≤ u → length (at_times (λ v. nat_lt v t) ps) ≤ length (at_times (λ v. nat_lt v u) ps)
-before-later t u [] le = omega arith
-before-later t u (p ∷ ps) le =
-    let first : one_if (nat_lt p.time t) ≤ one_if (nat_lt p.time u) = one (nat_lt p.time t) (nat_lt p.time u) refl refl in
-    omega (
-      arith,
-      first,
-      before-later t u ps le,
-      length-cons_if (nat_lt p.time t) p (at_times (λ v. nat_lt v t) ps),
-      length-cons_if (nat_lt p.time u) p (at_times (λ v. nat_lt v u) ps),
-    )
-  where
-    one : (b c : Bool) → nat_lt p.time t ≡ b → nat_lt p.time u ≡ c → one_if b ≤ one_if c
-    one true true e f = omega arith
-    one true false e f = absurd (let less : p.time < t = ltb-true p.time t e in let not_less : u ≤ p.time = grind (arith, nat_tests) in omega arith)
-    one false c e f = omega arith
-
-module _ (edge from to past start : ℕ) (past_is : past ≡ max (min (to + 1) (2 ^ 64 - 1)) edge) (start_is : start ≡ min (max from edge) past) where
+module _ (edge from to : ℕ) where
   -- a time from the edge on that is not in the interval
   abbrev is_left : ℕ → Bool
   is_left t = not (is_within from to t) && nat_le edge t
 
-  left-one : (t : ℕ) → t ≤ MAX_TIME → one_if (is_left t) + one_if (nat_lt t edge) + one_if (nat_lt t past) ≡ one_if (nat_lt t start) + 1
-  left-one t fine = grind (arith, nat_tests, past_is, start_is)
+  left-is : (ps : List Point) → length (at_times (nat_le edge) (outside from to ps)) ≡ length (at_times is_left ps)
+  left-is ps = ap length (filter-filter (λ (p : Point). nat_le edge p.time) (λ (p : Point). not (is_within from to p.time)) ps)
 
-  counts : (ps : List Point) → AreFine ps
-      → length (at_times is_left ps) + length (at_times (λ t. nat_lt t edge) ps) + length (at_times (λ t. nat_lt t past) ps) ≡ length (at_times (λ t. nat_lt t start) ps) + length ps
-  counts [] fine = omega arith
-  counts (p ∷ ps) fine =
-      omega (
-        arith,
-        counts ps fine.1,
-        left-one p.time fine.0.time,
-        length-cons_if (is_left p.time) p (at_times is_left ps),
-        length-cons_if (nat_lt p.time edge) p (at_times (λ t. nat_lt t edge) ps),
-        length-cons_if (nat_lt p.time past) p (at_times (λ t. nat_lt t past) ps),
-        length-cons_if (nat_lt p.time start) p (at_times (λ t. nat_lt t start) ps),
-      )
+  -- the interval is before the edge
+  module _ (past : to < edge) where
+    past-one : (t : ℕ) → one_if (is_left t) + one_if (nat_lt t edge) ≡ 1
+    past-one t = grind (arith, nat_tests, past)
 
-  -- those from the edge on without the interval, those before the edge and those up to the end of the interval
-  pub count-left : (ps : List Point) → AreFine ps
-      → length (at_times (nat_le edge) (outside from to ps)) + length (at_times (λ t. nat_lt t edge) ps) + length (at_times (λ t. nat_lt t past) ps) ≡ length (at_times (λ t. nat_lt t start) ps) + length ps
-  count-left ps fine = omega (arith, counts ps fine, ap length (filter-filter (λ (p : Point). nat_le edge p.time) (λ (p : Point). not (is_within from to p.time)) ps))
+    past-counts : (ps : List Point) → length (at_times is_left ps) + length (at_times (λ t. nat_lt t edge) ps) ≡ length ps
+    past-counts [] = omega arith
+    past-counts (p ∷ ps) =
+        omega (
+          arith,
+          past-counts ps,
+          past-one p.time,
+          length-cons_if (is_left p.time) p (at_times is_left ps),
+          length-cons_if (nat_lt p.time edge) p (at_times (λ t. nat_lt t edge) ps),
+        )
+
+    pub count-past : (ps : List Point) → length (at_times (nat_le edge) (outside from to ps)) + length (at_times (λ t. nat_lt t edge) ps) ≡ length ps
+    count-past ps = omega (arith, left-is ps, past-counts ps)
+
+  -- it ends from the edge on
+  module _ (start : ℕ) (reached : edge ≤ to) (start_is : start ≡ min from edge) where
+    left-one : (t : ℕ) → one_if (is_left t) + one_if (is_within from to t) + one_if (nat_lt t start) ≡ 1
+    left-one t = grind (arith, nat_tests, reached, start_is)
+
+    left-counts : (ps : List Point) → length (at_times is_left ps) + length (between from to ps) + length (at_times (λ t. nat_lt t start) ps) ≡ length ps
+    left-counts [] = omega arith
+    left-counts (p ∷ ps) =
+        omega (
+          arith,
+          left-counts ps,
+          left-one p.time,
+          length-cons_if (is_left p.time) p (at_times is_left ps),
+          length-cons_if (is_within from to p.time) p (between from to ps),
+          length-cons_if (nat_lt p.time start) p (at_times (λ t. nat_lt t start) ps),
+        )
+
+    pub count-left : (ps : List Point) → length (at_times (nat_le edge) (outside from to ps)) + length (between from to ps) + length (at_times (λ t. nat_lt t start) ps) ≡ length ps
+    count-left ps = omega (arith, left-is ps, left-counts ps)
 
 -- ---- a mended list, by all samples of the chunks
 
@@ -135,11 +126,3 @@ mends-for {format} from to rows wrote change room h k view shown kept made same 
     (subst (IsForIn format (mends encoding from to rows change room)) view
     (is-for (mends encoding from to rows change room) h refl refl (subst (λ (x : History). AreMade x.born rows) (sym view) made) ready enough limits
     (written-list (mends encoding from to rows change room) h refl shown kept.chunks.ascending list)))
-
--- ---- steps
-
-pub more-steps : (n a b : ℕ) → a ≤ b → (2 + n) * (a + n) ≤ (2 + n) * (b + n)
-more-steps n a b le = grind arith
-
-pub all-steps : (n most : ℕ) → 3 * most + (2 + n) * (most + n) ≤ (5 + n) * (most + n)
-all-steps n most = grind arith

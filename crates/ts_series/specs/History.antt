@@ -1,5 +1,5 @@
 -- A series, as its callers see it.
-use Rattle.std.specs.Prelude.{◌≡◌, ℕ, ◌/◌, nat_le, max, min, List, [], length, Option}
+use Rattle.std.specs.Prelude.{◌≡◌, ℕ, ◌/◌, ◌≤◌, nat_le, max, min, List, [], length, Option}
 use Rattle.ts_spec.specs.declared.series.Encoding.{Encoding}
 use Rattle.ts_spec.specs.declared.series.Encoding.TheVariants.{Compressed, Uncompressed}
 use Rattle.ts_spec.specs.declared.series.Options.{Options}
@@ -9,7 +9,7 @@ use Rattle.ts_spec.specs.Valid.{IsOwn, Every}
 use Rattle.ts_sample.specs.Chunk.{least_limit, greatest_limit}
 use Rattle.ts_chunk_packed.specs.Packed.{packed}
 use Rattle.ts_chunk_plain.specs.Plain.{plain}
-use Rattle.ts_series.specs.Held.{Held, points, AreKept, IsTrimmed, greatest}
+use Rattle.ts_series.specs.Held.{Held, points, AreKept, AreAmong, IsTrimmed, greatest}
 
 -- how it is kept, its samples, the highest time that it ever had a sample at, how many rules were ever made on it, and the chunks
 -- that hold the samples
@@ -40,6 +40,14 @@ limit_for size = max least_limit (min size greatest_limit)
 -- no chunk of a series has more samples, since a sample takes at least three bytes
 abbrev pub reach : History → ℕ
 reach h = greatest (limit_for h.options.chunk_size) h.held.limits / 3
+
+-- the limit of each chunk after is that of a chunk before, or that of a new chunk
+abbrev pub KeepsLimits : (before after : History) → Type 0
+KeepsLimits before after = AreAmong (limit_for before.options.chunk_size) before.held.limits after.held.limits
+
+-- no chunk after has room for more samples than those before and a new one
+abbrev pub KeepsReach : (before after : History) → Type 0
+KeepsReach before after = reach after ≤ max (reach before) (limit_for after.options.chunk_size / 3)
 
 -- the record of a series with these labels and without rules
 abbrev pub record_of : List Label → History → Record

@@ -4,7 +4,7 @@ ghost use Rattle.ts_spec.specs.Sample.{MAX_TIME, last_of};
 ghost use Rattle.ts_spec.specs.declared.series.Merge.{Merge as TheMerge};
 ghost use Rattle.ts_sample.specs.Chunk.{IsPast};
 ghost use Rattle.ts_series.specs.Held.{points, HasRoomFor};
-ghost use Rattle.ts_series.specs.History.{IsKeptIn};
+ghost use Rattle.ts_series.specs.History.{reach, IsKeptIn, KeepsLimits};
 ghost use Rattle.ts_series.specs.Plan.{IsForIn, after, appends};
 ghost use Rattle.ts_series.specs.Put.{met, Answers};
 
@@ -71,6 +71,8 @@ impl<C: Chunk> Line<C> {
         requires { IsForIn C.format plan self.old }
         ensures done { self.new ≡ record (after plan self.old) { held = self.new.held } }
         ensures kept { IsKeptIn C.format self.new }
+        ensures limits { KeepsLimits self.old self.new }
+        ensures reach { reach self.new ≤ reach self.old }
     {
         let sample = plan.sample();
         let high = raise(sample.time, self.high);

@@ -1,11 +1,13 @@
 // A planned change of the chunks of a series, and what carries it out. That takes no memory.
-ghost use Rattle.std.specs.Prelude.{◌≡◌, ◌≤◌, ◌+◌, true, false, nat_le, length, [], IfSome, MatchOption, Some, map};
+ghost use Rattle.std.specs.Prelude.{◌≡◌, ℕ, ◌≤◌, ◌+◌, true, false, nat_le, length, [], IfSome, MatchOption, Some, map};
 ghost use Rattle.std.specs.VecDeque.{deque_capacity};
 ghost use Rattle.ts_spec.specs.Sample.{IsAscending, at_times};
 ghost use Rattle.ts_sample.specs.Chunk.{joined};
-ghost use Rattle.ts_series.specs.Held.{points, pieces_after, limits_after, no_change, replaced, with_last, AreChunks, AreKept, HasRoomFor, IsChangeOf, IsTrimmed};
+ghost use Rattle.ts_series.specs.Held.{points, pieces_after, limits_after, no_change, replaced, with_last, AreAmong, AreChunks, AreKept, HasRoomFor, IsChangeOf, IsTrimmed};
 
 use crate::chunks::Chunks;
+use crate::counts::count_in;
+use crate::ring::replace_between;
 use std::alloc::Global;
 use std::collections::VecDeque;
 use std::marker::Model;
@@ -83,8 +85,9 @@ impl<C: Chunk> Chunks<C> {
         }
     }
 
-    // Puts new chunks in the place of those from one place up to another.
-    fn replace(&mut self, start: usize, end: usize, mut chunks: Vec<C>)
+    // Puts new chunks in the place of those from one place up to another. Where they are as many, no other chunk
+    // moves.
+    fn replace(&mut self, start: usize, end: usize, chunks: Vec<C>)
         requires chunks { AreChunks C.format (map C.list chunks.items) (map C.most chunks.items) }
         requires ordered { start ≤ end }
         requires within { end ≤ length self.old.pieces }
@@ -94,23 +97,16 @@ impl<C: Chunk> Chunks<C> {
         ensures limits { self.new.limits ≡ replaced start end (map C.most chunks.items) self.old.limits }
         ensures room { length self.new.pieces + self.new.room ≡ length self.old.pieces + self.old.room }
     {
-        self.chunks.rotate_left(start);
-        for _ in start..end {
-            if let Some(chunk) = self.chunks.pop_front() {
-                self.count -= chunk.len();
-            }
-        }
-        while let Some(chunk) = chunks.pop() {
-            self.count += chunk.len();
-            self.chunks.push_front_reserved(chunk);
-        }
-        self.chunks.rotate_right(start);
+        let (removed, added) = (self.count_of(start, end), count_in(&chunks));
+        self.count = self.count - removed + added;
+        replace_between(&mut self.chunks, start, end, chunks);
     }
 
     // Lets go of the chunks in front whose samples are all before the edge.
     pub(crate) fn expire(&mut self, edge: u64)
         ensures kept { at_times (nat_le edge) (points self.new) ≡ at_times (nat_le edge) (points self.old) }
         ensures trimmed { IsTrimmed edge self.new.pieces }
+        ensures limits { (one : ℕ) → AreAmong one self.old.limits self.new.limits }
         ensures chunks { AreKept C.format self.new.pieces self.new.limits (length (points self.new)) }
         ensures room { length self.new.pieces + self.new.room ≡ length self.old.pieces + self.old.room }
     {

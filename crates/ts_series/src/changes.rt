@@ -2,7 +2,7 @@ ghost use Rattle.std.specs.Prelude.{◌≡◌, ◌≤◌, ◌<◌, ◌+◌, ◌*
 ghost use Rattle.ts_spec.specs.Sample.{MAX_TIME, IsAscending, between, last_of};
 ghost use Rattle.ts_spec.specs.declared.series.Merge.{Merge as TheMerge};
 ghost use Rattle.ts_sample.specs.Chunk.{IsPast};
-ghost use Rattle.ts_series.specs.History.{list_of, reach, IsKept};
+ghost use Rattle.ts_series.specs.History.{list_of, reach, IsKept, KeepsLimits};
 ghost use Rattle.ts_series.specs.Plan.{IsFor, after, Cuts, Alters, AreWithin, AreMade, options_with};
 ghost use Rattle.ts_series.specs.Put.{met, Answers};
 ghost use Rattle.ts_series.specs.Mend.{IsMend};
@@ -64,6 +64,8 @@ impl Series {
         requires { IsFor plan self.old }
         ensures done { self.new ≡ record (after plan self.old) { held = self.new.held } }
         ensures kept { IsKept self.new }
+        ensures limits { KeepsLimits self.old self.new }
+        ensures reach { reach self.new ≤ reach self.old }
     {
         match &mut self.lines {
             Lines::Plain(line) => line.commit_append(plan),
@@ -139,7 +141,7 @@ impl Series {
         ensures planned { IfOk result (λ plan. IsFor plan self.now) }
         ensures answer { IsMend from to rows.now limit self.now result }
         ensures counted { steps.old ≤ steps.new }
-        ensures bounded { steps.new ≤ steps.old + (5 + length rows.now) * (reach self.now + length rows.now) }
+        ensures bounded { steps.new ≤ steps.old + 3 * reach self.now }
     {
         match &self.lines {
             Lines::Plain(line) => {

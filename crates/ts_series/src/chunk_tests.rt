@@ -131,3 +131,26 @@ fn times_for_so_many(rt: HostRuntime) {
     const TIMES: [u64; 5] = [30, 60, 60, 20, 1000];
     assert_eq!(rt; times::<Brand>(rt.alloc(), Blank::new(1)), TIMES);
 }
+
+// Times from which on nine samples in chunks of three have so many of them, in an interval.
+fn begins<L: Ledger>(alloc: Global, blank: Blank) -> [u64; 5]
+    requires name { blank.name ≡ L.name }
+    requires parts { blank.parts ≡ L.parts }
+    requires some { 0 < blank.parts }
+{
+    let mut steps = Steps::<L>::new(blank);
+    let series = nine(alloc, 88, &mut steps);
+    [
+        series.time_from(0, 1000, 1),
+        series.time_from(0, 1000, 4),
+        series.time_from(0, 85, 1),
+        series.time_from(80, 1000, 1),
+        series.time_from(0, 1000, 10),
+    ]
+}
+
+#[test]
+fn times_from_so_many(rt: HostRuntime) {
+    const TIMES: [u64; 5] = [70, 40, 40, 80, 0];
+    assert_eq!(rt; begins::<Brand>(rt.alloc(), Blank::new(1)), TIMES);
+}

@@ -8,10 +8,14 @@ mod asked;
 mod change;
 mod changes;
 mod chunks;
+mod counts;
 mod cut;
 mod edge;
 mod edit;
 mod ends;
+mod filled;
+mod late;
+mod left;
 mod line;
 mod line_plan;
 mod mend;
@@ -23,9 +27,12 @@ mod presence;
 mod put;
 mod questions;
 mod reads;
+mod ring;
 mod room;
+mod row;
 mod series;
 mod time_for;
+mod time_from;
 
 pub use append::Append;
 pub use plan::{PutFault, SeriesPlan};
@@ -36,5 +43,7 @@ pub use ts_spec::{Encoding, Merge, Options, Policy};
 mod chunk_tests;
 #[cfg(test)]
 mod mend_tests;
+#[cfg(test)]
+mod question_tests;
 #[cfg(test)]
 mod tests;

@@ -1,6 +1,6 @@
 ghost use Rattle.std.specs.Prelude.{◌≡◌, ◌<◌, ◌+◌, ◌-◌, ◌^◌, [], None};
 ghost use Rattle.ts_spec.specs.Sample.{last_of};
-ghost use Rattle.ts_series.specs.History.{list_of, low, IsKeptIn};
+ghost use Rattle.ts_series.specs.History.{list_of, low, IsKeptIn, KeepsLimits, KeepsReach};
 ghost use Rattle.ts_series.specs.Plan.{after, IsForIn};
 
 use crate::chunks::Chunks;
@@ -89,6 +89,8 @@ impl<C: Chunk> Line<C> {
         requires { IsForIn C.format plan self.old }
         ensures done { self.new ≡ record (after plan self.old) { held = self.new.held } }
         ensures kept { IsKeptIn C.format self.new }
+        ensures limits { KeepsLimits self.old self.new }
+        ensures reach { KeepsReach self.old self.new }
     {
         let LinePlan {
             cut: _,

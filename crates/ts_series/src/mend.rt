@@ -1,5 +1,5 @@
 ghost use Rattle.std.specs.Prelude.{◌≡◌, ◌≤◌, ◌+◌, ◌*◌, nat_lt, nat_le, length, IfOk};
-ghost use Rattle.ts_spec.specs.Sample.{IsAscending, at_times, outside};
+ghost use Rattle.ts_spec.specs.Sample.{IsAscending, at_times, between, outside};
 ghost use Rattle.ts_spec.specs.Mending.{high_with};
 ghost use Rattle.ts_series.specs.Held.{points};
 ghost use Rattle.ts_series.specs.History.{list_of, reach};
@@ -33,40 +33,44 @@ impl<C: Chunk> Line<C> {
         ensures planned { IfOk result (λ plan. IsForIn C.format plan self.now) }
         ensures answer { IsMend from to rows.now limit self.now result }
         ensures counted { steps.old ≤ steps.new }
-        ensures bounded { steps.new ≤ steps.old + (5 + length rows.now) * (reach self.now + length rows.now) }
+        ensures bounded { steps.new ≤ steps.old + 3 * reach self.now }
     {
-        if self.exceeds(limit, from, to, rows, steps) {
-            return Err(PutFault::Full);
-        }
         match self.mended(from, to, rows, steps) {
-            Ok(plan) => Ok(plan),
+            Ok((plan, removed)) => {
+                if self.exceeds(limit, from, to, rows, removed, steps) {
+                    drop(plan);
+                    return Err(PutFault::Full);
+                }
+                Ok(plan)
+            }
             Err(fault) => Err(PutFault::Memory(fault)),
         }
     }
 
-    // Plans the mending, whatever the number of samples.
+    // Plans the mending, whatever the number of samples, and tells how many the interval has.
     fn mended<L: Ledger>(
         &self,
         from: u64,
         to: u64,
         rows: &[Sample],
         steps: &mut Steps<L>,
-    ) -> Result<LinePlan<C>, AllocError>
+    ) -> Result<(LinePlan<C>, usize), AllocError>
         requires ascending { IsAscending rows.now }
         requires within { AreWithin from to rows.now }
         requires made { AreMade self.now.born rows.now }
-        ensures planned { IfOk result (λ plan. IsForIn C.format plan self.now) }
-        ensures list { IfOk result (λ plan. list_of (after plan self.now) ≡ mended_list from to rows.now self.now) }
-        ensures high { IfOk result (λ plan. (after plan self.now).high ≡ high_with rows.now self.now.high) }
-        ensures options { IfOk result (λ plan. (after plan self.now).options ≡ self.now.options) }
+        ensures planned { IfOk result (λ r. IsForIn C.format r.0 self.now) }
+        ensures list { IfOk result (λ r. list_of (after r.0 self.now) ≡ mended_list from to rows.now self.now) }
+        ensures high { IfOk result (λ r. (after r.0 self.now).high ≡ high_with rows.now self.now.high) }
+        ensures options { IfOk result (λ r. (after r.0 self.now).options ≡ self.now.options) }
+        ensures removed { IfOk result (λ r. r.1 ≡ length (between from to (points self.now.held))) }
         ensures counted { steps.old ≤ steps.new }
-        ensures bounded { steps.new ≤ steps.old + (2 + length rows.now) * (reach self.now + length rows.now) }
+        ensures bounded { steps.new ≤ steps.old + 2 * reach self.now }
     {
         let size = new_limit(self.options.chunk_size);
-        let change = self.chunks.mended(self.alloc, from, to, rows, size, steps)?;
+        let (change, removed) = self.chunks.mended(self.alloc, from, to, rows, size, steps)?;
         let larger = self.chunks.larger(&change, self.alloc)?;
         let wrote = Rows::of(self.alloc, rows)?;
-        Ok(LinePlan {
+        let plan = LinePlan {
             cut: Some(Interval { from, to }),
             removed: 0,
             encoding: self.options.encoding,
@@ -74,10 +78,11 @@ impl<C: Chunk> Line<C> {
             options: None,
             change,
             larger,
-        })
+        };
+        Ok((plan, removed))
     }
 
-    // Whether the series would have more samples than the limit with the rows in the place of the interval's.
+    // Whether the series would have more samples than the limit with the rows in the place of the interval's, so many.
     // Those before the edge that the rows raise don't count.
     fn exceeds<L: Ledger>(
         &self,
@@ -85,34 +90,44 @@ impl<C: Chunk> Line<C> {
         from: u64,
         to: u64,
         rows: &[Sample],
+        removed: usize,
         steps: &mut Steps<L>,
     ) -> bool
         requires ascending { IsAscending rows.now }
         requires within { AreWithin from to rows.now }
+        requires removed { removed ≡ length (between from to (points self.now.held)) }
         ensures exceeds { result ≡ nat_lt limit (length (mended_list from to rows.now self.now)) }
         ensures counted { steps.old ≤ steps.new }
-        ensures bounded { steps.new ≤ steps.old + 3 * reach self.now }
+        ensures bounded { steps.new ≤ steps.old + reach self.now }
     {
         if self.chunks.len().saturating_add(rows.len()) <= limit as usize {
             return false;
         }
         let edge = edge_at(self.options.retention, high_after(rows, self.high));
-        let left = self.count_left(edge, from, to, steps);
+        let left = self.count_left(edge, from, to, removed, steps);
         let written = rows.len() - place_of(rows, edge);
         (limit as usize) < left.saturating_add(written)
     }
 
-    // How many samples are from an edge on, but for those from one time to another, both included.
-    fn count_left<L: Ledger>(&self, edge: u64, from: u64, to: u64, steps: &mut Steps<L>) -> usize
+    // How many samples are from an edge on, but for those from one time to another, both included, of which there
+    // are so many.
+    fn count_left<L: Ledger>(
+        &self,
+        edge: u64,
+        from: u64,
+        to: u64,
+        removed: usize,
+        steps: &mut Steps<L>,
+    ) -> usize
+        requires removed { removed ≡ length (between from to (points self.now.held)) }
         ensures left { result ≡ length (at_times (nat_le edge) (outside from to (points self.now.held))) }
         ensures counted { steps.old ≤ steps.new }
-        ensures bounded { steps.new ≤ steps.old + 3 * reach self.now }
+        ensures bounded { steps.new ≤ steps.old + reach self.now }
     {
-        let past = to.saturating_add(1).max(edge);
-        let start = from.max(edge).min(past);
-        let gone = self.chunks.count_before(edge, steps);
-        let before = self.chunks.count_before(start, steps);
-        let upto = self.chunks.count_before(past, steps);
-        self.chunks.len() - gone - (upto - before)
+        let all = self.chunks.len();
+        if to < edge {
+            return all - self.chunks.count_before(edge, steps);
+        }
+        all - removed - self.chunks.count_before(from.min(edge), steps)
     }
 }

@@ -1,11 +1,12 @@
 // Changes of the chunks of a series, planned with the memory that they take.
-ghost use Rattle.std.specs.Prelude.{◌≡◌, ℕ, ◌≤◌, ◌<◌, ◌+◌, ◌*◌, ◌^◌, [], ◌∷◌, length, IfOk, map, take, slice_range, None};
+ghost use Rattle.std.specs.Prelude.{◌≡◌, ℕ, ◌≤◌, ◌<◌, ◌+◌, ◌*◌, [], ◌∷◌, length, IfOk, map, take, slice_range, None};
 ghost use Rattle.ts_spec.specs.Sample.{between, last_of, outside, put};
 ghost use Rattle.ts_sample.specs.Chunk.{IsLimit, IsChunk, IsPast, joined};
 ghost use Rattle.ts_series.specs.Held.{points, longest, pieces_after, IsMeeting, IsReady, AreChunks, AreAmong, HasLimits, IsUpTo};
 
 use crate::change::Change;
 use crate::chunks::Chunks;
+use crate::counts::count_in;
 use std::alloc::{AllocError, Global};
 use std::sync::ledger::Ledger;
 use ts_sample::{Chunk, Sample, Steps};
@@ -151,30 +152,6 @@ impl<C: Chunk> Chunks<C> {
         chunks.append(&mut rest)?;
         Ok(chunks)
     }
-
-    // At least as many samples as an interval has: those of all chunks that may have some of them.
-    pub(crate) fn count_near(&self, from: u64, to: u64) -> usize
-        ensures least { length (between from to (points self.now)) ≤ result }
-        ensures most { result ≤ length (between from to (points self.now)) + 2 * longest self.now.pieces }
-    {
-        let places = self.meeting(from, to);
-        self.count_of(places.start, places.end)
-    }
-
-    // How many samples the chunks from one place up to another have.
-    fn count_of(&self, start: usize, end: usize) -> usize
-        requires ordered { start ≤ end }
-        requires within { end ≤ length self.now.pieces }
-        ensures { result ≡ length (joined (slice_range self.now.pieces start end)) }
-    {
-        // Does nothing: it tells that all samples together can be counted.
-        let _all = self.len();
-        let mut count = 0;
-        for place in start..end {
-            count += self.chunks[place].len();
-        }
-        count
-    }
 }
 
 // A chunk of this limit with one sample.
@@ -189,16 +166,4 @@ pub(crate) fn begun<C: Chunk>(alloc: Global, sample: &Sample, limit: u32) -> Res
     let _fits = chunk.try_append(sample);
     chunk.known();
     Ok(chunk)
-}
-
-// How many samples these chunks have.
-fn count_in<C: Chunk>(chunks: &[C]) -> usize
-    requires { length (joined (map C.list chunks.now)) < 2 ^ 64 }
-    ensures { result ≡ length (joined (map C.list chunks.now)) }
-{
-    let mut count = 0;
-    for chunk in chunks {
-        count += chunk.len();
-    }
-    count
 }

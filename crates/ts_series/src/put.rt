@@ -1,7 +1,5 @@
-ghost use Rattle.std.specs.Prelude.{◌≡◌, ◌≢◌, ℕ, ◌≤◌, ◌<◌, ◌+◌, ◌*◌, true, false, nat_lt, None, Some, IfOk, length};
+ghost use Rattle.std.specs.Prelude.{◌≡◌, ℕ, ◌≤◌, ◌<◌, ◌+◌, ◌*◌, true, false, nat_lt, None, Some, IfOk, length};
 ghost use Rattle.ts_spec.specs.Sample.{MAX_TIME, at, last_of, put};
-ghost use Rattle.ts_spec.specs.Rules.{merge};
-ghost use Rattle.ts_spec.specs.Step.{value_at};
 ghost use Rattle.ts_sample.specs.Chunk.{IsPast, joined};
 ghost use Rattle.ts_series.specs.Held.{points, longest, pieces_after, IsReady, HasLimits, IsUpTo};
 ghost use Rattle.ts_series.specs.History.{list_of, low, limit_for, reach};
@@ -13,7 +11,6 @@ use crate::edge::{edge_at, raise};
 use crate::edit::Rows;
 use crate::line::Line;
 use crate::line_plan::LinePlan;
-use crate::merged::merged;
 use crate::plan::PutFault;
 use crate::room::new_limit;
 use std::alloc::AllocError;
@@ -55,57 +52,11 @@ impl<C: Chunk> Line<C> {
         ensures late { result ≡ true → IsUpTo time (last_of (points self.now.held)) }
         ensures past { result ≡ false → IsPast (last_of (points self.now.held)) time }
     {
-        match self.chunks.last() {
-            None => false,
-            Some(last) => time <= last.time,
-        }
-    }
-
-    // Plans a write at a time that may have a sample.
-    fn put_late<L: Ledger>(
-        &self,
-        sample: Sample,
-        how: Merge,
-        limit: u32,
-        steps: &mut Steps<L>,
-    ) -> Result<LinePlan<C>, PutFault>
-        requires kept { low self.now ≤ sample.time }
-        requires made { sample.made ≡ self.now.born }
-        ensures planned { IfOk result (λ plan. IsForIn C.format plan self.now) }
-        ensures answer { Answers (merge how (value_at sample.time (list_of self.now)) sample.value) limit sample.time self.now result }
-        ensures counted { steps.old ≤ steps.new }
-        ensures bounded { steps.new ≤ steps.old + 3 * longest self.now.held.pieces }
-    {
-        match self.chunks.at(sample.time, steps) {
-            None => self.added(sample, limit, steps),
-            Some(there) => self.put_over(there.value, sample, how, steps),
-        }
-    }
-
-    // Plans a write at a time that has this value.
-    fn put_over<L: Ledger>(
-        &self,
-        old: Units,
-        sample: Sample,
-        how: Merge,
-        steps: &mut Steps<L>,
-    ) -> Result<LinePlan<C>, PutFault>
-        requires there { at sample.time (list_of self.now) ≢ None }
-        requires made { sample.made ≡ self.now.born }
-        ensures planned { IfOk result (λ plan. IsForIn C.format plan self.now) }
-        ensures answer { (limit : ℕ) → Answers (merge how (Some old) sample.value) limit sample.time self.now result }
-        ensures counted { steps.old ≤ steps.new }
-        ensures bounded { steps.new ≤ steps.old + longest self.now.held.pieces }
-    {
-        let (time, made) = (sample.time, sample.made);
-        match merged(how, old, sample.value)? {
-            None => Ok(LinePlan::nothing(self.alloc, self.options.encoding)),
-            Some(value) => self.written(Sample { time, value, made }, steps),
-        }
+        self.chunks.is_late(time)
     }
 
     // Plans a new sample at a time that has none.
-    fn added<L: Ledger>(
+    pub(crate) fn added<L: Ledger>(
         &self,
         sample: Sample,
         limit: u32,
@@ -144,7 +95,7 @@ impl<C: Chunk> Line<C> {
     }
 
     // Plans a sample at its time, in the place of one there or as a new one.
-    fn written<L: Ledger>(
+    pub(crate) fn written<L: Ledger>(
         &self,
         sample: Sample,
         steps: &mut Steps<L>,
@@ -200,10 +151,7 @@ impl<C: Chunk> Line<C> {
         ensures bounded { steps.new ≤ steps.old + longest self.now.held.pieces }
         ensures easy { IsPast (last_of (points self.now.held)) sample.now.time → steps.new ≡ steps.old }
     {
-        if self.is_late(sample.time) {
-            return self.chunks.inserted(self.alloc, sample, steps);
-        }
         let size = new_limit(self.options.chunk_size);
-        self.chunks.appended(self.alloc, sample, size)
+        self.chunks.with_sample(self.alloc, sample, size, steps)
     }
 }

@@ -94,6 +94,21 @@ impl Series {
         }
     }
 
+    /// A time from one to another, in milliseconds, from which on, up to the later one, it has so many samples; the
+    /// earlier one where it has fewer, and also where it does not find one. It takes no memory and no steps, and
+    /// decodes nothing: of each chunk, from the end of the interval on, it looks at how many samples it has and at the
+    /// first one.
+    pub fn time_from(&self, from: u64, to: u64, count: u64) -> u64
+        requires { from ≤ to }
+        ensures within { (from ≤ result) × (result ≤ to) }
+        ensures reach { (result ≡ from) ⊎ (count ≤ length (between result to (list_of self.now))) }
+    {
+        match &self.lines {
+            Lines::Plain(line) => line.time_from(from, to, count),
+            Lines::Packed(line) => line.time_from(from, to, count),
+        }
+    }
+
     /// Takes a visitor over the samples from one time to another, in milliseconds, both included, in their
     /// order.
     pub fn scan<V: Visit, L: Ledger>(&self, from: u64, to: u64, visit: &mut V, steps: &mut Steps<L>)
@@ -112,6 +127,7 @@ impl Series {
     pub fn has_between<L: Ledger>(&self, from: u64, to: u64, steps: &mut Steps<L>) -> bool
         ensures has { result ≡ nat_lt 0 (length (between from to (list_of self.now))) }
         ensures counted { steps.old ≤ steps.new }
+        ensures bounded { steps.new ≤ steps.old + reach self.now }
     {
         match &self.lines {
             Lines::Plain(line) => line.has_between(from, to, steps),

@@ -1,6 +1,6 @@
 ghost use Rattle.std.specs.Prelude.{◌≡◌, ◌<◌, ◌+◌, ◌-◌, ◌^◌, [], None};
 ghost use Rattle.ts_spec.specs.Sample.{last_of};
-ghost use Rattle.ts_series.specs.History.{list_of, low, IsKept};
+ghost use Rattle.ts_series.specs.History.{list_of, low, IsKept, KeepsLimits, KeepsReach};
 ghost use Rattle.ts_series.specs.Plan.{after, IsFor};
 
 use crate::line::Line;
@@ -107,6 +107,8 @@ impl Series {
         requires { IsFor plan self.old }
         ensures done { self.new ≡ record (after plan self.old) { held = self.new.held } }
         ensures kept { IsKept self.new }
+        ensures limits { KeepsLimits self.old self.new }
+        ensures reach { KeepsReach self.old self.new }
     {
         match &mut self.lines {
             Lines::Plain(line) => {

@@ -1,10 +1,14 @@
-use Rattle.std.proofs.Common.{◌≡◌, ◌-◌, nat_le, List, ◌∷◌, length, map, sym, ◌∙◌, ap, subst, arith}
+use Rattle.std.proofs.Common.{◌≡◌, ◌-◌, nat_le, List, ◌∷◌, length, map, refl, sym, ◌∙◌, ap, subst, arith}
 use Rattle.std.proofs.lemmas.List.{length-map}
 use Rattle.ts_spec.specs.Sample.{Point, at_times}
 use Rattle.ts_sample.specs.Chunk.{joined}
-use Rattle.ts_series.specs.Held.{Held, AreKept, IsTrimmed}
+use Rattle.ts_series.specs.Held.{Held, AreAmong, AreKept, IsTrimmed}
 use Rattle.ts_series.proofs.Expired.{kept-past, kept-rest}
+use Rattle.ts_series.proofs.Limits.{among-self}
 use Rattle.ts_series.proofs.chunks.Chunks.expire.Goals as goal
+
+pub loop-self-init : goal.loop-self-init
+loop-self-init g c = record { kept = refl; limits = λ one. among-self one c.args.self.now.limits; room = refl }
 
 pub invariant_of-self : goal.invariant_of-self
 invariant_of-self g c =
@@ -22,6 +26,8 @@ loop-self-preserved-in-Some g c =
     let gone = subst (λ (pss : List (List Point)). ¬ IsTrimmed edge pss) (sym pieces) (c.has_expired.ensures.expired c.loop-self-test.true) in
     record {
       kept = kept-past g.C.Chunk.list edge c.in-Some.chunk after.items gone ∙ ap (λ (pss : List (List Point)). at_times (nat_le edge) (joined pss)) pieces ∙ c.loop-self.invariant.kept;
+      limits = λ one. (subst (AreAmong one c.args.self.now.limits) (ap (λ (h : Held). h.limits) (sym c.self.view_is) ∙ ap (map g.C.Chunk.most) c.in-Some.ensures.items)
+          (c.loop-self.invariant.limits one)).1;
       room = omega (
         arith,
         c.loop-self.invariant.room,

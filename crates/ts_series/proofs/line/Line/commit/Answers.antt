@@ -5,10 +5,11 @@ use Rattle.ts_spec.specs.Sample.{at_times}
 use Rattle.ts_spec.specs.State.{edge_of}
 use Rattle.ts_spec.specs.Mending.{high_with}
 use Rattle.ts_sample.specs.Chunk.{joined}
-use Rattle.ts_series.specs.Held.{points, pieces_after, IsTrimmed}
-use Rattle.ts_series.specs.History.{history_of, low, list_of, IsKeptIn}
+use Rattle.ts_series.specs.Held.{Change, AreAmong, HasLimits, limits_after, points, pieces_after, IsTrimmed}
+use Rattle.ts_series.specs.History.{History, history_of, low, limit_for, list_of, IsKeptIn}
 use Rattle.ts_series.specs.Plan.{Plan, listed, IsForIn, after}
 use Rattle.ts_series.proofs.Keeping.{kept-after, after-is}
+use Rattle.ts_series.proofs.Limits.{among-after, among-then, keeps-reach}
 use Rattle.ts_series.proofs.line.Line.commit.Goals as goal
 
 pub returns-clause-kept : goal.returns-clause-kept
@@ -37,3 +38,18 @@ returns-clause-kept g c =
 
 pub invariant_of-self : goal.invariant_of-self
 invariant_of-self g c = returns-clause-kept g c
+
+pub returns-clause-limits : goal.returns-clause-limits
+returns-clause-limits g c =
+    let old = c.args.self.now in
+    let one = limit_for old.options.chunk_size in
+    let change : Change = c.plan.inside.change in
+    let same = ap (λ (h : History). h.held.limits) c.self.view_is in
+    let limits = c.apply.ensures.limits ∙ ap (limits_after change) (c.grow.ensures.limits ∙ same) in
+    let new = subst (HasLimits one old.held.limits) (sym (ap (λ (q : Plan). q.change) c.plan.view_is)) c.requires.limits in
+    among-then one old.held.limits (limits_after change old.held.limits) c.expire.new.self.limits (among-after one change old.held.limits new)
+    (subst (λ ns. AreAmong one ns c.expire.new.self.limits) limits (c.expire.ensures.limits one))
+
+pub returns-clause-reach : goal.returns-clause-reach
+returns-clause-reach g c =
+    keeps-reach c.args.self.now (history_of c.unwrap_or-options.result c.high_after-high.result c.self.inside.born c.expire.new.self) (returns-clause-limits g c)

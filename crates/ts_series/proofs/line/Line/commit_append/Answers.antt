@@ -4,10 +4,11 @@ use Rattle.ts_spec.specs.Sample.{Point, at_times}
 use Rattle.ts_spec.specs.State.{edge_of}
 use Rattle.ts_spec.specs.Rules.{raised}
 use Rattle.ts_sample.specs.Chunk.{joined}
-use Rattle.ts_series.specs.Held.{points, IsTrimmed}
-use Rattle.ts_series.specs.History.{history_of, low, list_of, IsKeptIn}
+use Rattle.ts_series.specs.Held.{points, AreAmong, IsTrimmed}
+use Rattle.ts_series.specs.History.{History, history_of, low, limit_for, list_of, IsKeptIn}
 use Rattle.ts_series.specs.Plan.{Plan, IsForIn, appends, after}
 use Rattle.ts_series.proofs.Keeping.{kept-after, after-is}
+use Rattle.ts_series.proofs.Limits.{same-reach}
 use Rattle.ts_series.proofs.line.Line.commit_append.Goals as goal
 
 pub returns-clause-kept : goal.returns-clause-kept
@@ -27,3 +28,12 @@ returns-clause-kept g c =
 
 pub invariant_of-self : goal.invariant_of-self
 invariant_of-self g c = returns-clause-kept g c
+
+pub returns-clause-limits : goal.returns-clause-limits
+returns-clause-limits g c =
+    let one = limit_for c.args.self.now.options.chunk_size in
+    subst (λ ns. AreAmong one ns c.expire.new.self.limits) (c.append.ensures.limits ∙ ap (λ (h : History). h.held.limits) c.self.view_is) (c.expire.ensures.limits one)
+
+pub returns-clause-reach : goal.returns-clause-reach
+returns-clause-reach g c =
+    same-reach c.args.self.now (history_of c.self.inside.options c.raise-high.result c.self.inside.born c.expire.new.self) (ap (λ (h : History). h.options) c.self.view_is) (returns-clause-limits g c)

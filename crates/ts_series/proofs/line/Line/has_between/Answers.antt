@@ -1,9 +1,10 @@
-use Rattle.std.proofs.Common.{◌∙◌, sym, ap}
+use Rattle.std.proofs.Common.{◌∙◌, sym, ap, arith}
 use Rattle.std.specs.Prelude.{nat_lt, nat_le, max, length}
 use Rattle.ts_spec.specs.Sample.{Point, between, at_times, first_of}
 use Rattle.ts_series.specs.Held.{points}
 use Rattle.ts_series.specs.History.{history_of, History, low, list_of}
 use Rattle.ts_series.proofs.FirstUpTo.{has-between, is_upto}
+use Rattle.ts_series.proofs.Reach.{within-reach}
 use Rattle.ts_series.proofs.line.Line.has_between.Goals as goal
 
 pub returns-in-None-clause-has : goal.returns-in-None-clause-has
@@ -23,3 +24,9 @@ returns-in-Some-clause-has g c =
     ∙ has-between (low h) c.args.from c.args.to (points c.self.inside.chunks) c.first_from.result c.self.invariant.ascending
     (c.first_from.ensures.first ∙ ap (λ t. first_of (at_times (nat_le t) (points c.self.inside.chunks))) from)
     ∙ ap (λ (k : History). nat_lt 0 (length (between c.args.from c.args.to (list_of k)))) c.self.view_is
+
+pub returns-in-None-clause-bounded : goal.returns-in-None-clause-bounded
+returns-in-None-clause-bounded g c = omega (arith, c.first_from.ensures.bounded, within-reach g.met.C.Chunk.at_least c.self.invariant c.self.view_is)
+
+pub returns-in-Some-clause-bounded : goal.returns-in-Some-clause-bounded
+returns-in-Some-clause-bounded g c = omega (arith, c.first_from.ensures.bounded, within-reach g.met.C.Chunk.at_least c.self.invariant c.self.view_is)

@@ -1,7 +1,7 @@
-use Rattle.std.proofs.Common.{length, refl, subst, arith}
+use Rattle.std.proofs.Common.{refl, subst, arith}
 use Rattle.ts_series.specs.Held.{HasLimits}
 use Rattle.ts_series.specs.History.{history_of}
-use Rattle.ts_series.proofs.MendedCount.{mends-for, more-steps}
+use Rattle.ts_series.proofs.MendedCount.{mends-for}
 use Rattle.ts_series.proofs.Reach.{within-reach}
 use Rattle.ts_series.proofs.line.Line.mended.Goals as goal
 
@@ -13,16 +13,16 @@ returns-clause-planned g c =
 
 pub returns-clause-bounded : goal.returns-clause-bounded
 returns-clause-bounded g c =
-    omega (arith, c.in_ok-change.ensures.bounded, more-steps (length c.args.rows.now) _ _ (within-reach g.met.C.Chunk.at_least c.self.invariant c.self.view_is))
+    omega (arith, c.in_ok-change.ensures.bounded, within-reach g.met.C.Chunk.at_least c.self.invariant c.self.view_is)
 
 pub returns-in_err-change-clause-bounded : goal.returns-in_err-change-clause-bounded
 returns-in_err-change-clause-bounded g c =
-    omega (arith, c.mended.ensures.bounded, more-steps (length c.args.rows.now) _ _ (within-reach g.met.C.Chunk.at_least c.self.invariant c.self.view_is))
+    omega (arith, c.mended.ensures.bounded, within-reach g.met.C.Chunk.at_least c.self.invariant c.self.view_is)
 
 pub returns-in_err-larger-clause-bounded : goal.returns-in_err-larger-clause-bounded
 returns-in_err-larger-clause-bounded g c =
-    omega (arith, c.mended.ensures.bounded, more-steps (length c.args.rows.now) _ _ (within-reach g.met.C.Chunk.at_least c.self.invariant c.self.view_is))
+    omega (arith, c.mended.ensures.bounded, within-reach g.met.C.Chunk.at_least c.self.invariant c.self.view_is)
 
 pub returns-in_err-wrote-clause-bounded : goal.returns-in_err-wrote-clause-bounded
 returns-in_err-wrote-clause-bounded g c =
-    omega (arith, c.mended.ensures.bounded, more-steps (length c.args.rows.now) _ _ (within-reach g.met.C.Chunk.at_least c.self.invariant c.self.view_is))
+    omega (arith, c.mended.ensures.bounded, within-reach g.met.C.Chunk.at_least c.self.invariant c.self.view_is)

@@ -1,0 +1,46 @@
+// How many samples chunks have. Nothing is decoded.
+ghost use Rattle.std.specs.Prelude.{◌≡◌, ◌≤◌, ◌<◌, ◌+◌, ◌*◌, ◌^◌, length, map, slice_range};
+ghost use Rattle.ts_spec.specs.Sample.{between};
+ghost use Rattle.ts_sample.specs.Chunk.{joined};
+ghost use Rattle.ts_series.specs.Held.{points, longest};
+
+use crate::chunks::Chunks;
+use ts_sample::Chunk;
+
+impl<C: Chunk> Chunks<C> {
+    // At least as many samples as an interval has: those of all chunks that may have some of them.
+    pub(crate) fn count_near(&self, from: u64, to: u64) -> usize
+        ensures least { length (between from to (points self.now)) ≤ result }
+        ensures most { result ≤ length (between from to (points self.now)) + 2 * longest self.now.pieces }
+    {
+        let places = self.meeting(from, to);
+        self.count_of(places.start, places.end)
+    }
+
+    // How many samples the chunks from one place up to another have.
+    pub(crate) fn count_of(&self, start: usize, end: usize) -> usize
+        requires ordered { start ≤ end }
+        requires within { end ≤ length self.now.pieces }
+        ensures { result ≡ length (joined (slice_range self.now.pieces start end)) }
+    {
+        // Does nothing: it tells that all samples together can be counted.
+        let _all = self.len();
+        let mut count = 0;
+        for place in start..end {
+            count += self.chunks[place].len();
+        }
+        count
+    }
+}
+
+// How many samples these chunks have.
+pub(crate) fn count_in<C: Chunk>(chunks: &[C]) -> usize
+    requires { length (joined (map C.list chunks.now)) < 2 ^ 64 }
+    ensures { result ≡ length (joined (map C.list chunks.now)) }
+{
+    let mut count = 0;
+    for chunk in chunks {
+        count += chunk.len();
+    }
+    count
+}

@@ -1,0 +1,62 @@
+// Plans of a write at a time that is not past the last sample.
+ghost use Rattle.std.specs.Prelude.{◌≡◌, ◌≢◌, ℕ, ◌≤◌, ◌+◌, ◌*◌, None, Some, IfOk};
+ghost use Rattle.ts_spec.specs.Sample.{at};
+ghost use Rattle.ts_spec.specs.Rules.{merge};
+ghost use Rattle.ts_spec.specs.Step.{value_at};
+ghost use Rattle.ts_series.specs.Held.{longest};
+ghost use Rattle.ts_series.specs.History.{list_of, low};
+ghost use Rattle.ts_series.specs.Plan.{IsForIn};
+ghost use Rattle.ts_series.specs.Put.{Answers};
+
+use crate::line::Line;
+use crate::line_plan::LinePlan;
+use crate::merged::merged;
+use crate::plan::PutFault;
+use std::sync::ledger::Ledger;
+use ts_sample::{Chunk, Sample, Steps, Units};
+use ts_spec::Merge;
+
+impl<C: Chunk> Line<C> {
+    // Plans a write at a time that may have a sample.
+    pub(crate) fn put_late<L: Ledger>(
+        &self,
+        sample: Sample,
+        how: Merge,
+        limit: u32,
+        steps: &mut Steps<L>,
+    ) -> Result<LinePlan<C>, PutFault>
+        requires kept { low self.now ≤ sample.time }
+        requires made { sample.made ≡ self.now.born }
+        ensures planned { IfOk result (λ plan. IsForIn C.format plan self.now) }
+        ensures answer { Answers (merge how (value_at sample.time (list_of self.now)) sample.value) limit sample.time self.now result }
+        ensures counted { steps.old ≤ steps.new }
+        ensures bounded { steps.new ≤ steps.old + 3 * longest self.now.held.pieces }
+    {
+        match self.chunks.at(sample.time, steps) {
+            None => self.added(sample, limit, steps),
+            Some(there) => self.put_over(there.value, sample, how, steps),
+        }
+    }
+
+    // Plans a write at a time that has this value.
+    fn put_over<L: Ledger>(
+        &self,
+        old: Units,
+        sample: Sample,
+        how: Merge,
+        steps: &mut Steps<L>,
+    ) -> Result<LinePlan<C>, PutFault>
+        requires there { at sample.time (list_of self.now) ≢ None }
+        requires made { sample.made ≡ self.now.born }
+        ensures planned { IfOk result (λ plan. IsForIn C.format plan self.now) }
+        ensures answer { (limit : ℕ) → Answers (merge how (Some old) sample.value) limit sample.time self.now result }
+        ensures counted { steps.old ≤ steps.new }
+        ensures bounded { steps.new ≤ steps.old + longest self.now.held.pieces }
+    {
+        let (time, made) = (sample.time, sample.made);
+        match merged(how, old, sample.value)? {
+            None => Ok(LinePlan::nothing(self.alloc, self.options.encoding)),
+            Some(value) => self.written(Sample { time, value, made }, steps),
+        }
+    }
+}

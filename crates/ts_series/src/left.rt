@@ -1,0 +1,89 @@
+// The samples that chunks keep when those of an interval go, and rows that take the place of these.
+ghost use Rattle.std.specs.Prelude.{◌≡◌, ◌≤◌, ◌+◌, ◌*◌, nat_le, length, IfOk, slice_range};
+ghost use Rattle.ts_spec.specs.Sample.{IsAfter, IsAscending, at_times, outside, put_all};
+ghost use Rattle.ts_sample.specs.Chunk.{joined};
+ghost use Rattle.ts_series.specs.Held.{longest, IsMeeting};
+ghost use Rattle.ts_series.specs.Plan.{AreWithin};
+
+use crate::chunks::Chunks;
+use std::alloc::{AllocError, Global};
+use std::sync::ledger::Ledger;
+use ts_sample::{Chunk, Gathered, MAX_TIME, Sample, Steps, place_of, places_between};
+
+impl<C: Chunk> Chunks<C> {
+    // The samples of the chunks that meet an interval, without its own. Only the first and the last chunk have any.
+    pub(crate) fn samples_left<L: Ledger>(
+        &self,
+        alloc: Global,
+        start: usize,
+        end: usize,
+        from: u64,
+        to: u64,
+        steps: &mut Steps<L>,
+    ) -> Result<Vec<Sample>, AllocError>
+        requires { IsMeeting from to self.now.pieces start end }
+        ensures list { IfOk result (λ v. v.items ≡ outside from to (joined (slice_range self.now.pieces start end))) }
+        ensures counted { steps.old ≤ steps.new }
+        ensures bounded { steps.new ≤ steps.old + 2 * longest self.now.pieces }
+    {
+        if start == end {
+            return Ok(Vec::new(alloc));
+        }
+        let mut samples = left_of(&self.chunks[start], alloc, from, to, steps)?;
+        if start + 1 == end {
+            return Ok(samples);
+        }
+        let mut rest = left_of(&self.chunks[end - 1], alloc, from, to, steps)?;
+        samples.append(&mut rest)?;
+        Ok(samples)
+    }
+}
+
+// The samples of a chunk without those of an interval.
+fn left_of<C: Chunk, L: Ledger>(
+    chunk: &C,
+    alloc: Global,
+    from: u64,
+    to: u64,
+    steps: &mut Steps<L>,
+) -> Result<Vec<Sample>, AllocError>
+    ensures list { IfOk result (λ v. v.items ≡ outside from to (C.list chunk.now)) }
+    ensures counted { steps.old ≤ steps.new }
+    ensures bounded { steps.new ≤ steps.old + length (C.list chunk.now) }
+{
+    chunk.known();
+    let mut gathered = Gathered::with_room(alloc, chunk.len())?;
+    chunk.scan(0, MAX_TIME, &mut gathered, steps);
+    let mut samples = gathered.into_samples();
+    take_out(&mut samples, from, to);
+    Ok(samples)
+}
+
+// Takes the samples of an interval out of an ascending list.
+fn take_out(samples: &mut Vec<Sample>, from: u64, to: u64)
+    requires { IsAscending samples.old.items }
+    ensures { samples.new.items ≡ outside from to samples.old.items }
+{
+    let places = places_between(samples, from, to);
+    samples.drain(places);
+}
+
+// Puts rows of an interval among samples of which none is in it.
+pub(crate) fn put_rows(
+    samples: &mut Vec<Sample>,
+    from: u64,
+    to: u64,
+    rows: &[Sample],
+) -> Result<(), AllocError>
+    requires ascending { IsAscending samples.old.items }
+    requires none_within { IsAfter to (at_times (nat_le from) samples.old.items) }
+    requires rows { IsAscending rows.now }
+    requires within { AreWithin from to rows.now }
+    ensures { IfOk result (λ _. samples.new.items ≡ put_all rows.now samples.old.items) }
+{
+    let place = place_of(samples, from);
+    let mut rest = samples.split_off(place)?;
+    samples.extend_from_slice(rows)?;
+    samples.append(&mut rest)?;
+    Ok(())
+}

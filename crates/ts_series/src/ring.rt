@@ -1,0 +1,86 @@
+// Items in the place of others in a ring. It takes no memory, and the ring is turned only where more or fewer come
+// than go.
+ghost use Rattle.std.specs.Prelude.{◌≡◌, ◌≤◌, ◌+◌, ◌-◌, [], length, take, drop};
+ghost use Rattle.std.specs.VecDeque.{deque_capacity};
+ghost use Rattle.ts_series.specs.Held.{replaced};
+
+use std::collections::VecDeque;
+
+// Puts items in the place of those from one place up to another. Where they are as many, no other item moves.
+pub(crate) fn replace_between<T: Drop>(
+    ring: &mut VecDeque<T>,
+    start: usize,
+    end: usize,
+    mut items: Vec<T>,
+)
+    requires ordered { start ≤ end }
+    requires within { end ≤ length ring.old.items }
+    requires room { length (replaced start end items.items ring.old.items) ≤ deque_capacity ring.old }
+    ensures items { ring.new.items ≡ replaced start end items.items ring.old.items }
+    ensures capacity { deque_capacity ring.new ≡ deque_capacity ring.old }
+{
+    make_places(ring, start, end, &mut items);
+    put_in_place(ring, start, items);
+}
+
+// Makes the places from one up to another as many as there are items. Where they are fewer, the last items go
+// into the ring behind them.
+fn make_places<T: Drop>(ring: &mut VecDeque<T>, start: usize, end: usize, items: &mut Vec<T>)
+    requires ordered { start ≤ end }
+    requires within { end ≤ length ring.old.items }
+    requires room { length (replaced start end items.old.items ring.old.items) ≤ deque_capacity ring.old }
+    ensures within { start + length items.new.items ≤ length ring.new.items }
+    ensures left { replaced start (start + length items.new.items) items.new.items ring.new.items ≡ replaced start end items.old.items ring.old.items }
+    ensures capacity { deque_capacity ring.new ≡ deque_capacity ring.old }
+{
+    let (places, wanted) = (end - start, items.len());
+    if places < wanted {
+        return put_between(ring, end, items, places);
+    }
+    if wanted < places {
+        take_out(ring, start + wanted, end);
+    }
+}
+
+// Puts the last of these items between those before a place and those from it on, so that so many are left.
+fn put_between<T: Drop>(ring: &mut VecDeque<T>, place: usize, items: &mut Vec<T>, left: usize)
+    requires within { place ≤ length ring.old.items }
+    requires enough { left ≤ length items.old.items }
+    requires room { length ring.old.items + length items.old.items ≤ deque_capacity ring.old + left }
+    ensures ring { ring.new.items ≡ replaced place place (drop left items.old.items) ring.old.items }
+    ensures items { items.new.items ≡ take left items.old.items }
+    ensures capacity { deque_capacity ring.new ≡ deque_capacity ring.old }
+{
+    ring.rotate_left(place);
+    while left < items.len() {
+        if let Some(item) = items.pop() {
+            ring.push_front_reserved(item);
+        }
+    }
+    ring.rotate_right(place);
+}
+
+// Takes out the items from one place up to another.
+fn take_out<T: Drop>(ring: &mut VecDeque<T>, start: usize, end: usize)
+    requires ordered { start ≤ end }
+    requires within { end ≤ length ring.old.items }
+    ensures items { ring.new.items ≡ replaced start end [] ring.old.items }
+    ensures capacity { deque_capacity ring.new ≡ deque_capacity ring.old }
+{
+    ring.rotate_left(start);
+    for _ in start..end {
+        ring.pop_front();
+    }
+    ring.rotate_right(start);
+}
+
+// Puts items in the place of as many, from a place on. No other item moves.
+fn put_in_place<T: Drop>(ring: &mut VecDeque<T>, start: usize, mut items: Vec<T>)
+    requires within { start + length items.items ≤ length ring.old.items }
+    ensures items { ring.new.items ≡ replaced start (start + length items.items) items.items ring.old.items }
+    ensures capacity { deque_capacity ring.new ≡ deque_capacity ring.old }
+{
+    while let Some(item) = items.pop() {
+        ring[start + items.len()] = item;
+    }
+}

@@ -1,0 +1,81 @@
+// One row at its time, among chunks.
+ghost use Rattle.std.specs.Prelude.{◌≡◌, ◌≤◌, ◌+◌, ◌*◌, true, false, length, IfOk};
+ghost use Rattle.ts_spec.specs.Sample.{between, last_of, put};
+ghost use Rattle.ts_sample.specs.Chunk.{IsLimit, IsPast, joined};
+ghost use Rattle.ts_series.specs.Held.{points, longest, pieces_after, IsReady, HasLimits, IsUpTo};
+
+use crate::change::Change;
+use crate::chunks::Chunks;
+use std::alloc::{AllocError, Global};
+use std::sync::ledger::Ledger;
+use ts_sample::{Chunk, Sample, Steps};
+
+impl<C: Chunk> Chunks<C> {
+    // A row in the place of a sample at its time, or as a new one, and how many samples there were at it.
+    pub(crate) fn with_row<L: Ledger>(
+        &self,
+        alloc: Global,
+        row: &Sample,
+        chunk_size: u32,
+        steps: &mut Steps<L>,
+    ) -> Result<(Change<C>, usize), AllocError>
+        requires size { IsLimit chunk_size }
+        ensures ready { IfOk result (λ r. IsReady C.format self.now r.0) }
+        ensures limits { IfOk result (λ r. HasLimits chunk_size self.now.limits r.0) }
+        ensures list { IfOk result (λ r. joined (pieces_after r.0 self.now.pieces) ≡ put row.now (points self.now)) }
+        ensures removed { IfOk result (λ r. r.1 ≡ length (between row.now.time row.now.time (points self.now))) }
+        ensures counted { steps.old ≤ steps.new }
+        ensures bounded { steps.new ≤ steps.old + 2 * longest self.now.pieces }
+    {
+        let removed = self.count_at(row.time, steps);
+        let change = self.with_sample(alloc, row, chunk_size, steps)?;
+        Ok((change, removed))
+    }
+
+    // A sample at its time, in the place of one there or as a new one.
+    pub(crate) fn with_sample<L: Ledger>(
+        &self,
+        alloc: Global,
+        sample: &Sample,
+        chunk_size: u32,
+        steps: &mut Steps<L>,
+    ) -> Result<Change<C>, AllocError>
+        requires size { IsLimit chunk_size }
+        ensures ready { IfOk result (λ c. IsReady C.format self.now c) }
+        ensures limits { IfOk result (λ c. HasLimits chunk_size self.now.limits c) }
+        ensures list { IfOk result (λ c. joined (pieces_after c self.now.pieces) ≡ put sample.now (points self.now)) }
+        ensures counted { steps.old ≤ steps.new }
+        ensures bounded { steps.new ≤ steps.old + longest self.now.pieces }
+        ensures easy { IsPast (last_of (points self.now)) sample.now.time → steps.new ≡ steps.old }
+    {
+        if self.is_late(sample.time) {
+            return self.inserted(alloc, sample, steps);
+        }
+        self.appended(alloc, sample, chunk_size)
+    }
+
+    // Whether a time is not past the last sample.
+    pub(crate) fn is_late(&self, time: u64) -> bool
+        ensures late { result ≡ true → IsUpTo time (last_of (points self.now)) }
+        ensures past { result ≡ false → IsPast (last_of (points self.now)) time }
+    {
+        match self.last() {
+            None => false,
+            Some(last) => time <= last.time,
+        }
+    }
+
+    // How many samples have this time: one or none.
+    fn count_at<L: Ledger>(&self, time: u64, steps: &mut Steps<L>) -> usize
+        ensures count { result ≡ length (between time time (points self.now)) }
+        ensures counted { steps.old ≤ steps.new }
+        ensures bounded { steps.new ≤ steps.old + longest self.now.pieces }
+    {
+        // Does nothing: where a field is read, the order of the chunks is known.
+        let _ = &self.chunks;
+        match self.at(time, steps) {
+            None => 0,
+            Some(_) => 1,
+        }
+    }
+}

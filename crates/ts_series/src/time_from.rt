@@ -1,0 +1,63 @@
+// A time from which on there are so many samples.
+ghost use Rattle.std.specs.Prelude.{◌≡◌, ◌≤◌, ◌⊎◌, nat_lt, [], length, take};
+ghost use Rattle.ts_spec.specs.Sample.{at_times, between};
+ghost use Rattle.ts_sample.specs.Chunk.{joined};
+ghost use Rattle.ts_series.specs.Held.{points};
+ghost use Rattle.ts_series.specs.History.{list_of};
+
+use crate::chunks::Chunks;
+use crate::line::Line;
+use ts_sample::Chunk;
+
+impl<C: Chunk> Chunks<C> {
+    // How many chunks, the first ones, have no sample past this time.
+    fn ended_by(&self, time: u64) -> usize
+        ensures within { result ≤ length self.now.pieces }
+        ensures earlier { at_times (nat_lt time) (joined (take result self.now.pieces)) ≡ [] }
+    {
+        self.before(time.saturating_add(1))
+    }
+
+    // A time from one to another from which on there are so many samples, or the earlier one. Nothing is decoded.
+    pub(crate) fn time_from(&self, from: u64, to: u64, count: u64) -> u64
+        requires { from ≤ to }
+        ensures within { (from ≤ result) × (result ≤ to) }
+        ensures reach { (result ≡ from) ⊎ (count ≤ length (between result to (points self.now))) }
+    {
+        // Does nothing: it tells that all samples together can be counted.
+        let _all = self.len();
+        let end = self.ended_by(to);
+        let mut found = 0;
+        for place in (0..end).rev() {
+            let chunk = &self.chunks[place];
+            found += chunk.len();
+            if count <= found as u64 {
+                return match chunk.first() {
+                    None => from,
+                    Some(first) => first.time.max(from),
+                };
+            }
+        }
+        from
+    }
+}
+
+impl<C: Chunk> Line<C> {
+    // A time from one to another, in milliseconds, from which on it has so many samples, or the earlier one. Nothing
+    // is decoded.
+    pub(crate) fn time_from(&self, from: u64, to: u64, count: u64) -> u64
+        requires { from ≤ to }
+        ensures within { (from ≤ result) × (result ≤ to) }
+        ensures reach { (result ≡ from) ⊎ (count ≤ length (between result to (list_of self.now))) }
+    {
+        let start = from.max(self.edge());
+        if to < start {
+            return from;
+        }
+        let time = self.chunks.time_from(start, to, count);
+        if time == start {
+            return from;
+        }
+        time
+    }
+}
