@@ -33,7 +33,7 @@ pub mod Changing
 pub mod Deleting
 pub mod Asking
 pub mod Opened
-pub mod Telling
+pub mod Infos
 pub mod Rows
 pub mod Selecting
 pub mod Totals

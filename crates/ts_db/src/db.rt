@@ -69,6 +69,11 @@ impl Db {
         self.store.limits
     }
 
+    /// Where it takes memory.
+    pub fn alloc(&self) -> Global {
+        self.store.alloc
+    }
+
     /// Does nothing: it tells a caller that there is a state that it stands for.
     pub fn known(&self)
         ensures stands { Leads self.now (λ held. ⊤) }

@@ -39,7 +39,7 @@ impl Store {
     fn info_of<L: Ledger>(&self, id: Id, steps: &mut Steps<L>) -> Result<Info, AllocError>
         requires store { IsInOrder self.now }
         requires live { IsLive (stock_of self.now).ids id }
-        ensures told { IfOk result (λ info. (key : Key) → get key (stock_of self.now).ids ≡ Some id
+        ensures info { IfOk result (λ info. (key : Key) → get key (stock_of self.now).ids ≡ Some id
             → Told (info_of info) ≡ kept_info_response (get key (stock_of self.now).keys)) }
         ensures counted { steps.old ≤ steps.new }
     {
@@ -53,7 +53,7 @@ impl Store {
             options: node.series.options(),
             labels: node.labels.copy()?,
             source: self.source_key(node.source)?,
-            rules: self.told_rules(&node.rules)?,
+            rules: self.rule_infos(&node.rules)?,
         })
     }
 
@@ -70,23 +70,23 @@ impl Store {
     }
 
     // What is told of rules, in their order.
-    fn told_rules(&self, rules: &[Rule]) -> Result<Vec<RuleInfo>, AllocError>
+    fn rule_infos(&self, rules: &[Rule]) -> Result<Vec<RuleInfo>, AllocError>
         requires store { IsInOrder self.now }
         requires live { AreLive self.now.nodes rules.now }
-        ensures { IfOk result (λ told. map rule_info_of told.items ≡ map kept_rule_info (rules_by (key_in self.now.nodes) rules.now)) }
+        ensures { IfOk result (λ infos. map rule_info_of infos.items ≡ map kept_rule_info (rules_by (key_in self.now.nodes) rules.now)) }
     {
-        let mut told = Vec::with_capacity(self.alloc, rules.len())?;
+        let mut infos = Vec::with_capacity(self.alloc, rules.len())?;
         for rule in rules {
-            told.push_reserved(self.told_rule(rule)?);
+            infos.push_reserved(self.rule_info(rule)?);
         }
-        Ok(told)
+        Ok(infos)
     }
 
     // What is told of a rule.
-    fn told_rule(&self, rule: &Rule) -> Result<RuleInfo, AllocError>
+    fn rule_info(&self, rule: &Rule) -> Result<RuleInfo, AllocError>
         requires store { IsInOrder self.now }
         requires live { HasNode self.now.nodes rule.now.dest }
-        ensures { IfOk result (λ told. rule_info_of told ≡ kept_rule_info (kept_as (key_in self.now.nodes rule.now.dest) rule.now)) }
+        ensures { IfOk result (λ info. rule_info_of info ≡ kept_rule_info (kept_as (key_in self.now.nodes rule.now.dest) rule.now)) }
     {
         Ok(RuleInfo {
             dest: self.copied_key(rule.dest)?,

@@ -24,6 +24,7 @@ mod node;
 mod numbered;
 mod planning;
 mod questions;
+mod reach;
 mod ruling;
 mod selection;
 mod store;

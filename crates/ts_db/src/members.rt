@@ -121,6 +121,19 @@ impl Db {
         self.store.reach_of(id, from, to, count)
     }
 
+    /// A time from one to another, in milliseconds, from which on, up to the later one, the key of a number has so many
+    /// samples; the earlier one where it has fewer. The sample of an open bucket does not count. Takes no memory, and
+    /// looks at few samples.
+    pub fn reach_back_of(&self, id: Id, from: u64, to: u64, count: u64) -> u64
+        requires live { IsLive self.now.ids id }
+        requires ordered { from ≤ to }
+        ensures within { (from ≤ result) × (result ≤ to) }
+        ensures reach { (key : Key) → get key self.now.ids ≡ Some id
+            → (result ≡ from) ⊎ (count ≤ length (between result to (kept_asked self.now.keys false key))) }
+    {
+        self.store.reach_back_of(id, from, to, count)
+    }
+
     /// The last sample of the key of a number before a time, in milliseconds, if it has one; with `latest` that of
     /// an open bucket counts too. Takes no memory.
     pub fn before_of<L: Ledger>(

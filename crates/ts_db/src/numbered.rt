@@ -1,5 +1,5 @@
 // What is kept under the number of a key.
-ghost use Rattle.std.specs.Prelude.{◌≡◌, ◌≤◌, ◌<◌, ◌^◌, ◌⊎◌, false, nat_lt, length, Some, IfOk};
+ghost use Rattle.std.specs.Prelude.{◌≡◌, ◌≤◌, ◌<◌, ◌^◌, nat_lt, length, Some, IfOk};
 ghost use Rattle.ts_sample.specs.Visit.{visited};
 ghost use Rattle.std.specs.Option.{ForSome};
 ghost use Rattle.ts_spec.specs.Key.{Key};
@@ -127,20 +127,6 @@ impl Store {
             None => node.series.scan(from, to, visit, steps),
             Some(row) => scan_with(&node.series, from, to, &row, visit, steps),
         }
-    }
-
-    // A time from one to another, in milliseconds, up to which there are so many samples; the later one where there
-    // are fewer. That of an open bucket does not count.
-    pub(crate) fn reach_of(&self, id: Id, from: u64, to: u64, count: u64) -> u64
-        requires store { IsInOrder self.now }
-        requires live { IsLive (stock_of self.now).ids id }
-        requires ordered { from ≤ to }
-        ensures within { (from ≤ result) × (result ≤ to) }
-        ensures reach { (key : Key) → get key (stock_of self.now).ids ≡ Some id
-            → (result ≡ to) ⊎ (count ≤ length (between from result (kept_asked (stock_of self.now).keys false key))) }
-    {
-        let node = self.node(id);
-        node.series.time_for(from, to, count)
     }
 
     // The last sample before a time, in milliseconds, if there is one; with `latest` that of an open bucket counts

@@ -1,6 +1,7 @@
 // The calls of a database, with ample memory.
 mod call;
 mod came;
+mod full;
 mod labelled;
 mod ruled;
 

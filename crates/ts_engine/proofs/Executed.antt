@@ -8,7 +8,7 @@ use Rattle.ts_spec.specs.Response.{Response}
 use Rattle.ts_spec.specs.Step.{Outcome}
 use Rattle.ts_spec.specs.Text.{Reply, text}
 use Rattle.ts_db.specs.Held.{Held, Stock, Stands, Carries}
-use Rattle.ts_engine.specs.Answering.{IsTold}
+use Rattle.ts_engine.specs.Answering.{IsReplyText}
 use Rattle.ts_engine.specs.Turn.{IsStep, IsOutOfMemory, StepOrMemory, IsAnswered, Executes, WritesAll, takes_memory}
 use Rattle.ts_engine.proofs.Carried.{carries_none, carries_as}
 
@@ -18,13 +18,13 @@ out_of_memory reading command held written may is = record { reply = memory_repl
 
 -- a question
 asked : (reading : ℕ) (command : Command) (held : Held) (written : List ℕ) (response : Response) → IsTrue (takes_memory command)
-    → IsAnswered reading command held (reply_to response) held → IsTold response written → Executes reading command held written held
+    → IsAnswered reading command held (reply_to response) held → IsReplyText response written → Executes reading command held written held
 asked reading command held written response may answered told =
     ⊎_elim (λ (is : written ≡ text (reply_to response)). record { reply = reply_to response; its_text = is; done = inl answered })
     (λ (is : written ≡ text memory_reply). out_of_memory reading command held written may is) told
 
 -- PING, which takes memory only to send a word back
-pinged : (reading : ℕ) (word : Option (List ℕ)) (held : Held) (written : List ℕ) → IfNone word (written ≡ text (reply_to (ping_response None))) → IsTold (ping_response word) written
+pinged : (reading : ℕ) (word : Option (List ℕ)) (held : Held) (written : List ℕ) → IfNone word (written ≡ text (reply_to (ping_response None))) → IsReplyText (ping_response word) written
     → Executes reading (Ping word) held written held
 pinged reading None held written pong told =
     record { reply = reply_to (ping_response None); its_text = pong; done = inl (record { says = refl; state = refl; limits = refl }) }
@@ -73,12 +73,12 @@ told_executes reading command stock reply written answered is =
 
 -- a question
 pub asks_execute : (reading : ℕ) (command : Command) (stock : Stock) (written : List ℕ) (response : Held → Response) → IsTrue (takes_memory command)
-    → ((from : Held) → IsAnswered reading command from (reply_to (response from)) from) → ((from : Held) → Stands stock from → IsTold (response from) written)
+    → ((from : Held) → IsAnswered reading command from (reply_to (response from)) from) → ((from : Held) → Stands stock from → IsReplyText (response from) written)
     → Carries stock stock (λ from to. Executes reading command from written to)
 asks_execute reading command stock written response may answered told =
     carries_none stock (λ from to. Executes reading command from written to) (λ from stands. asked reading command from written (response from) may (answered from) (told from stands))
 
-pub pings_execute : (reading : ℕ) (word : Option (List ℕ)) (stock : Stock) (written : List ℕ) → IfNone word (written ≡ text (reply_to (ping_response None))) → IsTold (ping_response word) written
+pub pings_execute : (reading : ℕ) (word : Option (List ℕ)) (stock : Stock) (written : List ℕ) → IfNone word (written ≡ text (reply_to (ping_response None))) → IsReplyText (ping_response word) written
     → Carries stock stock (λ from to. Executes reading (Ping word) from written to)
 pings_execute reading word stock written pong told =
     carries_none stock (λ from to. Executes reading (Ping word) from written to) (λ from stands. pinged reading word from written pong told)

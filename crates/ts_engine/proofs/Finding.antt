@@ -1,26 +1,22 @@
 -- What the database finds of a question.
-use Rattle.std.proofs.Common.{◌≡◌, ℕ, Bool, true, false, cond, List, [], ◌∷◌, filter, refl, sym, ◌∙◌, ap, subst}
+use Rattle.std.proofs.Common.{◌≡◌, ℕ, Bool, true, false, List, [], ◌∷◌, refl, sym, ◌∙◌, ap, subst}
 use Rattle.std.specs.Prelude.{⊤, Option, None, Some, is_some, Ok, Err}
-use Rattle.std.specs.Option.{ForSome}
 use Rattle.std.proofs.lemmas.Bool.{false≢true}
 use Rattle.ts_spec.specs.declared.limits.Limits.{Limits}
-use Rattle.ts_spec.specs.Bucket.{Grid}
 use Rattle.ts_spec.specs.Key.{Key}
 use Rattle.ts_spec.specs.Keyed.{get}
 use Rattle.ts_spec.specs.Answer.{answer}
 use Rattle.ts_spec.specs.Command as query
 use Rattle.ts_spec.specs.Questions.{asked, rows_response, range_response}
-use Rattle.ts_engine.specs.Answering.{IsTold}
+use Rattle.ts_engine.specs.Answering.{IsReplyText}
 use Rattle.ts_spec.specs.Rules.{open_of, opened, shown_by, shown_at, latest_at, closed_rows}
-use Rattle.ts_spec.specs.Sample.{Point, IsAscending, is_within, between, first_of, last_of, later_or}
+use Rattle.ts_spec.specs.Sample.{Point, IsAscending, first_of, last_of, later_or}
 use Rattle.ts_spec.specs.State.{Rule, Record, State, rule_into, edge}
 use Rattle.ts_spec.specs.Valid.{IsValid}
 use Rattle.ts_spec.proofs.Samples.{ascending-times, ascending-put_all}
-use Rattle.ts_range.specs.declared.query.Query.{Query}
 use Rattle.ts_range.specs.declared.row.Asked.{Asked}
-use Rattle.ts_range.specs.Walk.{times_of, IsAroundOf, IsAskedOf}
+use Rattle.ts_range.specs.Walk.{times_of}
 use Rattle.std.specs.declared.alloc.AllocError.{AllocError}
-use Rattle.ts_db.specs.declared.fault.DbFault.{DbFault}
 use Rattle.ts_db.specs.declared.fault.DbFault.TheVariants.{NoKey, Memory}
 use Rattle.ts_spec.specs.Kept.{Keeping}
 use Rattle.ts_spec.specs.KeptQuestions.{kept_asked}
@@ -65,7 +61,7 @@ first_end (q ∷ qs) p first last ends is =
 
 -- the rows of a key that is there
 pub range_told : (limits : Limits) (m : State) (key : Key) (with_open : Bool) (q : query.Query) (o : Option Record) (what : Asked → Type 0) (a : Asked) (written : List ℕ)
-    → Finds o what (Ok a) → IsTold (rows_response (answer limits.empty_rows q (asked m with_open key))) written → IsTold (range_response limits m key with_open q o) written
+    → Finds o what (Ok a) → IsReplyText (rows_response (answer limits.empty_rows q (asked m with_open key))) written → IsReplyText (range_response limits m key with_open q o) written
 range_told limits m key with_open q None what a written finds is = absurd finds
 range_told limits m key with_open q (Some d) what a written finds is = is
 

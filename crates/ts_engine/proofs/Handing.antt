@@ -1,6 +1,6 @@
 -- The rows that a walk over the samples of a key hands on.
 use Rattle.std.proofs.Common.{◌≡◌, List, [], ◌∷◌, ◌++◌, sym, ◌∙◌, ap, subst, append-nil, append_assoc, ℕ, Bool, true}
-use Rattle.std.specs.Prelude.{filter, Option, None, Some, is_some}
+use Rattle.std.specs.Prelude.{filter, Option, None, Some, is_some, Result, Ok, Err, IfOk, IfErr}
 use Rattle.std.proofs.lemmas.Bool.{false≢true}
 use Rattle.ts_spec.specs.declared.limits.Limits.{Limits}
 use Rattle.ts_spec.specs.Command.{Query}
@@ -11,7 +11,7 @@ use Rattle.ts_spec.specs.State.{Record, State}
 use Rattle.ts_spec.specs.Sample.{Point, IsAscending}
 use Rattle.ts_spec.specs.Answer.{Row, answer}
 use Rattle.ts_sample.specs.Visit.{visited}
-use Rattle.ts_engine.specs.Answering.{IsTold}
+use Rattle.ts_engine.specs.Answering.{IsReplyText}
 use Rattle.ts_range.specs.Walking.{Walking, lets, with_seen, rows_chosen, rows_of_walk}
 
 -- a walk after these samples
@@ -29,6 +29,15 @@ walk-handed has w end ps none rises is rows asked =
 
 -- a key that is there is answered with its rows
 pub rows_here : (limits : Limits) (m : State) (key : Key) (with_open : Bool) (q : Query) (o : Option Record) (rows : List Row) (written : List ℕ) → true ≡ is_some o
-    → answer limits.empty_rows q (asked m with_open key) ≡ Some rows → IsTold (Rows rows) written → IsTold (range_response limits m key with_open q o) written
+    → answer limits.empty_rows q (asked m with_open key) ≡ Some rows → IsReplyText (Rows rows) written → IsReplyText (range_response limits m key with_open q o) written
 rows_here limits m key with_open q None rows written here is told = absurd (false≢true (sym here))
-rows_here limits m key with_open q (Some d) rows written here is told = subst (λ (x : Option (List Row)). IsTold (rows_response x) written) (sym is) told
+rows_here limits m key with_open q (Some d) rows written here is told = subst (λ (x : Option (List Row)). IsReplyText (rows_response x) written) (sym is) told
+
+-- what holds of a result for each key
+pub for-each-key : {X E : Type 0} (r : Result X E) (P : Key → Type 0) (Q : Key → X → Type 0) → ((k : Key) → P k → IfOk r (λ x. Q k x)) → IfOk r (λ x. (k : Key) → P k → Q k x)
+for-each-key (Ok x) P Q h = h
+for-each-key (Err e) P Q h = tt
+
+pub for-each-key-refused : {X E : Type 0} (r : Result X E) (fault : E) (P Q : Key → Type 0) → ((k : Key) → P k → IfErr r (λ e. e ≡ fault → Q k)) → IfErr r (λ e. e ≡ fault → (k : Key) → P k → Q k)
+for-each-key-refused (Ok x) fault P Q h = tt
+for-each-key-refused (Err e) fault P Q h = λ is k at. h k at is

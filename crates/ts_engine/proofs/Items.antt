@@ -11,9 +11,9 @@ use Rattle.ts_command.specs.declared.command.Triple.{Triple as Given}
 use Rattle.ts_command.specs.Reading.{triple_of, triples_of}
 use Rattle.ts_db.specs.Held.{Held, Stock, Carries}
 use Rattle.ts_engine.specs.Answering.{IsShort}
-use Rattle.ts_engine.specs.Turn.{IsTold, AreTold, WritesAll}
+use Rattle.ts_engine.specs.Turn.{HasItem, HaveItems, WritesAll}
 use Rattle.ts_engine.proofs.Carried.{carries_none, carries_as, carries_then}
-use Rattle.ts_engine.proofs.Told.{Tells}
+use Rattle.ts_engine.proofs.TripleItems.{Tells}
 
 pub no_items : {X : Type 0} (xs : List X) → length xs ≡ 0 → xs ≡ []
 no_items [] none = refl
@@ -25,7 +25,7 @@ length-triples triples = length-map triples triple_of
 -- the items so far were told of the first triples; with those of the rest they are the items of all
 pub record SoFar (reading : ℕ) (all rest : List Triple) (old now : Held) (written : List ℕ) : Type 0 where
   pub items : List Reply
-  pub goes_on : (others : List Reply) (to : State) → AreTold old.limits reading rest now.state others to → AreTold old.limits reading all old.state (items ++ others) to
+  pub goes_on : (others : List Reply) (to : State) → HaveItems old.limits reading rest now.state others to → HaveItems old.limits reading all old.state (items ++ others) to
   pub bytes : written ≡ line_text 42 (decimal (length all)) ++ texts (listed items)
   pub count : length items + length rest ≡ length all
   pub limits : now.limits ≡ old.limits
@@ -45,17 +45,17 @@ texts-append (r ∷ a) b = ap (λ (l : List ℕ). text r ++ l) (texts-append a b
 
 -- one more triple had its item
 so_far_more : (reading : ℕ) (all rest : List Triple) (triple : Triple) (old mid new : Held) (item : Reply) (before after : List ℕ) → SoFar reading all (triple ∷ rest) old mid before
-    → IsTold mid.limits reading triple mid.state item new.state → new.limits ≡ mid.limits → after ≡ before ++ text item → SoFar reading all rest old new after
+    → HasItem mid.limits reading triple mid.state item new.state → new.limits ≡ mid.limits → after ≡ before ++ text item → SoFar reading all rest old new after
 so_far_more reading all rest triple old mid new item before after so_far told limits is = record {
   items = so_far.items ++ item ∷ [];
   goes_on = λ others to rest_told.
-      subst (λ (l : List Reply). AreTold old.limits reading all old.state l to) (sym (append_assoc so_far.items (item ∷ []) others))
+      subst (λ (l : List Reply). HaveItems old.limits reading all old.state l to) (sym (append_assoc so_far.items (item ∷ []) others))
       (so_far.goes_on (item ∷ others) to (record {
         first = item;
         others = others;
         mid = new.state;
         split = refl;
-        here = subst (λ (l : Limits). IsTold l reading triple mid.state item new.state) so_far.limits told;
+        here = subst (λ (l : Limits). HasItem l reading triple mid.state item new.state) so_far.limits told;
         after = rest_told;
       }));
   bytes = is ∙ ap (λ (l : List ℕ). l ++ text item) so_far.bytes
@@ -98,7 +98,7 @@ all_told reading all old new written so_far =
       its_text = so_far.bytes ∙ ap (λ n. line_text 42 (decimal n) ++ texts (listed so_far.items)) size;
       all = record {
         items = so_far.items;
-        told = subst (λ (l : List Reply). AreTold old.limits reading all old.state l new.state) (append-nil so_far.items) (so_far.goes_on [] new.state (refl, refl));
+        each = subst (λ (l : List Reply). HaveItems old.limits reading all old.state l new.state) (append-nil so_far.items) (so_far.goes_on [] new.state (refl, refl));
         says = refl;
         limits = so_far.limits;
       };

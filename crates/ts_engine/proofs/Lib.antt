@@ -12,13 +12,14 @@ pub mod Items
 pub mod Links
 pub mod Lists
 pub mod ManyTexts
-pub mod ManyTold
+pub mod ManyReplies
 pub mod MemberTexts
 pub mod OneStep
 pub mod Pipes
 pub mod Places
 pub mod Quits
 pub mod Reaching
+pub mod ReachingBack
 pub mod Refusals
 pub mod WrittenRows
 pub mod Sessions
@@ -26,6 +27,6 @@ pub mod Short
 pub mod Summaries
 pub mod Spending
 pub mod Taking
-pub mod Told
+pub mod TripleItems
 pub mod Tops
 pub mod Turned

@@ -10,7 +10,7 @@ use Rattle.ts_io.proofs.Growth.{grows_none, grows_twice}
 use Rattle.ts_spec.specs.declared.wire.WireLimits.{WireLimits}
 use Rattle.ts_engine.specs.declared.serving.Served.{Served}
 use Rattle.ts_engine.specs.declared.serving.Served.TheVariants.{Done, AcceptFault, WriteFault}
-use Rattle.ts_engine.specs.Serving.{line_at, Link, lines_from, Telling, Handed, IsServed, AreServed, Lines, Serves}
+use Rattle.ts_engine.specs.Serving.{line_at, Link, lines_from, StreamViews, Handed, IsServed, AreServed, Lines, Serves}
 use Rattle.ts_engine.specs.Turn.{World}
 
 -- the lines of two lists of links
@@ -52,13 +52,13 @@ handed_both {I} {O} xs ys c c1 c2 k k1 k2 one two = record {
       ∙ ap (λ (l : List (Ends I O)). option_map (λ before. before ++ l) k) (sym (map-append (λ (l : Link I O). l.back) xs ys));
 }
 
-module _ {I O : Type 0} (told : Telling I O) (limits : WireLimits) (budget : ℕ) where
-  served_both : (xs ys : List (Link I O)) (from mid to : World) → AreServed told limits budget xs from mid → AreServed told limits budget ys mid to → AreServed told limits budget (xs ++ ys) from to
-  served_both [] ys from mid to one two = subst (λ (w : World). AreServed told limits budget ys w to) one two
+module _ {I O : Type 0} (views : StreamViews I O) (limits : WireLimits) (budget : ℕ) where
+  served_both : (xs ys : List (Link I O)) (from mid to : World) → AreServed views limits budget xs from mid → AreServed views limits budget ys mid to → AreServed views limits budget (xs ++ ys) from to
+  served_both [] ys from mid to one two = subst (λ (w : World). AreServed views limits budget ys w to) one two
   served_both (x ∷ xs) ys from mid to one two = (one.0, one.1, served_both xs ys one.0 mid to one.2 two)
 
   lines_both : (served : Served) (number n most : ℕ) (xs ys : List (Link I O)) (had mid has : List ℕ → Type 0) → length xs ≡ n → Grows had mid (lines_from number xs)
-      → Lines told limits budget served (number + n) most ys mid has → Lines told limits budget served number (n + most) (xs ++ ys) had has
+      → Lines views limits budget served (number + n) most ys mid has → Lines views limits budget served number (n + most) (xs ++ ys) had has
   lines_both Done number n most xs ys had mid has count grown lines = (
     omega (arith, length-append xs ys, count, lines.0),
     subst (λ (l : List ℕ). Grows had has l) (sym (lines_append number xs ys ∙ ap (λ (i : ℕ). lines_from number xs ++ lines_from (number + i) ys) count))
@@ -86,12 +86,12 @@ module _ {I O : Type 0} (told : Telling I O) (limits : WireLimits) (budget : ℕ
       }
 
   -- nothing was served yet
-  pub serves_none : (number : ℕ) (world : World) (coming closed : Option (List (Ends I O))) (has : List ℕ → Type 0) → Serves told limits budget Done number 0 world world coming coming closed closed has has
+  pub serves_none : (number : ℕ) (world : World) (coming closed : Option (List (Ends I O))) (has : List ℕ → Type 0) → Serves views limits budget Done number 0 world world coming coming closed closed has has
   serves_none number world coming closed has = record { links = []; run = refl; handed = handed_none coming closed; lines = (refl, grows_none has) }
 
   -- no link came
   pub serves_fault : (number most : ℕ) (world : World) (coming coming' closed closed' : Option (List (Ends I O))) (has : List ℕ → Type 0) → 1 ≤ most → coming' ≡ coming → closed' ≡ closed
-      → Serves told limits budget AcceptFault number most world world coming coming' closed closed' has has
+      → Serves views limits budget AcceptFault number most world world coming coming' closed closed' has has
   serves_fault number most world coming coming' closed closed' has some came back = record {
     links = [];
     run = refl;
@@ -102,8 +102,8 @@ module _ {I O : Type 0} (told : Telling I O) (limits : WireLimits) (budget : ℕ
 
   -- one link was served
   module _ (number : ℕ) (link : Link I O) (from to : World) (coming coming' closed closed' : Option (List (Ends I O))) (had has : List ℕ → Type 0)
-      (takes : TakesFront coming coming' link.came) (adds : AddsAtEnd closed closed' link.back) (served : IsServed told limits budget link from to) where
-    pub serves_one : Grows had has (line_at number link.outcome) → Serves told limits budget Done number 1 from to coming coming' closed closed' had has
+      (takes : TakesFront coming coming' link.came) (adds : AddsAtEnd closed closed' link.back) (served : IsServed views limits budget link from to) where
+    pub serves_one : Grows had has (line_at number link.outcome) → Serves views limits budget Done number 1 from to coming coming' closed closed' had has
     serves_one grown = record {
       links = link ∷ [];
       run = (to, served, refl);
@@ -112,7 +112,7 @@ module _ {I O : Type 0} (told : Telling I O) (limits : WireLimits) (budget : ℕ
     }
 
     -- and its line could not be written
-    pub serves_cut : GrowsByFront had has (line_at number link.outcome) → Serves told limits budget WriteFault number 1 from to coming coming' closed closed' had has
+    pub serves_cut : GrowsByFront had has (line_at number link.outcome) → Serves views limits budget WriteFault number 1 from to coming coming' closed closed' had has
     serves_cut front = record {
       links = link ∷ [];
       run = (to, served, refl);
@@ -129,23 +129,23 @@ module _ {I O : Type 0} (told : Telling I O) (limits : WireLimits) (budget : ℕ
 
   -- some links were served, and then others
   pub serves_both : (served : Served) (number n most next : ℕ) (from mid to : World) (c c1 c2 k k1 k2 : Option (List (Ends I O))) (had has' has : List ℕ → Type 0) → next ≡ number + n
-      → Serves told limits budget Done number n from mid c c1 k k1 had has' → Serves told limits budget served next most mid to c1 c2 k1 k2 has' has
-      → Serves told limits budget served number (n + most) from to c c2 k k2 had has
+      → Serves views limits budget Done number n from mid c c1 k k1 had has' → Serves views limits budget served next most mid to c1 c2 k1 k2 has' has
+      → Serves views limits budget served number (n + most) from to c c2 k k2 had has
   serves_both served number n most next from mid to c c1 c2 k k1 k2 had has' has then one two = record {
     links = one.links ++ two.links;
     run = served_both one.links two.links from mid to one.run two.run;
     handed = handed_both one.links two.links c c1 c2 k k1 k2 one.handed two.handed;
     lines = lines_both served number n most one.links two.links had has' has one.lines.0 one.lines.1
-        (subst (λ (i : ℕ). Lines told limits budget served i most two.links has' has) then two.lines);
+        (subst (λ (i : ℕ). Lines views limits budget served i most two.links has' has) then two.lines);
   }
 
   -- by how many they are
   pub serves_so_many : (number n most : ℕ) (from to : World) (c c1 k k1 : Option (List (Ends I O))) (had has : List ℕ → Type 0) → n ≡ most
-      → Serves told limits budget Done number n from to c c1 k k1 had has → Serves told limits budget Done number most from to c c1 k k1 had has
-  serves_so_many number n most from to c c1 k k1 had has same serves = subst (λ (i : ℕ). Serves told limits budget Done number i from to c c1 k k1 had has) same serves
+      → Serves views limits budget Done number n from to c c1 k k1 had has → Serves views limits budget Done number most from to c c1 k k1 had has
+  serves_so_many number n most from to c c1 k k1 had has same serves = subst (λ (i : ℕ). Serves views limits budget Done number i from to c c1 k k1 had has) same serves
 
   lines_within : (served : Served) (number n most : ℕ) (links : List (Link I O)) (had has : List ℕ → Type 0) → (served ≡ Done → ⊥) → n ≤ most
-      → Lines told limits budget served number n links had has → Lines told limits budget served number most links had has
+      → Lines views limits budget served number n links had has → Lines views limits budget served number most links had has
   lines_within Done number n most links had has ends within lines = absurd (ends refl)
   lines_within AcceptFault number n most links had has ends within lines = (omega (arith, lines.0, within), lines.1)
   lines_within WriteFault number n most links had has ends within lines = record {
@@ -159,7 +159,7 @@ module _ {I O : Type 0} (told : Telling I O) (limits : WireLimits) (budget : ℕ
 
   -- a fault that ends the serving of some links ends that of more
   pub serves_within : (served : Served) (number n most : ℕ) (from to : World) (c c1 k k1 : Option (List (Ends I O))) (had has : List ℕ → Type 0) → (served ≡ Done → ⊥) → n ≤ most
-      → Serves told limits budget served number n from to c c1 k k1 had has → Serves told limits budget served number most from to c c1 k k1 had has
+      → Serves views limits budget served number n from to c c1 k k1 had has → Serves views limits budget served number most from to c c1 k k1 had has
   serves_within served number n most from to c c1 k k1 had has ends within serves = record {
     links = serves.links;
     run = serves.run;
@@ -169,7 +169,7 @@ module _ {I O : Type 0} (told : Telling I O) (limits : WireLimits) (budget : ℕ
 
   -- the listener told the same before that
   pub serves_from : (served : Served) (number most : ℕ) (from to : World) (c c' c1 k k' k1 : Option (List (Ends I O))) (had has : List ℕ → Type 0) → c' ≡ c → k' ≡ k
-      → Serves told limits budget served number most from to c' c1 k' k1 had has → Serves told limits budget served number most from to c c1 k k1 had has
+      → Serves views limits budget served number most from to c' c1 k' k1 had has → Serves views limits budget served number most from to c c1 k k1 had has
   serves_from served number most from to c c' c1 k k' k1 had has came back serves =
-      subst (λ (x : Option (List (Ends I O))). Serves told limits budget served number most from to x c1 k k1 had has) came
-      (subst (λ (x : Option (List (Ends I O))). Serves told limits budget served number most from to c' c1 x k1 had has) back serves)
+      subst (λ (x : Option (List (Ends I O))). Serves views limits budget served number most from to x c1 k k1 had has) came
+      (subst (λ (x : Option (List (Ends I O))). Serves views limits budget served number most from to c' c1 x k1 had has) back serves)

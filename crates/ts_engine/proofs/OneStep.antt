@@ -10,7 +10,7 @@ use Rattle.ts_spec.specs.Step.{Outcome, step, madd, triple_step, item_of}
 use Rattle.ts_spec.specs.Text.{Reply}
 use Rattle.ts_spec.specs.declared.limits.Limits.{Limits}
 use Rattle.ts_db.specs.Held.{Held}
-use Rattle.ts_engine.specs.Turn.{IsItem, IsItemLost, IsStep, AreTold, AllTold}
+use Rattle.ts_engine.specs.Turn.{IsItem, IsItemLost, IsStep, HaveItems, HasAllItems}
 
 -- an item that does not say that memory ran out
 abbrev IsNoWant : Reply → Type 0
@@ -43,12 +43,12 @@ module _ (limits : Limits) (reading : ℕ) where
       let here : List Item = item_of (triple_step limits old reading triple.key triple.at triple.value).response in
       record {
         more = here ++ rest.more;
-        are = map-append item_reply here rest.more ∙ ap (λ (l : List Reply). l ++ map item_reply rest.more) item.told ∙ ap (λ (l : List Reply). first ∷ l) rest.are ∙ sym split;
+        are = map-append item_reply here rest.more ∙ ap (λ (l : List Reply). l ++ map item_reply rest.more) item.reply ∙ ap (λ (l : List Reply). first ∷ l) rest.are ∙ sym split;
         is = ap (λ (m : State). madd limits m reading (so_far ++ here) triples) (sym item.state) ∙ rest.is
             ∙ ap (λ (l : List Item). outcome new l) (append_assoc so_far here rest.more);
       }
 
-  tells : (triples : List Triple) (old new : State) (so_far : List Item) (items : List Reply) → AreTold limits reading triples old items new → All IsNoWant items
+  tells : (triples : List Triple) (old new : State) (so_far : List Item) (items : List Reply) → HaveItems limits reading triples old items new → All IsNoWant items
       → Tells (madd limits old reading so_far triples) so_far items new
   tells [] old new so_far items told memory = tells-none old new so_far items told.0 told.1
   tells (triple ∷ triples) old new so_far items told memory =
@@ -57,13 +57,13 @@ module _ (limits : Limits) (reading : ℕ) where
       ⊎_elim
       (λ (item : IsItem done told.first told.mid). tells-more triple triples old told.mid new so_far items told.first told.others told.split item
       (tells triples told.mid new (so_far ++ item_of done.response) told.others told.after (All-tail IsNoWant told.first told.others all)))
-      (λ (lost : IsItemLost triple old told.first told.mid). absurd (All-head IsNoWant told.first told.others all lost.told))
+      (λ (lost : IsItemLost triple old told.first told.mid). absurd (All-head IsNoWant told.first told.others all lost.reply))
       told.here
 
-pub all_told_is_a_step : (reading : ℕ) (triples : List Triple) (old new : Held) (reply : Reply) → (all : AllTold reading triples old reply new)
+pub all_items_are_a_step : (reading : ℕ) (triples : List Triple) (old new : Held) (reply : Reply) → (all : HasAllItems reading triples old reply new)
     → All (λ item. item ≢ memory_reply) all.items → IsStep (step old.limits old.state reading (Madd triples)) old reply new
-all_told_is_a_step reading triples old new reply all memory =
-    let told : Tells (madd old.limits old.state reading [] triples) [] all.items new.state = tells old.limits reading triples old.state new.state [] all.items all.told memory in
+all_items_are_a_step reading triples old new reply all memory =
+    let told : Tells (madd old.limits old.state reading [] triples) [] all.items new.state = tells old.limits reading triples old.state new.state [] all.items all.each memory in
     record {
       says = all.says ∙ ap array (sym told.are) ∙ ap (λ (done : Outcome). reply_to done.response) (sym told.is);
       state = ap (λ (done : Outcome). done.state) (sym told.is);

@@ -12,7 +12,7 @@ use Rattle.ts_db.specs.Faults.{refusal_of, IsRefusal, IsMemory}
 use Rattle.ts_db.specs.Held.{Finds}
 use Rattle.ts_db.specs.declared.fault.DbFault.{DbFault}
 use Rattle.ts_db.specs.declared.fault.DbFault.TheVariants.{KeyExists, NoKey, KeysFull, LabelsFull, TooOld, Duplicate, OutOfRange, BeforeLast, SamplesFull, DeleteBeyondRetention, SameKey, SourceIsDest, DestIsSource, DestHasSource, RulesSpent, RulesFull, NoRule, Memory}
-use Rattle.ts_engine.specs.Answering.{message_of, IsTold}
+use Rattle.ts_engine.specs.Answering.{message_of, IsReplyText}
 
 pub is_refused : (ids : Keyed Id) (fault : DbFault) → IsRefusal fault → is_some (refusal_of ids fault) ≡ true
 is_refused ids KeyExists is = refl
@@ -56,7 +56,7 @@ is_lost ids (Memory e) is = refl
 
 -- a question that finds nothing is told that there is no such key, or no memory
 pub lost_told : {T : Type 0} (response : Option Record → Response) (o : Option Record) (what : T → Type 0) (fault : DbFault) (ids : Keyed Id) (written : List ℕ) → response None ≡ Refused refusal.NoKey
-    → Finds o what (Err fault) → written ≡ text (Error (message_of (refusal_of ids fault))) → IsTold (response o) written
+    → Finds o what (Err fault) → written ≡ text (Error (message_of (refusal_of ids fault))) → IsReplyText (response o) written
 lost_told response None what fault ids written none finds is =
     inl (is ∙ ap (λ (f : DbFault). text (Error (message_of (refusal_of ids f)))) finds ∙ ap (λ (r : Response). text (reply_to r)) (sym none))
 lost_told response (Some d) what fault ids written none finds is = inr (is ∙ ap (λ (o : Option refusal.Refusal). text (Error (message_of o))) (is_lost ids fault finds))

@@ -28,8 +28,8 @@ abbrev pub reply_of_number : Keyed Id → Result ℕ DbFault → Reply
 reply_of_number ids result = reply_of_result ids (λ t. Count t) result
 
 -- the text of a response was written, or that of want of memory
-abbrev pub IsTold : Response → List ℕ → Type 0
-IsTold response written = (written ≡ text (reply_to response)) ⊎ (written ≡ text memory_reply)
+abbrev pub IsReplyText : Response → List ℕ → Type 0
+IsReplyText response written = (written ≡ text (reply_to response)) ⊎ (written ≡ text memory_reply)
 
 -- any number of 64 bits, and any error, has a text of so many bytes at most
 abbrev pub IsShort : Reply → Type 0

@@ -12,7 +12,7 @@ use Rattle.ts_db.specs.Held.{Held}
 use Rattle.ts_engine.specs.declared.serving.Served.{Served}
 use Rattle.ts_engine.specs.declared.serving.Served.TheVariants.{Done, AcceptFault, WriteFault}
 use Rattle.ts_engine.specs.Headline.{Seen, start}
-use Rattle.ts_engine.specs.Serving.{Telling, Serves}
+use Rattle.ts_engine.specs.Serving.{StreamViews, Serves}
 use Rattle.ts_engine.specs.Top.{Reports}
 
 -- the mode that the words ask for, if they ask for one
@@ -35,9 +35,9 @@ status_served WriteFault = status.WriteFault
 
 -- How links were served, from the empty database and the first link on, and how the ending was reported. Where so many were served and their
 -- lines were written, the status is the good one.
-pub record Connections {I O : Type 0} (told : Telling I O) (seen : Seen) (budget most : ℕ) (coming coming' closed closed' : Option (List (Ends I O))) (had has : List ℕ → Type 0) (given : Status) : Type 0 where
+pub record Connections {I O : Type 0} (views : StreamViews I O) (seen : Seen) (budget most : ℕ) (coming coming' closed closed' : Option (List (Ends I O))) (had has : List ℕ → Type 0) (given : Status) : Type 0 where
   pub served : Served
   pub held : Held
-  pub serves : Serves told seen.limits.wire budget served 1 most (start seen.limits seen.readings) (record { held = held; readings = seen.readings_left }) coming coming' closed closed' seen.had seen.has
+  pub serves : Serves views seen.limits.wire budget served 1 most (start seen.limits seen.readings) (record { held = held; readings = seen.readings_left }) coming coming' closed closed' seen.had seen.has
   pub reported : Reports (status_served served) 0 given had has
   pub quiet : served ≡ Done → given ≡ status.Ended

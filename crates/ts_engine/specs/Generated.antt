@@ -43,8 +43,8 @@ Sums status.AcceptFault limits seed n had has = ⊥
 Sums status.Budget limits seed n had has = ⊥
 
 -- What was written of a workload, and how that was reported. Where its summary was written, the status is the good one.
-pub record Workload (limits : Limits) (seed n : ℕ) (had has told_had told_has : List ℕ → Type 0) (given : Status) : Type 0 where
+pub record Workload (limits : Limits) (seed n : ℕ) (had has err_had err_has : List ℕ → Type 0) (given : Status) : Type 0 where
   pub meant : Status
   pub sums : Sums meant limits seed n had has
-  pub reported : Reports meant 0 given told_had told_has
+  pub reported : Reports meant 0 given err_had err_has
   pub quiet : meant ≡ status.Ended → given ≡ status.Ended

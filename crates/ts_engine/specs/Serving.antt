@@ -45,7 +45,7 @@ lines_from number (link ∷ links) = line_at number link.outcome ++ lines_from (
 -- ---- links
 
 -- what the ends of links tell: what an input has left, what an output has, and their counts of faults
-pub record Telling (I O : Type 0) : Type 1 where
+pub record StreamViews (I O : Type 0) : Type 1 where
   pub left : I → Option (List ℕ)
   pub reads : I → ℕ
   pub has : O → List ℕ → Type 0
@@ -56,11 +56,11 @@ pub record Handed {I O : Type 0} (links : List (Link I O)) (coming coming' close
   pub came : coming ≡ option_map (λ rest. map (λ link. link.came) links ++ rest) coming'
   pub back : closed' ≡ option_map (λ before. before ++ map (λ link. link.back) links) closed
 
-module _ {I O : Type 0} (told : Telling I O) (limits : WireLimits) (budget : ℕ) where
+module _ {I O : Type 0} (views : StreamViews I O) (limits : WireLimits) (budget : ℕ) where
   -- the requests in a link's input were answered on its output, and a fault ended that only where its own count rose
   pub record IsServed (link : Link I O) (from to : World) : Type 0 where
-    pub piped : Piped limits budget link.outcome from to (told.left link.came.input) (told.left link.back.input) (told.has link.came.out) (told.has link.back.out)
-    pub causes : HasCauses link.outcome.end (told.reads link.came.input) (told.reads link.back.input) (told.writes link.came.out) (told.writes link.back.out)
+    pub piped : Piped limits budget link.outcome from to (views.left link.came.input) (views.left link.back.input) (views.has link.came.out) (views.has link.back.out)
+    pub causes : HasCauses link.outcome.end (views.reads link.came.input) (views.reads link.back.input) (views.writes link.came.out) (views.writes link.back.out)
 
   -- links were served one after another, each in the world that the one before left
   abbrev pub AreServed : List (Link I O) → (from to : World) → Type 0

@@ -110,7 +110,7 @@ pub record Replied (answer : Option Go) (request : Request) (old new : Spot) (ha
 
 -- the fault was answered, unless a write failed
 abbrev pub Refused : Go → Protocol → (List ℕ → Type 0) → (List ℕ → Type 0) → Type 0
-Refused (go.Broken told) fault had has = (told ≡ fault) × Grows had has (fault_text fault.kind)
+Refused (go.Broken cause) fault had has = (cause ≡ fault) × Grows had has (fault_text fault.kind)
 Refused go.WriteFault fault had has = GrowsByFront had has (fault_text fault.kind)
 Refused go.More fault had has = ⊥
 Refused go.Quit fault had has = ⊥

@@ -68,7 +68,7 @@ pub record Taken (seen : Seen) (budget : ℕ) (bytes : List ℕ) (left : Option 
   pub quiet : headline.end ≡ end.Ended → given ≡ status.Ended
 
 -- An end was reported by its status and line, whatever the input tells of itself. A good end is not reported otherwise.
-pub record Told (had has : List ℕ → Type 0) (given : Status) : Type 0 where
+pub record HasStatusLine (had has : List ℕ → Type 0) (given : Status) : Type 0 where
   pub ended : End
   pub reported : Reports (status_of ended) (place_of ended) given had has
   pub quiet : ended ≡ end.Ended → given ≡ status.Ended

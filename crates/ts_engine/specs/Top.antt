@@ -62,5 +62,5 @@ status_cut false (Inside place) = status.Budget
 status_cut false (Then request place rest) = status.Budget
 
 -- no count of faults rose
-abbrev pub NoneRose : (reads reads' writes writes' told told' : ℕ) → Type 0
-NoneRose reads reads' writes writes' told told' = (Rose reads reads' → ⊥) × (Rose writes writes' → ⊥) × (Rose told told' → ⊥)
+abbrev pub NoneRose : (reads reads' writes writes' errors errors' : ℕ) → Type 0
+NoneRose reads reads' writes writes' errors errors' = (Rose reads reads' → ⊥) × (Rose writes writes' → ⊥) × (Rose errors errors' → ⊥)

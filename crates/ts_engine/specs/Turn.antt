@@ -43,39 +43,39 @@ is_well_formed triple = is_ok triple.at && is_ok triple.value
 
 -- the item is that of a step, which leaves the new state
 pub record IsItem (step : Outcome) (item : Reply) (new : State) : Type 0 where
-  pub told : map item_reply (item_of step.response) ≡ item ∷ []
+  pub reply : map item_reply (item_of step.response) ≡ item ∷ []
   pub state : new ≡ step.state
 
 -- want of memory is said of a triple that is well formed, and the state stays
 pub record IsItemLost (triple : Triple) (old : State) (item : Reply) (new : State) : Type 0 where
   pub well_formed : IsTrue (is_well_formed triple)
-  pub told : item ≡ memory_reply
+  pub reply : item ≡ memory_reply
   pub same : new ≡ old
 
 -- what is told of a triple, and what it does to the state
-abbrev pub IsTold : Limits → (reading : ℕ) → Triple → State → Reply → State → Type 0
-IsTold limits reading triple old item new =
+abbrev pub HasItem : Limits → (reading : ℕ) → Triple → State → Reply → State → Type 0
+HasItem limits reading triple old item new =
     IsItem (triple_step limits old reading triple.key triple.at triple.value) item new ⊎ IsItemLost triple old item new
 
 -- a triple has the first item, and what is told after it is told from there on
-pub record ToldThen (limits : Limits) (reading : ℕ) (triple : Triple) (old : State) (later : State → List Reply → Type 0) (items : List Reply) : Type 0 where
+pub record ItemThen (limits : Limits) (reading : ℕ) (triple : Triple) (old : State) (later : State → List Reply → Type 0) (items : List Reply) : Type 0 where
   pub first : Reply
   pub others : List Reply
   pub mid : State
   pub split : items ≡ first ∷ others
-  pub here : IsTold limits reading triple old first mid
+  pub here : HasItem limits reading triple old first mid
   pub after : later mid others
 
 -- the items of triples, one after another, with the same reading
-abbrev pub AreTold : Limits → (reading : ℕ) → List Triple → State → List Reply → State → Type 0
-AreTold limits reading [] old items new = (items ≡ []) × (new ≡ old)
-AreTold limits reading (triple ∷ triples) old items new =
-    ToldThen limits reading triple old (λ mid others. AreTold limits reading triples mid others new) items
+abbrev pub HaveItems : Limits → (reading : ℕ) → List Triple → State → List Reply → State → Type 0
+HaveItems limits reading [] old items new = (items ≡ []) × (new ≡ old)
+HaveItems limits reading (triple ∷ triples) old items new =
+    ItemThen limits reading triple old (λ mid others. HaveItems limits reading triples mid others new) items
 
 -- all triples have their items in the reply
-pub record AllTold (reading : ℕ) (triples : List Triple) (old : Held) (reply : Reply) (new : Held) : Type 0 where
+pub record HasAllItems (reading : ℕ) (triples : List Triple) (old : Held) (reply : Reply) (new : Held) : Type 0 where
   pub items : List Reply
-  pub told : AreTold old.limits reading triples old.state items new.state
+  pub each : HaveItems old.limits reading triples old.state items new.state
   pub says : reply ≡ array items
   pub limits : new.limits ≡ old.limits
 
@@ -83,13 +83,13 @@ pub record AllTold (reading : ℕ) (triples : List Triple) (old : Held) (reply :
 pub record WritesAll (reading : ℕ) (triples : List Triple) (old : Held) (written : List ℕ) (new : Held) : Type 0 where
   pub reply : Reply
   pub its_text : written ≡ text reply
-  pub all : AllTold reading triples old reply new
+  pub all : HasAllItems reading triples old reply new
 
 -- ---- commands
 
 -- what a command is answered, and what it does
 abbrev pub IsAnswered : (reading : ℕ) → Command → Held → Reply → Held → Type 0
-IsAnswered reading (Madd triples) old reply new = AllTold reading triples old reply new
+IsAnswered reading (Madd triples) old reply new = HasAllItems reading triples old reply new
 IsAnswered reading other old reply new = IsStep (step old.limits old.state reading other) old reply new
 
 -- whether a command may find no memory: the reply of any other fits the room that there is

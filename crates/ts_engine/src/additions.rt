@@ -4,7 +4,7 @@ ghost use Rattle.ts_resp.specs.Replies.{reply_of};
 ghost use Rattle.ts_command.specs.Reading.{triple_of, triples_of};
 ghost use Rattle.ts_db.specs.Held.{Carries};
 ghost use Rattle.ts_engine.specs.Answering.{IsShort};
-ghost use Rattle.ts_engine.specs.Turn.{IsTold, Executes, WritesAll};
+ghost use Rattle.ts_engine.specs.Turn.{HasItem, Executes, WritesAll};
 ghost use Rattle.ts_spec.specs.Command.{Madd};
 
 use crate::answers::{fault_reply, number_reply};
@@ -58,7 +58,7 @@ fn add_all<L: Ledger>(
 
 // Executes one triple, and answers its item.
 fn add_one<L: Ledger>(db: &mut Db, triple: Triple, reading: u64, steps: &mut Steps<L>) -> Reply
-    ensures reply { Carries db.old db.new (λ from to. IsTold from.limits reading (triple_of triple) from.state (reply_of result) to.state
+    ensures reply { Carries db.old db.new (λ from to. HasItem from.limits reading (triple_of triple) from.state (reply_of result) to.state
         × (to.limits ≡ from.limits)) }
     ensures short { IsShort (reply_of result) }
 {

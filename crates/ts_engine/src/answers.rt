@@ -8,7 +8,7 @@ ghost use Rattle.ts_spec.specs.Sample.{MAX_TIME};
 ghost use Rattle.ts_spec.specs.Text.{Error};
 ghost use Rattle.ts_sample.specs.declared.id.Id.{Id};
 ghost use Rattle.ts_resp.specs.Replies.{reply_of};
-ghost use Rattle.ts_command.specs.Faults.{message as told_fault};
+ghost use Rattle.ts_command.specs.Faults.{message as fault_message};
 ghost use Rattle.ts_db.specs.Faults.{refusal_of};
 ghost use Rattle.ts_engine.specs.Answering.{message_of, reply_of_done, reply_of_number, IsShort};
 
@@ -63,7 +63,7 @@ fn signed(number: u64) -> i64
 
 /// The error reply to a fault in the words.
 pub(crate) fn fault_reply(fault: CommandFault) -> Reply
-    ensures { reply_of result ≡ Error (told_fault fault) }
+    ensures { reply_of result ≡ Error (fault_message fault) }
 {
     Reply::Error(fault.message())
 }

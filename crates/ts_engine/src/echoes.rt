@@ -4,7 +4,7 @@ ghost use Rattle.ts_spec.specs.Questions.{ping_response};
 ghost use Rattle.ts_spec.specs.Replies.{reply_to};
 ghost use Rattle.ts_spec.specs.Response.{Word as WordBack};
 ghost use Rattle.ts_spec.specs.Text.{text};
-ghost use Rattle.ts_engine.specs.Answering.{IsTold};
+ghost use Rattle.ts_engine.specs.Answering.{IsReplyText};
 
 use crate::room::put_or_no_memory;
 use ts_resp::{Out, Reply, Word, put};
@@ -14,7 +14,7 @@ pub(crate) fn put_pong(word: Option<Word>, out: &mut Out)
     requires empty { out.old.bytes ≡ [] }
     requires room { 128 ≤ out.old.spare }
     ensures pong { IfNone word (out.new.bytes ≡ text (reply_to (ping_response None))) }
-    ensures reply { IsTold (ping_response word) out.new.bytes }
+    ensures reply { IsReplyText (ping_response word) out.new.bytes }
     ensures room { 128 ≤ length out.new.bytes + out.new.spare }
 {
     match word {
@@ -27,7 +27,7 @@ pub(crate) fn put_pong(word: Option<Word>, out: &mut Out)
 pub(crate) fn put_word(word: Word, out: &mut Out)
     requires empty { out.old.bytes ≡ [] }
     requires room { 128 ≤ out.old.spare }
-    ensures reply { IsTold (WordBack word) out.new.bytes }
+    ensures reply { IsReplyText (WordBack word) out.new.bytes }
     ensures room { 128 ≤ length out.new.bytes + out.new.spare }
 {
     put_or_no_memory(&Reply::Bulk(word), out);

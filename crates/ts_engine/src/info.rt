@@ -7,7 +7,7 @@ ghost use Rattle.ts_spec.specs.Text.{Simple};
 ghost use Rattle.ts_resp.specs.Replies.{reply_of};
 ghost use Rattle.ts_db.specs.Held.{Held, Stands};
 ghost use Rattle.ts_db.specs.Information.{info_of, rule_info_of};
-ghost use Rattle.ts_engine.specs.Answering.{IsTold};
+ghost use Rattle.ts_engine.specs.Answering.{IsReplyText};
 
 use crate::answers::refusal_reply;
 use crate::names::{encoding_name, policy_name};
@@ -24,7 +24,7 @@ use ts_sample::Steps;
 pub(crate) fn put_info<L: Ledger>(db: &Db, key: &Word, out: &mut Out, steps: &mut Steps<L>)
     requires empty { out.old.bytes ≡ [] }
     requires room { 128 ≤ out.old.spare }
-    ensures reply { (from : Held) → Stands db.now from → IsTold (info_response from.state key.now (get key.now from.state)) out.new.bytes }
+    ensures reply { (from : Held) → Stands db.now from → IsReplyText (info_response from.state key.now (get key.now from.state)) out.new.bytes }
     ensures room { 128 ≤ length out.new.bytes + out.new.spare }
 {
     match db.info(key, steps) {

@@ -20,6 +20,7 @@ mod names;
 mod piped;
 mod questions;
 mod room;
+mod row_lists;
 mod rows;
 mod rules;
 mod running;
@@ -29,6 +30,7 @@ mod status;
 mod texts;
 mod turn;
 mod walked;
+mod walked_back;
 mod wanted;
 
 pub use execution::execute;

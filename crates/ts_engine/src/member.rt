@@ -12,14 +12,14 @@ ghost use Rattle.ts_range.specs.declared.fault.RangeFault.TheVariants.{EmptyRows
 ghost use Rattle.ts_db.specs.Held.{IsLive};
 ghost use Rattle.ts_engine.specs.Members.{reply_at, rows_at, IsAdded, in_memory};
 
-use crate::found::asked_of;
+use crate::row_lists::rows_of;
 use crate::wanted::Wanted;
 use std::alloc::AllocError;
 use std::sync::ledger::Ledger;
 use ts_db::{Db, Id};
 use ts_labels::Show;
 use ts_multi::{encode_last_member, encode_member};
-use ts_range::{Query, RangeFault, Row, answer};
+use ts_range::{Query, RangeFault, Row};
 use ts_resp::{Out, encode_bulk};
 use ts_sample::{Cell, Sample, Steps};
 
@@ -103,12 +103,6 @@ fn add_rows<L: Ledger>(
         → rows_at db.now.limits db.now.keys latest (show_of show.now) (query_of query.now) key ≡ None) }
     ensures room { length out.old.bytes + out.old.spare ≤ length out.new.bytes + out.new.spare }
 {
-    db.known();
-    let asked = match asked_of(db, id, latest, query, steps) {
-        Ok(asked) => asked,
-        Err(fault) => return Err(RangeFault::Memory(fault)),
-    };
-    let alloc = *asked.rows.allocator();
-    let rows = answer(alloc, query, &asked, db.limits().empty_rows)?;
+    let rows = rows_of(db, id, latest, query, steps)?;
     in_memory(encode_member(db.key_of(id), db.labels_of(id), show, &rows, out))
 }

@@ -3,7 +3,7 @@ ghost use Rattle.std.specs.Prelude.{◌≡◌, ◌+◌, ◌≤◌, ◌++◌, All
 ghost use Rattle.ts_spec.specs.Key.{Key};
 ghost use Rattle.ts_range.specs.declared.fault.RangeFault.TheVariants.{EmptyRows};
 ghost use Rattle.ts_db.specs.Held.{Held, Stands, IsLive, AreNumbersOf};
-ghost use Rattle.ts_engine.specs.Answering.{IsTold};
+ghost use Rattle.ts_engine.specs.Answering.{IsReplyText};
 ghost use Rattle.ts_engine.specs.Members.{reply_at, replies_of, AreAdded, many_response};
 
 use crate::answers::too_many_rows;
@@ -28,7 +28,7 @@ pub(crate) fn put_members<L: Ledger>(
 )
     requires empty { out.old.bytes ≡ [] }
     requires room { 128 ≤ out.old.spare }
-    ensures reply { (from : Held) → Stands db.now from → IsTold (many_response from wanted.now filters.now) out.new.bytes }
+    ensures reply { (from : Held) → Stands db.now from → IsReplyText (many_response from wanted.now filters.now) out.new.bytes }
     ensures room { 128 ≤ length out.new.bytes + out.new.spare }
 {
     let Ok(ids) = db.select(filters, steps) else {

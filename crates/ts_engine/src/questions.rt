@@ -1,18 +1,18 @@
 // The questions about the samples of one series.
-ghost use Rattle.std.specs.Prelude.{◌≡◌, ◌+◌, ◌≤◌, ◌&&◌, not, List, [], length};
+ghost use Rattle.std.specs.Prelude.{◌≡◌, ◌+◌, ◌≤◌, List, [], length};
 ghost use Rattle.ts_spec.specs.Answer as spec;
-ghost use Rattle.ts_spec.specs.Answer.{tells_empty};
 ghost use Rattle.ts_spec.specs.Keyed.{get};
 ghost use Rattle.ts_spec.specs.Questions.{range_response, rows_response, last_response};
 ghost use Rattle.ts_spec.specs.Sample.{Point, IsAscending, between};
 ghost use Rattle.ts_range.specs.Query.{query_of};
 ghost use Rattle.ts_range.specs.Walk.{IsAskedOf};
 ghost use Rattle.ts_db.specs.Held.{Held, Stands};
-ghost use Rattle.ts_engine.specs.Answering.{IsTold};
+ghost use Rattle.ts_engine.specs.Answering.{IsReplyText};
 
 use crate::answers::{refusal_reply, too_many_rows};
 use crate::found::find_asked;
 use crate::room::put_no_memory;
+use crate::row_lists::is_walked;
 use crate::rows::{put_last, put_rows};
 use crate::walked::put_walked;
 use std::sync::ledger::Ledger;
@@ -33,26 +33,13 @@ pub(crate) fn put_range<L: Ledger>(
     requires empty { out.old.bytes ≡ [] }
     requires room { 128 ≤ out.old.spare }
     ensures reply { (from : Held) → Stands db.now from
-        → IsTold (range_response from.limits from.state key.now latest (query_of query.now) (get key.now from.state)) out.new.bytes }
+        → IsReplyText (range_response from.limits from.state key.now latest (query_of query.now) (get key.now from.state)) out.new.bytes }
     ensures room { 128 ≤ length out.new.bytes + out.new.spare }
 {
     if is_walked(query) {
         put_walked(db, key, latest, query, out, steps);
     } else {
         put_gathered(db, key, latest, query, out, steps);
-    }
-}
-
-// Whether one walk over the samples tells the rows in their order.
-fn is_walked(query: &Query) -> bool
-    ensures { result ≡ (not query.now.reverse && not (tells_empty (query_of query.now).buckets)) }
-{
-    if query.reverse {
-        return false;
-    }
-    match query.buckets {
-        None => true,
-        Some(buckets) => !buckets.empty,
     }
 }
 
@@ -68,7 +55,7 @@ fn put_gathered<L: Ledger>(
     requires empty { out.old.bytes ≡ [] }
     requires room { 128 ≤ out.old.spare }
     ensures reply { (from : Held) → Stands db.now from
-        → IsTold (range_response from.limits from.state key.now latest (query_of query.now) (get key.now from.state)) out.new.bytes }
+        → IsReplyText (range_response from.limits from.state key.now latest (query_of query.now) (get key.now from.state)) out.new.bytes }
     ensures room { 128 ≤ length out.new.bytes + out.new.spare }
 {
     match find_asked(db, key, latest, query, steps) {
@@ -84,7 +71,7 @@ fn put_answer(query: &Query, asked: &Asked, empty_rows: u32, out: &mut Out)
     requires ascending { IsAscending asked.now.rows.items }
     requires within { between query.now.from query.now.to asked.now.rows.items ≡ asked.now.rows.items }
     ensures reply { (l : List Point) → IsAscending l → IsAskedOf query.now asked.now l
-        → IsTold (rows_response (spec.answer empty_rows (query_of query.now) l)) out.new.bytes }
+        → IsReplyText (rows_response (spec.answer empty_rows (query_of query.now) l)) out.new.bytes }
     ensures room { 128 ≤ length out.new.bytes + out.new.spare }
 {
     let alloc = *asked.rows.allocator();
@@ -105,7 +92,7 @@ pub(crate) fn put_get<L: Ledger>(
 )
     requires empty { out.old.bytes ≡ [] }
     requires room { 128 ≤ out.old.spare }
-    ensures reply { (from : Held) → Stands db.now from → IsTold (last_response from.state key.now latest (get key.now from.state)) out.new.bytes }
+    ensures reply { (from : Held) → Stands db.now from → IsReplyText (last_response from.state key.now latest (get key.now from.state)) out.new.bytes }
     ensures room { 128 ≤ length out.new.bytes + out.new.spare }
 {
     match db.last(key, latest, steps) {

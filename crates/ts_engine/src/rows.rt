@@ -4,7 +4,7 @@ ghost use Rattle.ts_range.specs.Query.{row_of};
 ghost use Rattle.ts_spec.specs.Answer.{row_of as row_of_sample};
 ghost use Rattle.ts_spec.specs.Response.{Rows, LastRow};
 ghost use Rattle.ts_spec.specs.Replies.{reply_to};
-ghost use Rattle.ts_engine.specs.Answering.{IsTold};
+ghost use Rattle.ts_engine.specs.Answering.{IsReplyText};
 ghost use Rattle.ts_spec.specs.Text.{text};
 
 use crate::room::put_no_memory;
@@ -16,7 +16,7 @@ use ts_sample::{Cell, Sample};
 pub(crate) fn put_rows(rows: &[Row], out: &mut Out)
     requires empty { out.old.bytes ≡ [] }
     requires room { 128 ≤ out.old.spare }
-    ensures reply { IsTold (Rows (map row_of rows.now)) out.new.bytes }
+    ensures reply { IsReplyText (Rows (map row_of rows.now)) out.new.bytes }
     ensures room { 128 ≤ length out.new.bytes + out.new.spare }
 {
     match reserve_items(rows.len(), out) {

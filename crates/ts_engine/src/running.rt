@@ -4,7 +4,7 @@ ghost use Rattle.ts_io.specs.Causes.{Rose};
 ghost use Rattle.ts_engine.specs.Asked.{asked, IsServe, IsGen, Connections};
 ghost use Rattle.ts_engine.specs.Generated.{Workload};
 ghost use Rattle.ts_engine.specs.Headline.{Seen, ending, asks_to_quit};
-ghost use Rattle.ts_engine.specs.Taken.{Taken, Told};
+ghost use Rattle.ts_engine.specs.Taken.{Taken, HasStatusLine};
 ghost use Rattle.ts_engine.specs.Top.{AreUsable, IsPipe, Reports, Headline, status_by, status_cut, NoneRose};
 
 use crate::address::serve_address;
@@ -58,7 +58,7 @@ pub fn top<S: Source, K: Sink, E: Sink, C: Clock, N: Listener>(
         budget bytes (S.left input.new) (E.has err.old) (E.has err.new) result }
 
     // A status has its line, also where the input tells nothing of itself.
-    ensures told { IsPipe words.now → Told (E.has err.old) (E.has err.new) result }
+    ensures status_line { IsPipe words.now → HasStatusLine (E.has err.old) (E.has err.new) result }
 
     // Where the words ask to serve, connections are served one after another, the first over the empty database and each other one over what
     // the one before left.

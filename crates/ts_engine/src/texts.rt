@@ -23,7 +23,7 @@ impl RowTexts {
     ghost use Rattle.std.specs.Prelude.{◌≡◌, [], List};
     ghost use Rattle.ts_spec.specs.Answer.{Row as TheRow};
     ghost use Rattle.ts_spec.specs.Response.{Rows};
-    ghost use Rattle.ts_engine.specs.Answering.{IsTold};
+    ghost use Rattle.ts_engine.specs.Answering.{IsReplyText};
     ghost use Rattle.ts_engine.specs.RowTexts.{AreWritten};
 
     /// No rows yet.
@@ -42,7 +42,7 @@ impl RowTexts {
 
     /// The text of the array of the rows, or that there was no memory.
     pub(crate) fn finish(self) -> Out
-        ensures told { (rows : List TheRow) → AreWritten self.lost self.count self.out.bytes rows → IsTold (Rows rows) result.bytes }
+        ensures reply { (rows : List TheRow) → AreWritten self.lost self.count self.out.bytes rows → IsReplyText (Rows rows) result.bytes }
         ensures room { 128 ≤ length result.bytes + result.spare }
     {
         let RowTexts {

@@ -11,18 +11,19 @@ ghost use Rattle.ts_range.specs.Filters.{passes};
 ghost use Rattle.ts_range.specs.Query.{buckets_of, query_of};
 ghost use Rattle.ts_range.specs.Walking.{lets, rows_chosen};
 ghost use Rattle.ts_db.specs.Held.{Held, Stands, IsLive};
-ghost use Rattle.ts_engine.specs.Answering.{IsTold};
+ghost use Rattle.ts_engine.specs.Answering.{IsReplyText};
 
 use crate::answers::refusal_reply;
 use crate::room::put_no_memory;
 use crate::texts::{FIRST_ROOM, RowTexts};
+use crate::walked_back::put_rows_back;
 use std::sync::ledger::Ledger;
 use ts_db::{Db, DbFault, Id};
 use ts_range::{Filters, Limited, Query, Take, Walk};
 use ts_resp::{Out, Word, put};
 use ts_sample::Steps;
 
-/// Writes the reply to TS.RANGE while the samples are scanned. Empty buckets are not told.
+/// Writes the reply to TS.RANGE and TS.REVRANGE by one scan of the samples. Empty buckets are not told.
 pub(crate) fn put_walked<L: Ledger>(
     db: &Db,
     key: &Word,
@@ -31,12 +32,11 @@ pub(crate) fn put_walked<L: Ledger>(
     out: &mut Out,
     steps: &mut Steps<L>,
 )
-    requires forward { query.now.reverse ≡ false }
     requires full { tells_empty (query_of query.now).buckets ≡ false }
     requires empty { out.old.bytes ≡ [] }
     requires room { 128 ≤ out.old.spare }
     ensures reply { (from : Held) → Stands db.now from
-        → IsTold (range_response from.limits from.state key.now latest (query_of query.now) (get key.now from.state)) out.new.bytes }
+        → IsReplyText (range_response from.limits from.state key.now latest (query_of query.now) (get key.now from.state)) out.new.bytes }
     ensures room { 128 ≤ length out.new.bytes + out.new.spare }
 {
     match db.id_of(key) {
@@ -55,12 +55,36 @@ fn put_rows_of<L: Ledger>(
     steps: &mut Steps<L>,
 )
     requires live { IsLive db.now.ids id }
+    requires full { tells_empty (query_of query.now).buckets ≡ false }
+    requires empty { out.old.bytes ≡ [] }
+    requires room { 128 ≤ out.old.spare }
+    ensures reply { (key : Key) → get key db.now.ids ≡ Some id
+        → IsReplyText (Rows (rows (query_of query.now) (kept_asked db.now.keys latest key))) out.new.bytes }
+    ensures room { 128 ≤ length out.new.bytes + out.new.spare }
+{
+    if query.reverse {
+        put_rows_back(db, id, latest, query, out, steps);
+    } else {
+        put_rows_on(db, id, latest, query, out, steps);
+    }
+}
+
+// Writes the rows, the first one first, while the samples are scanned.
+fn put_rows_on<L: Ledger>(
+    db: &Db,
+    id: Id,
+    latest: bool,
+    query: &Query,
+    out: &mut Out,
+    steps: &mut Steps<L>,
+)
+    requires live { IsLive db.now.ids id }
     requires forward { query.now.reverse ≡ false }
     requires full { tells_empty (query_of query.now).buckets ≡ false }
     requires empty { out.old.bytes ≡ [] }
     requires room { 128 ≤ out.old.spare }
     ensures reply { (key : Key) → get key db.now.ids ≡ Some id
-        → IsTold (Rows (rows (query_of query.now) (kept_asked db.now.keys latest key))) out.new.bytes }
+        → IsReplyText (Rows (rows (query_of query.now) (kept_asked db.now.keys latest key))) out.new.bytes }
     ensures room { 128 ≤ length out.new.bytes + out.new.spare }
 {
     match out.reserve(FIRST_ROOM) {
@@ -80,9 +104,9 @@ fn put_rows_of<L: Ledger>(
     *out = taker.into_taker().finish();
 }
 
-// A time up to which the samples tell all rows that are wanted. Where single samples are told, as many as are wanted
-// are enough.
-fn last_wanted(db: &Db, id: Id, latest: bool, query: &Query) -> u64
+/// A time up to which the samples tell all rows that are wanted. Where single samples are told, as many as are wanted
+/// are enough.
+pub(crate) fn last_wanted(db: &Db, id: Id, latest: bool, query: &Query) -> u64
     requires live { IsLive db.now.ids id }
     requires forward { query.now.reverse ≡ false }
     ensures { (key : Key) → get key db.now.ids ≡ Some id
@@ -104,8 +128,8 @@ fn last_wanted(db: &Db, id: Id, latest: bool, query: &Query) -> u64
     db.reach_of(id, query.from, query.to, count)
 }
 
-// Whether each sample of the interval is told.
-fn tells_each(query: &Query) -> bool
+/// Whether each sample of the interval is told.
+pub(crate) fn tells_each(query: &Query) -> bool
     ensures { result ≡ true → (query.now.times ≡ None) × (query.now.values ≡ None) × (query.now.buckets ≡ None) }
 {
     if query.times.is_some() {
@@ -117,8 +141,8 @@ fn tells_each(query: &Query) -> bool
     query.buckets.is_none()
 }
 
-// The taker to which the rows of the key of a number were handed.
-fn handed<T: Take, L: Ledger>(
+/// The taker to which the rows of the key of a number were handed.
+pub(crate) fn handed<T: Take, L: Ledger>(
     db: &Db,
     id: Id,
     latest: bool,
@@ -139,8 +163,8 @@ fn handed<T: Take, L: Ledger>(
     walked(db, id, latest, query.from, to, walk, steps)
 }
 
-// The taker of a walk that has not begun, after the samples of the key of a number.
-fn walked<T: Take, L: Ledger>(
+/// The taker of a walk that has not begun, after the samples of the key of a number.
+pub(crate) fn walked<T: Take, L: Ledger>(
     db: &Db,
     id: Id,
     latest: bool,

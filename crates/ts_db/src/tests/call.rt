@@ -3,7 +3,7 @@ ghost use Rattle.std.specs.Prelude.{◌≤◌};
 ghost use Rattle.ts_spec.specs.Sample.{MAX_TIME};
 
 use crate::db::Db;
-use crate::tests::came::{Came, done, last, number, samples, told};
+use crate::tests::came::{Came, done, information, last, number, samples};
 use crate::tests::labelled::{Labelled, labels_of, run_labelled};
 use crate::tests::ruled::{Ruled, run_ruled};
 use std::alloc::{AllocError, Global};
@@ -109,7 +109,7 @@ fn ask<L: Ledger>(
             Ok(samples(db.samples(&key, from, to, latest, steps)))
         }
         Call::LabelsOf(key) => labels_of(alloc, db, key),
-        Call::Info(key) => Ok(told(db.info(&word(alloc, key)?, steps))),
+        Call::Info(key) => Ok(information(db.info(&word(alloc, key)?, steps))),
         _ => Ok(Came::Memory),
     }
 }

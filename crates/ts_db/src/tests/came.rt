@@ -87,7 +87,7 @@ pub(crate) fn samples(answer: Result<Vec<Sample>, DbFault>) -> Came {
     }
 }
 
-pub(crate) fn told(answer: Result<Info, DbFault>) -> Came {
+pub(crate) fn information(answer: Result<Info, DbFault>) -> Came {
     match answer {
         Ok(info) => Came::Told(info.total, info.first, info.last),
         Err(why) => fault(why),

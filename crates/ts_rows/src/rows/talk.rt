@@ -51,6 +51,38 @@ fn push_reply(reply: &str, bytes: &mut Vec<u8>) -> Result<(), AllocError> {
     bytes.extend_from_slice(b"\r\n")
 }
 
+/// Requests, and the replies that are due to them.
+#[derive(Drop)]
+pub(super) struct Talk {
+    input: Vec<u8>,
+    out: Vec<u8>,
+}
+
+impl Talk {
+    /// No requests.
+    pub(super) fn new(alloc: Global) -> Self {
+        Talk {
+            input: Vec::new(alloc),
+            out: Vec::new(alloc),
+        }
+    }
+
+    /// Adds a command and the reply to it.
+    pub(super) fn push(&mut self, command: &str, reply: &str) -> Result<(), AllocError> {
+        push_request(command, &mut self.input)?;
+        push_reply(reply, &mut self.out)
+    }
+
+    /// The row with these requests for its input, which must have these replies and end well.
+    pub(super) fn row<'a>(&'a self, row: Row<'a>) -> Row<'a> {
+        Row {
+            input: &self.input,
+            out: &self.out,
+            ..row
+        }
+    }
+}
+
 /// Runs a row with these commands for its input, which must have these replies and end well.
 pub(super) fn run_talk(
     rt: &impl Abort,
@@ -58,16 +90,9 @@ pub(super) fn run_talk(
     row: Row,
     lines: &[Line],
 ) -> Result<(), Fail> {
-    let mut input = Vec::new(alloc);
-    let mut out = Vec::new(alloc);
+    let mut talk = Talk::new(alloc);
     for (command, reply) in lines {
-        push_request(command, &mut input)?;
-        push_reply(reply, &mut out)?;
+        talk.push(command, reply)?;
     }
-    let row = Row {
-        input: &input,
-        out: &out,
-        ..row
-    };
-    run_whole_and_cut(rt, alloc, &row)
+    run_whole_and_cut(rt, alloc, &talk.row(row))
 }

@@ -8,17 +8,17 @@ use Rattle.ts_spec.specs.Step.{put_at}
 use Rattle.ts_db.specs.Held.{Held, AnswersNumber}
 use Rattle.ts_engine.specs.Answering.{IsShort}
 use Rattle.ts_engine.proofs.Short.{short_number_reply}
-use Rattle.ts_engine.proofs.Told.{fault_told, wrong_time, wrong_value, told_put}
+use Rattle.ts_engine.proofs.TripleItems.{fault_item, wrong_time, wrong_value, put_item}
 use Rattle.ts_engine.proofs.additions.add_one.Goals as goal
 
 pub returns-in-Err-clause-reply : goal.returns-in-Err-clause-reply
 returns-in-Err-clause-reply g c =
     wrong_time c.args.reading (triple_of c.args.triple) (fault_of c.in-Err.fault) (reply_of c.fault_reply.result) c.args.db.now (ap said_same c.in-Err.is)
-    (c.fault_reply.ensures ∙ fault_told c.in-Err.fault (c.args.triple.time_no_memory c.in-Err.fault c.in-Err.is))
+    (c.fault_reply.ensures ∙ fault_item c.in-Err.fault (c.args.triple.time_no_memory c.in-Err.fault c.in-Err.is))
 
 pub returns-in-Ok-value-clause-reply : goal.returns-in-Ok-value-clause-reply
 returns-in-Ok-value-clause-reply g c =
-    told_put c.args.reading (triple_of c.args.triple) c.in-Ok.at c.in-Ok-value.value (ap said_same c.in-Ok.is) (ap said_same c.in-Ok-value.is) c.args.db.now c.put.new.self c.put.result
+    put_item c.args.reading (triple_of c.args.triple) c.in-Ok.at c.in-Ok-value.value (ap said_same c.in-Ok.is) (ap said_same c.in-Ok-value.is) c.args.db.now c.put.new.self c.put.result
     (reply_of c.number_reply.result) c.number_reply.ensures
     (subst (λ (t : ℕ). AnswersNumber c.args.db.now (λ (h : Held). put_at h.limits h.state c.args.triple.key t c.in-Ok-value.value (get c.args.triple.key h.state)) c.put.result c.put.new.self) c.time_at.ensures.time c.put.ensures.put)
 
@@ -26,7 +26,7 @@ pub returns-clause-reply : goal.returns-clause-reply
 returns-clause-reply g c =
     wrong_value c.args.reading (triple_of c.args.triple) c.in-Ok.at (fault_of c.in-Err-value.fault) (reply_of c.fault_reply-in-Err-value.result) c.args.db.now (ap said_same c.in-Ok.is)
     (ap said_same c.in-Err-value.is)
-    (c.fault_reply-in-Err-value.ensures ∙ fault_told c.in-Err-value.fault (c.args.triple.value_no_memory c.in-Err-value.fault c.in-Err-value.is))
+    (c.fault_reply-in-Err-value.ensures ∙ fault_item c.in-Err-value.fault (c.args.triple.value_no_memory c.in-Err-value.fault c.in-Err-value.is))
 
 pub returns-in-Ok-value-clause-short : goal.returns-in-Ok-value-clause-short
 returns-in-Ok-value-clause-short g c = subst IsShort (sym (c.number_reply.ensures c.args.db.now.ids)) (short_number_reply c.args.db.now.ids c.put.result c.put.ensures.bounded)

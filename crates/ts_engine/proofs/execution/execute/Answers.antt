@@ -2,7 +2,7 @@ use Rattle.std.proofs.Common.{ℕ, List, refl, ◌∙◌, ap, subst}
 use Rattle.ts_labels.specs.Spec.{spec_of, change_of}
 use Rattle.ts_labels.specs.Show.{show_of}
 use Rattle.ts_spec.specs.Filter.{Filter}
-use Rattle.ts_engine.specs.Answering.{IsTold}
+use Rattle.ts_engine.specs.Answering.{IsReplyText}
 use Rattle.ts_engine.specs.Members.{many_response}
 use Rattle.ts_engine.specs.declared.wanted.Wanted.TheVariants.{Last, Rows}
 use Rattle.ts_engine.specs.declared.wanted.Wanted.TheVariants as wanted
@@ -75,20 +75,20 @@ returns-in-MRange-clause-executes g c =
     let wanted = Rows c.in-MRange.latest c.in-MRange.show c.in-MRange.query in
     rw c.in-MRange.is (asks_execute c.args.reading (MRange c.in-MRange.latest (show_of c.in-MRange.show) c.in-MRange.filters.items (query_of c.in-MRange.query)) c.args.db.now c.put_members.new.out.bytes
     (λ (h : Held). many_response h wanted c.in-MRange.filters.items) refl (λ from. record { says = refl; state = refl; limits = refl })
-    (subst (λ (fs : List Filter). (from : Held) → Stands c.args.db.now from → IsTold (many_response from wanted fs) c.put_members.new.out.bytes) c.deref.ensures.value c.put_members.ensures.reply))
+    (subst (λ (fs : List Filter). (from : Held) → Stands c.args.db.now from → IsReplyText (many_response from wanted fs) c.put_members.new.out.bytes) c.deref.ensures.value c.put_members.ensures.reply))
 
 pub returns-in-MGet-clause-executes : goal.returns-in-MGet-clause-executes
 returns-in-MGet-clause-executes g c =
     let wanted = Last c.in-MGet.latest c.in-MGet.show in
     rw c.in-MGet.is (asks_execute c.args.reading (MGet c.in-MGet.latest (show_of c.in-MGet.show) c.in-MGet.filters.items) c.args.db.now c.put_members-in-MGet.new.out.bytes
     (λ (h : Held). many_response h wanted c.in-MGet.filters.items) refl (λ from. record { says = refl; state = refl; limits = refl })
-    (subst (λ (fs : List Filter). (from : Held) → Stands c.args.db.now from → IsTold (many_response from wanted fs) c.put_members-in-MGet.new.out.bytes) c.deref-in-MGet.ensures.value c.put_members-in-MGet.ensures.reply))
+    (subst (λ (fs : List Filter). (from : Held) → Stands c.args.db.now from → IsReplyText (many_response from wanted fs) c.put_members-in-MGet.new.out.bytes) c.deref-in-MGet.ensures.value c.put_members-in-MGet.ensures.reply))
 
 pub returns-in-QueryIndex-clause-executes : goal.returns-in-QueryIndex-clause-executes
 returns-in-QueryIndex-clause-executes g c =
     rw c.in-QueryIndex.is (asks_execute c.args.reading (QueryIndex c.in-QueryIndex.filters.items) c.args.db.now c.put_members-in-QueryIndex.new.out.bytes
     (λ (h : Held). many_response h wanted.Key c.in-QueryIndex.filters.items) refl (λ from. record { says = refl; state = refl; limits = refl })
-    (subst (λ (fs : List Filter). (from : Held) → Stands c.args.db.now from → IsTold (many_response from wanted.Key fs) c.put_members-in-QueryIndex.new.out.bytes) c.deref-in-QueryIndex.ensures.value c.put_members-in-QueryIndex.ensures.reply))
+    (subst (λ (fs : List Filter). (from : Held) → Stands c.args.db.now from → IsReplyText (many_response from wanted.Key fs) c.put_members-in-QueryIndex.new.out.bytes) c.deref-in-QueryIndex.ensures.value c.put_members-in-QueryIndex.ensures.reply))
 
 pub returns-in-Get-clause-executes : goal.returns-in-Get-clause-executes
 returns-in-Get-clause-executes g c =

@@ -1,18 +1,15 @@
 use Rattle.std.proofs.Common.{◌≡◌, ◌++◌, ◌∙◌, map, sym, ap}
 use Rattle.std.specs.Prelude.{Some}
 use Rattle.std.proofs.lemmas.Result.{err_from_is_err_and}
-use Rattle.ts_spec.specs.declared.limits.Limits.{Limits}
-use Rattle.ts_spec.specs.Answer.{answer}
 use Rattle.ts_spec.specs.Key.{Key}
 use Rattle.ts_spec.specs.Keyed.{get}
-use Rattle.ts_spec.specs.KeptQuestions.{kept_asked, kept_member}
+use Rattle.ts_spec.specs.KeptQuestions.{kept_member}
 use Rattle.ts_spec.specs.Replies.{member_reply}
 use Rattle.ts_spec.specs.Text.{text}
 use Rattle.ts_labels.specs.Show.{show_of}
 use Rattle.ts_range.specs.Query.{query_of, row_of}
 use Rattle.ts_multi.specs.Members.{member_with}
 use Rattle.ts_engine.specs.Members.{rows_at, IsAdded}
-use Rattle.ts_engine.proofs.Finding.{kept_ascending}
 use Rattle.ts_engine.proofs.MemberTexts.{in-memory-done, member-told, rows-added, rows-none}
 use Rattle.ts_engine.proofs.member.add_rows.Goals as goal
 
@@ -20,9 +17,7 @@ pub returns-in_err-rows-clause-refused : goal.returns-in_err-rows-clause-refused
 returns-in_err-rows-clause-refused g c =
     let p = err_from_is_err_and c.from_residual.result c.from_residual.ensures.1 in
     rw (p.1, p.2) (λ is key at.
-    rows-none c.args.db.now.limits c.args.db.now.keys c.args.latest (show_of c.args.show.now) (query_of c.args.query.now) key
-    (ap (λ (l : Limits). answer l.empty_rows (query_of c.args.query.now) (kept_asked c.args.db.now.keys c.args.latest key)) (sym c.limits.ensures)
-    ∙ c.in_err-rows.ensures.refused (kept_asked c.args.db.now.keys c.args.latest key) (kept_ascending c.args.db.now c.known.ensures.stands c.args.latest key) (c.in-Ok.ensures.asked key at) is))
+    rows-none c.args.db.now.limits c.args.db.now.keys c.args.latest (show_of c.args.show.now) (query_of c.args.query.now) key (c.in_err-rows.ensures.refused is key at))
 
 pub returns-clause-added : goal.returns-clause-added
 returns-clause-added g c =
@@ -34,8 +29,7 @@ returns-clause-added g c =
     (λ written key at.
     rows-added c.args.db.now.limits m c.args.latest (show_of c.args.show.now) (query_of c.args.query.now) key (map row_of c.in_ok-rows.rows.items)
     (member_with c.args.show.now c.key_of.result.now c.labels_of.result.now (map row_of c.deref.result.now)) c.args.out.now.bytes c.encode_member.new.out.bytes
-    (ap (λ (l : Limits). answer l.empty_rows (query_of c.args.query.now) (kept_asked m c.args.latest key)) (sym c.limits.ensures)
-    ∙ c.in_ok-rows.ensures.limit (kept_asked m c.args.latest key) (kept_ascending c.args.db.now c.known.ensures.stands c.args.latest key) (c.in-Ok.ensures.asked key at))
+    (c.in_ok-rows.ensures.rows key at)
     (member-told m c.args.show.now key c.key_of.result.now c.labels_of.result.now (map row_of c.deref.result.now) (c.key_of.ensures key at) (c.labels_of.ensures key at)
     ∙ ap (λ rows. kept_member m (show_of c.args.show.now) key (map row_of rows)) c.deref.ensures.value)
     written)

@@ -5,7 +5,7 @@ use Rattle.ts_spec.specs.Text.{text}
 use Rattle.ts_db.specs.Held.{AreNumbersOf}
 use Rattle.ts_engine.proofs.Executed.{alone}
 use Rattle.ts_engine.proofs.ManyTexts.{numbers-live}
-use Rattle.ts_engine.proofs.ManyTold.{many-told, many-refused}
+use Rattle.ts_engine.proofs.ManyReplies.{many-told, many-refused}
 use Rattle.ts_engine.proofs.members.put_members.Goals as goal
 
 pub add_members-requires : goal.add_members-requires

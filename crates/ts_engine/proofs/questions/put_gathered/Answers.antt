@@ -7,7 +7,7 @@ use Rattle.ts_spec.specs.Text.{text}
 use Rattle.ts_range.specs.Query.{query_of}
 use Rattle.ts_range.specs.Walk.{IsAskedOf}
 use Rattle.ts_range.specs.declared.row.Asked.{Asked}
-use Rattle.ts_engine.specs.Answering.{IsTold}
+use Rattle.ts_engine.specs.Answering.{IsReplyText}
 use Rattle.ts_engine.proofs.Finding.{found, range_told, asked_ascending}
 use Rattle.ts_resp.specs.Replies.{reply_of}
 use Rattle.ts_engine.proofs.Executed.{alone}
@@ -20,7 +20,7 @@ returns-in-Ok-clause-reply g c = λ from stands.
     let all = shown from.state c.args.latest c.args.key.now in
     let asked = c.in-Ok.ensures.asked from stands in
     range_told from.limits from.state c.args.key.now c.args.latest (query_of c.args.query.now) key _ c.in-Ok.asked c.put_answer.new.out.bytes asked
-    (subst (λ (limits : Limits). IsTold (rows_response (answer limits.empty_rows (query_of c.args.query.now) all)) c.put_answer.new.out.bytes) (c.limits.ensures ∙ sym stands.limits)
+    (subst (λ (limits : Limits). IsReplyText (rows_response (answer limits.empty_rows (query_of c.args.query.now) all)) c.put_answer.new.out.bytes) (c.limits.ensures ∙ sym stands.limits)
     (c.put_answer.ensures.reply all (asked_ascending c.args.db.now.limits from.state c.args.latest c.args.key.now stands.state.valid) (found key _ c.in-Ok.asked asked)))
 
 pub returns-in-Err-clause-reply : goal.returns-in-Err-clause-reply

@@ -8,8 +8,8 @@ use Rattle.ts_engine.proofs.Taking.{piped_taken, piped_writes}
 use Rattle.ts_engine.proofs.Tops.{by_grammar, answered_as, as_meant}
 use Rattle.ts_engine.proofs.running.top.Goals as goal
 
-pub returns-in-Some-Pipe-clause-told : goal.returns-in-Some-Pipe-clause-told
-returns-in-Some-Pipe-clause-told g c = λ is_pipe. record {
+pub returns-in-Some-Pipe-clause-status_line : goal.returns-in-Some-Pipe-clause-status_line
+returns-in-Some-Pipe-clause-status_line g c = λ is_pipe. record {
   ended = c.pipe-outcome.result.end;
   reported = subst (λ (s : Status). Reports s (place_of c.pipe-outcome.result.end) c.report.result (g.E.Sink.has c.args.err.now) (g.E.Sink.has c.report.new.err)) c.status.ensures
       (subst (λ (p : ℕ). Reports c.status.result p c.report.result (g.E.Sink.has c.args.err.now) (g.E.Sink.has c.report.new.err)) c.place.ensures c.report.ensures.reported);
@@ -17,10 +17,10 @@ returns-in-Some-Pipe-clause-told g c = λ is_pipe. record {
 }
 
 pub returns-in-Some-Pipe-clause-taken : goal.returns-in-Some-Pipe-clause-taken
-unfolding returns-in-Some-Pipe-clause-told
+unfolding returns-in-Some-Pipe-clause-status_line
 returns-in-Some-Pipe-clause-taken g c = λ is_pipe bytes told.
     let carried = c.pipe-outcome.ensures.piped (record { limits = c.args.limits; state = empty }) c.new-db.ensures.stands in
-    let reports = returns-in-Some-Pipe-clause-told g c is_pipe in
+    let reports = returns-in-Some-Pipe-clause-status_line g c is_pipe in
     piped_taken _ c.args.budget c.pipe-outcome.result carried.to bytes _ (g.S.Source.left c.pipe-outcome.new.input) told carried.done _ _ c.report.result reports.reported reports.quiet
 
 pub returns-in-Some-Pipe-clause-headline : goal.returns-in-Some-Pipe-clause-headline

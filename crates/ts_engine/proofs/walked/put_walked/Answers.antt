@@ -12,7 +12,7 @@ use Rattle.ts_range.proofs.Whole.{no-limit}
 use Rattle.ts_resp.specs.Replies.{reply_of}
 use Rattle.ts_db.proofs.Laws.{there-law}
 use Rattle.ts_db.specs.declared.fault.DbFault.TheVariants.{NoKey}
-use Rattle.ts_engine.specs.Answering.{IsTold}
+use Rattle.ts_engine.specs.Answering.{IsReplyText}
 use Rattle.ts_engine.proofs.Executed.{alone}
 use Rattle.ts_engine.proofs.Finding.{asked_stands, finds_none}
 use Rattle.ts_engine.proofs.Handing.{rows_here}
@@ -33,5 +33,5 @@ returns-in-Some-clause-reply g c = λ from stands.
     rows_here from.limits from.state c.args.key.now c.args.latest q (get c.args.key.now from.state) (rows q all) c.put_rows_of.new.out.bytes
     (ap is_some (sym c.in-Some.is) ∙ there-law c.args.db.now c.args.key.now (is_some c.id_of.result) c.id_of.ensures.there from stands)
     (no-limit q all from.limits.empty_rows c.requires.full)
-    (subst (λ (ps : List Point). IsTold (Rows (rows q ps)) c.put_rows_of.new.out.bytes) (asked_stands c.args.db.now c.args.latest c.args.key.now from stands)
+    (subst (λ (ps : List Point). IsReplyText (Rows (rows q ps)) c.put_rows_of.new.out.bytes) (asked_stands c.args.db.now c.args.latest c.args.key.now from stands)
     (c.put_rows_of.ensures.reply c.args.key.now (sym c.id_of.ensures.id ∙ c.in-Some.is)))

@@ -1,6 +1,6 @@
 use Rattle.std.proofs.Common.{◌∙◌}
 use Rattle.std.proofs.lemmas.Result.{IfOk-weaker}
-use Rattle.ts_db.proofs.Telling.{number-key}
+use Rattle.ts_db.proofs.Infos.{number-key}
 use Rattle.ts_db.proofs.Unplanned.{live-number}
 use Rattle.ts_db.proofs.store.Store.copied_key.Goals as goal
 

@@ -22,7 +22,7 @@ pub returns-in-Ok-clause-info : goal.returns-in-Ok-clause-info
 returns-in-Ok-clause-info g c =
     let number = sym (c.in-Some.ensures ∙ c.get.ensures.value) in
     finds-there {T = Info} c.args.self.now c.requires c.args.key.now c.in-Some.id (λ info. Told (info_of info) ≡ kept_info_response (get c.args.key.now (stock_of c.args.self.now).keys)) (Ok c.in-Ok.info) number
-    (λ d. c.in-Ok.ensures.told c.args.key.now (get-ids c.args.key.now c.args.self.now.keys.entries ∙ number))
+    (λ d. c.in-Ok.ensures.info c.args.key.now (get-ids c.args.key.now c.args.self.now.keys.entries ∙ number))
 
 pub returns-in-Err-clause-info : goal.returns-in-Err-clause-info
 returns-in-Err-clause-info g c =

@@ -4,11 +4,11 @@ use Rattle.ts_spec.specs.KeptQuestions.{kept_rule_info}
 use Rattle.ts_spec.specs.Questions.{time_or_0}
 use Rattle.ts_rules.specs.declared.rule.Rule.{Rule}
 use Rattle.ts_db.specs.Store.{rules_by, key_in}
-use Rattle.ts_db.proofs.Telling.{told-kept}
+use Rattle.ts_db.proofs.Infos.{told-kept}
 use Rattle.ts_db.proofs.store.Store.info_of.Goals as goal
 
-pub returns-clause-told : goal.returns-clause-told
-returns-clause-told g c = λ key is.
+pub returns-clause-info : goal.returns-clause-info
+returns-clause-info g c = λ key is.
     told-kept c.args.self.now c.requires.store key c.args.id c.node-node.result.now (c.node-node.ensures.holds key is)
     (record {
       total = c.len.result;
@@ -17,7 +17,7 @@ returns-clause-told g c = λ key is.
       options = c.options.result;
       labels = c.in_ok-copy.field-0;
       source = c.in_ok-source_key.field-0;
-      rules = c.in_ok-told_rules.field-0;
+      rules = c.in_ok-rule_infos.field-0;
     })
     c.len.ensures.len
     (c.time_or_0.ensures ∙ ap time_or_0 c.first-first.ensures.first)
@@ -25,4 +25,4 @@ returns-clause-told g c = λ key is.
     c.options.ensures
     c.in_ok-copy.ensures
     c.in_ok-source_key.ensures
-    (c.in_ok-told_rules.ensures ∙ ap (λ (rs : List Rule). map kept_rule_info (rules_by (key_in c.args.self.now.nodes) rs)) c.deref.ensures.value)
+    (c.in_ok-rule_infos.ensures ∙ ap (λ (rs : List Rule). map kept_rule_info (rules_by (key_in c.args.self.now.nodes) rs)) c.deref.ensures.value)

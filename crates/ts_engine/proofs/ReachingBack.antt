@@ -1,0 +1,56 @@
+-- The last rows are told by the last samples.
+use Rattle.std.proofs.Common.{◌≡◌, ℕ, ◌≤◌, ◌⊎◌, inl, inr, Bool, true, not, ◌&&◌, List, ◌++◌, map, length, take, get_or, sym, ◌∙◌, ap, arith}
+use Rattle.std.specs.Prelude.{nat_lt, reverse, Option, None, Some}
+use Rattle.std.proofs.lemmas.Bool.Decides.{nat_tests}
+use Rattle.std.proofs.lemmas.List.{length-map, length-reverse, map-append, reverse-append, take-append-le}
+use Rattle.ts_spec.specs.Answer.{row_of, is_let_through, lets_time, lets_value, rows, rows_of, turned, first_ones}
+use Rattle.ts_spec.specs.Command.{Query, Buckets, Span}
+use Rattle.ts_spec.specs.Sample.{Point, IsAscending, at_times, is_within, between}
+use Rattle.ts_spec.proofs.Samples.{ascending-times}
+use Rattle.ts_sample.proofs.Between.{filter-filter}
+use Rattle.ts_sample.proofs.Parted.{filter_alike}
+use Rattle.ts_range.proofs.Filtered.{filter-all, parted}
+
+from_on : (from to t u : ℕ) → from ≤ t → (is_within from to u && not (nat_lt u t)) ≡ is_within t to u
+from_on from to t u le = grind (arith, nat_tests)
+
+down : (t u v : ℕ) → u ≤ v → nat_lt v t ≡ true → nat_lt u t ≡ true
+down t u v le is = grind (arith, nat_tests)
+
+-- the samples of an interval end with those from a time in it on
+parts : (from to t : ℕ) (l : List Point) → IsAscending l → from ≤ t → between from to l ≡ at_times (λ u. nat_lt u t) (between from to l) ++ between t to l
+parts from to t l rises on =
+    let all = between from to l in
+    let last : at_times (λ u. not (nat_lt u t)) all ≡ between t to l =
+    filter-filter (λ (p : Point). not (nat_lt p.time t)) (λ (p : Point). is_within from to p.time) l
+    ∙ filter_alike (λ (p : Point). is_within from to p.time && not (nat_lt p.time t)) (λ (p : Point). is_within t to p.time) (λ p. from_on from to t p.time on) l in
+    parted (λ u. nat_lt u t) (λ u v le is. down t u v le is) all (ascending-times (is_within from to) l rises)
+    ∙ ap (λ (ps : List Point). at_times (λ u. nat_lt u t) all ++ ps) last
+
+module _ (q : Query) (l : List Point) (rises : IsAscending l) (times : q.times ≡ None) (values : q.values ≡ None) (buckets : q.buckets ≡ None) (backward : q.reverse ≡ true)
+    (n : ℕ) (count : q.count ≡ Some n) where
+  lets : (p : Point) → is_let_through q p ≡ true
+  lets p =
+      ap (λ (o : Option (List ℕ)). lets_time o p.time && lets_value q.values p.value) times
+      ∙ ap (λ (o : Option Span). true && lets_value o p.value) values
+
+  plain : (x : ℕ) → rows (record q { from = x }) l ≡ take n (reverse (map row_of (between x q.to l)))
+  plain x =
+      ap (λ (c : Option ℕ). first_ones c (turned q.reverse (rows_of q.buckets (record q { from = x }) l))) count
+      ∙ ap (λ (r : Bool). take n (turned r (rows_of q.buckets (record q { from = x }) l))) backward
+      ∙ ap (λ (o : Option Buckets). take n (reverse (rows_of o (record q { from = x }) l))) buckets
+      ∙ ap (λ (ps : List Point). take n (reverse (map row_of ps))) (filter-all (is_let_through q) (between x q.to l) (λ k d within. lets (get_or (between x q.to l) k d)))
+
+  -- so many of them are enough
+  pub rows-from : (t : ℕ) → q.from ≤ t → (t ≡ q.from) ⊎ (n ≤ length (between t q.to l)) → rows (record q { from = t }) l ≡ rows q l
+  rows-from t on (inl same) = ap (λ (x : ℕ). rows (record q { from = x }) l) same
+  rows-from t on (inr few) =
+      let early = at_times (λ u. nat_lt u t) (between q.from q.to l) in
+      let front = map row_of early in
+      let back = map row_of (between t q.to l) in
+      plain t
+      ∙ sym (take-append-le n (reverse back) (reverse front) (omega (arith, few, length-reverse back, length-map (between t q.to l) row_of)))
+      ∙ ap (take n) (sym (reverse-append front back))
+      ∙ ap (λ rs. take n (reverse rs)) (sym (map-append row_of early (between t q.to l)))
+      ∙ ap (λ (ps : List Point). take n (reverse (map row_of ps))) (sym (parts q.from q.to t l rises on))
+      ∙ sym (plain q.from)

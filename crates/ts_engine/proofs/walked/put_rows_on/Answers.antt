@@ -1,0 +1,25 @@
+use Rattle.std.proofs.Common.{◌≡◌, ℕ, List, ◌∙◌, ap, subst}
+use Rattle.std.specs.Prelude.{filter, Option, option_map}
+use Rattle.ts_spec.specs.Answer.{Row, first_ones, rows}
+use Rattle.ts_spec.specs.KeptQuestions.{kept_asked}
+use Rattle.ts_spec.specs.Response.{Rows}
+use Rattle.ts_spec.specs.Sample.{Point, between}
+use Rattle.ts_range.specs.Filters.{passes}
+use Rattle.ts_range.specs.Query.{buckets_of, query_of}
+use Rattle.ts_range.specs.Walking.{rows_chosen}
+use Rattle.ts_range.proofs.Whole.{walk-rows}
+use Rattle.ts_engine.specs.Answering.{IsReplyText}
+use Rattle.ts_engine.proofs.walked.put_rows_on.Goals as goal
+
+pub returns-clause-reply : goal.returns-clause-reply
+returns-clause-reply g c = λ key at.
+    let query = c.args.query.now in
+    let all : List Point = kept_asked c.args.db.now.keys c.args.latest key in
+    let lets = passes c.in-Ok-of.filters in
+    let handed : List Row = rows_chosen (option_map buckets_of query.buckets) all (filter lets (between query.from c.last_wanted-to.result all)) in
+    let count : c.handed-taker.result.count ≡ query.count = c.handed-taker.ensures.limit ∙ c.new-taker.ensures.count in
+    let same : first_ones c.handed-taker.result.count handed ≡ rows (query_of query) all =
+    ap (λ (o : Option ℕ). first_ones o handed) count ∙ walk-rows (record (query_of query) { to = c.last_wanted-to.result }) all lets c.in-Ok-of.ensures c.requires.forward c.requires.full
+    ∙ c.last_wanted-to.ensures key at in
+    subst (λ (rs : List Row). IsReplyText (Rows rs) c.finish.result.bytes) same
+    (c.finish.ensures.reply (first_ones c.handed-taker.result.count handed) (c.into_taker.ensures handed (c.handed-taker.ensures.rows key at)))
