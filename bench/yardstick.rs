@@ -2,33 +2,48 @@
 //
 // It reads requests from standard input, at most 4096 bytes a read, checks them as the server does, and makes one write
 // for each reply. Series stand in a vector, and a BTreeMap has their numbers by their keys: their samples in an ascending
-// vector, with values in millionths, and their labels in a vector. A question over many series walks all of them. A rule
-// keeps a summary of its open bucket, and tells a bucket anew from the samples that stand in it. It knows
+// vector, with values in millionths, or else in packed chunks, and their labels in a vector. A question over many series
+// walks all of them. A rule keeps a summary of its open bucket, and tells a bucket anew from the samples that stand in it.
+// It knows
 //   TS.CREATE key
 //   TS.CREATE key LABELS label value ..
 //   TS.CREATERULE source destination AGGREGATION avg duration
 //   TS.CREATERULE source destination AGGREGATION max duration
 //   TS.ADD key time value
+//   TS.ADD key time value ON_DUPLICATE LAST
+//   TS.MADD key time value ..
 //   TS.DEL key from to
-//   TS.RANGE key from to
-//   TS.RANGE key from to FILTER_BY_VALUE least greatest
-//   TS.RANGE key from to AGGREGATION avg duration
-//   TS.MRANGE from to FILTER label=value ..
-//   TS.MRANGE from to FILTER_BY_VALUE least greatest FILTER label=value ..
-//   TS.MRANGE from to AGGREGATION avg duration FILTER label=value ..
+//   TS.RANGE key from to [question]
+//   TS.REVRANGE key from to [question]
+//   TS.MRANGE from to [question] FILTER label=value .., where a value may be (value,..)
 //   TS.QUERYINDEX label=value ..
+// with the words of a question
+//   FILTER_BY_TS time ..
+//   FILTER_BY_VALUE least greatest
+//   AGGREGATION avg duration
+//   AGGREGATION avg duration EMPTY, of TS.RANGE and without a filter
+//   COUNT number
+// and for itself
+//   BYTES key    tells how many bytes the samples of a series take
 // and is run as
 //   yardstick          copies each word of a request, as the server does
 //   yardstick slices   takes the words as slices of the buffer, and copies a key only where it is new
 //   yardstick slices ADDRESS   does so for one TCP connection, and sends off what waits before each read, as the server does
+// With --packed among these words, each series is kept in packed chunks, in the server's format.
+mod packed;
+mod store;
+
+use packed::Packed;
 use std::collections::BTreeMap;
 use std::fs::File;
 use std::io::{Read, Write};
+use std::iter::Peekable;
 use std::mem::take;
 use std::net::{TcpListener, TcpStream};
 use std::ops::{Range, RangeInclusive};
 use std::os::fd::{FromRawFd, OwnedFd};
 use std::process::exit;
+use store::{Sample, Store};
 
 const PIECE: usize = 4096;
 const WORDS: u64 = 1_048_576;
@@ -283,16 +298,9 @@ fn value(text: &[u8]) -> Result<i128, &'static [u8]> {
     Ok(if negative { -magnitude } else { magnitude })
 }
 
-#[derive(Clone, Copy)]
-struct Sample {
-    time: u64,
-    value: i128,
-    made: u32,
-}
-
 #[derive(Default)]
-struct Series {
-    samples: Vec<Sample>,
+struct Series<S> {
+    samples: S,
     labels: Vec<(Vec<u8>, Vec<u8>)>,
     /// The highest time that it ever had a sample at.
     high: Option<u64>,
@@ -302,46 +310,64 @@ struct Series {
     is_dest: bool,
 }
 
-impl Series {
-    /// Whether each of these labels has its value here.
+impl<S> Series<S> {
+    /// Whether each of these labels has one of its values here.
     fn has(&self, filters: &[Filter]) -> bool {
-        filters.iter().all(|(label, value)| self.labels.iter().any(|(name, held)| name == label && held == value))
+        filters.iter().all(|filter| self.labels.iter().any(|(name, held)| name == filter.label && filter.wants(held)))
     }
 }
 
-/// A label, and the value that is asked of it.
-type Filter<'a> = (&'a [u8], &'a [u8]);
-
-#[derive(Default)]
-struct Database {
-    numbers: BTreeMap<Vec<u8>, usize>,
-    series: Vec<Series>,
+/// A label, and the values that are asked of it.
+struct Filter<'a> {
+    label: &'a [u8],
+    values: Vec<&'a [u8]>,
 }
 
-impl Database {
+impl Filter<'_> {
+    fn wants(&self, held: &[u8]) -> bool {
+        self.values.iter().any(|value| *value == held)
+    }
+}
+
+/// What a write does where its time has a sample.
+#[derive(Clone, Copy)]
+enum Policy {
+    Block,
+    Last,
+}
+
+#[derive(Default)]
+struct Database<S> {
+    numbers: BTreeMap<Vec<u8>, usize>,
+    series: Vec<Series<S>>,
+}
+
+impl<S: Store> Database<S> {
     fn number(&self, key: &[u8]) -> Result<usize, &'static [u8]> {
         self.numbers.get(key).copied().ok_or(b"-ERR TSDB: the key does not exist\r\n")
     }
 
-    fn make(&mut self, key: &[u8], series: Series) -> usize {
+    fn make(&mut self, key: &[u8], series: Series<S>) -> usize {
         self.numbers.insert(key.to_vec(), self.series.len());
         self.series.push(series);
         self.series.len() - 1
     }
 
-    /// Writes a sample, unless its time has one, and what it changes in the destinations of the series' rules.
-    fn write(&mut self, number: usize, time: u64, value: i128) -> bool {
+    /// Writes a sample, unless its time has one that stays, and what it changes in the destinations of the series' rules.
+    fn write(&mut self, number: usize, time: u64, value: i128, policy: Policy) -> bool {
         let series = &mut self.series[number];
         let sample = Sample { time, value, made: series.born };
-        if !insert(&mut series.samples, sample) {
-            return false;
+        match policy {
+            Policy::Block if !series.samples.add(sample) => return false,
+            Policy::Block => {}
+            Policy::Last => series.samples.put(sample),
         }
         let late = series.high >= Some(time);
         series.high = series.high.max(Some(time));
         let mut rules = take(&mut series.rules);
         for rule in &mut rules {
             if let Some(row) = rule.count(&self.series[number].samples, &sample, late) {
-                put(&mut self.series[rule.dest].samples, row);
+                self.series[rule.dest].samples.put(row);
             }
         }
         self.series[number].rules = rules;
@@ -351,24 +377,23 @@ impl Database {
     /// Removes the samples of an interval, and what they leave in the destinations. It tells how many there were.
     fn delete(&mut self, number: usize, from: u64, to: u64) -> usize {
         let series = &mut self.series[number];
-        let range = places(&series.samples, from, to);
-        let gone: Vec<u64> = series.samples.drain(range).map(|s| s.time).collect();
         let mut rules = take(&mut series.rules);
+        let gone: Vec<u64> = if rules.is_empty() {
+            Vec::new()
+        } else {
+            series.samples.between(from, to).map(|s| s.time).collect()
+        };
+        let count = series.samples.take_out(from, to);
         for rule in &mut rules {
             let (touched, rows) = rule.forget(&self.series[number].samples, &gone);
             let shown = &mut self.series[rule.dest].samples;
-            if let [first, .., last] | [first @ last] = touched[..] {
-                let range = places(shown, first, last);
-                let stays = |s: &&Sample| touched.binary_search(&s.time).is_err();
-                let kept: Vec<Sample> = shown[range.clone()].iter().filter(stays).copied().collect();
-                shown.splice(range, kept);
-            }
+            shown.forget(&touched);
             for row in rows {
-                put(shown, row);
+                shown.put(row);
             }
         }
         self.series[number].rules = rules;
-        gone.len()
+        count
     }
 }
 
@@ -410,9 +435,9 @@ impl Rule {
     }
 
     /// The summary of the bucket that starts here, over samples that were written since the rule was made.
-    fn summary(&self, samples: &[Sample], start: u64) -> Summary {
+    fn summary(&self, samples: &impl Store, start: u64) -> Summary {
         let mut summary = Summary::EMPTY;
-        for sample in between(samples, start, start + (self.duration - 1)) {
+        for sample in samples.between(start, start + (self.duration - 1)) {
             if sample.made >= self.made {
                 summary.push(sample.value);
             }
@@ -431,7 +456,7 @@ impl Rule {
     }
 
     /// Counts a sample that was written, and tells the row of the bucket that it closes, or that it came late to.
-    fn count(&mut self, samples: &[Sample], sample: &Sample, late: bool) -> Option<Sample> {
+    fn count(&mut self, samples: &impl Store, sample: &Sample, late: bool) -> Option<Sample> {
         let start = self.start(sample.time);
         match self.open {
             Some((open, _)) if start < open => return self.row(start, self.summary(samples, start)),
@@ -457,7 +482,7 @@ impl Rule {
 
     /// Forgets samples that stood at these times: the closed buckets that had some, and what those still show. No more
     /// than the first and the last can have samples left.
-    fn forget(&mut self, samples: &[Sample], gone: &[u64]) -> (Vec<u64>, Vec<Sample>) {
+    fn forget(&mut self, samples: &impl Store, gone: &[u64]) -> (Vec<u64>, Vec<Sample>) {
         let mut touched: Vec<u64> = gone.iter().map(|&time| self.start(time)).collect();
         touched.dedup();
         let Some((open, _)) = self.open else {
@@ -469,33 +494,6 @@ impl Rule {
         touched.retain(|&start| start < open);
         let rows = touched.iter().filter_map(|&start| self.row(start, self.summary(samples, start))).collect();
         (touched, rows)
-    }
-}
-
-/// Where a sample of this time stands, or would stand.
-fn place(list: &[Sample], time: u64) -> usize {
-    match list.last() {
-        Some(last) if last.time >= time => list.partition_point(|s| s.time < time),
-        _ => list.len(),
-    }
-}
-
-/// Adds a sample, unless its time has one.
-fn insert(list: &mut Vec<Sample>, sample: Sample) -> bool {
-    let place = place(list, sample.time);
-    if list.get(place).is_some_and(|s| s.time == sample.time) {
-        return false;
-    }
-    list.insert(place, sample);
-    true
-}
-
-/// Adds a sample, in place of one at its time.
-fn put(list: &mut Vec<Sample>, sample: Sample) {
-    let place = place(list, sample.time);
-    match list.get_mut(place) {
-        Some(held) if held.time == sample.time => *held = sample,
-        _ => list.insert(place, sample),
     }
 }
 
@@ -555,27 +553,49 @@ fn put_value(value: i128, room: &mut Vec<u8>) {
     }
 }
 
-/// Puts an array of the samples in the room, each as its time and its value.
-fn put_rows<'a>(samples: impl Iterator<Item = &'a Sample> + Clone, room: &mut Vec<u8>) {
-    put_line(b'*', samples.clone().count() as u64, room);
-    for sample in samples {
-        room.extend_from_slice(b"*2\r\n");
-        put_line(b':', sample.time, room);
-        room.push(b'+');
-        put_value(sample.value, room);
-        room.extend_from_slice(b"\r\n");
+/// What is told at a time: a value, or that there is none.
+#[derive(Clone, Copy)]
+struct Row {
+    time: u64,
+    value: Option<i128>,
+}
+
+impl From<Sample> for Row {
+    fn from(sample: Sample) -> Row {
+        Row { time: sample.time, value: Some(sample.value) }
     }
 }
 
-/// Where the samples between two times stand, both included.
-fn places(list: &[Sample], from: u64, to: u64) -> Range<usize> {
-    let start = list.partition_point(|s| s.time < from);
-    let end = list.partition_point(|s| s.time <= to);
-    start..end.max(start)
+/// Puts an array of rows in the room, each as its time and its value.
+fn put_rows(rows: impl Iterator<Item = Row>, room: &mut Vec<u8>) {
+    if let (count, Some(most)) = rows.size_hint() {
+        if count == most {
+            put_line(b'*', count as u64, room);
+            rows.for_each(|row| put_row(row, room));
+            return;
+        }
+    }
+    // How many there are is known after the last one, and is put before the first one then.
+    let (start, mut count) = (room.len(), 0);
+    rows.for_each(|row| {
+        put_row(row, room);
+        count += 1;
+    });
+    let end = room.len();
+    put_line(b'*', count, room);
+    let line = room.len() - end;
+    room[start..].rotate_right(line);
 }
 
-fn between(list: &[Sample], from: u64, to: u64) -> &[Sample] {
-    &list[places(list, from, to)]
+fn put_row(row: Row, room: &mut Vec<u8>) {
+    room.extend_from_slice(b"*2\r\n");
+    put_line(b':', row.time, room);
+    room.push(b'+');
+    match row.value {
+        Some(value) => put_value(value, room),
+        None => room.extend_from_slice(b"NaN"),
+    }
+    room.extend_from_slice(b"\r\n");
 }
 
 /// A quotient, rounded half away from zero.
@@ -584,20 +604,31 @@ fn rounded(sum: i128, count: u64) -> i128 {
     (if sum < 0 { sum - half } else { sum + half }) / i128::from(count)
 }
 
-/// The mean of each bucket of this duration that has samples, at the bucket's start.
-fn means(samples: &[Sample], duration: u64) -> Vec<Sample> {
-    let mut rows = Vec::new();
-    let mut rest = samples.iter().peekable();
-    while let Some(first) = rest.peek() {
-        let start = first.time - first.time % duration;
-        let (mut sum, mut count) = (0, 0);
-        while let Some(sample) = rest.next_if(|s| s.time - start < duration) {
+/// The mean of each bucket of this duration that has samples, at the bucket's start, in the order of the samples.
+struct Means<I: Iterator> {
+    samples: Peekable<I>,
+    duration: u64,
+}
+
+impl<I: Iterator<Item = Sample>> Means<I> {
+    fn new(samples: I, duration: u64) -> Means<I> {
+        Means { samples: samples.peekable(), duration }
+    }
+}
+
+impl<I: Iterator<Item = Sample>> Iterator for Means<I> {
+    type Item = Row;
+
+    fn next(&mut self) -> Option<Row> {
+        let first = self.samples.next()?;
+        let time = first.time - first.time % self.duration;
+        let (mut sum, mut count) = (first.value, 1);
+        while let Some(sample) = self.samples.next_if(|s| s.time.wrapping_sub(time) < self.duration) {
             sum += sample.value;
             count += 1;
         }
-        rows.push(Sample { time: start, value: rounded(sum, count), made: 0 });
+        Some(Row { time, value: Some(rounded(sum, count)) })
     }
-    rows
 }
 
 fn time(text: &[u8]) -> Result<u64, &'static [u8]> {
@@ -634,46 +665,131 @@ fn duration(length: &[u8]) -> Result<u64, &'static [u8]> {
 const ARITY: &[u8] = b"-ERR wrong number of arguments\r\n";
 const OPTION: &[u8] = b"-ERR TSDB: invalid option\r\n";
 
-/// What is told of an interval: its samples, those with some values, or the means of buckets.
-enum Asked {
-    Samples,
-    Values(RangeInclusive<i128>),
-    Means(u64),
+/// What is told of an interval: its samples, or the means of its buckets, of some times or values and up to a count.
+struct Asked {
+    times: Option<Vec<u64>>,
+    values: Option<RangeInclusive<i128>>,
+    duration: Option<u64>,
+    empty: bool,
+    most: usize,
 }
 
 impl Asked {
     /// What the options of a range ask.
-    fn read<W: AsRef<[u8]>>(options: &[W]) -> Result<Asked, &'static [u8]> {
-        match options {
-            [] => Ok(Asked::Samples),
-            [name, least, greatest] if name.as_ref().eq_ignore_ascii_case(b"FILTER_BY_VALUE") => {
-                Ok(Asked::Values(value(least.as_ref())?..=value(greatest.as_ref())?))
+    fn read<W: AsRef<[u8]>>(mut options: &[W]) -> Result<Asked, &'static [u8]> {
+        let mut asked = Asked { times: None, values: None, duration: None, empty: false, most: usize::MAX };
+        while let [name, rest @ ..] = options {
+            options = asked.read_option(name.as_ref(), rest)?;
+        }
+        if asked.empty && (asked.duration.is_none() || asked.times.is_some() || asked.values.is_some()) {
+            return Err(OPTION);
+        }
+        Ok(asked)
+    }
+
+    /// Reads an option, and tells the words after it.
+    fn read_option<'a, W: AsRef<[u8]>>(&mut self, name: &[u8], rest: &'a [W]) -> Result<&'a [W], &'static [u8]> {
+        let is = |wanted: &[u8]| name.eq_ignore_ascii_case(wanted);
+        match rest {
+            [told, length, rest @ ..] if is(b"AGGREGATION") => {
+                let Aggregator::Avg = aggregator(told.as_ref())? else {
+                    return Err(UNKNOWN);
+                };
+                self.duration = Some(duration(length.as_ref())?);
+                Ok(rest)
             }
-            [name, told, length] if name.as_ref().eq_ignore_ascii_case(b"AGGREGATION") => match aggregator(told.as_ref())? {
-                Aggregator::Avg => Ok(Asked::Means(duration(length.as_ref())?)),
-                Aggregator::Max => Err(UNKNOWN),
-            },
+            [least, greatest, rest @ ..] if is(b"FILTER_BY_VALUE") => {
+                self.values = Some(value(least.as_ref())?..=value(greatest.as_ref())?);
+                Ok(rest)
+            }
+            [first, ..] if is(b"FILTER_BY_TS") && number(first.as_ref()).is_some() => {
+                let mut times: Vec<u64> = rest.iter().map_while(|word| number(word.as_ref())).collect();
+                let rest = &rest[times.len()..];
+                times.sort_unstable();
+                times.dedup();
+                self.times = Some(times);
+                Ok(rest)
+            }
+            [most, rest @ ..] if is(b"COUNT") => {
+                self.most = number(most.as_ref()).ok_or(OPTION)? as usize;
+                Ok(rest)
+            }
+            _ if is(b"EMPTY") => {
+                self.empty = true;
+                Ok(rest)
+            }
             _ => Err(OPTION),
         }
     }
 
-    /// Puts what it asks of these samples in the room.
-    fn put(&self, samples: &[Sample], room: &mut Vec<u8>) {
-        match self {
-            Asked::Samples => put_rows(samples.iter(), room),
-            Asked::Values(values) => put_rows(samples.iter().filter(|s| values.contains(&s.value)), room),
-            Asked::Means(duration) => put_rows(means(samples, *duration).iter(), room),
+    /// Puts what it asks of an interval in the room.
+    fn put(&self, samples: &impl Store, from: u64, to: u64, room: &mut Vec<u8>) {
+        match (&self.times, self.duration) {
+            (Some(times), _) => {
+                let within = times.iter().filter(|time| (from..=to).contains(time));
+                self.put_of(within.flat_map(|&time| samples.between(time, time)), room);
+            }
+            (None, Some(duration)) if self.empty => {
+                let rows = with_empty(samples, from, to, duration);
+                put_rows(rows.take(self.most), room);
+            }
+            _ => self.put_of(samples.between(from, to), room),
+        }
+    }
+
+    /// The same, the last one first.
+    fn put_backwards(&self, samples: &impl Store, from: u64, to: u64, room: &mut Vec<u8>) -> Result<(), &'static [u8]> {
+        if self.times.is_some() || self.empty {
+            return Err(OPTION);
+        }
+        self.put_of(samples.backwards(from, to), room);
+        Ok(())
+    }
+
+    fn put_of(&self, samples: impl Iterator<Item = Sample>, room: &mut Vec<u8>) {
+        match &self.values {
+            None => self.put_each(samples, room),
+            Some(values) => self.put_each(samples.filter(|s| values.contains(&s.value)), room),
+        }
+    }
+
+    fn put_each(&self, samples: impl Iterator<Item = Sample>, room: &mut Vec<u8>) {
+        match self.duration {
+            None => put_rows(samples.map(Row::from).take(self.most), room),
+            Some(duration) => put_rows(Means::new(samples, duration).take(self.most), room),
         }
     }
 }
 
-/// A filter, which is a label and its value, cut at the first `=`.
+/// The mean of each bucket between two times, also of those without samples, but for those before the first sample of
+/// the series and after its last one.
+fn with_empty<S: Store>(samples: &S, from: u64, to: u64, duration: u64) -> impl Iterator<Item = Row> + use<'_, S> {
+    let (first, last) = samples.ends().map_or((1, 0), |(first, last)| (from.max(first), to.min(last)));
+    let starts = if first <= last { first / duration..last / duration + 1 } else { 0..0 };
+    let mut told = Means::new(samples.between(from, to), duration).peekable();
+    starts.map(move |bucket| {
+        let time = bucket * duration;
+        told.next_if(|row| row.time == time).unwrap_or(Row { time, value: None })
+    })
+}
+
+const FILTER: &[u8] = b"-ERR TSDB: invalid filter\r\n";
+
+/// A filter, which is a label and its values, cut at the first `=`.
 fn filter(text: &[u8]) -> Result<Filter<'_>, &'static [u8]> {
-    let place = text.iter().position(|&byte| byte == b'=');
-    match place.map(|at| (&text[..at], &text[at + 1..])) {
-        None | Some(([] | [.., b'!'], _) | (_, [] | [b'(', ..])) => Err(b"-ERR TSDB: invalid filter\r\n"),
-        Some(found) => Ok(found),
+    let place = text.iter().position(|&byte| byte == b'=').ok_or(FILTER)?;
+    let (label, values) = (&text[..place], &text[place + 1..]);
+    if label.is_empty() || label.ends_with(b"!") {
+        return Err(FILTER);
     }
+    let values = match values {
+        [b'(', listed @ .., b')'] => listed.split(|&byte| byte == b',').collect(),
+        _ => vec![values],
+    };
+    if values.iter().any(|value| value.is_empty()) {
+        return Err(FILTER);
+    }
+    Ok(Filter { label, values })
 }
 
 fn filters<W: AsRef<[u8]>>(words: &[W]) -> Result<Vec<Filter<'_>>, &'static [u8]> {
@@ -681,7 +797,7 @@ fn filters<W: AsRef<[u8]>>(words: &[W]) -> Result<Vec<Filter<'_>>, &'static [u8]
 }
 
 /// The series whose labels meet all filters, in the order of their keys.
-fn select<'a>(database: &'a Database, filters: &[Filter]) -> Vec<(&'a Vec<u8>, &'a Series)> {
+fn select<'a, S>(database: &'a Database<S>, filters: &[Filter]) -> Vec<(&'a Vec<u8>, &'a Series<S>)> {
     let all = database.numbers.iter().map(|(key, &number)| (key, &database.series[number]));
     all.filter(|(_, series)| series.has(filters)).collect()
 }
@@ -705,8 +821,11 @@ fn labels<W: AsRef<[u8]>>(words: &[W]) -> Result<Vec<(Vec<u8>, Vec<u8>)>, &'stat
     Ok(labels)
 }
 
+/// Whether a request was answered in the room, or the text of its refusal.
+type Outcome = Result<(), &'static [u8]>;
+
 /// TS.CREATE, after its name.
-fn create<W: AsRef<[u8]>>(words: &[W], database: &mut Database, room: &mut Vec<u8>) -> Result<(), &'static [u8]> {
+fn create<S: Store>(words: &[impl AsRef<[u8]>], database: &mut Database<S>, room: &mut Vec<u8>) -> Outcome {
     let (key, labels) = match words {
         [] => return Err(ARITY),
         [key] => (key, Vec::new()),
@@ -725,7 +844,7 @@ fn create<W: AsRef<[u8]>>(words: &[W], database: &mut Database, room: &mut Vec<u
 }
 
 /// TS.CREATERULE, after its name.
-fn create_rule<W: AsRef<[u8]>>(words: &[W], database: &mut Database, room: &mut Vec<u8>) -> Result<(), &'static [u8]> {
+fn create_rule<S: Store>(words: &[impl AsRef<[u8]>], database: &mut Database<S>, room: &mut Vec<u8>) -> Outcome {
     let [source, dest, name, told, length] = words else {
         return Err(ARITY);
     };
@@ -757,26 +876,54 @@ fn create_rule<W: AsRef<[u8]>>(words: &[W], database: &mut Database, room: &mut 
     Ok(())
 }
 
+const DUPLICATE: &[u8] = b"-ERR TSDB: duplicate sample\r\n";
+
 /// TS.ADD, after its name.
-fn add<W: AsRef<[u8]>>(words: &[W], database: &mut Database, room: &mut Vec<u8>) -> Result<(), &'static [u8]> {
-    let [key, at, amount] = words else {
+fn add<S: Store>(words: &[impl AsRef<[u8]>], database: &mut Database<S>, room: &mut Vec<u8>) -> Outcome {
+    let [key, at, amount, options @ ..] = words else {
         return Err(ARITY);
     };
     let time = time(at.as_ref())?;
     let value = value(amount.as_ref())?;
+    let policy = match options {
+        [] => Policy::Block,
+        [name, told] if name.as_ref().eq_ignore_ascii_case(b"ON_DUPLICATE") && told.as_ref().eq_ignore_ascii_case(b"LAST") => Policy::Last,
+        _ => return Err(OPTION),
+    };
     let number = match database.numbers.get(key.as_ref()) {
         Some(&number) => number,
         None => database.make(key.as_ref(), Series::default()),
     };
-    if !database.write(number, time, value) {
-        return Err(b"-ERR TSDB: duplicate sample\r\n");
+    if !database.write(number, time, value, policy) {
+        return Err(DUPLICATE);
     }
     put_line(b':', time, room);
     Ok(())
 }
 
+/// TS.MADD, after its name.
+fn add_many<S: Store>(words: &[impl AsRef<[u8]>], database: &mut Database<S>, room: &mut Vec<u8>) -> Outcome {
+    if words.is_empty() || words.len() % 3 != 0 {
+        return Err(ARITY);
+    }
+    put_line(b'*', words.len() as u64 / 3, room);
+    for triple in words.chunks_exact(3) {
+        match add_one(triple[0].as_ref(), triple[1].as_ref(), triple[2].as_ref(), database) {
+            Ok(time) => put_line(b':', time, room),
+            Err(text) => room.extend_from_slice(text),
+        }
+    }
+    Ok(())
+}
+
+fn add_one<S: Store>(key: &[u8], at: &[u8], amount: &[u8], database: &mut Database<S>) -> Result<u64, &'static [u8]> {
+    let (time, value) = (time(at)?, value(amount)?);
+    let number = database.number(key)?;
+    if database.write(number, time, value, Policy::Block) { Ok(time) } else { Err(DUPLICATE) }
+}
+
 /// TS.DEL, after its name.
-fn delete<W: AsRef<[u8]>>(words: &[W], database: &mut Database, room: &mut Vec<u8>) -> Result<(), &'static [u8]> {
+fn delete<S: Store>(words: &[impl AsRef<[u8]>], database: &mut Database<S>, room: &mut Vec<u8>) -> Outcome {
     let [key, from, to] = words else {
         return Err(ARITY);
     };
@@ -786,20 +933,23 @@ fn delete<W: AsRef<[u8]>>(words: &[W], database: &mut Database, room: &mut Vec<u
     Ok(())
 }
 
-/// TS.RANGE, after its name.
-fn range<W: AsRef<[u8]>>(words: &[W], database: &Database, room: &mut Vec<u8>) -> Result<(), &'static [u8]> {
+/// TS.RANGE or TS.REVRANGE, after its name.
+fn range<S: Store>(words: &[impl AsRef<[u8]>], database: &Database<S>, is_backwards: bool, room: &mut Vec<u8>) -> Outcome {
     let [key, from, to, options @ ..] = words else {
         return Err(ARITY);
     };
     let (from, to) = (bound(from.as_ref())?, bound(to.as_ref())?);
     let asked = Asked::read(options)?;
     let series = &database.series[database.number(key.as_ref())?];
-    asked.put(between(&series.samples, from, to), room);
+    if is_backwards {
+        return asked.put_backwards(&series.samples, from, to, room);
+    }
+    asked.put(&series.samples, from, to, room);
     Ok(())
 }
 
 /// TS.MRANGE, after its name. FILTER is the last of its options.
-fn many_range<W: AsRef<[u8]>>(words: &[W], database: &Database, room: &mut Vec<u8>) -> Result<(), &'static [u8]> {
+fn many_range<S: Store>(words: &[impl AsRef<[u8]>], database: &Database<S>, room: &mut Vec<u8>) -> Outcome {
     let [from, to, options @ ..] = words else {
         return Err(ARITY);
     };
@@ -818,13 +968,13 @@ fn many_range<W: AsRef<[u8]>>(words: &[W], database: &Database, room: &mut Vec<u
         room.extend_from_slice(b"*3\r\n");
         put_bulk(key, room);
         room.extend_from_slice(b"*0\r\n");
-        asked.put(between(&series.samples, from, to), room);
+        asked.put(&series.samples, from, to, room);
     }
     Ok(())
 }
 
 /// TS.QUERYINDEX, after its name.
-fn query_index<W: AsRef<[u8]>>(words: &[W], database: &Database, room: &mut Vec<u8>) -> Result<(), &'static [u8]> {
+fn query_index<S: Store>(words: &[impl AsRef<[u8]>], database: &Database<S>, room: &mut Vec<u8>) -> Outcome {
     if words.is_empty() {
         return Err(ARITY);
     }
@@ -836,17 +986,30 @@ fn query_index<W: AsRef<[u8]>>(words: &[W], database: &Database, room: &mut Vec<
     Ok(())
 }
 
+/// BYTES, after its name.
+fn bytes<S: Store>(words: &[impl AsRef<[u8]>], database: &Database<S>, room: &mut Vec<u8>) -> Outcome {
+    let [key] = words else {
+        return Err(ARITY);
+    };
+    let number = database.number(key.as_ref())?;
+    put_line(b':', database.series[number].samples.bytes() as u64, room);
+    Ok(())
+}
+
 /// The reply to a request, in the room.
-fn answer<W: AsRef<[u8]>>(words: &[W], database: &mut Database, room: &mut Vec<u8>) -> Result<(), &'static [u8]> {
+fn answer<W: AsRef<[u8]>, S: Store>(words: &[W], database: &mut Database<S>, room: &mut Vec<u8>) -> Outcome {
     let is = |name: &W, wanted: &[u8]| name.as_ref().eq_ignore_ascii_case(wanted);
     match words {
         [name, rest @ ..] if is(name, b"TS.ADD") => add(rest, database, room),
         [name, rest @ ..] if is(name, b"TS.CREATE") => create(rest, database, room),
         [name, rest @ ..] if is(name, b"TS.CREATERULE") => create_rule(rest, database, room),
         [name, rest @ ..] if is(name, b"TS.DEL") => delete(rest, database, room),
-        [name, rest @ ..] if is(name, b"TS.RANGE") => range(rest, database, room),
+        [name, rest @ ..] if is(name, b"TS.MADD") => add_many(rest, database, room),
+        [name, rest @ ..] if is(name, b"TS.RANGE") => range(rest, database, false, room),
+        [name, rest @ ..] if is(name, b"TS.REVRANGE") => range(rest, database, true, room),
         [name, rest @ ..] if is(name, b"TS.MRANGE") => many_range(rest, database, room),
         [name, rest @ ..] if is(name, b"TS.QUERYINDEX") => query_index(rest, database, room),
+        [name, rest @ ..] if is(name, b"BYTES") => bytes(rest, database, room),
         _ => Err(b"-ERR unknown command\r\n"),
     }
 }
@@ -873,9 +1036,36 @@ fn push(link: &TcpStream) {
     let _ = link.set_nodelay(false);
 }
 
+/// How it is run.
+#[derive(Default)]
+struct Words {
+    slices: bool,
+    packed: bool,
+    address: Option<String>,
+}
+
+impl Words {
+    fn read() -> Words {
+        let mut words = Words::default();
+        for word in std::env::args().skip(1) {
+            match word.as_str() {
+                "slices" => words.slices = true,
+                "--packed" => words.packed = true,
+                _ => words.address = Some(word),
+            }
+        }
+        words
+    }
+}
+
 fn main() {
-    let slices = std::env::args().nth(1).as_deref() == Some("slices");
-    let (link, mut input, mut out) = match std::env::args().nth(2) {
+    let words = Words::read();
+    if words.packed { serve::<Packed>(words) } else { serve::<Vec<Sample>>(words) }
+}
+
+fn serve<S: Store>(words: Words) {
+    let slices = words.slices;
+    let (link, mut input, mut out) = match words.address {
         Some(address) => match accept(&address) {
             Ok((link, input, out)) => (Some(link), input, out),
             Err(_) => end("yardstick: accept fault", 7),
@@ -883,7 +1073,7 @@ fn main() {
         None => unsafe { (None, File::from_raw_fd(0), File::from_raw_fd(1)) },
     };
     let mut reader = Reader { buf: Vec::new(), place: 0, begin: 0, at: 0, left: None, room: 0, words: Vec::new() };
-    let mut database = Database::default();
+    let mut database = Database::<S>::default();
     let mut room = Vec::with_capacity(128);
     let mut piece = [0; PIECE];
     loop {
