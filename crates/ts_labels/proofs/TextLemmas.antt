@@ -1,5 +1,6 @@
 -- Texts that are cut.
-use Rattle.std.proofs.Common.{◌≡◌, ◌≢◌, ℕ, zero, suc, ◌==◌, ◌<◌, Bool, true, false, List, [], ◌∷◌, ◌++◌, length, take, drop, slice_get, option_map, Option, Some, None, refl, sym, ap, ◌∙◌, if◌then◌else◌, arith}
+use Rattle.std.proofs.Common.{◌≡◌, ℕ, zero, suc, ◌==◌, ◌<◌, Bool, true, false, List, [], ◌∷◌, ◌++◌, length, take, drop, slice_get, option_map, Option, Some, None, refl, sym, ap, ◌∙◌, if◌then◌else◌, arith}
+use Rattle.std.proofs.lemmas.Bool.Decides.{nat_tests}
 use Rattle.ts_spec.specs.FilterText.{before_cut, cut_at, before_last, onto_first, pieces, has_empty}
 
 -- what stands before this byte at the end
@@ -93,15 +94,28 @@ cut_at-shorter byte (c ∷ text) front rest h = by (c == byte) (cut_at byte text
         let less : length rest < length text = ih parts.0 (ap (λ r. Some (parts.0, r)) e) in
         omega (arith, less)
 
--- a value with bytes is not empty
-pub has_empty-more : (values : List (List ℕ)) (value : List ℕ) → has_empty values ≡ false → value ≢ [] → has_empty (values ++ value ∷ []) ≡ false
-has_empty-more [] [] h some = absurd (some refl)
-has_empty-more [] (c ∷ value) h some = refl
-has_empty-more ([] ∷ values) value h some = cc
-has_empty-more ((c ∷ cs) ∷ values) value h some = has_empty-more values value h some
+-- a text that is cut has what stands before the cut for its first piece
+pub first_piece : (byte : ℕ) (text front rest : List ℕ) → Some (front, rest) ≡ cut_at byte text → pieces byte text ≡ front ∷ pieces byte rest
+first_piece byte text front rest cut = pieces-cut byte text ∙ ap (cut_pieces byte text) (sym cut)
 
--- one without is
-pub has_empty-found : (values more : List (List ℕ)) → has_empty (values ++ [] ∷ more) ≡ true
-has_empty-found [] more = refl
-has_empty-found ([] ∷ values) more = refl
-has_empty-found ((c ∷ cs) ∷ values) more = has_empty-found values more
+-- and one that is not cut is its only piece
+pub only_piece : (byte : ℕ) (text : List ℕ) → None ≡ cut_at byte text → pieces byte text ≡ text ∷ []
+only_piece byte text cut = pieces-cut byte text ∙ ap (cut_pieces byte text) (sym cut)
+
+some_bytes : (n : ℕ) → (suc n == 0) ≡ false
+some_bytes n = grind (arith, nat_tests)
+
+-- a first value without bytes is empty
+pub has_empty-first : (value : List ℕ) (more : List (List ℕ)) → (length value == 0) ≡ true → has_empty (value ∷ more) ≡ true
+has_empty-first [] more none = refl
+has_empty-first (c ∷ cs) more none = absurd (cc (sym (some_bytes (length cs)) ∙ none))
+
+-- after one with bytes it is the others that count
+pub has_empty-later : (value : List ℕ) (more : List (List ℕ)) → (length value == 0) ≡ false → has_empty (value ∷ more) ≡ has_empty more
+has_empty-later [] more some = cc
+has_empty-later (c ∷ cs) more some = refl
+
+-- of one value
+pub has_empty-one : (value : List ℕ) → has_empty (value ∷ []) ≡ (length value == 0)
+has_empty-one [] = refl
+has_empty-one (c ∷ cs) = sym (some_bytes (length cs))

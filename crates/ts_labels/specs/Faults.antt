@@ -1,26 +1,21 @@
 -- Faults of texts that are no filters.
-use Rattle.std.specs.Prelude.{◌≡◌, ⊤, ℕ, List, [], Result, Ok, Err, if◌then◌else◌}
+use Rattle.std.specs.Prelude.{◌≡◌, ⊤, ℕ, List, Result, Ok, Err, IsOk, if◌then◌else◌}
 use Rattle.ts_spec.specs.FilterText as spec
 use Rattle.ts_spec.specs.FilterText.{comma, pieces, has_empty}
 use Rattle.ts_labels.specs.declared.filter_text.FilterFault.{FilterFault}
 use Rattle.ts_labels.specs.declared.filter_text.FilterFault.TheVariants.{NoOperator, EmptyLabel, EmptyList, Memory}
 
--- a fault is the one that is wanted, or want of memory, which is free
+-- a fault is the one that is wanted; want of memory may come where none is
 abbrev pub IsFaultOf : {Y : Type 0} → FilterFault → Result Y spec.FilterFault → Type 0
 IsFaultOf NoOperator wanted = wanted ≡ Err spec.NoOperator
 IsFaultOf EmptyLabel wanted = wanted ≡ Err spec.EmptyLabel
 IsFaultOf EmptyList wanted = wanted ≡ Err spec.EmptyList
-IsFaultOf (Memory error) wanted = ⊤
+IsFaultOf (Memory error) wanted = IsOk wanted
 
 -- want of memory
 abbrev pub IsMemory : FilterFault → Type 0
 IsMemory (Memory error) = ⊤
 IsMemory fault = ⊥
-
--- a value of a list is empty, or there was no memory
-abbrev pub IsEmptyValue : FilterFault → (value : List ℕ) → Type 0
-IsEmptyValue EmptyList value = value ≡ []
-IsEmptyValue fault value = IsMemory fault
 
 -- the values of a list that is cut at each comma, unless one has no bytes
 abbrev pub listed : List ℕ → Result (List (List ℕ)) spec.FilterFault

@@ -1,8 +1,8 @@
 // Filters as texts: `label=value`, `label!=value`, and lists of values.
-ghost use Rattle.std.specs.Prelude.{◌≡◌, ◌≢◌, ⊤, [], ◌∷◌, ◌++◌, Ok, option_map, IfOk, IfErr, OnOk};
+ghost use Rattle.std.specs.Prelude.{◌≡◌, ⊤, [], ◌∷◌, ◌++◌, Ok, option_map, IfOk, IfErr, OnOk};
 ghost use Rattle.std.specs.Option.{option_copied};
-ghost use Rattle.ts_spec.specs.FilterText.{filter_of, of_label, values_of, cut_at, before_last};
-ghost use Rattle.ts_labels.specs.Faults.{IsFaultOf, IsMemory, IsEmptyValue, listed};
+ghost use Rattle.ts_spec.specs.FilterText.{filter_of, of_label, values_of, cut_at, before_last, comma, pieces, has_empty};
+ghost use Rattle.ts_labels.specs.Faults.{IsFaultOf, IsMemory, listed};
 
 use crate::filter::Filter;
 use std::alloc::{AllocError, Global};
@@ -65,15 +65,23 @@ fn values_of(alloc: Global, text: &[u8]) -> Result<Vec<Word>, FilterFault>
     ensures ok { IfOk result (λ values. values_of text.now ≡ Ok values.items) }
     ensures fault { IfErr result (λ fault. IsFaultOf fault (values_of text.now)) }
 {
-    let mut values = Vec::new(alloc);
     let Some((first, rest)) = text.split_first() else {
-        return Ok(values);
+        return Ok(Vec::new(alloc));
     };
     if *first == b'(' {
         if let Some(inner) = before_last(b')', rest) {
             return listed(alloc, inner);
         }
     }
+    one_value(alloc, text)
+}
+
+// The text as the only value.
+fn one_value(alloc: Global, text: &[u8]) -> Result<Vec<Word>, FilterFault>
+    ensures ok { IfOk result (λ values. values.items ≡ text.now ∷ []) }
+    ensures fault { IfErr result IsMemory }
+{
+    let mut values = Vec::new(alloc);
     add(&mut values, word(alloc, text)?)?;
     Ok(values)
 }
@@ -83,26 +91,39 @@ fn listed(alloc: Global, list: &[u8]) -> Result<Vec<Word>, FilterFault>
     ensures ok { IfOk result (λ values. listed list.now ≡ Ok values.items) }
     ensures fault { IfErr result (λ fault. IsFaultOf fault (listed list.now)) }
 {
-    let mut values = Vec::new(alloc);
-    let mut rest = list;
-    while let Some((value, after)) = cut_at(b',', rest) {
-        add_value(alloc, &mut values, value)?;
-        rest = after;
-    }
-    add_value(alloc, &mut values, rest)?;
-    Ok(values)
-}
-
-// Adds a value of a list, unless it is empty.
-fn add_value(alloc: Global, values: &mut Vec<Word>, value: &[u8]) -> Result<(), FilterFault>
-    ensures ok { OnOk result (values.new.items ≡ values.old.items ++ value.now ∷ []) }
-    ensures some { OnOk result (value.now ≢ []) }
-    ensures fault { IfErr result (λ fault. IsEmptyValue fault value.now) }
-{
-    if value.is_empty() {
+    if has_empty_piece(list) {
         return Err(FilterFault::EmptyList);
     }
-    add(values, word(alloc, value)?)
+    pieces_of(alloc, list)
+}
+
+// Whether a piece between the commas of a list has no bytes.
+fn has_empty_piece(list: &[u8]) -> bool
+    ensures { result ≡ has_empty (pieces comma list.now) }
+{
+    let mut rest = list;
+    while let Some((piece, after)) = cut_at(b',', rest) {
+        if piece.is_empty() {
+            return true;
+        }
+        rest = after;
+    }
+    rest.is_empty()
+}
+
+// The pieces between the commas of a list.
+fn pieces_of(alloc: Global, list: &[u8]) -> Result<Vec<Word>, FilterFault>
+    ensures ok { IfOk result (λ values. values.items ≡ pieces comma list.now) }
+    ensures fault { IfErr result IsMemory }
+{
+    let mut values = Vec::new(alloc);
+    let mut rest = list;
+    while let Some((piece, after)) = cut_at(b',', rest) {
+        add(&mut values, word(alloc, piece)?)?;
+        rest = after;
+    }
+    add(&mut values, word(alloc, rest)?)?;
+    Ok(values)
 }
 
 fn add(values: &mut Vec<Word>, value: Word) -> Result<(), FilterFault>

@@ -1,5 +1,5 @@
 // The room that a reply is written into.
-ghost use Rattle.std.specs.Prelude.{◌≡◌, ◌+◌, ◌<◌, ◌≤◌, [], ◌++◌, length, take, drop, IfOk, OnOk, OnErr};
+ghost use Rattle.std.specs.Prelude.{◌≡◌, ◌+◌, ◌<◌, ◌≤◌, [], ◌++◌, length, min, take, drop, IfOk, OnOk, OnErr};
 ghost use Rattle.ts_spec.specs.Text.{line_text};
 
 use crate::gap::write_line;
@@ -10,6 +10,9 @@ use std::mem;
 
 // Every error, every number and every short reply fits.
 const FIRST_ROOM: usize = 128;
+
+// The most bytes for which room is kept from one reply to the next.
+const MOST_SPARE: usize = 65_536;
 
 /// Bytes of replies, with room that was reserved for more.
 #[derive(Drop)]
@@ -52,6 +55,22 @@ impl Out {
         ensures room { length self.old.bytes + self.old.spare ≤ self.new.spare }
     {
         self.bytes.clear();
+    }
+
+    /// Drops the bytes and keeps the room. Room for more than 65536 is given back for that of a new one, if there is memory
+    /// for that.
+    pub fn give_back(&mut self)
+        ensures empty { self.new.bytes ≡ [] }
+        ensures room { min 128 (length self.old.bytes + self.old.spare) ≤ self.new.spare }
+    {
+        self.bytes.clear();
+        if self.bytes.capacity() <= MOST_SPARE {
+            return;
+        }
+        let alloc = *self.bytes.allocator();
+        if let Ok(bytes) = BytesMut::with_capacity(alloc, FIRST_ROOM) {
+            self.bytes = bytes;
+        }
     }
 
     /// The bytes so far. Takes no memory.

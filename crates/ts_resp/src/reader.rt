@@ -16,6 +16,9 @@ mod steps;
 // The most words for which room is kept from one request to the next.
 const MOST_SPARE: usize = 1024;
 
+// The most bytes for which room is kept where none is unread.
+const MOST_ROOM: usize = 65_536;
+
 /// What a reader answers.
 #[derive(Debug, Drop)]
 pub enum Next {
@@ -141,7 +144,8 @@ impl Reader {
     }
 
     /// Takes back the vector of a request that was answered, so that the next request finds its room there. The words
-    /// that are left in it are dropped, and so is a room for very many.
+    /// that are left in it are dropped. Room for very many words goes back, and so does that for very many bytes where
+    /// none is unread.
     pub fn give_back(&mut self, words: Vec<Word>)
         ensures { self.new ≡ self.old }
     {
@@ -149,6 +153,9 @@ impl Reader {
         words.clear();
         if words.capacity() <= MOST_SPARE {
             self.spare = words;
+        }
+        if self.unread.is_empty() {
+            give_back_room(&mut self.unread);
         }
     }
 
@@ -161,6 +168,18 @@ impl Reader {
             Some(_) => Some(self.begin),
             None => first_begin(self.unread.as_slice(), &self.limits, self.place, self.begin),
         }
+    }
+}
+
+// Gives back the room for very many bytes, where there are none.
+fn give_back_room(bytes: &mut BytesMut)
+    requires { bytes.old.items ≡ [] }
+    ensures items { bytes.new.items ≡ [] }
+    ensures room { bytes.new.spare ≤ 65536 }
+{
+    bytes.clear();
+    if bytes.capacity() > MOST_ROOM {
+        *bytes = BytesMut::new(*bytes.allocator());
     }
 }
 

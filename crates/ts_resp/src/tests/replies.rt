@@ -138,3 +138,16 @@ fn pairs_stand_behind_what_was_written(rt: HostRuntime) -> Result<(), Fail> {
     );
     Ok(())
 }
+
+#[test]
+fn the_room_of_a_huge_reply_goes_back(rt: HostRuntime) -> Result<(), Fail> {
+    let mut out = Out::new(rt.alloc())?;
+    out.reserve(65_000)?;
+    out.give_back();
+    assert!(rt; out.spare() >= 65_000);
+    out.reserve(100_000)?;
+    out.give_back();
+    assert!(rt; out.spare() <= 65_536);
+    assert!(rt; out.spare() >= 128);
+    Ok(())
+}
