@@ -14,7 +14,7 @@ use Rattle.ts_engine.specs.declared.go.Go.TheVariants as go
 use Rattle.ts_engine.specs.Turn.{World}
 use Rattle.ts_engine.specs.Ending.{end_at, end_by}
 use Rattle.ts_engine.specs.Session.{Spot, Went, Quitted, IsUpToDate, Answers}
-use Rattle.ts_engine.specs.Piping.{beginning, ReadAll, Ends, EndsOr, PIECE, shown_at, is_of_input, has_ended, Pumped, Piped}
+use Rattle.ts_engine.specs.Piping.{beginning, ReadAll, Ends, EndsOr, PIECE, shown_at, is_of_input, has_ended, Pumped, Piped, HasCauses}
 use Rattle.ts_engine.proofs.Places.{reply_past, break_past}
 use Rattle.ts_engine.proofs.Sessions.{fed_only, not_fed, went_on, quitted_on, answers_on}
 
@@ -238,3 +238,9 @@ goes_by go.Quit e is none = (cc)
 goes_by (go.Broken fault) e is none = (cc)
 goes_by go.WriteFault e is none = (cc)
 goes_by go.Memory e is none = (cc)
+
+-- counts that are as they were before a piece have the same causes
+pub causes_from : (e : End) (first reads reads' wrote writes writes' : ℕ) → reads ≡ first → writes ≡ wrote
+    → HasCauses e reads reads' writes writes' → HasCauses e first reads' wrote writes'
+causes_from e first reads reads' wrote writes writes' read write causes =
+    subst (λ (n : ℕ). HasCauses e n reads' wrote writes') read (subst (λ (n : ℕ). HasCauses e reads reads' n writes') write causes)

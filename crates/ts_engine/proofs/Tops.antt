@@ -1,6 +1,6 @@
 -- How an input that was read to its end ends.
 use Rattle.std.specs.Prelude.{Option}
-use Rattle.std.proofs.Common.{◌≡◌, ◌⊎◌, Bool, false, inl, inr, ⊎_elim, ℕ, ◌<◌, List, length, refl, sym, ◌∙◌, ap, arith, length-append}
+use Rattle.std.proofs.Common.{◌≡◌, ◌≢◌, ◌⊎◌, Bool, false, inl, inr, ⊎_elim, ℕ, ◌<◌, List, length, refl, sym, ◌∙◌, ap, arith, length-append}
 use Rattle.ts_io.specs.Causes.{Rose}
 use Rattle.ts_spec.specs.Wire.{Stream, Ended, Inside, Broken}
 use Rattle.ts_engine.specs.declared.piped.End.{End}
@@ -45,3 +45,9 @@ pub answered_as : (meant given : Status) (told told' : ℕ) → (given ≡ statu
 answered_as meant given told told' cause same none =
     ⊎_elim (λ (failed : given ≡ status.WriteFault). ⊎_elim (λ (was : meant ≡ status.WriteFault). failed ∙ sym was) (λ (rose : Rose told told'). absurd (none rose)) (cause failed))
     (λ (is : given ≡ meant). is) same
+
+-- where the status given is neither that of a write nor that of this fault, the end was another
+pub not_meant : {E : Type 0} (view : E → Status) (e fault : E) (meant given : Status) → meant ≡ view e
+    → (given ≡ status.WriteFault) ⊎ (given ≡ meant) → given ≢ status.WriteFault → given ≢ view fault → e ≢ fault
+not_meant view e fault meant given means (inl failed) no_write other is = no_write failed
+not_meant view e fault meant given means (inr same) no_write other is = other (same ∙ means ∙ ap view is)

@@ -1,5 +1,5 @@
 -- What `pipe` does to an input, an output and a database.
-use Rattle.std.specs.Prelude.{◌≡◌, ◌⊎◌, Bool, true, false, ℕ, ◌+◌, ◌<◌, ◌≤◌, List, [], length, Option, None, Some, IfSome}
+use Rattle.std.specs.Prelude.{◌≡◌, ◌≢◌, ◌⊎◌, Bool, true, false, ℕ, ◌+◌, ◌<◌, ◌≤◌, List, [], length, Option, None, Some, IfSome}
 use Rattle.std.specs.Io.KnownBytes.{Consumes, IsAtEnd}
 use Rattle.std.proofs.Common.{inl, inr}
 use Rattle.ts_io.specs.Causes.{Rose}
@@ -110,13 +110,15 @@ pub record Piped (limits : WireLimits) (budget : ℕ) (outcome : Outcome) (from 
   pub near : IfSome (shown_at outcome.end rest (beginning limits from) last had has bytes ends) (λ place. outcome.taken ≤ place + PIECE)
   pub below : is_of_input outcome.end rest (beginning limits from) last had has bytes ends ≡ true → outcome.taken < budget
 
--- the counts of faults did not fall, and a fault is an end only where its count rose
+-- the counts of faults did not fall: a fault is the end only where its count rose, and any other end comes only where that is as it was
 pub record HasCauses (e : End) (reads reads' writes writes' : ℕ) : Type 0 where
   pub reads_later : reads ≤ reads'
   pub writes_later : writes ≤ writes'
   pub read : e ≡ end.ReadFault → Rose reads reads'
   pub write : e ≡ end.WriteFault → Rose writes writes'
+  pub unread : e ≢ end.ReadFault → reads' ≡ reads
+  pub unwritten : e ≢ end.WriteFault → writes' ≡ writes
 
 abbrev pub HasCausesOr : Option End → (reads reads' writes writes' : ℕ) → Type 0
-HasCausesOr None reads reads' writes writes' = (reads ≤ reads') × (writes ≤ writes')
+HasCausesOr None reads reads' writes writes' = (reads' ≡ reads) × (writes' ≡ writes)
 HasCausesOr (Some e) reads reads' writes writes' = HasCauses e reads reads' writes writes'

@@ -57,7 +57,7 @@ pub record Handed {I O : Type 0} (links : List (Link I O)) (coming coming' close
   pub back : closed' ≡ option_map (λ before. before ++ map (λ link. link.back) links) closed
 
 module _ {I O : Type 0} (views : StreamViews I O) (limits : WireLimits) (budget : ℕ) where
-  -- the requests in a link's input were answered on its output, and a fault ended that only where its own count rose
+  -- the requests in a link's input were answered on its output, and a fault ended that only where its own count rose, and else that is as it was
   pub record IsServed (link : Link I O) (from to : World) : Type 0 where
     pub piped : Piped limits budget link.outcome from to (views.left link.came.input) (views.left link.back.input) (views.has link.came.out) (views.has link.back.out)
     pub causes : HasCauses link.outcome.end (views.reads link.came.input) (views.reads link.back.input) (views.writes link.came.out) (views.writes link.back.out)

@@ -116,7 +116,7 @@ Refused go.More fault had has = ⊥
 Refused go.Quit fault had has = ⊥
 Refused go.Memory fault had has = ⊥
 
--- the count of faults did not fall, and a write fault comes only where it rose
+-- the count of faults did not fall: a write fault comes only where it rose, and anything else only where it is as it was
 abbrev pub WroteOrFault : ℕ → ℕ → Option Go → Type 0
 WroteOrFault before now (Some go.WriteFault) = (before ≤ now) × Rose before now
-WroteOrFault before now other = before ≤ now
+WroteOrFault before now other = now ≡ before

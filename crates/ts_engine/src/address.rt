@@ -1,5 +1,5 @@
 // What is done where the words of the command line ask to serve.
-ghost use Rattle.std.specs.Prelude.{◌≡◌, ◌⊎◌, ◌≤◌, false};
+ghost use Rattle.std.specs.Prelude.{◌≡◌, ◌≢◌, ◌⊎◌, ◌≤◌, false};
 ghost use Rattle.ts_io.specs.Causes.{Rose};
 ghost use Rattle.ts_db.specs.Held.{Carries};
 ghost use Rattle.ts_engine.specs.Asked.{Connections};
@@ -39,6 +39,8 @@ pub(crate) fn serve_address<N: Listener, K: Sink, E: Sink, C: Clock>(
     ensures accept_fault { result ≡ Status.AcceptFault → Rose (N.faults net.old) (N.faults net.new) }
     ensures write_fault { result ≡ Status.WriteFault
         → Rose (K.faults out.old) (K.faults out.new) ⊎ Rose (E.faults err.old) (E.faults err.new) }
+    ensures no_accept_fault { result ≢ Status.AcceptFault → result ≢ Status.WriteFault → N.faults net.new ≡ N.faults net.old }
+    ensures no_write_fault { result ≢ Status.WriteFault → (K.faults out.new ≡ K.faults out.old) × (E.faults err.new ≡ E.faults err.old) }
 {
     let mut db = Db::new(alloc, limits);
     let served = open_and_serve(
@@ -80,6 +82,8 @@ fn open_and_serve<N: Listener, K: Sink, C: Clock>(
     ensures net { N.is_out net.new ≡ false }
     ensures accept_fault { result ≡ Served.AcceptFault → Rose (N.faults net.old) (N.faults net.new) }
     ensures write_fault { result ≡ Served.WriteFault → Rose (K.faults out.old) (K.faults out.new) }
+    ensures no_accept_fault { result ≢ Served.AcceptFault → N.faults net.new ≡ N.faults net.old }
+    ensures no_write_fault { result ≢ Served.WriteFault → K.faults out.new ≡ K.faults out.old }
 {
     match net.open(address) {
         Ok(()) => serve(alloc, db, net, out, clock, links, limits, budget),

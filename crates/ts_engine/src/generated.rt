@@ -1,5 +1,5 @@
 // What is done where the words of the command line ask for a workload.
-ghost use Rattle.std.specs.Prelude.{◌≡◌, ◌⊎◌, ◌<◌, ◌≤◌, IfSome};
+ghost use Rattle.std.specs.Prelude.{◌≡◌, ◌≢◌, ◌⊎◌, ◌<◌, ◌≤◌, IfSome};
 ghost use Rattle.ts_io.specs.Causes.{Rose};
 ghost use Rattle.ts_db.specs.Totals.{total_of};
 ghost use Rattle.ts_engine.specs.Generated.{IsSummary, Sums, Workload};
@@ -38,6 +38,7 @@ pub(crate) fn answer_workload<K: Sink, E: Sink>(
     ensures statuses { (result ≡ Status.Ended) ⊎ (result ≡ Status.WriteFault) ⊎ (result ≡ Status.Memory) }
     ensures write_fault { result ≡ Status.WriteFault
         → Rose (K.faults out.old) (K.faults out.new) ⊎ Rose (E.faults err.old) (E.faults err.new) }
+    ensures no_write_fault { result ≢ Status.WriteFault → (K.faults out.new ≡ K.faults out.old) × (E.faults err.new ≡ E.faults err.old) }
 {
     let status = tell_workload(alloc, seed, n, out, limits);
     report(err, status, 0)
@@ -50,6 +51,7 @@ fn tell_workload<K: Sink>(alloc: Global, seed: u64, n: u32, out: &mut K, limits:
     ensures sums { Sums result limits seed n (K.has out.old) (K.has out.new) }
     ensures statuses { (result ≡ Status.Ended) ⊎ (result ≡ Status.WriteFault) ⊎ (result ≡ Status.Memory) }
     ensures write_fault { result ≡ Status.WriteFault → Rose (K.faults out.old) (K.faults out.new) }
+    ensures no_write_fault { result ≢ Status.WriteFault → K.faults out.new ≡ K.faults out.old }
 {
     let Some(numbers) = sum_up(alloc, seed, n, limits) else {
         return Status::Memory;

@@ -1,5 +1,5 @@
 // The top call: the words of the command line, and what they ask for.
-ghost use Rattle.std.specs.Prelude.{◌≡◌, ◌⊎◌, ◌≤◌, ◌<◌, ℕ, false, List, length, take, None, Some};
+ghost use Rattle.std.specs.Prelude.{◌≡◌, ◌≢◌, ◌⊎◌, ◌≤◌, ◌<◌, ℕ, false, List, length, take, None, Some};
 ghost use Rattle.ts_io.specs.Causes.{Rose};
 ghost use Rattle.ts_engine.specs.Asked.{asked, IsServe, IsGen, Connections};
 ghost use Rattle.ts_engine.specs.Generated.{Workload};
@@ -81,6 +81,12 @@ pub fn top<S: Source, K: Sink, E: Sink, C: Clock, N: Listener>(
     ensures write_fault { result ≡ Status.WriteFault
         → Rose (K.faults out.old) (K.faults out.new) ⊎ Rose (E.faults err.old) (E.faults err.new) }
     ensures accept_fault { result ≡ Status.AcceptFault → Rose (N.faults net.old) (N.faults net.new) }
+
+    // With any other status the counts of faults are as they were. Only the fault of a write may stand in for another: of the line that would
+    // have told of that.
+    ensures no_read_fault { result ≢ Status.ReadFault → result ≢ Status.WriteFault → S.faults input.new ≡ S.faults input.old }
+    ensures no_write_fault { result ≢ Status.WriteFault → (K.faults out.new ≡ K.faults out.old) × (E.faults err.new ≡ E.faults err.old) }
+    ensures no_accept_fault { result ≢ Status.AcceptFault → result ≢ Status.WriteFault → N.faults net.new ≡ N.faults net.old }
 
     // Only a request to pipe touches `input`, and only one to serve touches `net`, from which no link stays handed out. A workload reads no
     // clock.

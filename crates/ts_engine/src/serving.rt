@@ -1,5 +1,5 @@
 // What serves connections, one after another, over one database.
-ghost use Rattle.std.specs.Prelude.{◌≡◌, ◌≤◌, false, OnOk, OnErr};
+ghost use Rattle.std.specs.Prelude.{◌≡◌, ◌≢◌, ◌≤◌, false, OnOk, OnErr};
 ghost use Rattle.ts_io.specs.Causes.{HasCause, Rose};
 ghost use Rattle.ts_io.specs.Sinks.{Grows, GrowsByFront};
 ghost use Rattle.ts_db.specs.Held.{Carries};
@@ -54,6 +54,8 @@ pub fn serve<N: Listener, K: Sink, C: Clock>(
     ensures writes_later { K.faults out.old ≤ K.faults out.new }
     ensures accept_fault { result ≡ Served.AcceptFault → Rose (N.faults net.old) (N.faults net.new) }
     ensures write_fault { result ≡ Served.WriteFault → Rose (K.faults out.old) (K.faults out.new) }
+    ensures no_accept_fault { result ≢ Served.AcceptFault → N.faults net.new ≡ N.faults net.old }
+    ensures no_write_fault { result ≢ Served.WriteFault → K.faults out.new ≡ K.faults out.old }
 {
     for link in 0..links {
         match serve_link(alloc, db, net, out, clock, link + 1, limits, budget) {
@@ -89,6 +91,8 @@ fn serve_link<N: Listener, K: Sink, C: Clock>(
     ensures writes_later { K.faults out.old ≤ K.faults out.new }
     ensures accept_fault { result ≡ Served.AcceptFault → Rose (N.faults net.old) (N.faults net.new) }
     ensures write_fault { result ≡ Served.WriteFault → Rose (K.faults out.old) (K.faults out.new) }
+    ensures no_accept_fault { result ≢ Served.AcceptFault → N.faults net.new ≡ N.faults net.old }
+    ensures no_write_fault { result ≢ Served.WriteFault → K.faults out.new ≡ K.faults out.old }
 {
     let Ok(mut ends) = net.accept() else {
         return Served::AcceptFault;

@@ -1,5 +1,5 @@
 // The exit status of a run, and its line on standard error.
-ghost use Rattle.std.specs.Prelude.{◌≡◌, ◌⊎◌, ◌≤◌};
+ghost use Rattle.std.specs.Prelude.{◌≡◌, ◌≢◌, ◌⊎◌, ◌≤◌};
 ghost use Rattle.ts_io.specs.Causes.{Rose};
 ghost use Rattle.ts_engine.specs.Status.{status_of, place_of};
 ghost use Rattle.ts_engine.specs.Top.{Reports};
@@ -46,6 +46,7 @@ pub(crate) fn report<E: Sink>(err: &mut E, status: Status, place: u64) -> Status
     ensures cause { result ≡ Status.WriteFault → (status ≡ Status.WriteFault) ⊎ Rose (E.faults err.old) (E.faults err.new) }
     ensures same { result ≡ Status.WriteFault ⊎ result ≡ status }
     ensures good { status ≡ Status.Ended → result ≡ Status.Ended }
+    ensures no_fault { result ≢ Status.WriteFault → E.faults err.new ≡ E.faults err.old }
 {
     if status == Status::Ended {
         return status;

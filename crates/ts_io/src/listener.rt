@@ -52,5 +52,6 @@ pub trait Listener {
         ensures coming { coming self.new ≡ coming self.old }
         ensures closed { AddsAtEnd (closed self.old) (closed self.new) ends }
         ensures out { is_out self.new ≡ false }
-        ensures later { faults self.old ≤ faults self.new };
+        ensures later { faults self.old ≤ faults self.new }
+        ensures faults { faults self.new ≡ faults self.old };
 }

@@ -1,8 +1,8 @@
-use Rattle.std.proofs.Common.{subst, arith, rules}
+use Rattle.std.proofs.Common.{refl, ◌∙◌, subst, arith, rules}
 use Rattle.ts_engine.specs.Piping.{HasCausesOr}
 use Rattle.ts_engine.specs.Standing.{spot}
 use Rattle.ts_engine.proofs.Carried.{carries_none, carries_as, carries_then}
-use Rattle.ts_engine.proofs.Pipes.{so_far_none, so_far_more, piped_end, piped_budget, piped_none, begins_current}
+use Rattle.ts_engine.proofs.Pipes.{so_far_none, so_far_more, piped_end, piped_budget, piped_none, begins_current, causes_from}
 use Rattle.ts_engine.proofs.piped.pipe.Goals as goal
 
 pub returns-in_default-clause-piped : goal.returns-in_default-clause-piped
@@ -15,8 +15,8 @@ loop-taken-init g c = record {
   goes_on = c.in-Ok.ensures.ended;
   fed = c.in-Ok.ensures.fed;
   within = omega arith;
-  reads = omega arith;
-  writes = omega arith;
+  reads = refl;
+  writes = refl;
 }
 
 pub loop-taken-preserved : goal.loop-taken-preserved
@@ -29,8 +29,8 @@ loop-taken-preserved g c =
       goes_on = c.pump-step.ensures.ended c.in_default-end.is;
       fed = omega (arith, c.pump-step.ensures.fed c.in_default-end.is, c.loop-taken.invariant.fed);
       within = search rules;
-      reads = omega (arith, causes.0, c.loop-taken.invariant.reads);
-      writes = omega (arith, causes.1, c.loop-taken.invariant.writes);
+      reads = causes.0 ∙ c.loop-taken.invariant.reads;
+      writes = causes.1 ∙ c.loop-taken.invariant.writes;
     }
 
 pub returns-in-Some-clause-piped : goal.returns-in-Some-clause-piped
@@ -38,6 +38,12 @@ returns-in-Some-clause-piped g c =
     carries_then _ _ _ _ _ _ (λ from between to so pumped.
     piped_end _ _ _ _ _ _ _ _ so c.args.budget c.executed.result c.pump-step.result c.in-Some.end _ _ _ c.executed.ensures (search rules) (search rules) c.in-Some.is c.pump-step.ensures.unspent
     (record { rest = c.loop-taken.invariant.current }) c.loop-taken.invariant.fed (search rules) pumped) c.loop-taken.invariant.so_far c.pump-step.ensures.pumped
+
+pub returns-in-Some-clause-causes : goal.returns-in-Some-clause-causes
+returns-in-Some-clause-causes g c =
+    let causes = subst (λ e. HasCausesOr e (g.S.Source.faults c.loop-taken.input) (g.S.Source.faults c.pump-step.new.input) (g.K.Sink.faults c.loop-taken.out) (g.K.Sink.faults c.pump-step.new.out))
+    c.in-Some.is c.pump-step.ensures.causes in
+    causes_from c.in-Some.end _ _ _ _ _ _ c.loop-taken.invariant.reads c.loop-taken.invariant.writes causes
 
 pub returns-clause-piped : goal.returns-clause-piped
 returns-clause-piped g c =

@@ -15,8 +15,8 @@ invariant-loop-taken g l = record {
   goes_on : ended_of l.session ≡ None;
   fed : fed (reader_of l.session) ≡ l.taken;
   within : l.taken ≤ l.budget;
-  reads : g.S.Source.faults l.initial.input ≤ g.S.Source.faults l.input;
-  writes : g.K.Sink.faults l.initial.out ≤ g.K.Sink.faults l.out;
+  reads : g.S.Source.faults l.input ≡ g.S.Source.faults l.initial.input;
+  writes : g.K.Sink.faults l.out ≡ g.K.Sink.faults l.initial.out;
 }
 
 abbrev pub decreases-loop-taken : goal.decreases-loop-taken

@@ -1,11 +1,12 @@
 use Rattle.std.proofs.Common.{◌∙◌, ap, subst, ℕ}
 use Rattle.ts_spec.specs.State.{empty}
 use Rattle.ts_words.specs.declared.status.Status.{Status}
+use Rattle.ts_engine.specs.declared.piped.End.TheVariants as end
 use Rattle.ts_engine.specs.Status.{status_of, place_of}
 use Rattle.ts_engine.specs.Top.{Reports}
 use Rattle.ts_engine.proofs.Spending.{by_budget}
 use Rattle.ts_engine.proofs.Taking.{piped_taken, piped_writes}
-use Rattle.ts_engine.proofs.Tops.{by_grammar, answered_as, as_meant}
+use Rattle.ts_engine.proofs.Tops.{by_grammar, answered_as, as_meant, not_meant}
 use Rattle.ts_engine.proofs.running.top.Goals as goal
 
 pub returns-in-Some-Pipe-clause-status_line : goal.returns-in-Some-Pipe-clause-status_line
@@ -39,3 +40,15 @@ returns-in-Some-Pipe-clause-spent g c = λ is_pipe bytes told enough none.
     let meant = answered_as c.status.result c.report.result _ _ c.report.ensures.cause c.report.ensures.same none.2 ∙ c.status.ensures in
     as_meant _ c.report.result _ meant
     (by_budget _ c.args.budget c.pipe-outcome.result carried.to bytes _ _ told carried.done _ _ _ _ c.pipe-outcome.ensures.causes enough none.0 none.1)
+
+pub returns-in-Some-Pipe-clause-no_read_fault : goal.returns-in-Some-Pipe-clause-no_read_fault
+returns-in-Some-Pipe-clause-no_read_fault g c = λ no_read no_write.
+    let other = not_meant status_of c.pipe-outcome.result.end end.ReadFault c.status.result c.report.result
+    c.status.ensures c.report.ensures.same no_write no_read in
+    c.pipe-outcome.ensures.causes.unread other
+
+pub returns-in-Some-Pipe-clause-no_write_fault : goal.returns-in-Some-Pipe-clause-no_write_fault
+returns-in-Some-Pipe-clause-no_write_fault g c = λ no_write.
+    let other = not_meant status_of c.pipe-outcome.result.end end.WriteFault c.status.result c.report.result
+    c.status.ensures c.report.ensures.same no_write no_write in
+    (c.pipe-outcome.ensures.causes.unwritten other, c.report.ensures.no_fault no_write)

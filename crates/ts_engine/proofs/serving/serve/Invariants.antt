@@ -13,7 +13,7 @@ invariant-loop-link g l = record {
       (g.N.Listener.coming l.initial.net) (g.N.Listener.coming l.net) (g.N.Listener.closed l.initial.net) (g.N.Listener.closed l.net)
       (g.K.Sink.has l.initial.out) (g.K.Sink.has l.out));
   net : g.N.Listener.is_out l.net ≡ false;
-  accepts : g.N.Listener.faults l.initial.net ≤ g.N.Listener.faults l.net;
-  writes : g.K.Sink.faults l.initial.out ≤ g.K.Sink.faults l.out;
+  accepts : g.N.Listener.faults l.net ≡ g.N.Listener.faults l.initial.net;
+  writes : g.K.Sink.faults l.out ≡ g.K.Sink.faults l.initial.out;
   within : l.link ≤ l.links;
 }

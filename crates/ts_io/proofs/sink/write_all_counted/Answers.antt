@@ -1,16 +1,16 @@
-use Rattle.std.proofs.Common.{ℕ, ◌+◌, ◌≤◌, length, arith, length-drop, length-take}
+use Rattle.std.proofs.Common.{ℕ, ◌+◌, ◌≤◌, length, refl, ◌∙◌, arith, length-drop, length-take}
 use Rattle.ts_io.proofs.Growth.{grows_none, grows_on, grows_all}
 use Rattle.ts_io.proofs.sink.write_all_counted.Goals as goal
 
 pub loop-written-init : goal.loop-written-init
-loop-written-init g c = record { within = omega arith; later = omega arith; grown = grows_none _ }
+loop-written-init g c = record { within = omega arith; fine = refl; grown = grows_none _ }
 
 pub loop-written-preserved : goal.loop-written-preserved
 loop-written-preserved g c =
     let within : c.loop-written.written + c.in_ok-written.field-0 ≤ length c.args.bytes.now = omega (arith, c.in_ok-written.ensures.bound, length-take {A = ℕ}, length-drop {A = ℕ}) in
     record {
       within = within;
-      later = omega (arith, c.in_ok-written.ensures.cause.later, c.loop-written.invariant.later);
+      fine = c.in_ok-written.ensures.cause.fine ∙ c.loop-written.invariant.fine;
       grown = grows_on _ _ _ _ _ _ c.loop-written.invariant.grown within c.in_ok-written.ensures.bytes;
     }
 

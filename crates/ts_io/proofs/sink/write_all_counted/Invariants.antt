@@ -1,11 +1,11 @@
-use Rattle.std.proofs.Common.{length, ◌-◌, ◌≤◌, take}
+use Rattle.std.proofs.Common.{◌≡◌, length, ◌-◌, ◌≤◌, take}
 use Rattle.ts_io.specs.Sinks.{Grows}
 use Rattle.ts_io.proofs.sink.write_all_counted.Given as goal
 
 abbrev pub invariant-loop-written : goal.invariant-loop-written
 invariant-loop-written g l = record {
   within : l.written ≤ length l.bytes;
-  later : g.K.Sink.faults l.initial.sink ≤ g.K.Sink.faults l.sink;
+  fine : g.K.Sink.faults l.sink ≡ g.K.Sink.faults l.initial.sink;
   grown : Grows (g.K.Sink.has l.initial.sink) (g.K.Sink.has l.sink) (take l.written l.bytes);
 }
 

@@ -1,4 +1,4 @@
-use Rattle.std.proofs.Common.{◌≡◌, ◌-◌, ◌≤◌, []}
+use Rattle.std.proofs.Common.{◌≡◌, ◌-◌, []}
 use Rattle.ts_resp.specs.Reading.{fed}
 use Rattle.ts_db.specs.Held.{Carries}
 use Rattle.ts_engine.specs.Session.{Went}
@@ -11,7 +11,7 @@ invariant-loop-go g l = record {
   went : Carries l.initial.db l.db (λ from to. Went (spot l.initial.self from (g.C.Clock.readings l.initial.clock)) (spot l.self to (g.C.Clock.readings l.clock))
       (g.K.Sink.has l.initial.out) (g.K.Sink.has l.out) [] []);
   fed : fed (reader_of l.self) ≡ fed (reader_of l.initial.self);
-  later : g.K.Sink.faults l.initial.out ≤ g.K.Sink.faults l.out;
+  fine : g.K.Sink.faults l.out ≡ g.K.Sink.faults l.initial.out;
 }
 
 abbrev pub decreases-loop-go : goal.decreases-loop-go
