@@ -23,9 +23,8 @@ use Rattle.ts_db.specs.declared.store.Store.{Store}
 use Rattle.ts_db.specs.declared.work.Work.TheVariants.{Delete}
 use Rattle.ts_db.specs.Faults.{refusal_of}
 use Rattle.ts_db.specs.Feeding.{Rows, Gone, keep_fed}
-use Rattle.ts_db.specs.Held.{Stock}
 use Rattle.ts_db.specs.Planning.{changed_by, gone_by, rows_by_work, AreChanged, first_full, IsUnplanned}
-use Rattle.ts_db.specs.Store.{kept_of, rules_by, key_in, kept_by, kept_at, stock_of, IsInOrder, IsDb, Holds}
+use Rattle.ts_db.specs.Store.{kept_of, rules_by, key_in, kept_by, kept_at, stock_of, contents_of, Contents, IsInOrder, IsDb, Holds}
 use Rattle.ts_db.specs.Answering.{node_after, IsKeptAnswer}
 use Rattle.ts_db.proofs.Applying.{there}
 use Rattle.ts_db.proofs.Fed.{deleted-fed}
@@ -123,9 +122,9 @@ module _ (s : Store) (db : IsDb s) (key : Key) (id : Id) (n : Node) (holds : Hol
       ∙ destinations-tested s db.store key id n holds (links s db key id n holds) rows gone (kept_without from to (kept_at s.nodes n)) (record { keys = after_keys; response = Count many })
 
   -- a deletion that was planned
-  pub deleted-answers : (plan : Plan) (rules : Vec Rule Global) (removed : ℕ) (new : Stock) → plan ≡ with_change plan (cuts from to (length (between from to (list_of n.series)))) → removed ≡ plan.removed
+  pub deleted-answers : (plan : Plan) (rules : Vec Rule Global) (removed : ℕ) (new : Contents) → plan ≡ with_change plan (cuts from to (length (between from to (list_of n.series)))) → removed ≡ plan.removed
       → AreChanged (changed_by (Delete from to) n.series) n.rules.items rules.items → full_without ≡ None
-      → new ≡ record (stock_of s) { keys = keep_fed rows gone (rules_by (key_in s.nodes) n.rules.items) (with_key key (kept_at s.nodes (node_after plan None (Some rules) n)) (stock_of s).keys) }
+      → new ≡ record (contents_of s) { keys = keep_fed rows gone (rules_by (key_in s.nodes) n.rules.items) (with_key key (kept_at s.nodes (node_after plan None (Some rules) n)) (stock_of s).keys) }
       → kept_within_destinations s.limits (stock_of s).keys key (record { keys = keep_deleted key from to (stock_of s).keys; response = Count (length (between from to (list_of n.series))) })
       ≡ record { keys = new.keys; response = Count removed }
   deleted-answers plan rules removed new is count changed room applied =
@@ -134,7 +133,7 @@ module _ (s : Store) (db : IsDb s) (key : Key) (id : Id) (n : Node) (holds : Hol
       delete-from many
       ∙ ap (λ (o : Option Id). kept_unless_full (stock_of s).keys (option_map (key_in s.nodes) o) (record { keys = after_keys; response = Count many })) room
       ∙ ap (λ (m : Keeping). record { keys = m; response = Count many })
-      (sym (ap (λ (x : Stock). x.keys) applied
+      (sym (ap (λ (x : Contents). x.keys) applied
       ∙ ap (λ (d : Kept). keep_fed rows gone (rules_by (key_in s.nodes) n.rules.items) (with_key key d (stock_of s).keys)) (cuts-after (key_in s.nodes) n plan rules from to many k is changed)))
       ∙ ap (λ (j : ℕ). record { keys = new.keys; response = Count j }) (sym (count ∙ ap (λ (p : Plan). p.removed) is))
 

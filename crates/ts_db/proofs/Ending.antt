@@ -10,9 +10,8 @@ use Rattle.ts_rules.specs.declared.rule.Rule.{Rule}
 use Rattle.ts_db.specs.declared.node.Node.{Node}
 use Rattle.ts_db.specs.declared.store.Store.{Store}
 use Rattle.ts_db.specs.Answering.{IsElsewhere}
-use Rattle.ts_db.specs.Held.{Stock}
 use Rattle.ts_db.specs.Linking.{kept_ruleless, keep_freed, keep_unled, IsKeptBy, IsAlone, KeepsNames}
-use Rattle.ts_db.specs.Store.{rules_by, key_in, kept_at, number_of, stock_of, IsDb, Holds}
+use Rattle.ts_db.specs.Store.{rules_by, key_in, kept_at, number_of, stock_of, contents_of, Contents, IsDb, Holds}
 use Rattle.ts_db.proofs.Alone.{ended-alone}
 use Rattle.ts_db.proofs.Applying.{there}
 use Rattle.ts_db.proofs.Collecting.{get-ids}
@@ -25,10 +24,10 @@ same-source-by new old same (Some i) = ap (λ (k : Key). Some k) (same i)
 
 module _ (s : Store) (db : IsDb s) (key : Key) (id : Id) (n : Node) (holds : Holds s key id n) (one two new : Store) (source : Option Id) (rules : List Rule) (own_source : source ≡ n.source) (own_rules : rules ≡ n.rules.items)
     (elsewhere : IsElsewhere s one id) (taken : IsKeptBy s id kept_ruleless one) (names : KeepsNames one two)
-    (ended : stock_of two ≡ record (stock_of one) { keys = keep_unled (option_map (key_in one.nodes) source) (key_in one.nodes id) (stock_of one).keys })
-    (freed : stock_of new ≡ record (stock_of two) { keys = keep_freed (rules_by (key_in two.nodes) rules) (stock_of two).keys }) where
-  whole : stock_of new
-      ≡ record (stock_of s) { keys = keep_freed (rules_by (key_in s.nodes) n.rules.items) (keep_unled (option_map (key_in s.nodes) n.source) key (keep_changed key kept_ruleless (stock_of s).keys)) }
+    (ended : contents_of two ≡ record (contents_of one) { keys = keep_unled (option_map (key_in one.nodes) source) (key_in one.nodes id) (stock_of one).keys })
+    (freed : contents_of new ≡ record (contents_of two) { keys = keep_freed (rules_by (key_in two.nodes) rules) (stock_of two).keys }) where
+  whole : contents_of new
+      ≡ record (contents_of s) { keys = keep_freed (rules_by (key_in s.nodes) n.rules.items) (keep_unled (option_map (key_in s.nodes) n.source) key (keep_changed key kept_ruleless (stock_of s).keys)) }
   whole =
       let by_key : rules_by (key_in two.nodes) rules ≡ rules_by (key_in s.nodes) n.rules.items =
       same-rules-by (key_in two.nodes) (key_in s.nodes) (λ i. names.names i ∙ elsewhere.names i) rules ∙ ap (λ (rs : List Rule). rules_by (key_in s.nodes) rs) own_rules in
@@ -36,18 +35,18 @@ module _ (s : Store) (db : IsDb s) (key : Key) (id : Id) (n : Node) (holds : Hol
       let own : key_in s.nodes id ≡ key = named s db.store key id n holds in
       let here : key_in one.nodes id ≡ key = elsewhere.names id ∙ own in
       freed
-      ∙ ap (λ (qs : List KeptRule). record (stock_of two) { keys = keep_freed qs (stock_of two).keys }) by_key
-      ∙ ap (λ (x : Stock). record x { keys = keep_freed (rules_by (key_in s.nodes) n.rules.items) x.keys })
+      ∙ ap (λ (qs : List KeptRule). record (contents_of two) { keys = keep_freed qs (stock_of two).keys }) by_key
+      ∙ ap (λ (x : Contents). record x { keys = keep_freed (rules_by (key_in s.nodes) n.rules.items) x.keys })
       (ended
-      ∙ ap (λ (x : Stock). record x { keys = keep_unled (option_map (key_in one.nodes) source) (key_in one.nodes id) x.keys }) taken
-      ∙ (λ i. record (stock_of s) { keys = keep_unled (from i) (here i) (keep_changed (own i) kept_ruleless (stock_of s).keys) }))
+      ∙ ap (λ (x : Contents). record x { keys = keep_unled (option_map (key_in one.nodes) source) (key_in one.nodes id) x.keys }) taken
+      ∙ (λ i. record (contents_of s) { keys = keep_unled (from i) (here i) (keep_changed (own i) kept_ruleless (stock_of s).keys) }))
 
   pub all-alone : IsAlone s new key
   all-alone = record {
-    keys = ap (λ (x : Stock). without_key key x.keys) whole
+    keys = ap (λ (x : Contents). without_key key x.keys) whole
         ∙ ended-alone s.limits (stock_of s).keys db.stands.to.state db.stands.stands.state key (kept_at s.nodes n) (there s db.store key id n holds);
-    limits = ap (λ (x : Stock). x.limits) whole;
-    ids = ap (λ (x : Stock). x.ids) whole;
+    limits = ap (λ (x : Contents). x.limits) whole;
+    ids = ap (λ (x : Contents). x.ids) whole;
   }
 
 -- the key keeps its number

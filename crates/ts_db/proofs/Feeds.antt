@@ -16,8 +16,7 @@ use Rattle.ts_rules.specs.Rules.{kept_as}
 use Rattle.ts_rules.specs.Plans.{IsMendedBy, after_plan}
 use Rattle.ts_db.specs.declared.node.Node.{Node}
 use Rattle.ts_db.specs.declared.store.Store.{Store}
-use Rattle.ts_db.specs.Held.{Stock}
-use Rattle.ts_db.specs.Store.{Nodes, rules_by, key_at, key_in, kept_at, stock_of, IsInOrder, Holds}
+use Rattle.ts_db.specs.Store.{rules_by, key_at, key_in, kept_at, stock_of, contents_of, Contents, Nodes, IsInOrder, Holds}
 use Rattle.ts_db.specs.Answering.{node_after, IsReady, IsApplied, IsElsewhere}
 use Rattle.ts_db.specs.Feeding.{Rows, Gone, keep_fed}
 use Rattle.ts_db.specs.Planning.{kept_rule_in, IsFedBy, AreFedBy, NoneTo, AreDistinct, IsFed}
@@ -29,8 +28,8 @@ pub record Feeding (init now : Store) (rows : Rows) (gone : Gone) (rs : List Rul
   pub rest : List Rule
   pub plans : AreFedBy now.limits.samples now.nodes rows gone rest xs
   pub distinct : AreDistinct rest
-  pub result : record (stock_of now) { keys = keep_fed rows gone (rules_by (key_in now.nodes) rest) (stock_of now).keys }
-      ≡ record (stock_of init) { keys = keep_fed rows gone (rules_by (key_in init.nodes) rs) (stock_of init).keys }
+  pub result : record (contents_of now) { keys = keep_fed rows gone (rules_by (key_in now.nodes) rest) (stock_of now).keys }
+      ≡ record (contents_of init) { keys = keep_fed rows gone (rules_by (key_in init.nodes) rs) (stock_of init).keys }
 
 -- a node with the series after a plan, if there is one
 abbrev pub fed_node : Option Plan → Node → Node
@@ -114,11 +113,11 @@ names-same now new id else = λ i j. else.names j i
 module _ (init now : Store) (store : IsInOrder now) (rows : Rows) (gone : Gone) (rs : List Rule) (x : RulePlan) (xs : List RulePlan) where
   -- after a plan that is done
   step-done : (new : Store) (plan : Plan) (rest : List Rule) → AreFedBy now.limits.samples now.nodes rows gone rest (x ∷ xs) → AreDistinct rest
-      → record (stock_of now) { keys = keep_fed rows gone (rules_by (key_in now.nodes) rest) (stock_of now).keys } ≡ record (stock_of init) { keys = keep_fed rows gone (rules_by (key_in init.nodes) rs) (stock_of init).keys }
+      → record (contents_of now) { keys = keep_fed rows gone (rules_by (key_in now.nodes) rest) (stock_of now).keys } ≡ record (contents_of init) { keys = keep_fed rows gone (rules_by (key_in init.nodes) rs) (stock_of init).keys }
       → x.dest ≡ Some plan → IsElsewhere now new x.rule.dest → IsApplied now x.rule.dest plan None None new → Feeding init new rows gone rs xs
   step-done new plan [] fed distinct result e else applied = absurd fed
   step-done new plan (r ∷ rest) fed distinct result e else applied =
-      let done : stock_of new ≡ record (stock_of now) { keys = with_key fed.0.node.key (kept_at now.nodes (node_after plan None None fed.0.node)) (stock_of now).keys } =
+      let done : contents_of new ≡ record (contents_of now) { keys = with_key fed.0.node.key (kept_at now.nodes (node_after plan None None fed.0.node)) (stock_of now).keys } =
       applied fed.0.node.key fed.0.node (holds now store rows gone r x fed.0) in
       let here : keep_changed (kept_rule_in now.nodes r).dest (λ d. mended_kept (gone (kept_rule_in now.nodes r)) (rows d.born (kept_rule_in now.nodes r)) d) (stock_of now).keys
       ≡ with_key fed.0.node.key (kept_at now.nodes (node_after plan None None fed.0.node)) (stock_of now).keys =
@@ -128,9 +127,9 @@ module _ (init now : Store) (store : IsInOrder now) (rows : Rows) (gone : Gone) 
         plans = fed-elsewhere now new x.rule.dest rows gone rest xs else (subst (λ (i : Id). NoneTo i.0 rest) (sym fed.0.dest) distinct.0) fed.1;
         distinct = distinct.1;
         result =
-            ap (λ (f : Id → Key). record (stock_of new) { keys = keep_fed rows gone (rules_by f rest) (stock_of new).keys }) (names-same now new x.rule.dest else)
-            ∙ ap (λ (s : Stock). record s { keys = keep_fed rows gone (rules_by (key_in now.nodes) rest) s.keys }) done
-            ∙ ap (λ (m : Keeping). record (stock_of now) { keys = keep_fed rows gone (rules_by (key_in now.nodes) rest) m }) (sym here)
+            ap (λ (f : Id → Key). record (contents_of new) { keys = keep_fed rows gone (rules_by f rest) (stock_of new).keys }) (names-same now new x.rule.dest else)
+            ∙ ap (λ (s : Contents). record s { keys = keep_fed rows gone (rules_by (key_in now.nodes) rest) s.keys }) done
+            ∙ ap (λ (m : Keeping). record (contents_of now) { keys = keep_fed rows gone (rules_by (key_in now.nodes) rest) m }) (sym here)
             ∙ result;
       }
 
@@ -139,7 +138,7 @@ module _ (init now : Store) (store : IsInOrder now) (rows : Rows) (gone : Gone) 
 
   -- after one that is none
   step-none : (rest : List Rule) → AreFedBy now.limits.samples now.nodes rows gone rest (x ∷ xs) → AreDistinct rest
-      → record (stock_of now) { keys = keep_fed rows gone (rules_by (key_in now.nodes) rest) (stock_of now).keys } ≡ record (stock_of init) { keys = keep_fed rows gone (rules_by (key_in init.nodes) rs) (stock_of init).keys }
+      → record (contents_of now) { keys = keep_fed rows gone (rules_by (key_in now.nodes) rest) (stock_of now).keys } ≡ record (contents_of init) { keys = keep_fed rows gone (rules_by (key_in init.nodes) rs) (stock_of init).keys }
       → x.dest ≡ None → Feeding init now rows gone rs xs
   step-none [] fed distinct result e = absurd fed
   step-none (r ∷ rest) fed distinct result e = record {
@@ -147,7 +146,7 @@ module _ (init now : Store) (store : IsInOrder now) (rows : Rows) (gone : Gone) 
     plans = fed.1;
     distinct = distinct.1;
     result =
-        ap (λ (m : Keeping). record (stock_of now) { keys = keep_fed rows gone (rules_by (key_in now.nodes) rest) m }) (sym (mends-nothing now store rows gone r x fed.0 e))
+        ap (λ (m : Keeping). record (contents_of now) { keys = keep_fed rows gone (rules_by (key_in now.nodes) rest) m }) (sym (mends-nothing now store rows gone r x fed.0 e))
         ∙ result;
   }
 
@@ -167,7 +166,7 @@ pub fed-all : (init now : Store) (rows : Rows) (gone : Gone) (rs : List Rule) �
 fed-all init now rows gone rs f = go f.rest f.plans f.result
   where
     go : (rest : List Rule) → AreFedBy now.limits.samples now.nodes rows gone rest []
-        → record (stock_of now) { keys = keep_fed rows gone (rules_by (key_in now.nodes) rest) (stock_of now).keys } ≡ record (stock_of init) { keys = keep_fed rows gone (rules_by (key_in init.nodes) rs) (stock_of init).keys }
+        → record (contents_of now) { keys = keep_fed rows gone (rules_by (key_in now.nodes) rest) (stock_of now).keys } ≡ record (contents_of init) { keys = keep_fed rows gone (rules_by (key_in init.nodes) rs) (stock_of init).keys }
         → IsFed init rows gone rs now
     go [] fed result = result
     go (r ∷ rest) fed result = absurd fed

@@ -8,9 +8,8 @@ use Rattle.ts_rules.specs.declared.rule.Rule.{Rule}
 use Rattle.ts_rules.specs.Rules.{kept_as}
 use Rattle.ts_db.specs.declared.store.Store.{Store}
 use Rattle.ts_db.specs.Answering.{IsElsewhere}
-use Rattle.ts_db.specs.Held.{Stock}
 use Rattle.ts_db.specs.Linking.{kept_sourced, keep_freed, IsKeptBy}
-use Rattle.ts_db.specs.Store.{Numbers, rules_by, key_in, number_of, stock_of, IsLive, AreLive, IsLiveSource, IsInOrder}
+use Rattle.ts_db.specs.Store.{rules_by, key_in, number_of, stock_of, contents_of, Contents, Numbers, IsLive, AreLive, IsLiveSource, IsInOrder}
 
 -- a number stays live where all keys stay
 pub live-after : (old new : Store) → IsInOrder old → IsInOrder new → new.keys.entries ≡ old.keys.entries → (id : Id) → IsLive old.nodes id → IsLive new.nodes id
@@ -36,8 +35,8 @@ same-rules-by new old same (r ∷ rs) =
 -- what is left to do, and that it comes to the same
 pub record Freeing (init now : Store) (all rest : List Rule) : Type 0 where
   pub live : AreLive now.nodes rest
-  pub result : record (stock_of now) { keys = keep_freed (rules_by (key_in now.nodes) rest) (stock_of now).keys }
-      ≡ record (stock_of init) { keys = keep_freed (rules_by (key_in init.nodes) all) (stock_of init).keys }
+  pub result : record (contents_of now) { keys = keep_freed (rules_by (key_in now.nodes) rest) (stock_of now).keys }
+      ≡ record (contents_of init) { keys = keep_freed (rules_by (key_in init.nodes) all) (stock_of init).keys }
 
 -- after one more
 pub freed-one : (init now new : Store) (all : List Rule) (r : Rule) (rest : List Rule) → Freeing init now all (r ∷ rest) → IsInOrder now → IsInOrder new → IsElsewhere now new r.dest
@@ -45,7 +44,7 @@ pub freed-one : (init now new : Store) (all : List Rule) (r : Rule) (rest : List
 freed-one init now new all r rest f before after elsewhere set = record {
   live = all-live-after now new before after elsewhere.entries rest f.live.1;
   result =
-      ap (λ (qs : List KeptRule). record (stock_of new) { keys = keep_freed qs (stock_of new).keys }) (same-rules-by (key_in new.nodes) (key_in now.nodes) elsewhere.names rest)
-      ∙ ap (λ (x : Stock). record x { keys = keep_freed (rules_by (key_in now.nodes) rest) x.keys }) set
+      ap (λ (qs : List KeptRule). record (contents_of new) { keys = keep_freed qs (stock_of new).keys }) (same-rules-by (key_in new.nodes) (key_in now.nodes) elsewhere.names rest)
+      ∙ ap (λ (x : Contents). record x { keys = keep_freed (rules_by (key_in now.nodes) rest) x.keys }) set
       ∙ f.result;
 }

@@ -5,6 +5,7 @@ pub mod OneKey
 pub mod Refusing
 pub mod Lifting
 pub mod Laws
+pub mod PutBy
 pub mod Applying
 pub mod KeptLinks
 pub mod Fed
@@ -34,6 +35,10 @@ pub mod Deleting
 pub mod Asking
 pub mod Opened
 pub mod Infos
+pub mod Reaches
 pub mod Rows
+pub mod RowWalks
+pub mod StepBounds
+pub mod EasyWrites
 pub mod Selecting
 pub mod Totals

@@ -19,10 +19,11 @@ use Rattle.ts_rules.specs.declared.rule.Rule.{Rule}
 use Rattle.ts_rules.specs.Rules.{kept_as}
 use Rattle.ts_db.specs.declared.node.Node.{Node}
 use Rattle.ts_db.specs.declared.store.Store.{Store}
-use Rattle.ts_db.specs.Store.{Nodes, rules_by, key_at, key_in, kept_at, number_of, stock_of, IsLive, AreLive, IsLiveSource, HasLiveLinks, HaveGrids, IsNode, IsStore, IsInOrder, Holds}
+use Rattle.ts_db.specs.Store.{rules_by, key_at, key_in, kept_at, collected, reaches_of, number_of, stock_of, contents_of, Nodes, IsLive, AreLive, IsLiveSource, HasLiveLinks, HaveGrids, IsNode, IsStore, IsInOrder, Holds}
 use Rattle.ts_db.specs.Linking.{IsKeptBy, IsUnspent, HasMore, HasRules}
 use Rattle.ts_db.proofs.Applying.{there, store-changed, keys-changed}
 use Rattle.ts_db.proofs.OneKey.{changed-alone, unchanged}
+use Rattle.ts_db.proofs.Reaches.{reaches-turned}
 
 -- ---- a node that changes its links alone, under its number
 
@@ -37,19 +38,21 @@ module _ (s : Store) (store : IsInOrder s) (id : Id) (n changed : Node) (got : s
   -- and of its key that is kept which f makes
   pub kept-turned : (f : Kept → Kept) → HasLiveLinks s.nodes changed → kept_at s.nodes changed ≡ f (kept_at s.nodes n) → IsKeptBy s id f (record s { nodes = slab.with_value s.nodes id.0 changed })
   kept-turned f links is =
-      ap (λ (m : Keeping). record (stock_of s) { keys = m })
+      ap (λ (m : Keeping). record (contents_of s) { keys = m })
       (keys-changed s store n.key id n changed holds name links
       ∙ ap (λ (d : Kept). with_key n.key d (stock_of s).keys) is
       ∙ sym (changed-alone (stock_of s).keys n.key (kept_at s.nodes n) f (there s store n.key id n holds))
       ∙ ap (λ (k : Key). keep_changed k f (stock_of s).keys) (sym (ap key_at got)))
 
   -- or nothing else, where that is what was kept
-  pub same-turned : HasLiveLinks s.nodes changed → kept_at s.nodes changed ≡ kept_at s.nodes n → stock_of (record s { nodes = slab.with_value s.nodes id.0 changed }) ≡ stock_of s
-  same-turned links is =
-      ap (λ (m : Keeping). record (stock_of s) { keys = m })
-      (keys-changed s store n.key id n changed holds name links
+  pub same-turned : HasLiveLinks s.nodes changed → changed.series ≡ n.series → kept_at s.nodes changed ≡ kept_at s.nodes n → stock_of (record s { nodes = slab.with_value s.nodes id.0 changed }) ≡ stock_of s
+  same-turned links series is =
+      let far : reaches_of (slab.with_value s.nodes id.0 changed) s.keys.entries ≡ reaches_of s.nodes s.keys.entries = reaches-turned s.nodes s.keys.entries id.0 n changed got series in
+      let kept : collected (slab.with_value s.nodes id.0 changed) s.keys.entries ≡ collected s.nodes s.keys.entries =
+      keys-changed s store n.key id n changed holds name links
       ∙ ap (λ (d : Kept). with_key n.key d (stock_of s).keys) is
-      ∙ unchanged (stock_of s).keys n.key (kept_at s.nodes n) (there s store n.key id n holds))
+      ∙ unchanged (stock_of s).keys n.key (kept_at s.nodes n) (there s store n.key id n holds) in
+      λ i. record (stock_of s) { keys = kept i; reaches = far i }
 
 -- ---- a node with other rules
 
@@ -191,4 +194,4 @@ module _ (s : Store) (store : IsInOrder s) (id : Id) (n changed : Node) (got : s
     where
       go : (r : Result (Unit {0}) AllocError) → IfErr r (λ x. HasRules n.rules.items n changed) → IfErr r (λ x. stock_of (record s { nodes = slab.with_value s.nodes id.0 changed }) ≡ stock_of s)
       go (Ok x) same = tt
-      go (Err e) same = same-turned s store id n changed got (ap (λ (x : Node). x.key) same.rest) (had-links same) (kept-rules s.nodes n.rules.items n changed same)
+      go (Err e) same = same-turned s store id n changed got (ap (λ (x : Node). x.key) same.rest) (had-links same) (ap (λ (x : Node). x.series) same.rest) (kept-rules s.nodes n.rules.items n changed same)

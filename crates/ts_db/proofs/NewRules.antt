@@ -20,9 +20,8 @@ use Rattle.ts_db.specs.declared.node.Node.{Node}
 use Rattle.ts_db.specs.declared.store.Store.{Store}
 use Rattle.ts_db.specs.Answering.{IsKeptAnswer, IsElsewhere}
 use Rattle.ts_db.specs.Faults.{refusal_of}
-use Rattle.ts_db.specs.Held.{Stock}
 use Rattle.ts_db.specs.Linking.{kept_sourced, any_rule, barred_by, IsKeptBy, IsReason}
-use Rattle.ts_db.specs.Store.{rules_by, key_in, kept_by, kept_at, stock_of, IsInOrder, Holds}
+use Rattle.ts_db.specs.Store.{rules_by, key_in, kept_by, kept_at, stock_of, contents_of, Contents, IsInOrder, Holds}
 use Rattle.ts_db.proofs.Applying.{there}
 use Rattle.ts_db.proofs.Collecting.{same-at}
 use Rattle.ts_db.proofs.Known.{named}
@@ -111,12 +110,12 @@ module _ (s : Store) (store : IsInOrder s) (source dest : Key) (from to : Id) (n
 
   -- both changes come to what is kept then
   pub both-ruled : (mid new : Store) → IsElsewhere s mid from → IsKeptBy s from (kept_with_rule (key_in s.nodes to) agg grid) mid → IsKeptBy mid to (kept_sourced (Some (key_in mid.nodes from))) new
-      → stock_of new ≡ record (stock_of s) { keys = keep_ruled source dest agg grid (stock_of s).keys }
+      → contents_of new ≡ record (contents_of s) { keys = keep_ruled source dest agg grid (stock_of s).keys }
   both-ruled mid new elsewhere added set =
       set
-      ∙ ap (λ (x : Stock). record x { keys = keep_changed (key_in mid.nodes to) (kept_sourced (Some (key_in mid.nodes from))) x.keys }) added
+      ∙ ap (λ (x : Contents). record x { keys = keep_changed (key_in mid.nodes to) (kept_sourced (Some (key_in mid.nodes from))) x.keys }) added
       ∙ (let here : key_in mid.nodes to ≡ dest = elsewhere.names to ∙ named s store dest to d other in
       let origin : key_in mid.nodes from ≡ source = elsewhere.names from ∙ named s store source from n holds in
       let own : key_in s.nodes from ≡ source = named s store source from n holds in
       let goal : key_in s.nodes to ≡ dest = named s store dest to d other in
-      λ i. record (stock_of s) { keys = keep_changed (here i) (kept_sourced (Some (origin i))) (keep_changed (own i) (kept_with_rule (goal i) agg grid) (stock_of s).keys) })
+      λ i. record (contents_of s) { keys = keep_changed (here i) (kept_sourced (Some (origin i))) (keep_changed (own i) (kept_with_rule (goal i) agg grid) (stock_of s).keys) })

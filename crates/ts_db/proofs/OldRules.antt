@@ -16,9 +16,8 @@ use Rattle.ts_rules.specs.Rules.{kept_as}
 use Rattle.ts_db.specs.declared.node.Node.{Node}
 use Rattle.ts_db.specs.declared.store.Store.{Store}
 use Rattle.ts_db.specs.Answering.{IsElsewhere}
-use Rattle.ts_db.specs.Held.{Stock}
 use Rattle.ts_db.specs.Linking.{kept_unruled, kept_sourced, any_to, IsKeptBy}
-use Rattle.ts_db.specs.Store.{rules_by, key_at, key_in, kept_at, number_of, stock_of, IsLive, AreLive, IsInOrder, IsDb, Holds}
+use Rattle.ts_db.specs.Store.{rules_by, key_at, key_in, kept_at, number_of, stock_of, contents_of, Contents, IsLive, AreLive, IsInOrder, IsDb, Holds}
 use Rattle.ts_db.proofs.Applying.{there}
 use Rattle.ts_db.proofs.Ended.{without-rule}
 use Rattle.ts_db.proofs.Known.{links, named}
@@ -80,13 +79,13 @@ module _ (s : Store) (db : IsDb s) (source dest : Key) (from : Id) (n : Node) (h
 
     -- both changes come to what is kept then
     pub both-ended : (mid new : Store) (b : Bool) → b ≡ any_to to.0 n.rules.items → b ≡ true → IsElsewhere s mid from → IsKeptBy s from (kept_unruled (key_in s.nodes to)) mid → IsKeptBy mid to (kept_sourced None) new
-        → stock_of new ≡ record (stock_of s) { keys = keep_without_rule source dest (stock_of s).keys }
+        → contents_of new ≡ record (contents_of s) { keys = keep_without_rule source dest (stock_of s).keys }
     both-ended mid new b e is elsewhere removed set =
         set
-        ∙ ap (λ (x : Stock). record x { keys = keep_changed (key_in mid.nodes to) (kept_sourced None) x.keys }) removed
+        ∙ ap (λ (x : Contents). record x { keys = keep_changed (key_in mid.nodes to) (kept_sourced None) x.keys }) removed
         ∙ (let here : key_in mid.nodes to ≡ dest = elsewhere.names to ∙ named s db.store dest to d other in
         let own : key_in s.nodes from ≡ source = named s db.store source from n holds in
         let goal : key_in s.nodes to ≡ dest = named s db.store dest to d other in
-        λ i. record (stock_of s) { keys = keep_changed (here i) (kept_sourced None) (keep_changed (own i) (kept_unruled (goal i)) (stock_of s).keys) })
+        λ i. record (contents_of s) { keys = keep_changed (here i) (kept_sourced None) (keep_changed (own i) (kept_unruled (goal i)) (stock_of s).keys) })
         ∙ (let same_keys = without-rule (stock_of s).keys source dest (kept_at s.nodes n) (there s db.store source from n holds) (links s db source from n holds) (tested b e ∙ is) in
-        λ i. record (stock_of s) { keys = same_keys i })
+        λ i. record (contents_of s) { keys = same_keys i })

@@ -1,19 +1,13 @@
 -- A row among the samples of a list.
-use Rattle.std.proofs.Common.{◌≡◌, ℕ, suc, ◌+◌, ◌<◌, ◌≤◌, Bool, true, false, cond, ◌&&◌, List, [], ◌∷◌, ◌++◌, length, refl, sym, ◌∙◌, ap, arith, ltb-true, lt-ltb, le-ltb}
-use Rattle.std.specs.Prelude.{◌-◌, nat_lt, nat_le, if◌then◌else◌, Option, None, Some}
+use Rattle.std.proofs.Common.{◌≡◌, ℕ, ◌<◌, ◌≤◌, Bool, true, false, cond, List, [], ◌∷◌, ◌++◌, refl, sym, ◌∙◌, ap, arith, ltb-true, lt-ltb, le-ltb}
+use Rattle.std.specs.Prelude.{nat_lt, if◌then◌else◌, Option, None, Some}
 use Rattle.std.specs.Option.{option_or}
 use Rattle.std.proofs.lemmas.Bool.Decides.{nat_tests}
-use Rattle.std.proofs.lemmas.List.Sums.{fold-append}
 use Rattle.ts_spec.specs.Sample.{Point, IsAfter, IsAscending, at, at_times, is_within, between, put, put_all, first_of, last_of, later_or}
 use Rattle.ts_rules.specs.Rules.{one_of}
 use Rattle.ts_db.specs.Held.{ends_of}
 use Rattle.ts_spec.proofs.Samples.{at-times, at-put_all, ascending-times, ascending-put_all, ascending-same}
-use Rattle.ts_sample.proofs.Between.{filter-filter}
-use Rattle.ts_sample.proofs.Parted.{filter_alike}
 use Rattle.ts_spec.proofs.Tidy.{some-same}
-use Rattle.ts_sample.specs.Visit.{visited}
-use Rattle.ts_sample.proofs.Visiting.{room_left}
-use Rattle.ts_series.proofs.Counting.{times-length}
 use Rattle.ts_series.proofs.Placing.{none-before, all-after}
 
 -- the samples at some times are put among those at these times
@@ -142,53 +136,6 @@ last-row p q (r ∷ ps) h is less =
     let same : later_or r (last_of ps) ≡ q = cc is in
     sym (last-put p r ps h ∙ ap (λ (x : Point). if nat_lt p.time x.time then Some x else Some p) same ∙ ap (λ b. if b then Some q else Some p) (le-ltb p.time q.time less))
 
--- ---- the samples around a time of an interval
-
-within_past : (from to t u : ℕ) → from ≤ t → (is_within from to u && nat_lt t u) ≡ is_within (t + 1) to u
-within_past from to t u past = grind (arith, nat_tests)
-
-from_before : (from to t u : ℕ) → t ≤ to → (is_within from to u && nat_lt u t) ≡ (nat_le from u && nat_lt u t)
-from_before from to t u upto = grind (arith, nat_tests)
-
-until_before : (from t u : ℕ) → 0 < t → (nat_le from u && nat_lt u t) ≡ is_within from (t - 1) u
-until_before from t u some = grind (arith, nat_tests)
-
--- those past it
-pub past-row : (from to t : ℕ) (ps : List Point) → from ≤ t → at_times (nat_lt t) (between from to ps) ≡ between (t + 1) to ps
-past-row from to t ps past =
-    filter-filter (λ (p : Point). nat_lt t p.time) (λ (p : Point). is_within from to p.time) ps
-    ∙ filter_alike (λ (p : Point). is_within from to p.time && nat_lt t p.time) (λ (p : Point). is_within (t + 1) to p.time) (λ p. within_past from to t p.time past) ps
-
--- those before it
-pub before-row : (from to t : ℕ) (ps : List Point) → t ≤ to → at_times (λ u. nat_lt u t) (between from to ps) ≡ at_times (λ u. nat_lt u t) (at_times (nat_le from) ps)
-before-row from to t ps upto =
-    filter-filter (λ (p : Point). nat_lt p.time t) (λ (p : Point). is_within from to p.time) ps
-    ∙ filter_alike (λ (p : Point). is_within from to p.time && nat_lt p.time t) (λ (p : Point). nat_le from p.time && nat_lt p.time t) (λ p. from_before from to t p.time upto) ps
-    ∙ sym (filter-filter (λ (p : Point). nat_lt p.time t) (λ (p : Point). nat_le from p.time) ps)
-
--- those from one time on before another
-pub until-before : (from t : ℕ) (ps : List Point) → 0 < t → between from (t - 1) ps ≡ at_times (λ u. nat_lt u t) (at_times (nat_le from) ps)
-until-before from t ps some =
-    sym (filter-filter (λ (p : Point). nat_lt p.time t) (λ (p : Point). nat_le from p.time) ps
-    ∙ filter_alike (λ (p : Point). nat_le from p.time && nat_lt p.time t) (λ (p : Point). is_within from (t - 1) p.time) (λ p. until_before from t p.time some) ps)
-
--- none is before the time 0
-pub none-first : (ps : List Point) → at_times (λ u. nat_lt u 0) ps ≡ []
-none-first [] = refl
-none-first (p ∷ ps) = ap (λ b. cond b (p ∷ at_times (λ u. nat_lt u 0) ps) (at_times (λ u. nat_lt u 0) ps)) (le-ltb p.time 0 (omega arith)) ∙ none-first ps
-
--- those before a time and those past it are at most all
-pub around-length : (t : ℕ) (ps : List Point) → length (at_times (λ u. nat_lt u t) ps) + length (at_times (nat_lt t) ps) ≤ length ps
-around-length t [] = omega arith
-around-length t (p ∷ ps) = go (nat_lt p.time t) (nat_lt t p.time) refl refl (around-length t ps)
-  where
-    go : (b c : Bool) → nat_lt p.time t ≡ b → nat_lt t p.time ≡ c → length (at_times (λ u. nat_lt u t) ps) + length (at_times (nat_lt t) ps) ≤ length ps
-        → length (cond b (p ∷ at_times (λ u. nat_lt u t) ps) (at_times (λ u. nat_lt u t) ps)) + length (cond c (p ∷ at_times (nat_lt t) ps) (at_times (nat_lt t) ps)) ≤ suc (length ps)
-    go true true x y ih = let one = ltb-true p.time t x in let two = ltb-true t p.time y in absurd (omega (arith, one, two))
-    go true false x y ih = omega (arith, ih)
-    go false true x y ih = omega (arith, ih)
-    go false false x y ih = omega (arith, ih)
-
 -- ---- both ends
 
 -- the ends of a list, by its first and its last sample
@@ -206,36 +153,3 @@ ends-none (p ∷ ps) x = absurd (cc x)
 pub ends-no-last : (ps : List Point) → None ≡ last_of ps → None ≡ ends_of ps
 ends-no-last [] x = refl
 ends-no-last (p ∷ ps) x = absurd (cc x)
-
--- ---- a walk around a row
-
--- the room that is asked for is enough for those before it
-pub room-before : (from to t : ℕ) (ps : List Point) (room : ℕ) → t ≤ to → length (between from to ps) + 1 ≤ room → length (at_times (λ u. nat_lt u t) (at_times (nat_le from) ps)) ≤ room
-room-before from to t ps room upto some = omega (arith, some, times-length (λ u. nat_lt u t) (between from to ps), ap length (before-row from to t ps upto))
-
--- a visitor takes the samples of an interval that are before a time in it, then a row at that time, and then those past it
-module _ {V : Type 0} (step : V → Point → V) (room : V → ℕ) (lowers : (v : V) (p : Point) → room v ≤ room (step v p) + 1)
-    (from to t : ℕ) (p : Point) (ps : List Point) (past : from ≤ t) (upto : t ≤ to) (start before : V) (enough : length (between from to ps) + 1 ≤ room start)
-    (first : before ≡ visited step start (at_times (λ u. nat_lt u t) (at_times (nat_le from) ps))) where
-  left : length (between from to ps) + 1 ≤ room before + length (at_times (λ u. nat_lt u t) (between from to ps))
-  left =
-      let taken = room_left step room lowers start (at_times (λ u. nat_lt u t) (at_times (nat_le from) ps)) in
-      omega (arith, taken, enough, ap room first, ap length (before-row from to t ps upto))
-
-  pub room-row : 1 ≤ room before
-  room-row = omega (arith, left, times-length (λ u. nat_lt u t) (between from to ps))
-
-  module _ (row : V) (second : row ≡ step before p) where
-    pub room-past : length (between (t + 1) to ps) ≤ room row
-    room-past =
-        omega (arith, left, lowers before p, around-length t (between from to ps), ap length (past-row from to t ps past), ap room second)
-
-    pub visited-put : (end : V) → t ≡ p.time → end ≡ visited step row (between (t + 1) to ps) → end ≡ visited step start (put p (between from to ps))
-    visited-put end at third =
-        third
-        ∙ ap (λ (v : V). visited step v (between (t + 1) to ps)) second
-        ∙ ap (λ (l : List Point). visited step (step before p) l) (sym (past-row from to t ps past))
-        ∙ ap (λ (v : V). visited step (step v p) (at_times (nat_lt t) (between from to ps))) first
-        ∙ ap (λ (l : List Point). visited step (step (visited step start l) p) (at_times (nat_lt t) (between from to ps))) (sym (before-row from to t ps upto))
-        ∙ sym (fold-append step start (at_times (λ u. nat_lt u t) (between from to ps)) (p ∷ at_times (nat_lt t) (between from to ps)))
-        ∙ ap (λ k. visited step start (at_times (λ u. nat_lt u k) (between from to ps) ++ p ∷ at_times (nat_lt k) (between from to ps))) at

@@ -1,15 +1,22 @@
 -- How many samples all keys show, on a walk over them.
 use Rattle.std.proofs.Common.{◌≡◌, ◌+◌, ◌*◌, ◌^◌, ◌-◌, ◌≤◌, ◌<◌, ℕ, [], ◌∷◌, length, refl, ◌∙◌, ap, arith}
 use Rattle.std.proofs.Math.Nat.{mul-le-mul}
-use Rattle.std.specs.Prelude.{Option, Some, option_map}
+use Rattle.std.specs.Prelude.{Option, Some, option_map, sum_by}
 use Rattle.slab.specs.Slab as slab
 use Rattle.ts_spec.specs.Key.{Key}
 use Rattle.ts_spec.specs.declared.limits.Limits.{Limits}
 use Rattle.ts_sample.specs.declared.id.Id.{Id}
-use Rattle.ts_series.specs.History.{list_of}
+use Rattle.ts_series.specs.History.{list_of, reach}
 use Rattle.ts_db.specs.declared.node.Node.{Node}
-use Rattle.ts_db.specs.Store.{Nodes, Numbers, kept_at, IsNode}
+use Rattle.ts_db.specs.Store.{Nodes, Numbers, kept_at, IsNode, node_reach, reach_in, reaches_of, number_of}
 use Rattle.ts_db.specs.Totals.{samples_in}
+use Rattle.std.specs.List.{All}
+use Rattle.std.proofs.lemmas.List.Elements.{All-head, All-tail}
+use Rattle.std.proofs.lemmas.List.Sums.{sum_by-cons}
+use Rattle.std.specs.Option.{unwrap_or}
+use Rattle.ts_spec.specs.Keyed.{Entry, get}
+use Rattle.ts_spec.specs.Kept.{Kept}
+use Rattle.ts_db.proofs.Reaches.{reach-number}
 use Rattle.ts_db.proofs.Selecting.{HaveNodes, listing, onto}
 
 -- one key more on the walk
@@ -36,3 +43,27 @@ total-fits limits nodes es each there few keys samples =
     let bound = total-bound limits nodes es each there in
     let most : length es * limits.samples ≤ (2 ^ 32) * (2 ^ 32 - 1) = mul-le-mul {n₂ = 2 ^ 32} {m₂ = 2 ^ 32 - 1} (omega (arith, few, keys)) (omega (arith, samples)) in
     omega (arith, bound, most)
+
+-- ---- how much of them is decoded
+
+-- the reach of the series of these numbers, added up
+abbrev pub reaches : Nodes → Numbers → ℕ
+reaches nodes [] = 0
+reaches nodes (e ∷ es) = node_reach (slab.get nodes e.1.0) + reaches nodes es
+
+-- one more on the walk
+pub reaches-next : (nodes : Nodes) (k : Key) (id : Id) (n : Node) (rest es : Numbers) → rest ≡ (k, id) ∷ es → slab.get nodes id.0 ≡ Some n → reaches nodes rest ≡ reach n.series + reaches nodes es
+reaches-next nodes k id n rest es split at = ap (reaches nodes) split ∙ ap (λ (o : Option Node). node_reach o + reaches nodes es) at
+
+-- they are those of the keys
+pub reaches-listing : (nodes : Nodes) (all es : Numbers) → HaveNodes nodes es → All (λ (e : Key × Id). number_of e.0 all ≡ Some e.1) es
+    → sum_by (λ (e : Entry Kept). unwrap_or (get e.key (reaches_of nodes all)) 0) (listing nodes es) ≡ reaches nodes es
+reaches-listing nodes all [] there each = refl
+reaches-listing nodes all (e ∷ es) there each =
+    let far : (Entry Kept) → ℕ = λ e. unwrap_or (get e.key (reaches_of nodes all)) 0 in
+    let own : ℕ = unwrap_or (get e.0 (reaches_of nodes all)) 0 in
+    let here : own ≡ reach_in nodes e.1 = reach-number nodes all e.0 e.1 (All-head (λ (d : Key × Id). number_of d.0 all ≡ Some d.1) e es each) in
+    let rest : sum_by far (listing nodes es) ≡ reaches nodes es = reaches-listing nodes all es there.1 (All-tail (λ (d : Key × Id). number_of d.0 all ≡ Some d.1) e es each) in
+    ap (λ (o : Option Node). sum_by far (onto e.0 (option_map (kept_at nodes) o) (listing nodes es))) there.0.1
+    ∙ sum_by-cons far (record { key = e.0; value = kept_at nodes there.0.0 }) (listing nodes es)
+    ∙ (λ i. here i + rest i)

@@ -15,10 +15,9 @@ use Rattle.ts_db.specs.declared.node.Node.{Node}
 use Rattle.ts_db.specs.declared.store.Store.{Store}
 use Rattle.ts_db.specs.declared.work.Work.{Work}
 use Rattle.ts_db.specs.declared.work.Work.TheVariants.{Write, Delete}
-use Rattle.ts_db.specs.Held.{Stock}
 use Rattle.ts_db.specs.Feeding.{Rows, Gone, keep_fed}
 use Rattle.ts_db.specs.Planning.{changed_by, gone_by, rows_by_work, AllTake, AreChanged, AreFedBy, first_full, IsUnplanned, IsFeed}
-use Rattle.ts_db.specs.Store.{rules_by, key_in, stock_of, IsLive, AreLive, HaveGrids, IsDb, Holds}
+use Rattle.ts_db.specs.Store.{rules_by, key_in, stock_of, contents_of, Contents, IsLive, AreLive, HaveGrids, IsDb, Holds}
 use Rattle.ts_db.specs.Answering.{IsElsewhere}
 use Rattle.ts_db.proofs.Feeds.{fed-elsewhere, names-same}
 use Rattle.ts_db.proofs.Known.{links, none-own, distinct}
@@ -93,12 +92,12 @@ module _ (s : Store) (db : IsDb s) (key : Key) (id : Id) (n : Node) (holds : Hol
   }
 
   -- what is kept after both
-  pub worked : (rows : Rows) (gone : Gone) (d : Kept) (new : Stock) → stock_of mid ≡ record (stock_of s) { keys = with_key key d (stock_of s).keys }
-      → new ≡ record (stock_of mid) { keys = keep_fed rows gone (rules_by (key_in mid.nodes) n.rules.items) (stock_of mid).keys }
-      → new ≡ record (stock_of s) { keys = keep_fed rows gone (rules_by (key_in s.nodes) n.rules.items) (with_key key d (stock_of s).keys) }
+  pub worked : (rows : Rows) (gone : Gone) (d : Kept) (new : Contents) → contents_of mid ≡ record (contents_of s) { keys = with_key key d (stock_of s).keys }
+      → new ≡ record (contents_of mid) { keys = keep_fed rows gone (rules_by (key_in mid.nodes) n.rules.items) (stock_of mid).keys }
+      → new ≡ record (contents_of s) { keys = keep_fed rows gone (rules_by (key_in s.nodes) n.rules.items) (with_key key d (stock_of s).keys) }
   worked rows gone d new applied fed =
-      fed ∙ ap (λ (f : Id → Key). record (stock_of mid) { keys = keep_fed rows gone (rules_by f n.rules.items) (stock_of mid).keys }) (names-same s mid id else)
-      ∙ ap (λ (x : Stock). record x { keys = keep_fed rows gone (rules_by (key_in s.nodes) n.rules.items) x.keys }) applied
+      fed ∙ ap (λ (f : Id → Key). record (contents_of mid) { keys = keep_fed rows gone (rules_by f n.rules.items) (stock_of mid).keys }) (names-same s mid id else)
+      ∙ ap (λ (x : Contents). record x { keys = keep_fed rows gone (rules_by (key_in s.nodes) n.rules.items) x.keys }) applied
 
 -- a deletion asks no room of the rules
 pub takes-deleted : (from to : ℕ) (h : History) (rs : List Rule) → AllTake (Delete from to) h rs

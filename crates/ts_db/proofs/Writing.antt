@@ -31,9 +31,8 @@ use Rattle.ts_db.specs.declared.store.Store.{Store}
 use Rattle.ts_db.specs.declared.work.Work.TheVariants.{Write}
 use Rattle.ts_db.specs.Faults.{refusal_of}
 use Rattle.ts_db.specs.Feeding.{Rows, Gone, keep_fed}
-use Rattle.ts_db.specs.Held.{Stock}
 use Rattle.ts_db.specs.Planning.{changed_by, gone_by, rows_by_work, AreChanged, first_full, IsUnplanned}
-use Rattle.ts_db.specs.Store.{kept_of, rules_by, key_in, kept_by, kept_at, stock_of, IsNode, IsDb, Holds}
+use Rattle.ts_db.specs.Store.{kept_of, rules_by, key_in, kept_by, kept_at, stock_of, contents_of, Contents, IsNode, IsDb, Holds}
 use Rattle.ts_db.specs.Answering.{node_after, IsKeptAnswer}
 use Rattle.ts_db.proofs.Applying.{there}
 use Rattle.ts_db.proofs.Fed.{written-fed}
@@ -119,15 +118,15 @@ module _ (s : Store) (db : IsDb s) (key : Key) (id : Id) (n : Node) (holds : Hol
       length-after s.limits.samples (edge_of n.series.options.retention (raised t n.series.high)) (sample_of t v n.series) n.series.samples node.kept.ascending a.1 node.within
 
   -- a write that was planned, for the key and for the destinations of its rules
-  pub planned-answers : (plan : Plan) (d : Kept) (t : ℕ) (v : ℤ) (new : Stock) → IsWrite s.limits.samples (sample_of t v n.series) n.series (Ok plan)
+  pub planned-answers : (plan : Plan) (d : Kept) (t : ℕ) (v : ℤ) (new : Contents) → IsWrite s.limits.samples (sample_of t v n.series) n.series (Ok plan)
       → d ≡ kept_with t v (kept_at s.nodes n) → full_by t v ≡ None
-      → new ≡ record (stock_of s) { keys = keep_fed (rows t v) (gone t v) (rules_by (key_in s.nodes) n.rules.items) (with_key key d (stock_of s).keys) }
+      → new ≡ record (contents_of s) { keys = keep_fed (rows t v) (gone t v) (rules_by (key_in s.nodes) n.rules.items) (with_key key d (stock_of s).keys) }
       → kept_write_merged s.limits (stock_of s).keys key t (To v) ≡ record { keys = new.keys; response = Count t }
   planned-answers plan d t v new a same room is =
       write-fits t v (fits plan t v a)
       ∙ ap (λ (o : Option Id). kept_unless_full (stock_of s).keys (option_map (key_in s.nodes) o) (record { keys = after_keys t v; response = Count t })) room
       ∙ ap (λ (m : Keeping). record { keys = m; response = Count t })
-      (sym (ap (λ (x : Stock). x.keys) is
+      (sym (ap (λ (x : Contents). x.keys) is
       ∙ ap (λ (x : Kept). keep_fed (rows t v) (gone t v) (rules_by (key_in s.nodes) n.rules.items) (with_key key x (stock_of s).keys)) same))
 
   -- one that a destination refuses

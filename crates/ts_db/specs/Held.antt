@@ -1,5 +1,6 @@
 -- What contracts see of a database, the states that it stands for, and how its answers follow from those of the definitions.
 use Rattle.std.specs.Prelude.{◌≡◌, ◌≤◌, ℕ, Bool, true, false, ⊤, if◌then◌else◌, List, [], ◌∷◌, Option, None, Some, is_some, Result, Ok, Err}
+use Rattle.std.specs.Option.{unwrap_or}
 use Rattle.ts_spec.specs.Sample.{Point, MAX_TIME, last_of, later_or}
 use Rattle.ts_spec.specs.declared.limits.Limits.{Limits}
 use Rattle.ts_spec.specs.Key.{Key}
@@ -21,11 +22,16 @@ pub record Held : Type 0 where
   pub limits : Limits
   pub state : State
 
--- what contracts see of a database: its limits, what it keeps of each key, and the number of each key
+-- what contracts see of a database: its limits, what it keeps of each key, the number of each key, and the reach of its series
 pub record Stock : Type 0 where
   pub limits : Limits
   pub keys : Keeping
   pub ids : Keyed Id
+  pub reaches : Keyed ℕ
+
+-- the reach of the series of a key, 0 where the key is missing
+abbrev pub reach_at : Stock → Key → ℕ
+reach_at stock key = unwrap_or (get key stock.reaches) 0
 
 -- a state that it stands for, under its limits
 pub record Stands (stock : Stock) (held : Held) : Type 0 where

@@ -1,4 +1,5 @@
 pub mod Answering
+pub mod Bounds
 pub mod Faults
 pub mod Feeding
 pub mod Growing
@@ -8,6 +9,8 @@ pub mod Latest
 pub mod Linking
 pub mod Links
 pub mod Planning
+pub mod PutBy
+pub mod RowAmong
 pub mod Store
 pub mod Totals
 pub mod Writes

@@ -18,13 +18,13 @@ use Rattle.ts_db.specs.declared.node.Node.{Node}
 use Rattle.ts_db.specs.declared.store.Store.{Store}
 use Rattle.ts_db.specs.declared.fault.DbFault.{DbFault}
 use Rattle.ts_db.specs.Faults.{refusal_of}
-use Rattle.ts_db.specs.Store.{key_in, stock_of}
+use Rattle.ts_db.specs.Store.{key_in, stock_of, contents_of}
 
 -- ---- of what is kept
 
 -- of the key of a number what f makes is kept, and all else is as it was
 abbrev pub IsKeptBy : (old : Store) → Id → (Kept → Kept) → (new : Store) → Type 0
-IsKeptBy old id f new = stock_of new ≡ record (stock_of old) { keys = keep_changed (key_in old.nodes id) f (stock_of old).keys }
+IsKeptBy old id f new = contents_of new ≡ record (contents_of old) { keys = keep_changed (key_in old.nodes id) f (stock_of old).keys }
 
 -- a key without the rules to another
 abbrev pub kept_unruled : Key → Kept → Kept

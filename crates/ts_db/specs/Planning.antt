@@ -1,5 +1,5 @@
 -- What work on a source comes to for its rules and for their destinations, and the plans of it.
-use Rattle.std.specs.Prelude.{◌≡◌, ◌≢◌, ℕ, false, nat_lt, ⊤, if◌then◌else◌, List, [], ◌∷◌, length, Option, None, Some, option_map}
+use Rattle.std.specs.Prelude.{◌≡◌, ◌≢◌, ℕ, false, nat_lt, ⊤, if◌then◌else◌, List, [], ◌∷◌, length, Option, None, Some, option_map, ◌+◌}
 use Rattle.slab.specs.Slab as slab
 use Rattle.ts_spec.specs.Sample.{Point, put, between, outside}
 use Rattle.ts_spec.specs.Kept.{KeptRule}
@@ -20,7 +20,8 @@ use Rattle.ts_db.specs.declared.store.Store.{Store}
 use Rattle.ts_db.specs.declared.work.Work.{Work}
 use Rattle.ts_db.specs.declared.work.Work.TheVariants.{Write, Delete}
 use Rattle.ts_db.specs.Feeding.{Rows, Gone, keep_fed}
-use Rattle.ts_db.specs.Store.{Nodes, rules_by, key_in, kept_in, stock_of}
+use Rattle.ts_rules.specs.Shares.{write_share, deletion_share, IsEasyWrite}
+use Rattle.ts_db.specs.Store.{rules_by, key_in, kept_in, stock_of, contents_of, Nodes}
 
 -- ---- work on a source, as it was before
 
@@ -108,4 +109,34 @@ pub record IsFeed (s : Store) (xs : List RulePlan) : Type 0 where
 
 -- what is kept is what was kept, with the destinations of these rules mended
 abbrev pub IsFed : (old : Store) → Rows → Gone → List Rule → (new : Store) → Type 0
-IsFed old rows gone rs new = stock_of new ≡ record (stock_of old) { keys = keep_fed rows gone (rules_by (key_in old.nodes) rs) (stock_of old).keys }
+IsFed old rows gone rs new = contents_of new ≡ record (contents_of old) { keys = keep_fed rows gone (rules_by (key_in old.nodes) rs) (stock_of old).keys }
+
+-- ---- how much of a source and of a destination is decoded
+
+-- the most for a rule
+abbrev pub share_of : Work → (source : History) → Rule → (dest : History) → ℕ
+share_of (Write p) source r dest = write_share r source p dest
+share_of (Delete from to) source r dest = deletion_share r source from to dest
+
+abbrev pub share_at : Work → (source : History) → Rule → Option Node → ℕ
+share_at work source r None = 0
+share_at work source r (Some d) = share_of work source r d.series
+
+-- and for all of these
+abbrev pub shares_of : Nodes → Work → (source : History) → List Rule → ℕ
+shares_of nodes work source [] = 0
+shares_of nodes work source (r ∷ rs) = share_at work source r (slab.get nodes r.dest.0) + shares_of nodes work source rs
+
+-- nothing is decoded for a rule
+abbrev pub IsEasyOf : (limit : ℕ) → Work → (source : History) → Rule → (dest : History) → Type 0
+IsEasyOf limit (Write p) source r dest = IsEasyWrite limit r source p dest
+IsEasyOf limit (Delete from to) source r dest = ⊥
+
+abbrev pub IsEasyAt : (limit : ℕ) → Work → (source : History) → Rule → Option Node → Type 0
+IsEasyAt limit work source r None = ⊥
+IsEasyAt limit work source r (Some d) = IsEasyOf limit work source r d.series
+
+-- and for all of these
+abbrev pub AreEasyOf : (limit : ℕ) → Nodes → Work → (source : History) → List Rule → Type 0
+AreEasyOf limit nodes work source [] = ⊤
+AreEasyOf limit nodes work source (r ∷ rs) = IsEasyAt limit work source r (slab.get nodes r.dest.0) × AreEasyOf limit nodes work source rs

@@ -8,12 +8,12 @@ use Rattle.slab.specs.Slab as slab
 use Rattle.ts_spec.specs.declared.limits.Limits.{Limits}
 use Rattle.ts_spec.specs.Sample.{MAX_TIME}
 use Rattle.ts_spec.specs.Key.{Key}
-use Rattle.ts_spec.specs.Keyed.{Keyed, none, with_key, without_key, count_keys}
+use Rattle.ts_spec.specs.Keyed.{Keyed, none, with_key, without_key, each, count_keys}
 use Rattle.ts_spec.specs.State.{Label}
 use Rattle.ts_spec.specs.Kept.{KeptRule, Kept, Keeping}
 use Rattle.ts_sample.specs.declared.id.Id.{Id}
 use Rattle.ts_bucket.specs.Grid.{IsGrid}
-use Rattle.ts_series.specs.History.{History, list_of, IsKept}
+use Rattle.ts_series.specs.History.{History, list_of, reach, IsKept}
 use Rattle.ts_rules.specs.declared.rule.Rule.{Rule}
 use Rattle.ts_rules.specs.Rules.{kept_as}
 use Rattle.ts_db.specs.declared.node.Node.{Node}
@@ -69,10 +69,6 @@ abbrev pub ids_of : Numbers → Keyed Id
 ids_of [] = none
 ids_of (e ∷ es) = with_key e.0 e.1 (ids_of es)
 
--- what contracts see of a store
-abbrev pub stock_of : Store → Stock
-stock_of s = record { limits = s.limits; keys = collected s.nodes s.keys.entries; ids = ids_of s.keys.entries }
-
 -- whether an entry stands under this key
 abbrev pub has_key : Key → Key → Bool
 has_key k = is_at (slice_cmp nat_cmp k)
@@ -80,6 +76,31 @@ has_key k = is_at (slice_cmp nat_cmp k)
 -- the number of a key
 abbrev pub number_of : Key → Numbers → Option Id
 number_of k es = lookup (has_key k) es
+
+-- the reach of the series of a number, 0 where there is none
+abbrev pub node_reach : Option Node → ℕ
+node_reach None = 0
+node_reach (Some n) = reach n.series
+
+abbrev pub reach_in : Nodes → Id → ℕ
+reach_in nodes id = node_reach (slab.get nodes id.0)
+
+-- that of each key
+abbrev pub reaches_of : Nodes → Numbers → Keyed ℕ
+reaches_of nodes es = each (λ key id. reach_in nodes id) (ids_of es)
+
+-- what contracts see of a store
+abbrev pub stock_of : Store → Stock
+stock_of s = record { limits = s.limits; keys = collected s.nodes s.keys.entries; ids = ids_of s.keys.entries; reaches = reaches_of s.nodes s.keys.entries }
+
+-- what a store holds, but for the reach of its series
+pub record Contents : Type 0 where
+  pub limits : Limits
+  pub keys : Keeping
+  pub ids : Keyed Id
+
+abbrev pub contents_of : Store → Contents
+contents_of s = record { limits = s.limits; keys = collected s.nodes s.keys.entries; ids = ids_of s.keys.entries }
 
 -- a number has a node
 pub record IsLive (nodes : Nodes) (id : Id) : Type 0 where

@@ -1,8 +1,8 @@
-ghost use Rattle.std.specs.Prelude.{◌≡◌, ◌≤◌, IfErr};
+ghost use Rattle.std.specs.Prelude.{◌≡◌, ◌≤◌, IfErr, ◌+◌, ◌*◌};
 ghost use Rattle.ts_spec.specs.Keyed.{get};
 ghost use Rattle.ts_spec.specs.KeptStep.{kept_alter_at};
 ghost use Rattle.ts_labels.specs.Spec.{change_of};
-ghost use Rattle.ts_db.specs.Held.{IsOwn};
+ghost use Rattle.ts_db.specs.Held.{IsOwn, reach_at};
 ghost use Rattle.ts_db.specs.Store.{stock_of, IsInOrder};
 ghost use Rattle.ts_db.specs.Answering.{KeptDone};
 
@@ -27,6 +27,7 @@ impl Store {
         ensures own { IfErr result (IsOwn (stock_of self.old) key.now) }
         ensures store { IsInOrder self.new }
         ensures counted { steps.old ≤ steps.new }
+        ensures steps { steps.new ≤ steps.old + 2 * reach_at (stock_of self.old) key.now }
     {
         let Some(id) = self.keys.get(key).copied() else {
             return Err(DbFault::NoKey);

@@ -1,10 +1,11 @@
 // A row among the samples of a series, in the place of one of its time.
-ghost use Rattle.std.specs.Prelude.{◌≡◌, ◌≤◌, ◌+◌, nat_lt, nat_le, List, length, IfOk};
+ghost use Rattle.std.specs.Prelude.{◌≡◌, ◌≤◌, ◌+◌, ◌*◌, nat_lt, List, length, Some, IfOk};
 ghost use Rattle.ts_spec.specs.Sample.{Point, MAX_TIME, IsAscending, at_times, between, first_of, last_of, put, put_all};
 ghost use Rattle.ts_sample.specs.Visit.{visited};
-ghost use Rattle.ts_series.specs.History.{list_of, IsKept};
+ghost use Rattle.ts_series.specs.History.{list_of, reach, IsKept};
 ghost use Rattle.ts_rules.specs.Rules.{one_of};
 
+use crate::row_among::RowAmong;
 use std::alloc::{AllocError, Global};
 use std::sync::ledger::Ledger;
 use ts_sample::{Gathered, Sample, Steps, Visit};
@@ -64,7 +65,27 @@ pub(crate) fn last_with(row: Option<Sample>, last: Option<Sample>) -> Option<Sam
     }
 }
 
-// The samples of a series between two times, both included, with a row between them.
+// The samples of a series between two times, both included.
+pub(crate) fn gather<L: Ledger>(
+    alloc: Global,
+    series: &Series,
+    from: u64,
+    to: u64,
+    steps: &mut Steps<L>,
+) -> Result<Vec<Sample>, AllocError>
+    requires { IsKept series.now }
+    ensures gathered { IfOk result (λ samples. samples.items ≡ between from to (list_of series.now)) }
+    ensures ascending { IfOk result (λ samples. IsAscending samples.items) }
+    ensures within { IfOk result (λ samples. between from to samples.items ≡ samples.items) }
+    ensures counted { steps.old ≤ steps.new }
+    ensures steps { steps.new ≤ steps.old + length (between from to (list_of series.now)) + 2 * reach series.now }
+{
+    let mut gathered = Gathered::with_room(alloc, series.room_for(from, to))?;
+    series.scan(from, to, &mut gathered, steps);
+    Ok(gathered.into_samples())
+}
+
+// The samples of a series between two times, both included, with a row among them.
 pub(crate) fn gather_with<L: Ledger>(
     alloc: Global,
     series: &Series,
@@ -74,17 +95,16 @@ pub(crate) fn gather_with<L: Ledger>(
     steps: &mut Steps<L>,
 ) -> Result<Vec<Sample>, AllocError>
     requires few { length (list_of series.now) ≤ MAX_TIME }
-    requires past { from ≤ row.now.time }
-    requires upto { row.now.time ≤ to }
     ensures gathered { IfOk result (λ samples. samples.items ≡ put row.now (between from to (list_of series.now))) }
     ensures counted { steps.old ≤ steps.new }
+    ensures steps { steps.new ≤ steps.old + length (between from to (list_of series.now)) + 2 * reach series.now }
 {
     let mut gathered = Gathered::with_room(alloc, series.room_for(from, to).saturating_add(1))?;
     scan_with(series, from, to, row, &mut gathered, steps);
     Ok(gathered.into_samples())
 }
 
-// Takes a visitor over the samples of a series between two times, both included, with a row between them.
+// Takes a visitor over the samples of a series between two times, both included, with a row among them.
 pub(crate) fn scan_with<V: Visit, L: Ledger>(
     series: &Series,
     from: u64,
@@ -94,30 +114,34 @@ pub(crate) fn scan_with<V: Visit, L: Ledger>(
     steps: &mut Steps<L>,
 )
     requires room { length (between from to (list_of series.now)) + 1 ≤ V.room visit.old }
-    requires past { from ≤ row.now.time }
-    requires upto { row.now.time ≤ to }
     ensures visited { visit.new ≡ visited V.step visit.old (put row.now (between from to (list_of series.now))) }
     ensures counted { steps.old ≤ steps.new }
+    ensures steps { steps.new ≤ steps.old + length (between from to (list_of series.now)) + 2 * reach series.now }
 {
-    row.known();
-    scan_before(series, from, row.time, visit, steps);
-    visit.sample(row);
-    series.scan(row.time + 1, to, visit, steps);
+    let mut among = RowAmong {
+        visit,
+        row: Some(*row),
+    };
+    walk_among(series, from, to, &mut among, steps);
 }
 
-// Takes a visitor over the samples of a series from one time on that are before another.
-fn scan_before<V: Visit, L: Ledger>(
+// Takes a visitor and the row that it hands on among the samples over those of a series between two times, both
+// included.
+fn walk_among<V: Visit, L: Ledger>(
     series: &Series,
     from: u64,
-    t: u64,
-    visit: &mut V,
+    to: u64,
+    among: &mut RowAmong<V>,
     steps: &mut Steps<L>,
 )
-    requires room { length (at_times (λ u. nat_lt u t) (at_times (nat_le from) (list_of series.now))) ≤ V.room visit.old }
-    ensures visited { visit.new ≡ visited V.step visit.old (at_times (λ u. nat_lt u t) (at_times (nat_le from) (list_of series.now))) }
+    requires room { length (between from to (list_of series.now)) + 1 ≤ V.room among.old.visit.now }
+    ensures same_reference { among.new.visit.ghost_name ≡ among.old.visit.ghost_name }
+    ensures visited { (row : Point) → among.old.row ≡ Some row
+        → among.new.visit.now ≡ visited V.step among.old.visit.now (put row (between from to (list_of series.now))) }
     ensures counted { steps.old ≤ steps.new }
+    ensures steps { steps.new ≤ steps.old + length (between from to (list_of series.now)) + 2 * reach series.now }
 {
-    if let Some(last) = t.checked_sub(1) {
-        series.scan(from, last, visit, steps);
-    }
+    series.known();
+    series.scan(from, to, among, steps);
+    among.finish();
 }

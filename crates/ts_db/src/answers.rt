@@ -1,11 +1,12 @@
-ghost use Rattle.std.specs.Prelude.{◌≡◌, ◌≤◌, nat_lt, IfOk, IfErr};
+ghost use Rattle.std.specs.Prelude.{◌≡◌, ◌≤◌, nat_lt, IfOk, IfErr, ◌+◌, ◌*◌};
 ghost use Rattle.std.specs.Option.{ForSome};
 ghost use Rattle.ts_spec.specs.Keyed.{get};
 ghost use Rattle.ts_spec.specs.Questions.{asked, info_response};
 ghost use Rattle.ts_spec.specs.Response.{Told};
 ghost use Rattle.ts_spec.specs.Sample.{IsAscending, at_times, between, last_of};
-ghost use Rattle.ts_db.specs.Held.{Held, Stands, Finds, AreTimes, ends_of};
+ghost use Rattle.ts_db.specs.Held.{Held, Stands, Finds, AreTimes, ends_of, reach_at};
 ghost use Rattle.ts_db.specs.Information.{info_of};
+ghost use Rattle.ts_db.specs.Bounds.{walk_steps};
 
 use crate::db::Db;
 use crate::fault::DbFault;
@@ -26,6 +27,7 @@ impl Db {
         ensures last { (held : Held) → Stands self.now held → Finds (get key.now held.state) (λ last. last ≡ last_of (asked held.state latest key.now)) result }
         ensures refused { IfErr result (λ fault. fault ≡ DbFault.NoKey) }
         ensures counted { steps.old ≤ steps.new }
+        ensures steps { steps.new ≡ steps.old }
     {
         self.store.last(key, latest, steps)
     }
@@ -44,6 +46,7 @@ impl Db {
         ensures ascending { IfOk result (λ samples. IsAscending samples.items) }
         ensures within { IfOk result (λ samples. between from to samples.items ≡ samples.items) }
         ensures counted { steps.old ≤ steps.new }
+        ensures steps { steps.new ≤ steps.old + walk_steps self.now key.now from to }
     {
         self.store.samples(key, from, to, latest, steps)
     }
@@ -60,6 +63,7 @@ impl Db {
         ensures before { (held : Held) → Stands self.now held → Finds (get key.now held.state) (λ before. before ≡ last_of (at_times (λ u. nat_lt u t) (asked held.state latest key.now))) result }
         ensures refused { IfErr result (λ fault. fault ≡ DbFault.NoKey) }
         ensures counted { steps.old ≤ steps.new }
+        ensures steps { steps.new ≤ steps.old + reach_at self.now key.now }
     {
         self.store.last_before(key, t, latest, steps)
     }
@@ -76,6 +80,7 @@ impl Db {
         ensures bounded { IfOk result (λ ends. ForSome ends AreTimes) }
         ensures refused { IfErr result (λ fault. fault ≡ DbFault.NoKey) }
         ensures counted { steps.old ≤ steps.new }
+        ensures steps { steps.new ≤ steps.old + reach_at self.now key.now }
     {
         self.store.ends(key, latest, steps)
     }
@@ -84,6 +89,7 @@ impl Db {
     pub fn info<L: Ledger>(&self, key: &Word, steps: &mut Steps<L>) -> Result<Info, DbFault>
         ensures info { (held : Held) → Stands self.now held → Finds (get key.now held.state) (λ info. Told (info_of info) ≡ info_response held.state key.now (get key.now held.state)) result }
         ensures counted { steps.old ≤ steps.new }
+        ensures steps { steps.new ≤ steps.old + 2 * reach_at self.now key.now }
     {
         self.store.info(key, steps)
     }

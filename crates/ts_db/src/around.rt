@@ -1,10 +1,10 @@
-ghost use Rattle.std.specs.Prelude.{◌≡◌, ◌≤◌, nat_lt, Some, IfOk, IfErr};
+ghost use Rattle.std.specs.Prelude.{◌≡◌, ◌≤◌, nat_lt, Some, IfOk, IfErr, ◌+◌};
 ghost use Rattle.std.specs.Option.{ForSome};
 ghost use Rattle.ts_spec.specs.Keyed.{get};
 ghost use Rattle.ts_spec.specs.KeptQuestions.{kept_asked};
 ghost use Rattle.ts_spec.specs.Sample.{at_times, last_of};
 ghost use Rattle.ts_db.specs.Store.{stock_of, IsInOrder};
-ghost use Rattle.ts_db.specs.Held.{Finds, AreTimes, ends_of};
+ghost use Rattle.ts_db.specs.Held.{Finds, AreTimes, ends_of, reach_at};
 
 use crate::fault::DbFault;
 use crate::store::Store;
@@ -26,6 +26,7 @@ impl Store {
         ensures before { Finds (get key.now (stock_of self.now).keys) (λ before. before ≡ last_of (at_times (λ u. nat_lt u t) (kept_asked (stock_of self.now).keys latest key.now))) result }
         ensures refused { IfErr result (λ fault. fault ≡ DbFault.NoKey) }
         ensures counted { steps.old ≤ steps.new }
+        ensures steps { steps.new ≤ steps.old + reach_at (stock_of self.now) key.now }
     {
         let Some(id) = self.keys.get(key).copied() else {
             return Err(DbFault::NoKey);
@@ -46,6 +47,7 @@ impl Store {
         ensures bounded { IfOk result (λ ends. ForSome ends AreTimes) }
         ensures refused { IfErr result (λ fault. fault ≡ DbFault.NoKey) }
         ensures counted { steps.old ≤ steps.new }
+        ensures steps { steps.new ≤ steps.old + reach_at (stock_of self.now) key.now }
     {
         let Some(id) = self.keys.get(key).copied() else {
             return Err(DbFault::NoKey);

@@ -1,10 +1,12 @@
-ghost use Rattle.std.specs.Prelude.{◌≡◌, ◌≤◌, is_some, IfOk, IfErr};
+ghost use Rattle.std.specs.Prelude.{◌≡◌, ◌≤◌, is_some, IfOk, IfErr, ◌+◌, ◌*◌};
 ghost use Rattle.ts_spec.specs.Sample.{MAX_TIME};
 ghost use Rattle.ts_spec.specs.Keyed.{get};
 ghost use Rattle.ts_spec.specs.Step.{create, alter_at, add_at, put_at, incr_at, delete_at, create_rule, delete_rule_at};
 ghost use Rattle.ts_labels.specs.Spec.{spec_of, change_of};
 ghost use Rattle.ts_db.specs.Faults.{IsRefusal};
-ghost use Rattle.ts_db.specs.Held.{Held, Stands, AnswersDone, AnswersNumber, IsOwn, Drops};
+ghost use Rattle.ts_db.specs.Held.{Held, Stands, AnswersDone, AnswersNumber, IsOwn, Drops, reach_at};
+ghost use Rattle.ts_db.specs.PutBy.{put_by};
+ghost use Rattle.ts_db.specs.Bounds.{write_steps, IsEasyAppend, deletion_steps};
 
 use crate::db::Db;
 use crate::fault::DbFault;
@@ -36,6 +38,7 @@ impl Db {
         ensures limits { self.new.limits ≡ self.old.limits }
         ensures own { IfErr result (IsOwn self.old key.now) }
         ensures counted { steps.old ≤ steps.new }
+        ensures steps { steps.new ≤ steps.old + 2 * reach_at self.old key.now }
     {
         self.store.alter(key, change, steps)
     }
@@ -57,6 +60,8 @@ impl Db {
         ensures limits { self.new.limits ≡ self.old.limits }
         ensures own { IfErr result (IsOwn self.old key) }
         ensures counted { steps.old ≤ steps.new }
+        ensures steps { steps.new ≤ steps.old + write_steps self.old key time }
+        ensures easy { IsEasyAppend self.old key time → steps.new ≡ steps.old }
     {
         self.store.add(key, time, value, on, spec, steps)
     }
@@ -77,6 +82,8 @@ impl Db {
         ensures limits { self.new.limits ≡ self.old.limits }
         ensures own { IfErr result (IsOwn self.old key) }
         ensures counted { steps.old ≤ steps.new }
+        ensures steps { steps.new ≤ steps.old + write_steps self.old key time }
+        ensures easy { IsEasyAppend self.old key time → steps.new ≡ steps.old }
     {
         self.store.incr(key, change, time, spec, steps)
     }
@@ -95,8 +102,31 @@ impl Db {
         ensures limits { self.new.limits ≡ self.old.limits }
         ensures own { IfErr result (IsOwn self.old key.now) }
         ensures counted { steps.old ≤ steps.new }
+        ensures steps { steps.new ≤ steps.old + write_steps self.old key.now time }
+        ensures easy { IsEasyAppend self.old key.now time → steps.new ≡ steps.old }
     {
         self.store.put(key, time, value, steps)
+    }
+
+    /// Adds a sample to the series of a key, by this policy or else its own where the time has one. Answers the time.
+    pub fn put_by<L: Ledger>(
+        &mut self,
+        key: &Word,
+        time: u64,
+        value: Units,
+        on: Option<Policy>,
+        steps: &mut Steps<L>,
+    ) -> Result<u64, DbFault>
+        requires time { time ≤ MAX_TIME }
+        ensures put { AnswersNumber self.old (λ h. put_by h.limits h.state key.now time value on (get key.now h.state)) result self.new }
+        ensures bounded { IfOk result (λ t. t ≤ MAX_TIME) }
+        ensures limits { self.new.limits ≡ self.old.limits }
+        ensures own { IfErr result (IsOwn self.old key.now) }
+        ensures counted { steps.old ≤ steps.new }
+        ensures steps { steps.new ≤ steps.old + write_steps self.old key.now time }
+        ensures easy { IsEasyAppend self.old key.now time → steps.new ≡ steps.old }
+    {
+        self.store.put_by(key, time, value, on, steps)
     }
 
     /// Takes the samples between two times, in milliseconds, both included, out of the series of a key. Answers
@@ -114,6 +144,7 @@ impl Db {
         ensures limits { self.new.limits ≡ self.old.limits }
         ensures own { IfErr result (IsOwn self.old key.now) }
         ensures counted { steps.old ≤ steps.new }
+        ensures steps { steps.new ≤ steps.old + deletion_steps self.old key.now from to }
     {
         self.store.delete_range(key, from, to, steps)
     }

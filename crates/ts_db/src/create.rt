@@ -97,6 +97,7 @@ impl Store {
         ensures own { IfErr result (IsOwn (stock_of self.old) key) }
         ensures store { IsInOrder self.new }
         ensures counted { steps.old ≤ steps.new }
+        ensures steps { steps.new ≡ steps.old }
     {
         if self.are_too_many(&spec.labels) {
             return Err(DbFault::LabelsFull);
@@ -126,9 +127,10 @@ fn begun<L: Ledger>(
     ensures begun { IfOk result (λ series. kept_of [] series ≡ kept_fresh (record { options = options; labels = [] }) (record { time = time; value = value; made = 0 } ∷ []) (Some time)) }
     ensures kept { IfOk result (λ series. IsKept series) }
     ensures counted { steps.old ≤ steps.new }
+    ensures steps { steps.new ≡ steps.old }
 {
     let mut series = Series::new(alloc, options);
-    match series.put(time, value, Merge::Set, 1, steps) {
+    match series.put(time, value, Merge::Set, u32::MAX, steps) {
         Ok(plan) => {
             series.commit(plan);
             Ok(series)

@@ -1,4 +1,4 @@
-ghost use Rattle.std.specs.Prelude.{◌≡◌, ◌≤◌, [], length, Some, IfOk, IfErr};
+ghost use Rattle.std.specs.Prelude.{◌≡◌, ◌≤◌, [], length, Some, IfOk, IfErr, ◌+◌};
 ghost use Rattle.ts_spec.specs.Key.{Key};
 ghost use Rattle.ts_spec.specs.Keyed.{get};
 ghost use Rattle.ts_spec.specs.Mending.{keep_deleted};
@@ -10,6 +10,7 @@ ghost use Rattle.ts_db.specs.declared.node.Node.{Node as TheNode};
 ghost use Rattle.ts_db.specs.Held.{IsOwn};
 ghost use Rattle.ts_db.specs.Store.{rules_by, stock_of, number_of, IsInOrder, IsDb, IsThere, Holds};
 ghost use Rattle.ts_db.specs.Answering.{KeptNumber};
+ghost use Rattle.ts_db.specs.Bounds.{deletion_steps};
 
 use crate::fault::DbFault;
 use crate::store::Store;
@@ -36,6 +37,7 @@ impl Store {
         ensures own { IfErr result (IsOwn (stock_of self.old) key.now) }
         ensures store { IsInOrder self.new }
         ensures counted { steps.old ≤ steps.new }
+        ensures steps { steps.new ≤ steps.old + deletion_steps (stock_of self.old) key.now from to }
     {
         let Some(id) = self.keys.get(key).copied() else {
             return Err(DbFault::NoKey);
@@ -70,6 +72,7 @@ impl Store {
         ensures own { (key : Key) → number_of key self.old.keys.entries ≡ Some id → IfErr result (IsOwn (stock_of self.old) key) }
         ensures store { IsInOrder self.new }
         ensures counted { steps.old ≤ steps.new }
+        ensures steps { (key : Key) → number_of key self.old.keys.entries ≡ Some id → steps.new ≤ steps.old + deletion_steps (stock_of self.old) key from to }
     {
         let Some(node) = self.nodes.get(id.0) else {
             unreachable!();

@@ -6,7 +6,7 @@ ghost use Rattle.ts_db.specs.declared.node.Node.{Node as TheNode};
 ghost use Rattle.ts_db.specs.Answering.{IsReady, IsElsewhere};
 ghost use Rattle.ts_db.specs.Planning.{AreChanged};
 ghost use Rattle.ts_db.specs.Growing.{grown, AreOpenAt, StaysOpen, HaveRoom, kept_grown};
-ghost use Rattle.ts_db.specs.Store.{stock_of, IsInOrder, Holds};
+ghost use Rattle.ts_db.specs.Store.{stock_of, contents_of, IsInOrder, Holds};
 
 use crate::store::Store;
 use ts_rules::Rule;
@@ -21,7 +21,7 @@ impl Store {
         requires ready { IsReady self.old id plan None None }
         requires room { (key : Key) (n : TheNode) → Holds self.old key id n → HaveRoom n.rules.items }
         ensures store { IsInOrder self.new }
-        ensures grown { (key : Key) (n : TheNode) → Holds self.old key id n → stock_of self.new ≡ record (stock_of self.old) { keys = with_key key (kept_grown self.old.nodes plan wrote.now n) (stock_of self.old).keys } }
+        ensures grown { (key : Key) (n : TheNode) → Holds self.old key id n → contents_of self.new ≡ record (contents_of self.old) { keys = with_key key (kept_grown self.old.nodes plan wrote.now n) (stock_of self.old).keys } }
         ensures elsewhere { IsElsewhere self.old self.new id }
     {
         let Some(node) = self.nodes.get_mut(id.0) else {

@@ -1,4 +1,4 @@
-ghost use Rattle.std.specs.Prelude.{◌≡◌, ◌≤◌, IfOk, IfErr};
+ghost use Rattle.std.specs.Prelude.{◌≡◌, ◌≤◌, IfOk, IfErr, ◌+◌};
 ghost use Rattle.ts_spec.specs.Sample.{MAX_TIME, last_of};
 ghost use Rattle.ts_spec.specs.Keyed.{get};
 ghost use Rattle.ts_spec.specs.Rules.{within_bound};
@@ -10,6 +10,7 @@ ghost use Rattle.ts_db.specs.Held.{IsOwn};
 ghost use Rattle.ts_db.specs.Store.{stock_of, IsInOrder, IsDb};
 ghost use Rattle.ts_db.specs.Answering.{KeptNumber};
 ghost use Rattle.ts_db.specs.Writes.{IsChanged};
+ghost use Rattle.ts_db.specs.Bounds.{write_steps, IsEasyAppend};
 
 use crate::fault::DbFault;
 use crate::store::Store;
@@ -38,6 +39,8 @@ impl Store {
         ensures own { IfErr result (IsOwn (stock_of self.old) key) }
         ensures store { IsInOrder self.new }
         ensures counted { steps.old ≤ steps.new }
+        ensures steps { steps.new ≤ steps.old + write_steps (stock_of self.old) key time }
+        ensures easy { IsEasyAppend (stock_of self.old) key time → steps.new ≡ steps.old }
     {
         let Some(id) = self.keys.get(&key).copied() else {
             return self.begin(key, spec, time, change, steps);

@@ -1,12 +1,12 @@
 // What is told of a series and of how it is kept.
-ghost use Rattle.std.specs.Prelude.{◌≡◌, ◌≤◌, map, option_map, Some, IfOk};
+ghost use Rattle.std.specs.Prelude.{◌≡◌, ◌≤◌, map, option_map, Some, IfOk, ◌+◌, ◌*◌};
 ghost use Rattle.ts_spec.specs.Key.{Key};
 ghost use Rattle.ts_spec.specs.Keyed.{get};
 ghost use Rattle.ts_spec.specs.KeptQuestions.{kept_rule_info, kept_info_response};
 ghost use Rattle.ts_spec.specs.Questions.{time_or_0};
 ghost use Rattle.ts_spec.specs.Response.{Told};
 ghost use Rattle.ts_rules.specs.Rules.{kept_as};
-ghost use Rattle.ts_db.specs.Held.{Finds, IsLive};
+ghost use Rattle.ts_db.specs.Held.{Finds, IsLive, reach_at};
 ghost use Rattle.ts_db.specs.Information.{rule_info_of, info_of};
 ghost use Rattle.ts_db.specs.Store.{rules_by, key_in, stock_of, IsLive as HasNode, AreLive, IsLiveSource, IsInOrder};
 
@@ -25,6 +25,7 @@ impl Store {
         requires { IsInOrder self.now }
         ensures info { Finds (get key.now (stock_of self.now).keys) (λ info. Told (info_of info) ≡ kept_info_response (get key.now (stock_of self.now).keys)) result }
         ensures counted { steps.old ≤ steps.new }
+        ensures steps { steps.new ≤ steps.old + 2 * reach_at (stock_of self.now) key.now }
     {
         let Some(id) = self.keys.get(key).copied() else {
             return Err(DbFault::NoKey);
@@ -42,6 +43,7 @@ impl Store {
         ensures info { IfOk result (λ info. (key : Key) → get key (stock_of self.now).ids ≡ Some id
             → Told (info_of info) ≡ kept_info_response (get key (stock_of self.now).keys)) }
         ensures counted { steps.old ≤ steps.new }
+        ensures steps { (key : Key) → get key (stock_of self.now).ids ≡ Some id → steps.new ≤ steps.old + 2 * reach_at (stock_of self.now) key }
     {
         let node = self.node(id);
         let first = node.series.first(steps);

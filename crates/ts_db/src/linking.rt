@@ -5,7 +5,7 @@ ghost use Rattle.ts_spec.specs.Keeping.{kept_with_rule};
 ghost use Rattle.ts_db.specs.declared.node.Node.{Node as TheNode};
 ghost use Rattle.ts_db.specs.Answering.{IsElsewhere};
 ghost use Rattle.ts_db.specs.Linking.{kept_unruled, kept_ruleless, kept_sourced, keep_freed, IsKeptBy, IsUnspent};
-ghost use Rattle.ts_db.specs.Store.{rules_by, key_in, stock_of, IsInOrder, IsLive, AreLive, IsLiveSource};
+ghost use Rattle.ts_db.specs.Store.{rules_by, key_in, stock_of, contents_of, IsInOrder, IsLive, AreLive, IsLiveSource};
 
 use crate::store::Store;
 use std::alloc::AllocError;
@@ -90,7 +90,7 @@ impl Store {
         requires store { IsInOrder self.old }
         requires live { AreLive self.old.nodes rules.items }
         ensures store { IsInOrder self.new }
-        ensures freed { stock_of self.new ≡ record (stock_of self.old) { keys = keep_freed (rules_by (key_in self.old.nodes) rules.items) (stock_of self.old).keys } }
+        ensures freed { contents_of self.new ≡ record (contents_of self.old) { keys = keep_freed (rules_by (key_in self.old.nodes) rules.items) (stock_of self.old).keys } }
     {
         for rule in rules {
             self.set_source(rule.dest, None);

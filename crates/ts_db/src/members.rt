@@ -1,12 +1,13 @@
-ghost use Rattle.std.specs.Prelude.{◌≡◌, ◌≤◌, ◌^◌, ◌⊎◌, false, nat_lt, length, is_some, Some, IfOk};
+ghost use Rattle.std.specs.Prelude.{◌≡◌, ◌≤◌, ◌^◌, ◌⊎◌, false, nat_lt, length, is_some, Some, IfOk, ◌+◌};
 ghost use Rattle.ts_sample.specs.Visit.{visited};
 ghost use Rattle.std.specs.Option.{ForSome};
 ghost use Rattle.ts_spec.specs.Key.{Key};
 ghost use Rattle.ts_spec.specs.Keyed.{get};
 ghost use Rattle.ts_spec.specs.KeptQuestions.{kept_asked, kept_labels_at, kept_selection};
 ghost use Rattle.ts_spec.specs.Sample.{IsAscending, at_times, between, last_of};
-ghost use Rattle.ts_db.specs.Held.{IsLive, AreNumbersOf, AreTimes, ends_of};
+ghost use Rattle.ts_db.specs.Held.{IsLive, AreNumbersOf, AreTimes, ends_of, reach_at};
 ghost use Rattle.ts_db.specs.Totals.{total_of};
+ghost use Rattle.ts_db.specs.Bounds.{reach_of_all, walk_steps};
 
 use crate::db::Db;
 use std::alloc::AllocError;
@@ -39,6 +40,7 @@ impl Db {
     pub fn total<L: Ledger>(&self, steps: &mut Steps<L>) -> u64
         ensures total { result ≡ total_of self.now.keys }
         ensures counted { steps.old ≤ steps.new }
+        ensures steps { steps.new ≤ steps.old + reach_of_all self.now }
     {
         self.store.total(steps)
     }
@@ -65,6 +67,7 @@ impl Db {
         requires { IsLive self.now.ids id }
         ensures last { (key : Key) → get key self.now.ids ≡ Some id → result ≡ last_of (kept_asked self.now.keys latest key) }
         ensures counted { steps.old ≤ steps.new }
+        ensures steps { steps.new ≡ steps.old }
     {
         self.store.last_of(id, latest, steps)
     }
@@ -85,6 +88,7 @@ impl Db {
         ensures ascending { IfOk result (λ samples. IsAscending samples.items) }
         ensures within { IfOk result (λ samples. between from to samples.items ≡ samples.items) }
         ensures counted { steps.old ≤ steps.new }
+        ensures steps { (key : Key) → get key self.now.ids ≡ Some id → steps.new ≤ steps.old + walk_steps self.now key from to }
     {
         self.store.samples_of(id, from, to, latest, steps)
     }
@@ -101,10 +105,11 @@ impl Db {
         steps: &mut Steps<L>,
     )
         requires live { IsLive self.now.ids id }
-        requires room { 10 ^ 14 ≤ V.room visit.old }
+        requires room { 2 ^ 32 ≤ V.room visit.old }
         ensures visited { (key : Key) → get key self.now.ids ≡ Some id
             → visit.new ≡ visited V.step visit.old (between from to (kept_asked self.now.keys latest key)) }
         ensures counted { steps.old ≤ steps.new }
+        ensures steps { (key : Key) → get key self.now.ids ≡ Some id → steps.new ≤ steps.old + walk_steps self.now key from to }
     {
         self.store.visit_of(id, from, to, latest, visit, steps);
     }
@@ -147,6 +152,7 @@ impl Db {
         ensures before { (key : Key) → get key self.now.ids ≡ Some id
             → result ≡ last_of (at_times (λ u. nat_lt u t) (kept_asked self.now.keys latest key)) }
         ensures counted { steps.old ≤ steps.new }
+        ensures steps { (key : Key) → get key self.now.ids ≡ Some id → steps.new ≤ steps.old + reach_at self.now key }
     {
         self.store.before_of(id, t, latest, steps)
     }
@@ -163,6 +169,7 @@ impl Db {
         ensures ends { (key : Key) → get key self.now.ids ≡ Some id → result ≡ ends_of (kept_asked self.now.keys latest key) }
         ensures bounded { ForSome result AreTimes }
         ensures counted { steps.old ≤ steps.new }
+        ensures steps { (key : Key) → get key self.now.ids ≡ Some id → steps.new ≤ steps.old + reach_at self.now key }
     {
         self.store.ends_of(id, latest, steps)
     }

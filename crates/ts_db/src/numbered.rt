@@ -1,24 +1,25 @@
 // What is kept under the number of a key.
-ghost use Rattle.std.specs.Prelude.{◌≡◌, ◌≤◌, ◌<◌, ◌^◌, nat_lt, length, Some, IfOk};
+ghost use Rattle.std.specs.Prelude.{◌≡◌, ◌≤◌, ◌<◌, ◌^◌, nat_lt, length, Some, IfOk, ◌+◌, ◌*◌};
 ghost use Rattle.ts_sample.specs.Visit.{visited};
 ghost use Rattle.std.specs.Option.{ForSome};
 ghost use Rattle.ts_spec.specs.Key.{Key};
 ghost use Rattle.ts_spec.specs.Keyed.{get};
 ghost use Rattle.ts_spec.specs.KeptQuestions.{kept_asked, kept_labels_at};
 ghost use Rattle.ts_spec.specs.Sample.{MAX_TIME, IsAscending, at_times, between, last_of, put_all};
-ghost use Rattle.ts_series.specs.History.{list_of, IsKept};
+ghost use Rattle.ts_series.specs.History.{list_of, IsKept, reach};
 ghost use Rattle.ts_rules.specs.Rules.{one_of};
 ghost use Rattle.ts_db.specs.Store.{stock_of, IsInOrder, Holds};
-ghost use Rattle.ts_db.specs.Held.{IsLive, AreTimes, ends_of};
+ghost use Rattle.ts_db.specs.Held.{IsLive, AreTimes, ends_of, reach_at};
+ghost use Rattle.ts_db.specs.Bounds.{walk_steps};
 
-use crate::among::{first_with, gather_with, last_with, row_before, row_within, scan_with};
+use crate::among::{first_with, gather, gather_with, last_with, row_before, row_within, scan_with};
 use crate::node::Node;
 use crate::store::Store;
-use std::alloc::{AllocError, Global};
+use std::alloc::AllocError;
 use std::sync::ledger::Ledger;
 use ts_labels::Labels;
 use ts_resp::Word;
-use ts_sample::{Gathered, Id, Sample, Steps, Visit};
+use ts_sample::{Id, Sample, Steps, Visit};
 use ts_series::Series;
 
 impl Store {
@@ -73,6 +74,7 @@ impl Store {
         requires live { IsLive (stock_of self.now).ids id }
         ensures last { (key : Key) → get key (stock_of self.now).ids ≡ Some id → result ≡ last_of (kept_asked (stock_of self.now).keys latest key) }
         ensures counted { steps.old ≤ steps.new }
+        ensures steps { steps.new ≡ steps.old }
     {
         let node = self.node(id);
         last_with(self.asked_row(id, node, latest), node.series.last())
@@ -95,6 +97,7 @@ impl Store {
         ensures ascending { IfOk result (λ samples. IsAscending samples.items) }
         ensures within { IfOk result (λ samples. between from to samples.items ≡ samples.items) }
         ensures counted { steps.old ≤ steps.new }
+        ensures steps { (key : Key) → get key (stock_of self.now).ids ≡ Some id → steps.new ≤ steps.old + walk_steps (stock_of self.now) key from to }
     {
         let node = self.node(id);
         match row_within(from, to, self.asked_row(id, node, latest)) {
@@ -116,10 +119,11 @@ impl Store {
     )
         requires store { IsInOrder self.now }
         requires live { IsLive (stock_of self.now).ids id }
-        requires room { 10 ^ 14 ≤ V.room visit.old }
+        requires room { 2 ^ 32 ≤ V.room visit.old }
         ensures visited { (key : Key) → get key (stock_of self.now).ids ≡ Some id
             → visit.new ≡ visited V.step visit.old (between from to (kept_asked (stock_of self.now).keys latest key)) }
         ensures counted { steps.old ≤ steps.new }
+        ensures steps { (key : Key) → get key (stock_of self.now).ids ≡ Some id → steps.new ≤ steps.old + walk_steps (stock_of self.now) key from to }
     {
         self.known();
         let node = self.node(id);
@@ -143,6 +147,7 @@ impl Store {
         ensures before { (key : Key) → get key (stock_of self.now).ids ≡ Some id
             → result ≡ last_of (at_times (λ u. nat_lt u t) (kept_asked (stock_of self.now).keys latest key)) }
         ensures counted { steps.old ≤ steps.new }
+        ensures steps { (key : Key) → get key (stock_of self.now).ids ≡ Some id → steps.new ≤ steps.old + reach_at (stock_of self.now) key }
     {
         let node = self.node(id);
         let row = row_before(t, self.asked_row(id, node, latest));
@@ -162,29 +167,11 @@ impl Store {
         ensures ends { (key : Key) → get key (stock_of self.now).ids ≡ Some id → result ≡ ends_of (kept_asked (stock_of self.now).keys latest key) }
         ensures bounded { ForSome result AreTimes }
         ensures counted { steps.old ≤ steps.new }
+        ensures steps { (key : Key) → get key (stock_of self.now).ids ≡ Some id → steps.new ≤ steps.old + reach_at (stock_of self.now) key }
     {
         let node = self.node(id);
         ends(&node.series, self.asked_row(id, node, latest), steps)
     }
-}
-
-// The samples of a series between two times, both included.
-fn gather<L: Ledger>(
-    alloc: Global,
-    series: &Series,
-    from: u64,
-    to: u64,
-    steps: &mut Steps<L>,
-) -> Result<Vec<Sample>, AllocError>
-    requires { IsKept series.now }
-    ensures gathered { IfOk result (λ samples. samples.items ≡ between from to (list_of series.now)) }
-    ensures ascending { IfOk result (λ samples. IsAscending samples.items) }
-    ensures within { IfOk result (λ samples. between from to samples.items ≡ samples.items) }
-    ensures counted { steps.old ≤ steps.new }
-{
-    let mut gathered = Gathered::with_room(alloc, series.room_for(from, to))?;
-    series.scan(from, to, &mut gathered, steps);
-    Ok(gathered.into_samples())
 }
 
 // The times of the first and of the last sample of a series with a row.
@@ -193,6 +180,7 @@ fn ends<L: Ledger>(series: &Series, row: Option<Sample>, steps: &mut Steps<L>) -
     ensures ends { result ≡ ends_of (put_all (one_of row) (list_of series.now)) }
     ensures bounded { ForSome result AreTimes }
     ensures counted { steps.old ≤ steps.new }
+    ensures steps { steps.new ≤ steps.old + reach series.now }
 {
     let first = first_with(row, series.first(steps));
     let last = last_with(row, series.last());

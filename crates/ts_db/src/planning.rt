@@ -1,9 +1,10 @@
-ghost use Rattle.std.specs.Prelude.{◌≡◌, ◌≤◌, [], ◌∷◌, None, length, IfOk, IfErr};
+ghost use Rattle.std.specs.Prelude.{◌≡◌, ◌≤◌, [], ◌∷◌, None, length, IfOk, IfErr, ◌+◌};
+ghost use Rattle.slab.specs.Slab as slab;
 ghost use Rattle.ts_series.specs.History.{list_of};
 ghost use Rattle.ts_rules.specs.Rules.{kept_as, IsChanged};
 ghost use Rattle.ts_rules.specs.Plans.{IsPlanned as IsPlannedSo};
 ghost use Rattle.ts_spec.specs.Key.{Key};
-ghost use Rattle.ts_db.specs.Planning.{changed_by, gone_by, rows_by_work, Takes, AllTake, AreChanged, IsFedBy, AreFedBy, first_full, IsUnplanned};
+ghost use Rattle.ts_db.specs.Planning.{changed_by, gone_by, rows_by_work, Takes, AllTake, AreChanged, IsFedBy, AreFedBy, first_full, IsUnplanned, share_of, share_at, shares_of, IsEasyOf, IsEasyAt, AreEasyOf};
 ghost use Rattle.ts_db.specs.Store.{IsInOrder, IsLive, AreLive};
 
 use crate::fault::DbFault;
@@ -39,6 +40,8 @@ impl Store {
         ensures fit { IfOk result (λ planned. first_full self.now.limits.samples self.now.nodes (rows_by_work work.now source.now) (gone_by work.now source.now) rules.now ≡ None) }
         ensures refused { IfErr result (IsUnplanned (first_full self.now.limits.samples self.now.nodes (rows_by_work work.now source.now) (gone_by work.now source.now) rules.now)) }
         ensures counted { steps.old ≤ steps.new }
+        ensures steps { steps.new ≤ steps.old + shares_of self.now.nodes work.now source.now rules.now }
+        ensures easy { AreEasyOf self.now.limits.samples self.now.nodes work.now source.now rules.now → steps.new ≡ steps.old }
     {
         let mut changed = match Vec::with_capacity(self.alloc, rules.len()) {
             Ok(changed) => changed,
@@ -76,6 +79,8 @@ impl Store {
         ensures fits { IfOk result (λ _. first_full self.now.limits.samples self.now.nodes (rows_by_work work source.now) (gone_by work source.now) (rule.now ∷ []) ≡ None) }
         ensures refused { IfErr result (IsUnplanned (first_full self.now.limits.samples self.now.nodes (rows_by_work work source.now) (gone_by work source.now) (rule.now ∷ []))) }
         ensures counted { steps.old ≤ steps.new }
+        ensures steps { steps.new ≤ steps.old + share_at work source.now rule.now (slab.get self.now.nodes rule.now.dest.0) }
+        ensures easy { IsEasyAt self.now.limits.samples work source.now rule.now (slab.get self.now.nodes rule.now.dest.0) → steps.new ≡ steps.old }
     {
         let Some(dest) = self.nodes.get(rule.dest.0) else {
             unreachable!();
@@ -113,6 +118,8 @@ fn made_plan<L: Ledger>(
     requires fits { length (list_of dest.now) ≤ limit }
     ensures planned { (k : Key) → IsPlannedSo limit (changed_by work source.now) (gone_by work source.now (kept_as k rule.now)) (rows_by_work work source.now dest.now.born (kept_as k rule.now)) rule.now dest.now result }
     ensures counted { steps.old ≤ steps.new }
+    ensures steps { steps.new ≤ steps.old + share_of work source.now rule.now dest.now }
+    ensures easy { IsEasyOf limit work source.now rule.now dest.now → steps.new ≡ steps.old }
 {
     match work {
         Work::Write(wrote) => plan_put(rule, source, &wrote, dest, limit, steps),

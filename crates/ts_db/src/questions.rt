@@ -1,9 +1,10 @@
-ghost use Rattle.std.specs.Prelude.{◌≡◌, ◌≤◌, Some, IfOk, IfErr};
+ghost use Rattle.std.specs.Prelude.{◌≡◌, ◌≤◌, Some, IfOk, IfErr, ◌+◌};
 ghost use Rattle.ts_spec.specs.Keyed.{get};
 ghost use Rattle.ts_spec.specs.KeptQuestions.{kept_asked};
 ghost use Rattle.ts_spec.specs.Sample.{IsAscending, between, last_of};
 ghost use Rattle.ts_db.specs.Store.{stock_of, IsInOrder};
 ghost use Rattle.ts_db.specs.Held.{Finds};
+ghost use Rattle.ts_db.specs.Bounds.{walk_steps};
 
 use crate::fault::DbFault;
 use crate::store::Store;
@@ -24,6 +25,7 @@ impl Store {
         ensures last { Finds (get key.now (stock_of self.now).keys) (λ last. last ≡ last_of (kept_asked (stock_of self.now).keys latest key.now)) result }
         ensures refused { IfErr result (λ fault. fault ≡ DbFault.NoKey) }
         ensures counted { steps.old ≤ steps.new }
+        ensures steps { steps.new ≡ steps.old }
     {
         let Some(id) = self.keys.get(key).copied() else {
             return Err(DbFault::NoKey);
@@ -46,6 +48,7 @@ impl Store {
         ensures ascending { IfOk result (λ samples. IsAscending samples.items) }
         ensures within { IfOk result (λ samples. between from to samples.items ≡ samples.items) }
         ensures counted { steps.old ≤ steps.new }
+        ensures steps { steps.new ≤ steps.old + walk_steps (stock_of self.now) key.now from to }
     {
         let Some(id) = self.keys.get(key).copied() else {
             return Err(DbFault::NoKey);

@@ -1,7 +1,8 @@
 // How many samples all keys show together.
-ghost use Rattle.std.specs.Prelude.{◌≤◌, ◌≡◌};
+ghost use Rattle.std.specs.Prelude.{◌≤◌, ◌≡◌, ◌+◌};
 ghost use Rattle.ts_db.specs.Store.{stock_of, IsInOrder};
 ghost use Rattle.ts_db.specs.Totals.{total_of};
+ghost use Rattle.ts_db.specs.Bounds.{reach_of_all};
 
 use crate::store::Store;
 use std::sync::ledger::Ledger;
@@ -13,6 +14,7 @@ impl Store {
         requires { IsInOrder self.now }
         ensures total { result ≡ total_of (stock_of self.now).keys }
         ensures counted { steps.old ≤ steps.new }
+        ensures steps { steps.new ≤ steps.old + reach_of_all (stock_of self.now) }
     {
         let _keys = self.limits.keys;
         let _samples = self.limits.samples;

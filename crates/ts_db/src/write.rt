@@ -1,4 +1,4 @@
-ghost use Rattle.std.specs.Prelude.{◌≡◌, ◌≤◌, Some, IfOk, IfErr};
+ghost use Rattle.std.specs.Prelude.{◌≡◌, ◌≤◌, Some, IfOk, IfErr, ◌+◌};
 ghost use Rattle.ts_spec.specs.Sample.{MAX_TIME};
 ghost use Rattle.ts_spec.specs.Key.{Key};
 ghost use Rattle.ts_spec.specs.Keyed.{get};
@@ -9,6 +9,7 @@ ghost use Rattle.ts_db.specs.declared.node.Node.{Node as TheNode};
 ghost use Rattle.ts_db.specs.Held.{IsOwn};
 ghost use Rattle.ts_db.specs.Store.{stock_of, number_of, IsInOrder, IsDb, IsThere, Holds};
 ghost use Rattle.ts_db.specs.Answering.{KeptNumber};
+ghost use Rattle.ts_db.specs.Bounds.{write_steps, IsEasyAppend};
 
 use crate::fault::{DbFault, fault_at};
 use crate::growing::stays_open;
@@ -39,6 +40,8 @@ impl Store {
         ensures own { IfErr result (IsOwn (stock_of self.old) key) }
         ensures store { IsInOrder self.new }
         ensures counted { steps.old ≤ steps.new }
+        ensures steps { steps.new ≤ steps.old + write_steps (stock_of self.old) key time }
+        ensures easy { IsEasyAppend (stock_of self.old) key time → steps.new ≡ steps.old }
     {
         let Some(id) = self.keys.get(&key).copied() else {
             return self.begin(key, spec, time, value, steps);
@@ -65,15 +68,10 @@ impl Store {
         ensures own { IfErr result (IsOwn (stock_of self.old) key.now) }
         ensures store { IsInOrder self.new }
         ensures counted { steps.old ≤ steps.new }
+        ensures steps { steps.new ≤ steps.old + write_steps (stock_of self.old) key.now time }
+        ensures easy { IsEasyAppend (stock_of self.old) key.now time → steps.new ≡ steps.old }
     {
-        let Some(id) = self.keys.get(key).copied() else {
-            return Err(DbFault::NoKey);
-        };
-        let Some(node) = self.nodes.get(id.0) else {
-            unreachable!();
-        };
-        let how = Merge::By(node.series.options().policy);
-        self.write(id, how, time, value, steps)
+        self.put_by(key, time, value, None, steps)
     }
 
     // Writes to the series of a number, and has the destinations of its rules mended. Answers the time.
@@ -93,6 +91,8 @@ impl Store {
         ensures own { (key : Key) → number_of key self.old.keys.entries ≡ Some id → IfErr result (IsOwn (stock_of self.old) key) }
         ensures store { IsInOrder self.new }
         ensures counted { steps.old ≤ steps.new }
+        ensures steps { (key : Key) → number_of key self.old.keys.entries ≡ Some id → steps.new ≤ steps.old + write_steps (stock_of self.old) key time }
+        ensures easy { (key : Key) → number_of key self.old.keys.entries ≡ Some id → IsEasyAppend (stock_of self.old) key time → steps.new ≡ steps.old }
     {
         let Some(node) = self.nodes.get(id.0) else {
             unreachable!();

@@ -126,12 +126,3 @@ written-few g p last ps h a times time of =
     ap length (members-written g p last ps h a times time of) ∙ length-append (from_until (start g p.time) p.time ps) (p ∷ between (p.time + 1) last ps) in
     let short : g.duration ≤ 10 ^ 14 = h.short in
     omega arith
-
-pub left-few : (g : Grid) (b last from to : ℕ) (ps : List Point) → IsGrid g → IsAscending ps → Every (λ q. q.time ≤ MAX_TIME) ps → start g b ≡ b → IsLastOf g b last → from ≤ to →
-    length (from_until b (min from (last + 1)) ps) + length (between (max b (to + 1)) last ps) ≤ 10 ^ 14
-left-few g b last from to ps h a times begins of order =
-    let few : length (members g b (outside from to ps)) ≤ g.duration = members-few g b (outside from to ps) h.some (ascending-times (λ t. not (is_within from to t)) ps a) in
-    let same : length (members g b (outside from to ps)) ≡ length (from_until b (min from (last + 1)) ps) + length (between (max b (to + 1)) last ps) =
-    ap length (members-left g b last from to ps h a times begins of order) ∙ length-append (from_until b (min from (last + 1)) ps) (between (max b (to + 1)) last ps) in
-    let short : g.duration ≤ 10 ^ 14 = h.short in
-    omega arith

@@ -1,13 +1,15 @@
 -- A deletion that takes no sample, and one up to the greatest time.
-use Rattle.std.proofs.Common.{◌≡◌, ◌≢◌, ℕ, suc, ◌<◌, ◌≤◌, min, Bool, true, false, not, ◌&&◌, cond, if◌then◌else◌, List, [], ◌∷◌, length, Option, None, Some, refl, sym, ap, ◌∙◌, subst, arith}
-use Rattle.std.specs.Prelude.{Result}
+use Rattle.std.proofs.Common.{◌≡◌, ℕ, ◌<◌, ◌≤◌, min, Bool, true, false, not, ◌&&◌, ◌||◌, if◌then◌else◌, List, [], ◌∷◌, length, Option, None, Some, refl, sym, ap, ◌∙◌, subst, arith, eq-eqb}
+use Rattle.std.specs.Prelude.{Result, Ok}
+use Rattle.std.proofs.lemmas.Bool.{false≢true}
 use Rattle.ts_spec.specs.Sample.{Point, MAX_TIME, IsAscending, at, at_times, between, is_within}
-use Rattle.ts_spec.specs.Bucket.{starts}
+use Rattle.ts_spec.specs.Answer.{is_listed}
+use Rattle.ts_spec.specs.Bucket.{Grid, start, starts}
 use Rattle.ts_spec.specs.Key.{Key}
 use Rattle.ts_spec.specs.Valid.{Every}
 use Rattle.ts_spec.specs.Rules.{is_past}
 use Rattle.ts_spec.specs.Mending.{lies_in, running_without, deleted_rule, deleted_rows, loses, rows_of}
-use Rattle.ts_spec.proofs.Samples.{IsBefore, each_before, at-time, at-times, ascending-times, ascending-same}
+use Rattle.ts_spec.proofs.Samples.{at-time, at-times, ascending-times, ascending-same}
 use Rattle.ts_series.specs.History.{History, IsKept, list_of}
 use Rattle.ts_rules.specs.declared.rule.Rule.{Rule}
 use Rattle.ts_rules.specs.declared.plan.RulePlan.{RulePlan}
@@ -18,7 +20,8 @@ use Rattle.ts_rules.specs.PlansOfDeletions.{IsPlanOfDeletion}
 use Rattle.ts_rules.specs.Deletions.{gone_of, left_of, is_lost, rows_left, rule_left}
 use Rattle.ts_rules.proofs.Mended.{stays}
 use Rattle.ts_rules.proofs.DestLeft.{none-pass}
-use Rattle.ts_rules.proofs.Times.{same-test, within, within-from, within-to}
+use Rattle.ts_series.specs.Plan.{Plan}
+use Rattle.ts_rules.proofs.Times.{same-test, times-none, true-unless, within, within-from, within-to}
 
 -- ---- without a sample
 
@@ -45,30 +48,32 @@ module _ (r : Rule) (source h : History) (from to limit : ℕ) (none : length (b
   lost-none t = ap (λ (ps : List Point). is_past r.current t && lies_in r.grid ps t) gone-none ∙ and-false (is_past r.current t)
 
   -- Nothing changes.
-  pub nothing-left : IsChanged (rule_left source from to) r r × IsMendedBy limit (is_lost r source from to) (rows_left r source from to h.born) h None
+  nothing-left : IsChanged (rule_left source from to) r r × IsMendedBy limit (is_lost r source from to) (rows_left r source from to h.born) h None
   nothing-left = (
     subst (λ (ps : List Point). IsChanged (deleted_rule ps (left_of source from to)) r r) (sym gone-none) (same-rule (left_of source from to) r),
     stays limit (is_lost r source from to) (rows_left r source from to h.born) h kept fits
         (ap (rows_of (left_of source from to) h.born (kept_as [] r)) (none-pass (is_lost r source from to) (starts r.grid (left_of source from to)) lost-none)) lost-none,
   )
 
--- ---- up to the greatest time
+  -- So the plan that leaves both as they are is that of the deletion.
+  pub unchanged-planned : (plan : RulePlan) → plan.rule ≡ r → plan.dest ≡ None → IsPlanOfDeletion limit r source from to h (Ok plan)
+  unchanged-planned plan rule dest =
+      subst (λ (x : Rule × Option Plan). IsChanged (rule_left source from to) r x.0 × IsMendedBy limit (is_lost r source from to) (rows_left r source from to h.born) h x.1)
+      (λ i. (sym rule i, sym dest i)) nothing-left
 
--- where a sample goes, the interval begins no later than that
-pub begins-before : (from to : ℕ) (ps : List Point) → IsAscending ps → Every (λ p. p.time ≤ MAX_TIME) ps → length (between from to ps) ≢ 0 → from ≤ min to MAX_TIME
-begins-before from to ps a times some = go ps (each_before (suc MAX_TIME) ps a (λ t p e. (let x : p.time ≤ MAX_TIME = times t p e in omega (arith, x)))) some
-  where
-    go : (qs : List Point) → IsBefore (suc MAX_TIME) qs → length (between from to qs) ≢ 0 → from ≤ min to MAX_TIME
-    go [] k x = absurd (x refl)
-    go (q ∷ qs) k x = pick (is_within from to q.time) refl x (go qs k.1)
-      where
-        pick : (b : Bool) → is_within from to q.time ≡ b → length (cond b (q ∷ between from to qs) (between from to qs)) ≢ 0 → (length (between from to qs) ≢ 0 → from ≤ min to MAX_TIME) → from ≤ min to MAX_TIME
-        pick true e y ih =
-            let low : from ≤ q.time = within-from from to q.time e in
-            let up : q.time ≤ to = within-to from to q.time e in
-            let most : q.time < suc MAX_TIME = k.0 in
-            omega (arith, low, up, most)
-        pick false e y ih = ih y
+-- an interval that ends before it begins has no samples
+pub none-between : (from to : ℕ) (ps : List Point) → to < from → length (between from to ps) ≡ 0
+none-between from to ps h =
+    ap length (times-none (is_within from to) ps (λ t. true-unless (is_within from to t)
+    (λ e. (let low : from ≤ t = within-from from to t e in let up : t ≤ to = within-to from to t e in absurd (omega (arith, h, low, up))))))
+
+-- there are no samples where none lies in a bucket
+pub none-lies : (g : Grid) (ps : List Point) (bs : List ℕ) → ((b : ℕ) → is_listed bs b ≡ lies_in g ps b) → length bs ≡ 0 → length ps ≡ 0
+none-lies g [] bs h e = refl
+none-lies g (p ∷ ps) [] h e = absurd (false≢true (h (start g p.time) ∙ ap (λ (x : Bool). x || lies_in g ps (start g p.time)) (eq-eqb (start g p.time) (start g p.time) refl)))
+none-lies g (p ∷ ps) (b ∷ bs) h e = absurd (omega (arith, e))
+
+-- ---- up to the greatest time
 
 -- a test that is another one at each time of a list picks the same
 alike : (a b : ℕ → Bool) (ps : List Point) → IsAscending ps → ((t : ℕ) (p : Point) → at t ps ≡ Some p → a t ≡ b t) → at_times a ps ≡ at_times b ps

@@ -1,11 +1,14 @@
 pub mod Times
 pub mod Around
+pub mod Sizes
 pub mod Counts
 pub mod CountWritten
-pub mod CountLeft
+pub mod EndsLeft
+pub mod Losing
+pub mod Listed
 pub mod Written
+pub mod EasyWrites
 pub mod Mended
-pub mod Touches
 pub mod Stays
 pub mod Left
 pub mod Spanned

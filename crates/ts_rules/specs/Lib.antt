@@ -6,3 +6,5 @@ pub mod PlansOfWrites
 pub mod Deletions
 pub mod PlansOfDeletions
 pub mod States
+pub mod Shares
+pub mod Lost

@@ -1,11 +1,12 @@
 // A bucket of a source told anew: what a rule counts in it after a write or a deletion.
-ghost use Rattle.std.specs.Prelude.{◌≡◌, ◌≤◌, [], length};
-ghost use Rattle.ts_spec.specs.Sample.{MAX_TIME, outside, put};
+ghost use Rattle.std.specs.Prelude.{◌≡◌, ◌≤◌, ◌+◌, ◌*◌, [], length};
+ghost use Rattle.ts_spec.specs.Sample.{MAX_TIME, between, outside, put};
 ghost use Rattle.ts_spec.specs.Bucket.{start as start_of};
 ghost use Rattle.ts_spec.specs.Mending.{counted_anew};
 ghost use Rattle.ts_sample.specs.Visit.{visited};
-ghost use Rattle.ts_series.specs.History.{list_of};
+ghost use Rattle.ts_series.specs.History.{list_of, reach};
 ghost use Rattle.ts_rules.specs.Rules.{kept_as};
+ghost use Rattle.ts_rules.specs.Shares.{in_buckets, source_share};
 ghost use Rattle.ts_rules.specs.Spans.{from_until};
 
 use crate::rule::Rule;
@@ -23,6 +24,7 @@ pub(crate) fn count_written<L: Ledger>(
 ) -> Running
     ensures running { result ≡ counted_anew (kept_as [] rule.now) (start_of rule.now.grid wrote.now.time) (put wrote.now (list_of source.now)) }
     ensures counted { steps.old ≤ steps.new }
+    ensures bounded { steps.new ≤ steps.old + source_share rule.now source.now wrote.now.time }
 {
     source.known();
     wrote.known();
@@ -36,29 +38,36 @@ pub(crate) fn count_written<L: Ledger>(
     counted.running()
 }
 
-// What is left in the bucket that starts there once the samples from one time to another are gone.
-pub(crate) fn count_left<L: Ledger>(
+// What is left in the bucket of one time, and in that of a later one, once the samples from the one to the other are
+// gone.
+pub(crate) fn ends_left<L: Ledger>(
     rule: &Rule,
     source: &Series,
-    start: u64,
     from: u64,
     to: u64,
     steps: &mut Steps<L>,
-) -> Running
-    requires begins { start_of rule.now.grid start ≡ start }
-    requires time { start ≤ MAX_TIME }
+) -> (Running, Running)
     requires order { from ≤ to }
-    requires bounded { to ≤ MAX_TIME }
-    ensures running { result ≡ counted_anew (kept_as [] rule.now) start (outside from to (list_of source.now)) }
+    requires time { to ≤ MAX_TIME }
+    ensures first { result.0 ≡ counted_anew (kept_as [] rule.now) (start_of rule.now.grid from) (outside from to (list_of source.now)) }
+    ensures last { result.1 ≡ counted_anew (kept_as [] rule.now) (start_of rule.now.grid to) (outside from to (list_of source.now)) }
     ensures counted { steps.old ≤ steps.new }
+    ensures bounded { steps.new + length (between from to (list_of source.now))
+        ≤ steps.old + length (in_buckets rule.now.grid from to (list_of source.now)) + 4 * reach source.now }
 {
     source.known();
     rule.grid.known();
-    let last = rule.grid.last_of(start);
-    let mut counted = Counted::new(rule.made);
-    scan_until(source, start, from.min(last + 1), &mut counted, steps);
-    source.scan(start.max(to + 1), last, &mut counted, steps);
-    counted.running()
+    let first = rule.grid.start_of(from);
+    let last = rule.grid.last_of(to);
+    let mut early = Counted::new(rule.made);
+    scan_until(source, first, from, &mut early, steps);
+    if first == rule.grid.start_of(to) {
+        source.scan(to + 1, last, &mut early, steps);
+        return (early.running(), early.running());
+    }
+    let mut late = Counted::new(rule.made);
+    source.scan(to + 1, last, &mut late, steps);
+    (early.running(), late.running())
 }
 
 // Takes a visitor over the samples from one time on that are before another.
@@ -72,6 +81,7 @@ fn scan_until<V: Visit, L: Ledger>(
     requires { length (from_until from end (list_of source.now)) ≤ V.room visit.old }
     ensures visited { visit.new ≡ visited V.step visit.old (from_until from end (list_of source.now)) }
     ensures counted { steps.old ≤ steps.new }
+    ensures bounded { steps.new ≤ steps.old + length (from_until from end (list_of source.now)) + 2 * reach source.now }
 {
     if from < end {
         source.scan(from, end - 1, visit, steps);

@@ -6,6 +6,7 @@ mod count;
 mod deletion;
 mod fault;
 mod laws;
+mod lost;
 mod mending;
 mod open;
 mod plan;

@@ -1,10 +1,13 @@
 // A destination mended: rows take the place of what it shows.
-ghost use Rattle.std.specs.Prelude.{◌≡◌, ◌≤◌, false, length};
+ghost use Rattle.std.specs.Prelude.{◌≡◌, ◌≤◌, ◌+◌, ◌*◌, false, length};
+ghost use Rattle.std.specs.Option.{ForSome};
 ghost use Rattle.ts_spec.specs.Sample.{MAX_TIME, IsAscending, is_within};
-ghost use Rattle.ts_series.specs.History.{list_of};
+ghost use Rattle.ts_series.specs.History.{list_of, reach};
+ghost use Rattle.ts_series.specs.Mend.{IsRowPast};
 ghost use Rattle.ts_series.specs.Plan.{AreWithin, AreMade};
 ghost use Rattle.ts_rules.specs.Rules.{one_of};
 ghost use Rattle.ts_rules.specs.Plans.{IsMending};
+ghost use Rattle.ts_rules.specs.Shares.{IsPastAll};
 
 use crate::fault::RuleFault;
 use std::sync::ledger::Ledger;
@@ -25,6 +28,8 @@ pub(crate) fn mended<L: Ledger>(
     requires made { AreMade dest.now.born rows.now }
     ensures mended { IsMending limit (is_within from to) rows.now dest.now result }
     ensures counted { steps.old ≤ steps.new }
+    ensures bounded { steps.new ≤ steps.old + 3 * reach dest.now }
+    ensures easy { IsRowPast from to rows.now limit dest.now → steps.new ≡ steps.old }
 {
     match dest.mend(from, to, rows, limit, steps) {
         Ok(plan) => Ok(Some(plan)),
@@ -45,6 +50,8 @@ pub(crate) fn with_row<L: Ledger>(
     requires fits { length (list_of dest.now) ≤ limit }
     ensures mended { IsMending limit (λ t. false) (one_of row) dest.now result }
     ensures counted { steps.old ≤ steps.new }
+    ensures bounded { steps.new ≤ steps.old + 3 * reach dest.now }
+    ensures easy { ForSome row (λ row. IsPastAll limit dest.now row.time) → steps.new ≡ steps.old }
 {
     dest.known();
     match row {

@@ -1,11 +1,14 @@
-ghost use Rattle.std.specs.Prelude.{◌≡◌, ◌≤◌, length};
+ghost use Rattle.std.specs.Prelude.{◌≡◌, ◌≤◌, ◌+◌, None, length};
 ghost use Rattle.ts_series.specs.History.{list_of};
 ghost use Rattle.ts_rules.specs.Rules.{TakesAppended};
 ghost use Rattle.ts_rules.specs.PlansOfWrites.{IsPlanOfWrite};
 ghost use Rattle.ts_rules.specs.PlansOfDeletions.{IsPlanOfDeletion};
+ghost use Rattle.ts_rules.specs.Shares.{write_share, deletion_share, IsEasyWrite};
 
+use crate::count::ends_left;
 use crate::deletion::Deletion;
 use crate::fault::RuleFault;
+use crate::lost::lost_buckets;
 use crate::mending::with_row;
 use crate::plan::RulePlan;
 use crate::rule::Rule;
@@ -29,6 +32,8 @@ pub fn plan_put<L: Ledger>(
     requires fits { length (list_of dest.now) ≤ limit }
     ensures planned { IsPlanOfWrite limit rule.now source.now wrote.now dest.now result }
     ensures counted { steps.old ≤ steps.new }
+    ensures bounded { steps.new ≤ steps.old + write_share rule.now source.now wrote.now dest.now }
+    ensures easy { IsEasyWrite limit rule.now source.now wrote.now dest.now → steps.new ≡ steps.old }
 {
     let (rule, row) = written(rule, source, wrote, dest.born(), steps);
     let dest = with_row(dest, row, limit, steps)?;
@@ -51,22 +56,43 @@ pub fn plan_delete<L: Ledger>(
     requires fits { length (list_of dest.now) ≤ limit }
     ensures planned { IsPlanOfDeletion limit rule.now source.now from to dest.now result }
     ensures counted { steps.old ≤ steps.new }
+    ensures bounded { steps.new ≤ steps.old + deletion_share rule.now source.now from to dest.now }
 {
     source.known();
     dest.known();
-    if !source.has_between(from, to, steps) {
-        return Ok(RulePlan {
-            rule: *rule,
-            dest: None,
-        });
+    let to = to.min(MAX_TIME);
+    if to < from {
+        return Ok(unchanged(rule));
     }
+    let lost = match lost_buckets(alloc, rule.grid, source, from, to, steps) {
+        Ok(lost) => lost,
+        Err(fault) => return Err(RuleFault::Memory(fault)),
+    };
+    if lost.is_empty() {
+        return Ok(unchanged(rule));
+    }
+    let (first, last) = ends_left(rule, source, from, to, steps);
     let deletion = Deletion {
         rule,
         source,
         from,
-        to: to.min(MAX_TIME),
+        to,
+        lost: &lost,
+        first,
+        last,
     };
     let dest = deletion.dest_left(alloc, dest, limit, steps)?;
-    let rule = deletion.rule_left(steps);
+    let rule = deletion.rule_left();
     Ok(RulePlan { rule, dest })
+}
+
+// The plan that leaves a rule and its destination as they are.
+fn unchanged(rule: &Rule) -> RulePlan
+    ensures rule { result.rule ≡ rule.now }
+    ensures dest { result.dest ≡ None }
+{
+    RulePlan {
+        rule: *rule,
+        dest: None,
+    }
 }

@@ -1,153 +1,17 @@
-// Rules over two series: what a write and a deletion come to, with ample memory. Each rule tells the sum of ten
-// milliseconds.
-ghost use Rattle.std.specs.Prelude.{◌≡◌, ◌≤◌, ◌<◌, length, IfSome};
-ghost use Rattle.ts_rules.specs.Plans.{IsForDest};
+// Rules over two series: what a write and a deletion come to, with ample memory.
+mod case;
+
+ghost use Rattle.std.specs.Prelude.{◌≡◌, ◌<◌};
 
 use super::*;
+use crate::tests::case::{
+    Came, Case, Change, EMPTY, commit, empty, is_latest, is_shown, rule, sample, write,
+};
 use std::alloc::Global;
 use std::marker::Brand;
 use std::sync::ledger::{Blank, Ledger};
 use std::test::*;
-use ts_agg::{Aggregator, Running};
-use ts_bucket::Grid;
-use ts_sample::{Gathered, Id, MAX_TIME, Sample, Steps, Units};
-use ts_series::{Encoding, Merge, Options, Policy, Series, SeriesPlan};
-
-// What is done to the source.
-#[derive(Clone, Copy)]
-enum Change {
-    Write(u64, i128),
-    Delete(u64, u64),
-}
-
-// Times and millionths: of the source before the rule was made and since then, of the open bucket, and of the
-// destination; then those of the destination and of its latest sample after the change, under a limit.
-#[derive(Clone, Copy)]
-struct Case {
-    earlier: &'static [(u64, i128)],
-    source: &'static [(u64, i128)],
-    current: Option<u64>,
-    counted: &'static [i128],
-    dest: &'static [(u64, i128)],
-    limit: u32,
-    change: Change,
-    comes: Came,
-}
-
-#[derive(Clone, Copy)]
-enum Came {
-    Shown(&'static [(u64, i128)], Option<(u64, i128)>),
-    Full,
-}
-
-const EMPTY: Case = Case {
-    earlier: &[],
-    source: &[],
-    current: None,
-    counted: &[],
-    dest: &[],
-    limit: 4,
-    change: Change::Write(1, 5),
-    comes: Came::Shown(&[], Some((0, 5))),
-};
-
-fn sample(time: u64, value: i128) -> Option<Sample> {
-    if time > MAX_TIME {
-        return None;
-    }
-    let value = Units::new(value)?;
-    Some(Sample {
-        time,
-        value,
-        made: 1,
-    })
-}
-
-// A rule whose open bucket counts these.
-fn rule(current: Option<u64>, counted: &[i128]) -> Option<Rule>
-    requires { length counted.now ≤ 100 }
-    ensures { IfSome result (λ rule. rule.running.count ≤ 100) }
-{
-    let current = current.filter(|time| *time <= MAX_TIME);
-    let mut running = Running::new();
-    for millionths in counted {
-        running.push(&sample(0, *millionths)?);
-    }
-    Some(Rule {
-        dest: Id(7),
-        agg: Aggregator::Sum,
-        grid: Grid::new(0, 10)?,
-        made: 1,
-        current,
-        running,
-    })
-}
-
-fn write<L: Ledger>(
-    series: &mut Series,
-    samples: &[(u64, i128)],
-    steps: &mut Steps<L>,
-) -> Option<()> {
-    for (time, value) in samples {
-        let sample = sample(*time, *value)?;
-        let plan = series
-            .put(sample.time, sample.value, Merge::Set, 100, steps)
-            .ok()?;
-        series.commit(plan);
-    }
-    Some(())
-}
-
-fn empty(alloc: Global) -> Series {
-    Series::new(
-        alloc,
-        Options {
-            retention: 0,
-            encoding: Encoding::Compressed,
-            chunk_size: 4096,
-            policy: Policy::Block,
-        },
-    )
-}
-
-fn is_at(sample: Sample, (time, value): (u64, i128)) -> bool {
-    sample.time == time && sample.value.get() == value
-}
-
-fn is_latest(sample: Option<Sample>, wanted: Option<(u64, i128)>) -> bool {
-    match (sample, wanted) {
-        (None, None) => true,
-        (Some(sample), Some(wanted)) => is_at(sample, wanted),
-        _ => false,
-    }
-}
-
-// Whether a series shows these.
-fn is_shown<L: Ledger>(
-    alloc: Global,
-    series: &Series,
-    wanted: &[(u64, i128)],
-    steps: &mut Steps<L>,
-) -> Option<bool> {
-    let mut gathered = Gathered::with_room(alloc, series.room_for(0, MAX_TIME)).ok()?;
-    series.scan(0, MAX_TIME, &mut gathered, steps);
-    let samples = gathered.into_samples();
-    for (sample, wanted) in samples.iter().zip(wanted) {
-        if !is_at(*sample, *wanted) {
-            return Some(false);
-        }
-    }
-    Some(samples.len() == wanted.len())
-}
-
-fn commit(dest: &mut Series, plan: Option<SeriesPlan>)
-    requires { IsForDest plan dest.old }
-{
-    match plan {
-        None => {}
-        Some(plan) => dest.commit(plan),
-    }
-}
+use ts_sample::{Id, Steps};
 
 // Whether a change comes to what is wanted, or none where it can't be made at all.
 fn is_met<L: Ledger>(alloc: Global, blank: Blank, case: &Case) -> Option<bool>
@@ -303,6 +167,21 @@ fn deletions(rt: HostRuntime) {
         Case {
             change: Change::Delete(0, u64::MAX),
             comes: Came::Shown(&[(15, 9)], None),
+            ..case
+        },
+        Case {
+            source: &[(1, 1), (35, 1)],
+            dest: &[(0, 1), (10, 7), (20, 8)],
+            change: Change::Delete(0, 29),
+            comes: Came::Shown(&[(10, 7), (20, 8)], Some((30, 1))),
+            ..case
+        },
+        Case {
+            source: &[(1, 1), (12, 1)],
+            current: Some(10),
+            dest: &[(0, 1)],
+            change: Change::Delete(1, 35),
+            comes: Came::Shown(&[], None),
             ..case
         },
         Case {

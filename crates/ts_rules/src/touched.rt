@@ -1,62 +1,64 @@
 // The buckets of a rule that a deletion on its source touches.
-ghost use Rattle.std.specs.Prelude.{◌≡◌, ◌≤◌};
+ghost use Rattle.std.specs.Prelude.{◌≡◌, ◌≤◌, true, []};
 ghost use Rattle.ts_spec.specs.Sample.{MAX_TIME};
 ghost use Rattle.ts_spec.specs.Rules.{is_past};
-ghost use Rattle.ts_spec.specs.Mending.{lies_in};
-ghost use Rattle.ts_rules.specs.Rules.{one_of, IsChanged};
-ghost use Rattle.ts_rules.specs.Deletions.{gone_of, is_lost, row_left, rule_left};
+ghost use Rattle.ts_spec.specs.Mending.{counted_anew, lies_in};
+ghost use Rattle.ts_rules.specs.Rules.{kept_as, one_of, IsChanged};
+ghost use Rattle.ts_rules.specs.Deletions.{gone_of, is_lost, left_of, row_left, rule_left};
 
-use crate::count::count_left;
 use crate::deletion::Deletion;
 use crate::open::{opened, row};
 use crate::rule::Rule;
-use std::sync::ledger::Ledger;
-use ts_sample::{Sample, Steps};
+use ts_agg::Running;
+use ts_sample::Sample;
 
 impl Deletion<'_> {
     // The rule after it: the open bucket is told anew where it held a sample that goes.
-    pub(crate) fn rule_left<L: Ledger>(&self, steps: &mut Steps<L>) -> Rule
-        ensures rule { IsChanged (rule_left self.now.source.now self.now.from self.now.to) self.now.rule.now result }
-        ensures counted { steps.old ≤ steps.new }
+    pub(crate) fn rule_left(&self) -> Rule
+        ensures { IsChanged (rule_left self.now.source.now self.now.from self.now.to) self.now.rule.now result }
     {
         let Some(open) = self.rule.current else {
             return *self.rule;
         };
-        if !self.touches(open, steps) {
+        if !self.touches(open) {
             return *self.rule;
         }
-        self.rule.grid.known();
-        let running = count_left(self.rule, self.source, open, self.from, self.to, steps);
-        opened(self.rule, Some(open), running)
+        opened(self.rule, Some(open), self.left_in(open))
     }
 
-    // The row of the bucket that starts there, if that is closed, lost a sample and has some left. `born` is the
-    // destination's.
-    pub(crate) fn row_left<L: Ledger>(
-        &self,
-        start: u64,
-        born: u32,
-        steps: &mut Steps<L>,
-    ) -> Option<Sample>
-        requires { start ≤ MAX_TIME }
-        ensures row { one_of result ≡ row_left self.now.rule.now self.now.source.now self.now.from self.now.to born start }
-        ensures counted { steps.old ≤ steps.new }
+    // What is left in a bucket that holds a sample that goes.
+    fn left_in(&self, start: u64) -> Running
+        requires { lies_in self.now.rule.now.grid (gone_of self.now.source.now self.now.from self.now.to) start ≡ true }
+        ensures { result ≡ counted_anew (kept_as [] self.now.rule.now) start (left_of self.now.source.now self.now.from self.now.to) }
     {
-        if !self.loses(start, steps) {
+        let grid = &self.rule.grid;
+        if start == grid.start_of(self.from) {
+            self.first
+        } else if start == grid.start_of(self.to) {
+            self.last
+        } else {
+            Running::new()
+        }
+    }
+
+    // The row of the bucket that starts there and has this left, if it is closed, lost a sample and has some left.
+    // `born` is the destination's.
+    pub(crate) fn row_left(&self, start: u64, left: &Running, born: u32) -> Option<Sample>
+        requires time { start ≤ MAX_TIME }
+        requires left { left.now ≡ counted_anew (kept_as [] self.now.rule.now) start (left_of self.now.source.now self.now.from self.now.to) }
+        ensures { one_of result ≡ row_left self.now.rule.now self.now.source.now self.now.from self.now.to born start }
+    {
+        if !self.loses(start) {
             return None;
         }
-        self.rule.grid.known();
-        let running = count_left(self.rule, self.source, start, self.from, self.to, steps);
-        row(self.rule.agg, born, start, &running)
+        row(self.rule.agg, born, start, left)
     }
 
     // Whether the bucket that starts there is closed, and holds a sample that goes.
-    pub(crate) fn loses<L: Ledger>(&self, start: u64, steps: &mut Steps<L>) -> bool
-        requires { start ≤ MAX_TIME }
-        ensures lost { result ≡ is_lost self.now.rule.now self.now.source.now self.now.from self.now.to start }
-        ensures counted { steps.old ≤ steps.new }
+    pub(crate) fn loses(&self, start: u64) -> bool
+        ensures { result ≡ is_lost self.now.rule.now self.now.source.now self.now.from self.now.to start }
     {
-        self.is_closed(start) && self.touches(start, steps)
+        self.is_closed(start) && self.touches(start)
     }
 
     // Whether the bucket that starts there is before the open one.
@@ -70,19 +72,9 @@ impl Deletion<'_> {
     }
 
     // Whether a bucket starts there that holds a sample that goes.
-    fn touches<L: Ledger>(&self, start: u64, steps: &mut Steps<L>) -> bool
-        requires { start ≤ MAX_TIME }
-        ensures touches { result ≡ lies_in self.now.rule.now.grid (gone_of self.now.source.now self.now.from self.now.to) start }
-        ensures counted { steps.old ≤ steps.new }
+    fn touches(&self, start: u64) -> bool
+        ensures { result ≡ lies_in self.now.rule.now.grid (gone_of self.now.source.now self.now.from self.now.to) start }
     {
-        self.source.known();
-        self.rule.grid.known();
-        let grid = &self.rule.grid;
-        if grid.start_of(start) != start {
-            return false;
-        }
-        let from = self.from.max(start);
-        let to = self.to.min(grid.last_of(start));
-        self.source.has_between(from, to, steps)
+        self.lost.binary_search(&start).is_ok()
     }
 }

@@ -1,5 +1,5 @@
 // What a write to a source comes to for a rule of it.
-ghost use Rattle.std.specs.Prelude.{◌≡◌, ◌≤◌, ◌^◌, ◌<◌, true, [], if◌then◌else◌};
+ghost use Rattle.std.specs.Prelude.{◌≡◌, ◌≤◌, ◌+◌, ◌^◌, ◌<◌, true, [], if◌then◌else◌};
 ghost use Rattle.ts_spec.specs.Sample.{put};
 ghost use Rattle.ts_spec.specs.Bucket.{start as start_of};
 ghost use Rattle.ts_spec.specs.Aggregate.{nothing, push};
@@ -7,6 +7,7 @@ ghost use Rattle.ts_spec.specs.Rules.{is_append};
 ghost use Rattle.ts_spec.specs.Mending.{counted_anew};
 ghost use Rattle.ts_series.specs.History.{list_of};
 ghost use Rattle.ts_rules.specs.Rules.{kept_as, one_of, IsChanged, TakesAppended};
+ghost use Rattle.ts_rules.specs.Shares.{source_share, IsNotClosed};
 ghost use Rattle.ts_rules.specs.Writes.{rule_after, row_told};
 
 use crate::count::count_written;
@@ -30,6 +31,8 @@ pub(crate) fn written<L: Ledger>(
     ensures rule { IsChanged (rule_after source.now wrote.now) rule.now result.0 }
     ensures row { one_of result.1 ≡ row_told source.now wrote.now born rule.now }
     ensures counted { steps.old ≤ steps.new }
+    ensures bounded { steps.new ≤ steps.old + source_share rule.now source.now wrote.now.time }
+    ensures easy { is_append wrote.now.time source.now.high ≡ true → IsNotClosed rule.now wrote.now.time → steps.new ≡ steps.old }
 {
     rule.grid.known();
     let start = rule.grid.start_of(wrote.time);
@@ -53,6 +56,8 @@ fn grown<L: Ledger>(rule: &Rule, source: &Series, wrote: &Sample, steps: &mut St
     ensures running { result ≡ (if is_append wrote.now.time source.now.high then push rule.now.running wrote.now
         else counted_anew (kept_as [] rule.now) (start_of rule.now.grid wrote.now.time) (put wrote.now (list_of source.now))) }
     ensures counted { steps.old ≤ steps.new }
+    ensures bounded { steps.new ≤ steps.old + source_share rule.now source.now wrote.now.time }
+    ensures easy { is_append wrote.now.time source.now.high ≡ true → steps.new ≡ steps.old }
 {
     if is_past(wrote.time, source.high()) {
         pushed(rule.running, wrote)

@@ -36,3 +36,4 @@ pub mod InPlace
 pub mod FilledChunks
 pub mod TimeFrom
 pub mod OneRow
+pub mod RowPast

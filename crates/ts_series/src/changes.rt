@@ -5,7 +5,7 @@ ghost use Rattle.ts_sample.specs.Chunk.{IsPast};
 ghost use Rattle.ts_series.specs.History.{list_of, reach, IsKept, KeepsLimits};
 ghost use Rattle.ts_series.specs.Plan.{IsFor, after, Cuts, Alters, AreWithin, AreMade, options_with};
 ghost use Rattle.ts_series.specs.Put.{met, Answers};
-ghost use Rattle.ts_series.specs.Mend.{IsMend};
+ghost use Rattle.ts_series.specs.Mend.{IsMend, IsRowPast};
 
 use crate::append::Append;
 use crate::plan::{PutFault, SeriesPlan};
@@ -142,6 +142,7 @@ impl Series {
         ensures answer { IsMend from to rows.now limit self.now result }
         ensures counted { steps.old ≤ steps.new }
         ensures bounded { steps.new ≤ steps.old + 3 * reach self.now }
+        ensures easy { IsRowPast from to rows.now limit self.now → steps.new ≡ steps.old }
     {
         match &self.lines {
             Lines::Plain(line) => {

@@ -1,10 +1,10 @@
-ghost use Rattle.std.specs.Prelude.{◌≡◌, ◌≤◌, ◌+◌, ◌*◌, nat_lt, nat_le, length, IfOk};
+ghost use Rattle.std.specs.Prelude.{◌≡◌, ℕ, ◌≤◌, ◌+◌, ◌*◌, nat_lt, nat_le, length, IfOk};
 ghost use Rattle.ts_spec.specs.Sample.{IsAscending, at_times, between, outside};
 ghost use Rattle.ts_spec.specs.Mending.{high_with};
 ghost use Rattle.ts_series.specs.Held.{points};
 ghost use Rattle.ts_series.specs.History.{list_of, reach};
 ghost use Rattle.ts_series.specs.Plan.{AreWithin, AreMade, IsForIn, after};
-ghost use Rattle.ts_series.specs.Mend.{IsMend, mended_list};
+ghost use Rattle.ts_series.specs.Mend.{IsMend, IsRowPast, mended_list};
 
 use crate::edge::{edge_at, high_after};
 use crate::edit::{Interval, Rows};
@@ -34,6 +34,7 @@ impl<C: Chunk> Line<C> {
         ensures answer { IsMend from to rows.now limit self.now result }
         ensures counted { steps.old ≤ steps.new }
         ensures bounded { steps.new ≤ steps.old + 3 * reach self.now }
+        ensures easy { IsRowPast from to rows.now limit self.now → steps.new ≡ steps.old }
     {
         match self.mended(from, to, rows, steps) {
             Ok((plan, removed)) => {
@@ -65,6 +66,7 @@ impl<C: Chunk> Line<C> {
         ensures removed { IfOk result (λ r. r.1 ≡ length (between from to (points self.now.held))) }
         ensures counted { steps.old ≤ steps.new }
         ensures bounded { steps.new ≤ steps.old + 2 * reach self.now }
+        ensures easy { (limit : ℕ) → IsRowPast from to rows.now limit self.now → steps.new ≡ steps.old }
     {
         let size = new_limit(self.options.chunk_size);
         let (change, removed) = self.chunks.mended(self.alloc, from, to, rows, size, steps)?;
@@ -99,6 +101,7 @@ impl<C: Chunk> Line<C> {
         ensures exceeds { result ≡ nat_lt limit (length (mended_list from to rows.now self.now)) }
         ensures counted { steps.old ≤ steps.new }
         ensures bounded { steps.new ≤ steps.old + reach self.now }
+        ensures easy { IsRowPast from to rows.now limit self.now → steps.new ≡ steps.old }
     {
         if self.chunks.len().saturating_add(rows.len()) <= limit as usize {
             return false;

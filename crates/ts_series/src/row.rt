@@ -26,6 +26,7 @@ impl<C: Chunk> Chunks<C> {
         ensures removed { IfOk result (λ r. r.1 ≡ length (between row.now.time row.now.time (points self.now))) }
         ensures counted { steps.old ≤ steps.new }
         ensures bounded { steps.new ≤ steps.old + 2 * longest self.now.pieces }
+        ensures easy { IsPast (last_of (points self.now)) row.now.time → steps.new ≡ steps.old }
     {
         let removed = self.count_at(row.time, steps);
         let change = self.with_sample(alloc, row, chunk_size, steps)?;
@@ -70,9 +71,13 @@ impl<C: Chunk> Chunks<C> {
         ensures count { result ≡ length (between time time (points self.now)) }
         ensures counted { steps.old ≤ steps.new }
         ensures bounded { steps.new ≤ steps.old + longest self.now.pieces }
+        ensures easy { IsPast (last_of (points self.now)) time → steps.new ≡ steps.old }
     {
         // Does nothing: where a field is read, the order of the chunks is known.
         let _ = &self.chunks;
+        if !self.is_late(time) {
+            return 0;
+        }
         match self.at(time, steps) {
             None => 0,
             Some(_) => 1,

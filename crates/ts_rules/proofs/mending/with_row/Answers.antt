@@ -3,6 +3,7 @@ use Rattle.ts_spec.specs.Sample.{Point}
 use Rattle.ts_rules.specs.Rules.{one_of}
 use Rattle.ts_rules.specs.Plans.{IsMending}
 use Rattle.ts_rules.proofs.Mended.{stays, mending-row}
+use Rattle.ts_rules.specs.Shares.{IsPastAll}
 use Rattle.ts_rules.proofs.mending.with_row.Goals as goal
 
 pub returns-in-None-clause-mended : goal.returns-in-None-clause-mended
@@ -12,3 +13,9 @@ pub returns-in-Some-clause-mended : goal.returns-in-Some-clause-mended
 returns-in-Some-clause-mended g c =
     subst (λ (o : Option Point). IsMending c.args.limit (λ t. false) (one_of o) c.args.dest.now c.mended.result) (sym c.in-Some.is)
     (mending-row c.args.limit c.row.inside.time c.in-Some.row c.args.dest.now c.known.ensures.kept (ap (λ (p : Point). p.time) c.row.view_is) c.mended.result c.mended.ensures.mended)
+
+pub returns-in-Some-clause-easy : goal.returns-in-Some-clause-easy
+returns-in-Some-clause-easy g c = λ all. (
+    let past : IsPastAll c.args.limit c.args.dest.now c.row.inside.time =
+    subst (λ (p : Point). IsPastAll c.args.limit c.args.dest.now p.time) (sym c.row.view_is) (all c.in-Some.row c.in-Some.is) in
+    c.mended.ensures.easy (record { one = refl; here = refl; past = past.past; few = past.few }))

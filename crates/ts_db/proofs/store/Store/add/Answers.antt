@@ -36,3 +36,9 @@ returns-clause-added g c =
 pub write-requires-clause-there : goal.write-requires-clause-there
 write-requires-clause-there g c =
     record { key = c.args.key; node = c.in-Some-get.node.now; holds = record { number = sym (c.in-Some.ensures ∙ c.get.ensures.value); node = sym c.in-Some-get.ensures } }
+
+pub returns-clause-steps : goal.returns-clause-steps
+returns-clause-steps g c = c.write.ensures.steps c.args.key (sym (c.in-Some.ensures ∙ c.get.ensures.value))
+
+pub returns-clause-easy : goal.returns-clause-easy
+returns-clause-easy g c = c.write.ensures.easy c.args.key (sym (c.in-Some.ensures ∙ c.get.ensures.value))

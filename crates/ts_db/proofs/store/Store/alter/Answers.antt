@@ -1,11 +1,11 @@
-use Rattle.std.proofs.Common.{refl, sym, ◌∙◌, ap}
+use Rattle.std.proofs.Common.{refl, sym, ◌∙◌, ap, arith}
 use Rattle.ts_spec.specs.KeptStep.{kept_alter_at}
 use Rattle.ts_labels.specs.Spec.{change_of}
 use Rattle.ts_series.proofs.Effects.{alters-is}
-use Rattle.ts_db.specs.Held.{Stock}
-use Rattle.ts_db.specs.Store.{stock_of, Holds, IsNode}
+use Rattle.ts_db.specs.Store.{stock_of, contents_of, Contents, Holds, IsNode}
 use Rattle.ts_db.proofs.Storing.{missing}
 use Rattle.ts_db.proofs.Changing.{few-altered, altered-within, alter-longer, alter-answers}
+use Rattle.ts_db.proofs.Reaches.{reach-held}
 use Rattle.ts_db.proofs.store.Store.alter.Goals as goal
 
 pub returns-in_default-clause-altered : goal.returns-in_default-clause-altered
@@ -36,7 +36,17 @@ apply-requires-clause-ready g c =
 pub returns-in-Ok-clause-altered : goal.returns-in-Ok-clause-altered
 returns-in-Ok-clause-altered g c =
     let holds : Holds c.args.self.now c.args.key.now c.in-Some.id c.in-Some-get.node.now = record { number = sym (c.in-Some.ensures ∙ c.get.ensures.value); node = sym c.in-Some-get.ensures } in (
-      alter-answers c.args.self.now c.requires c.args.key.now c.in-Some.id c.in-Some-get.node.now holds (change_of c.args.change) c.in-Ok.plan (stock_of c.apply.new.self)
+      alter-answers c.args.self.now c.requires c.args.key.now c.in-Some.id c.in-Some-get.node.now holds (change_of c.args.change) c.in-Ok.plan (contents_of c.apply.new.self)
           (sym c.are_too_many.ensures ∙ c.if-are_too_many.false) (alters-is _ c.in-Ok.plan c.in-Ok.ensures.options) (c.apply.ensures.applied c.args.key.now c.in-Some-get.node.now holds),
-      ap (λ (x : Stock). x.limits) (c.apply.ensures.applied c.args.key.now c.in-Some-get.node.now holds),
+      ap (λ (x : Contents). x.limits) (c.apply.ensures.applied c.args.key.now c.in-Some-get.node.now holds),
     )
+
+pub returns-in-Ok-clause-steps : goal.returns-in-Ok-clause-steps
+returns-in-Ok-clause-steps g c =
+    let holds : Holds c.args.self.now c.args.key.now c.in-Some.id c.in-Some-get.node.now = record { number = sym (c.in-Some.ensures ∙ c.get.ensures.value); node = sym c.in-Some-get.ensures } in
+    omega (arith, c.alter.ensures.bounded, reach-held c.args.self.now c.args.key.now c.in-Some.id c.in-Some-get.node.now holds)
+
+pub returns-in-Err-clause-steps : goal.returns-in-Err-clause-steps
+returns-in-Err-clause-steps g c =
+    let holds : Holds c.args.self.now c.args.key.now c.in-Some.id c.in-Some-get.node.now = record { number = sym (c.in-Some.ensures ∙ c.get.ensures.value); node = sym c.in-Some-get.ensures } in
+    omega (arith, c.alter.ensures.bounded, reach-held c.args.self.now c.args.key.now c.in-Some.id c.in-Some-get.node.now holds)

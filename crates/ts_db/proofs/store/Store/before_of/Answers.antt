@@ -1,9 +1,10 @@
-use Rattle.std.proofs.Common.{List, sym, ap, ◌∙◌}
+use Rattle.std.proofs.Common.{List, sym, ap, ◌∙◌, arith}
 use Rattle.std.specs.Prelude.{nat_lt}
 use Rattle.ts_spec.specs.Sample.{Point, at_times, last_of}
 use Rattle.ts_spec.proofs.Samples.{ascending-times}
 use Rattle.ts_series.specs.History.{list_of}
 use Rattle.ts_db.proofs.Rows.{before-put}
+use Rattle.ts_db.proofs.Reaches.{reach-held}
 use Rattle.ts_db.proofs.store.Store.before_of.Goals as goal
 
 pub returns-clause-before : goal.returns-clause-before
@@ -12,3 +13,6 @@ returns-clause-before g c = λ key is.
     c.last_with.ensures (at_times (λ u. nat_lt u c.args.t) list) (ascending-times (λ u. nat_lt u c.args.t) list c.node-node.ensures.kept.ascending) c.before-2.ensures.before
     ∙ ap last_of (before-put c.args.t c.asked_row.result c.row_before-row.result list c.node-node.ensures.kept.ascending c.row_before-row.ensures)
     ∙ ap (λ (ps : List Point). last_of (at_times (λ u. nat_lt u c.args.t) ps)) (sym (c.asked_row.ensures key c.node-node.result.now (c.node-node.ensures.holds key is)))
+
+pub returns-clause-steps : goal.returns-clause-steps
+returns-clause-steps g c = λ key is. omega (arith, c.before-2.ensures.bounded, reach-held c.args.self.now key c.args.id c.node-node.result.now (c.node-node.ensures.holds key is))

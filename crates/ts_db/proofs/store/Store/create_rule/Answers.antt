@@ -1,8 +1,7 @@
 use Rattle.std.proofs.Common.{◌≡◌, false, refl, sym, ◌∙◌, ap}
 use Rattle.ts_spec.specs.Key.{same}
 use Rattle.ts_spec.specs.Response.{Done}
-use Rattle.ts_db.specs.Held.{Stock}
-use Rattle.ts_db.specs.Store.{stock_of, Holds}
+use Rattle.ts_db.specs.Store.{stock_of, Contents, Holds}
 use Rattle.ts_db.proofs.Applying.{there}
 use Rattle.ts_db.proofs.Storing.{missing}
 use Rattle.ts_db.proofs.Freed.{live-after}
@@ -84,6 +83,6 @@ returns-clause-ruled c =
     let done = both-ruled s c.requires.store c.args.source.now c.args.dest.now c.in-Some.from c.in-Some-copied.to n.0 d.0 holds other apart c.args.agg c.args.grid c.add_rule.new.self c.set_source.new.self
     c.add_rule.ensures.elsewhere c.in-Ok.ensures.added c.set_source.ensures.set in (
       unbarred-answer s c.requires.store c.args.source.now c.args.dest.now c.in-Some.from c.in-Some-copied.to n.0 d.0 holds other apart c.args.agg c.args.grid (c.in_default-barred.ensures.barred n.0 d.0 n.1 d.1)
-          ∙ ap (λ (x : Stock). record { keys = x.keys; response = Done }) (sym done),
-      ap (λ (x : Stock). x.limits) done,
+          ∙ ap (λ (x : Contents). record { keys = x.keys; response = Done }) (sym done),
+      ap (λ (x : Contents). x.limits) done,
     )

@@ -7,14 +7,14 @@ use Rattle.ts_series.specs.Plan.{cuts, with_change}
 use Rattle.ts_series.proofs.Effects.{cuts-is}
 use Rattle.ts_db.specs.declared.node.Node.{Node}
 use Rattle.ts_db.specs.declared.work.Work.TheVariants.{Delete}
-use Rattle.ts_db.specs.Held.{Stock}
-use Rattle.ts_db.specs.Planning.{changed_by, gone_by, rows_by_work}
-use Rattle.ts_db.specs.Store.{kept_at, stock_of, IsNode}
+use Rattle.ts_db.specs.Planning.{changed_by, gone_by, rows_by_work, shares_of}
+use Rattle.ts_db.specs.Store.{kept_at, contents_of, Contents, IsNode, Holds}
 use Rattle.ts_db.specs.Answering.{node_after}
 use Rattle.ts_db.proofs.Known.{distinct, links}
 use Rattle.ts_db.proofs.Unplanned.{destination-own}
 use Rattle.ts_db.proofs.Working.{ArePlanned, planned-for, unplanned-for, changed-live, changed-grids, takes-deleted, is-feed, still-fed, worked}
 use Rattle.ts_db.proofs.Deleting.{cut-within, deleted-few, deleted-answers, undeleted-answers}
+use Rattle.ts_db.proofs.EasyWrites.{deletion-total}
 use Rattle.ts_db.proofs.store.Store.delete.Goals as goal
 
 pub plan_rules-requires-clause-room : goal.plan_rules-requires-clause-room
@@ -77,12 +77,12 @@ returns-clause-deleted g c key n holds =
     subst (λ (x : Node). c.in-Ok.plan ≡ with_change c.in-Ok.plan (cuts c.args.from c.args.to (length (between c.args.from c.args.to (list_of x.series))))) it
     (cuts-is c.args.from c.args.to (length (between c.args.from c.args.to (list_of c.in-Some.node.now.series))) c.in-Ok.plan c.in-Ok.ensures.cut) in
     let done = worked c.args.self.now c.requires.db key c.args.id n holds c.apply.new.self c.apply.ensures.elsewhere (rows_by_work work n.series) (gone_by work n.series)
-    (kept_at c.args.self.now.nodes (node_after c.in-Ok.plan None (Some c.in-Ok-plan_rules.planned.rules) n)) (stock_of c.feed.new.self) (c.apply.ensures.applied key n holds)
+    (kept_at c.args.self.now.nodes (node_after c.in-Ok.plan None (Some c.in-Ok-plan_rules.planned.rules) n)) (contents_of c.feed.new.self) (c.apply.ensures.applied key n holds)
     (c.feed.ensures.fed (rows_by_work work n.series) (gone_by work n.series) n.rules.items
     (still-fed c.args.self.now c.requires.db key c.args.id n holds c.apply.new.self c.apply.ensures.elsewhere (rows_by_work work n.series) (gone_by work n.series) c.in-Ok-plan_rules.planned.plans.items planned.fed)
     (distinct c.args.self.now n.rules.items (links c.args.self.now c.requires.db key c.args.id n holds).apart)) in (
-      deleted-answers c.args.self.now c.requires.db key c.args.id n holds c.args.from c.args.to c.in-Ok.plan c.in-Ok-plan_rules.planned.rules c.removed-removed.result (stock_of c.feed.new.self) cut c.removed-removed.ensures planned.changed planned.fit done,
-      ap (λ (x : Stock). x.limits) done,
+      deleted-answers c.args.self.now c.requires.db key c.args.id n holds c.args.from c.args.to c.in-Ok.plan c.in-Ok-plan_rules.planned.rules c.removed-removed.result (contents_of c.feed.new.self) cut c.removed-removed.ensures planned.changed planned.fit done,
+      ap (λ (x : Contents). x.limits) done,
     )
 
 pub returns-clause-bounded : goal.returns-clause-bounded
@@ -92,3 +92,22 @@ returns-clause-bounded g c =
     deleted-few c.in-Some.node.now.series c.in-Ok.plan c.args.from c.args.to c.removed-removed.result c.args.self.now.limits.samples
     (cuts-is c.args.from c.args.to (length (between c.args.from c.args.to (list_of c.in-Some.node.now.series))) c.in-Ok.plan c.in-Ok.ensures.cut) c.removed-removed.ensures fits.within in
     omega (arith, few, c.requires.db.store.bounded)
+
+-- ---- how much is decoded
+
+pub returns-in-Err-clause-steps : goal.returns-in-Err-clause-steps
+returns-in-Err-clause-steps g c key number =
+    let holds : Holds c.args.self.now key c.args.id c.in-Some.node.now = record { number = number; node = sym c.in-Some.ensures } in
+    omega (arith, c.cut.ensures.bounded, deletion-total c.args.self.now c.requires.db key c.args.id c.in-Some.node.now holds c.args.from c.args.to)
+
+pub returns-in-Err-plan_rules-clause-steps : goal.returns-in-Err-plan_rules-clause-steps
+returns-in-Err-plan_rules-clause-steps g c key number =
+    let holds : Holds c.args.self.now key c.args.id c.in-Some.node.now = record { number = number; node = sym c.in-Some.ensures } in
+    let rules = ap (shares_of c.args.self.now.nodes (Delete c.args.from c.args.to) c.in-Some.node.now.series) c.deref.ensures.value in
+    omega (arith, c.cut.ensures.bounded, c.plan_rules.ensures.steps, rules, deletion-total c.args.self.now c.requires.db key c.args.id c.in-Some.node.now holds c.args.from c.args.to)
+
+pub returns-clause-steps : goal.returns-clause-steps
+returns-clause-steps g c key number =
+    let holds : Holds c.args.self.now key c.args.id c.in-Some.node.now = record { number = number; node = sym c.in-Some.ensures } in
+    let rules = ap (shares_of c.args.self.now.nodes (Delete c.args.from c.args.to) c.in-Some.node.now.series) c.deref.ensures.value in
+    omega (arith, c.cut.ensures.bounded, c.plan_rules.ensures.steps, rules, deletion-total c.args.self.now c.requires.db key c.args.id c.in-Some.node.now holds c.args.from c.args.to)

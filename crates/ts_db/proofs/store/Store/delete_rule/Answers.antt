@@ -1,8 +1,7 @@
 use Rattle.std.proofs.Common.{refl, sym, ◌∙◌, ap}
 use Rattle.ts_spec.specs.Response.{Done}
 use Rattle.ts_spec.specs.KeptStep.{kept_delete_rule_at}
-use Rattle.ts_db.specs.Held.{Stock}
-use Rattle.ts_db.specs.Store.{stock_of, Holds}
+use Rattle.ts_db.specs.Store.{stock_of, Contents, Holds}
 use Rattle.ts_db.proofs.Storing.{missing}
 use Rattle.ts_db.proofs.Freed.{live-after}
 use Rattle.ts_db.proofs.OldRules.{to-missing, to-none, to-one, both-ended}
@@ -61,6 +60,6 @@ returns-clause-ended c =
     let done = both-ended s c.requires c.args.source.now c.args.dest.now c.in-Some.from n.0 holds c.in-Some-copied.to d.0 other c.remove_rule.new.self c.set_source.new.self c.has_rule.result
     (c.has_rule.ensures n.0 n.1) c.if-not-has_rule.false c.remove_rule.ensures.elsewhere c.remove_rule.ensures.removed c.set_source.ensures.set in (
       to-one s c.requires c.args.source.now c.args.dest.now c.in-Some.from n.0 holds c.in-Some-copied.to d.0 other c.has_rule.result (c.has_rule.ensures n.0 n.1) c.if-not-has_rule.false
-          ∙ ap (λ (x : Stock). record { keys = x.keys; response = Done }) (sym done),
-      ap (λ (x : Stock). x.limits) done,
+          ∙ ap (λ (x : Contents). record { keys = x.keys; response = Done }) (sym done),
+      ap (λ (x : Contents). x.limits) done,
     )

@@ -19,3 +19,6 @@ returns-clause-ends g c =
     let number = sym (c.in-Some.ensures ∙ c.get.ensures.value) in
     finds-there {T = Option (ℕ × ℕ)} c.args.self.now c.requires c.args.key.now c.in-Some.id (λ ends. ends ≡ ends_of (kept_asked (stock_of c.args.self.now).keys c.args.latest c.args.key.now)) (Ok c.ends_of.result) number
     (λ d. c.ends_of.ensures.ends c.args.key.now (get-ids c.args.key.now c.args.self.now.keys.entries ∙ number))
+
+pub returns-clause-steps : goal.returns-clause-steps
+returns-clause-steps g c = c.ends_of.ensures.steps c.args.key.now (get-ids c.args.key.now c.args.self.now.keys.entries ∙ sym (c.in-Some.ensures ∙ c.get.ensures.value))

@@ -45,3 +45,9 @@ returns-clause-changed g c =
 pub write-requires-clause-there : goal.write-requires-clause-there
 write-requires-clause-there g c =
     record { key = c.args.key; node = c.in-Some-get.node.now; holds = record { number = sym (c.in-Some.ensures ∙ c.get.ensures.value); node = sym c.in-Some-get.ensures } }
+
+pub returns-in-Some-changed-clause-steps : goal.returns-in-Some-changed-clause-steps
+returns-in-Some-changed-clause-steps g c = c.write.ensures.steps c.args.key (sym (c.in-Some.ensures ∙ c.get.ensures.value))
+
+pub returns-in-Some-changed-clause-easy : goal.returns-in-Some-changed-clause-easy
+returns-in-Some-changed-clause-easy g c = c.write.ensures.easy c.args.key (sym (c.in-Some.ensures ∙ c.get.ensures.value))

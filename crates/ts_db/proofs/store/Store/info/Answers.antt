@@ -27,3 +27,9 @@ returns-in-Ok-clause-info g c =
 pub returns-in-Err-clause-info : goal.returns-in-Err-clause-info
 returns-in-Err-clause-info g c =
     finds-there {T = Info} c.args.self.now c.requires c.args.key.now c.in-Some.id (λ info. Told (info_of info) ≡ kept_info_response (get c.args.key.now (stock_of c.args.self.now).keys)) (Err (Memory c.in-Err.fault)) (sym (c.in-Some.ensures ∙ c.get.ensures.value)) (λ d. tt)
+
+pub returns-in-Ok-clause-steps : goal.returns-in-Ok-clause-steps
+returns-in-Ok-clause-steps g c = c.info_of.ensures.steps c.args.key.now (get-ids c.args.key.now c.args.self.now.keys.entries ∙ sym (c.in-Some.ensures ∙ c.get.ensures.value))
+
+pub returns-in-Err-clause-steps : goal.returns-in-Err-clause-steps
+returns-in-Err-clause-steps g c = c.info_of.ensures.steps c.args.key.now (get-ids c.args.key.now c.args.self.now.keys.entries ∙ sym (c.in-Some.ensures ∙ c.get.ensures.value))

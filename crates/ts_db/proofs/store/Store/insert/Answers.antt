@@ -2,12 +2,13 @@ use Rattle.slab.specs.Slab as slab
 use Rattle.std.proofs.Common.{◌≡◌, ◌<◌, ◌+◌, length, refl, sym, ◌∙◌, ap, subst}
 use Rattle.std.specs.Prelude.{Option, Some, None, is_some, if◌then◌else◌}
 use Rattle.ts_spec.specs.Keyed.{with_key}
-use Rattle.ts_spec.specs.Kept.{Kept, Keeping}
+use Rattle.ts_spec.specs.Kept.{Kept}
 use Rattle.ts_sample.specs.declared.id.Id.{Id}
 use Rattle.ts_db.specs.declared.node.Node.{Node}
-use Rattle.ts_db.specs.Store.{Numbers, kept_of, collected, ids_of, HaveGrids, IsStore, number_of}
+use Rattle.ts_db.specs.Store.{Numbers, kept_of, collected, ids_of, reaches_of, HaveGrids, IsStore, number_of}
 use Rattle.ts_db.proofs.Storing.{store-slots, store-added, others-added, number-none}
 use Rattle.ts_db.proofs.Collecting.{collected-added, collected-slots, bare-kept}
+use Rattle.ts_db.proofs.Reaches.{stock-slots}
 use Rattle.ts_db.proofs.store.Store.insert.Goals as goal
 
 pub returns-in-Err-reserve-clause-store : goal.returns-in-Err-reserve-clause-store
@@ -23,9 +24,8 @@ returns-in-Err-insert-clause-store c =
 
 pub returns-in-Err-insert-clause-unchanged : goal.returns-in-Err-insert-clause-unchanged
 returns-in-Err-insert-clause-unchanged c =
-    ap (λ (es : Numbers). record { limits = c.args.self.now.limits; keys = collected c.reserve.new.self es; ids = ids_of es }) c.in-Err-insert.ensures.err
-    ∙ ap (λ (m : Keeping). record { limits = c.args.self.now.limits; keys = m; ids = ids_of c.args.self.now.keys.entries })
-    (collected-slots c.args.self.now.nodes c.reserve.new.self c.args.self.now.keys.entries (ap (λ (s : slab.Slab Node). s.slots) c.reserve.ensures.rest_kept))
+    ap (λ (es : Numbers). record { limits = c.args.self.now.limits; keys = collected c.reserve.new.self es; ids = ids_of es; reaches = reaches_of c.reserve.new.self es }) c.in-Err-insert.ensures.err
+    ∙ stock-slots c.args.self.now c.reserve.new.self (ap (λ (s : slab.Slab Node). s.slots) c.reserve.ensures.rest_kept)
 
 pub returns-clause-store : goal.returns-clause-store
 returns-clause-store c =
@@ -63,5 +63,4 @@ returns-clause-added c =
 
 pub returns-in-Err-reserve-clause-unchanged : goal.returns-in-Err-reserve-clause-unchanged
 returns-in-Err-reserve-clause-unchanged c =
-    ap (λ (m : Keeping). record { limits = c.args.self.now.limits; keys = m; ids = ids_of c.args.self.now.keys.entries })
-    (collected-slots c.args.self.now.nodes c.reserve.new.self c.args.self.now.keys.entries (ap (λ (s : slab.Slab Node). s.slots) c.in-Err-reserve.ensures.rest_kept))
+    stock-slots c.args.self.now c.reserve.new.self (ap (λ (s : slab.Slab Node). s.slots) c.in-Err-reserve.ensures.rest_kept)

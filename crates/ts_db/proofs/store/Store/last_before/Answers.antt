@@ -19,3 +19,6 @@ returns-clause-before g c =
     let number = sym (c.in-Some.ensures ∙ c.get.ensures.value) in
     finds-there {T = Option Point} c.args.self.now c.requires c.args.key.now c.in-Some.id (λ before. before ≡ last_of (at_times (λ u. nat_lt u c.args.t) (kept_asked (stock_of c.args.self.now).keys c.args.latest c.args.key.now))) (Ok c.before_of.result) number
     (λ d. c.before_of.ensures.before c.args.key.now (get-ids c.args.key.now c.args.self.now.keys.entries ∙ number))
+
+pub returns-clause-steps : goal.returns-clause-steps
+returns-clause-steps g c = c.before_of.ensures.steps c.args.key.now (get-ids c.args.key.now c.args.self.now.keys.entries ∙ sym (c.in-Some.ensures ∙ c.get.ensures.value))

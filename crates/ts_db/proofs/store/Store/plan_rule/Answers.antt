@@ -1,9 +1,11 @@
-use Rattle.std.proofs.Common.{refl, sym, subst}
+use Rattle.std.proofs.Common.{refl, sym, subst, ◌≤◌, ◌+◌}
 use Rattle.ts_rules.specs.declared.fault.RuleFault.{RuleFault}
 use Rattle.ts_rules.specs.Plans.{IsUnplanned}
-use Rattle.ts_db.specs.Planning.{gone_by, rows_by_work, kept_rule_in}
+use Rattle.ts_db.specs.Planning.{gone_by, rows_by_work, kept_rule_in, share_at}
 use Rattle.ts_db.specs.Store.{key_in}
 use Rattle.ts_db.proofs.Planned.{planned-changed, planned-fed, planned-fits, planned-full}
+use Rattle.std.specs.Prelude.{Option}
+use Rattle.ts_db.specs.declared.node.Node.{Node}
 use Rattle.ts_db.proofs.store.Store.plan_rule.Goals as goal
 
 pub returns-in-Ok-clause-changed : goal.returns-in-Ok-clause-changed
@@ -30,3 +32,6 @@ returns-in-Err-Full-clause-refused g c = (
 
 pub made_plan-requires-clause-fits : goal.made_plan-requires-clause-fits
 made_plan-requires-clause-fits g c = (c.requires.store.each c.args.rule.now.dest.0 c.in-Some.dest.now (sym c.in-Some.ensures)).within
+
+pub returns-in-Ok-clause-steps : goal.returns-in-Ok-clause-steps
+returns-in-Ok-clause-steps g c = subst (λ (o : Option Node). c.made_plan.new.steps ≤ c.args.steps.now + share_at c.args.work c.args.source.now c.args.rule.now o) c.in-Some.ensures c.made_plan.ensures.steps

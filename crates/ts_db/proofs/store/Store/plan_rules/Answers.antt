@@ -3,7 +3,7 @@ use Rattle.std.proofs.lemmas.List.{take_more, drop_more}
 use Rattle.ts_rules.specs.declared.rule.Rule.{Rule}
 use Rattle.ts_rules.specs.declared.plan.RulePlan.{RulePlan}
 use Rattle.ts_db.specs.Store.{AreLive}
-use Rattle.ts_db.specs.Planning.{changed_by, gone_by, rows_by_work, AllTake, AreChanged, AreFedBy, first_full}
+use Rattle.ts_db.specs.Planning.{changed_by, gone_by, rows_by_work, AllTake, AreChanged, AreFedBy, first_full, shares_of, AreEasyOf}
 use Rattle.ts_db.proofs.Plans.{full-past, fed-more, changed-more}
 use Rattle.ts_db.proofs.store.Store.plan_rules.Goals as goal
 
@@ -41,4 +41,9 @@ loop-rule-preserved g c =
       room_changed = omega (arith, c.push_reserved.ensures.capacity, c.loop-rule.invariant.room_changed);
       room = omega (arith, c.push_reserved-in-loop-rule.ensures.capacity, c.loop-rule.invariant.room);
       counted = omega (arith, c.plan_rule.ensures.counted, c.loop-rule.invariant.counted);
+      steps = omega (arith, c.plan_rule.ensures.steps, c.loop-rule.invariant.steps, ap (shares_of nodes work source) left);
+      easy = λ all_easy. (
+        c.plan_rule.ensures.easy (subst (AreEasyOf limit nodes work source) left (c.loop-rule.invariant.easy all_easy).1).0 ∙ (c.loop-rule.invariant.easy all_easy).0,
+        (subst (AreEasyOf limit nodes work source) left (c.loop-rule.invariant.easy all_easy).1).1,
+      );
     }

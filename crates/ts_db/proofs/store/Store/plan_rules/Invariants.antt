@@ -1,5 +1,5 @@
-use Rattle.std.proofs.Common.{◌≡◌, ◌≤◌, take, drop, length, vec_len, vec_capacity}
-use Rattle.ts_db.specs.Planning.{changed_by, gone_by, rows_by_work, AllTake, AreChanged, AreFedBy, first_full}
+use Rattle.std.proofs.Common.{◌≡◌, ◌≤◌, ◌+◌, take, drop, length, vec_len, vec_capacity}
+use Rattle.ts_db.specs.Planning.{changed_by, gone_by, rows_by_work, AllTake, AreChanged, AreFedBy, first_full, shares_of, AreEasyOf}
 use Rattle.ts_db.specs.Store.{AreLive}
 use Rattle.ts_db.proofs.store.Store.plan_rules.Given as goal
 
@@ -17,4 +17,7 @@ invariant-loop-rule g l = record {
   room_changed : length l.rules ≤ vec_capacity l.changed;
   room : length l.rules ≤ vec_capacity l.plans;
   counted : l.initial.steps ≤ l.steps;
+  steps : l.steps + shares_of l.self.nodes l.work l.source (drop l.rule-index l.rules) ≤ l.initial.steps + shares_of l.self.nodes l.work l.source l.rules;
+  easy : AreEasyOf l.self.limits.samples l.self.nodes l.work l.source l.rules
+      → (l.steps ≡ l.initial.steps) × AreEasyOf l.self.limits.samples l.self.nodes l.work l.source (drop l.rule-index l.rules);
 }

@@ -24,3 +24,9 @@ returns-in-Ok-clause-samples g c =
 pub returns-in-Err-clause-samples : goal.returns-in-Err-clause-samples
 returns-in-Err-clause-samples g c =
     finds-there {T = Vec Point Global} c.args.self.now c.requires c.args.key.now c.in-Some.id (λ samples. samples.items ≡ between c.args.from c.args.to (kept_asked (stock_of c.args.self.now).keys c.args.latest c.args.key.now)) (Err (Memory c.in-Err.fault)) (sym (c.in-Some.ensures ∙ c.get.ensures.value)) (λ d. tt)
+
+pub returns-in-Ok-clause-steps : goal.returns-in-Ok-clause-steps
+returns-in-Ok-clause-steps g c = c.samples_of.ensures.steps c.args.key.now (get-ids c.args.key.now c.args.self.now.keys.entries ∙ sym (c.in-Some.ensures ∙ c.get.ensures.value))
+
+pub returns-in-Err-clause-steps : goal.returns-in-Err-clause-steps
+returns-in-Err-clause-steps g c = c.samples_of.ensures.steps c.args.key.now (get-ids c.args.key.now c.args.self.now.keys.entries ∙ sym (c.in-Some.ensures ∙ c.get.ensures.value))

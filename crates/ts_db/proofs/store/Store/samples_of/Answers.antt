@@ -1,4 +1,4 @@
-use Rattle.std.proofs.Common.{List, sym, ap, ◌∙◌, subst}
+use Rattle.std.proofs.Common.{List, sym, ap, ◌∙◌, subst, arith}
 use Rattle.std.specs.Prelude.{Option}
 use Rattle.std.proofs.lemmas.Result.{IfOk-weaker}
 use Rattle.ts_spec.specs.Sample.{Point, IsAscending, between, is_within, put_all}
@@ -7,6 +7,7 @@ use Rattle.ts_spec.proofs.Settles.{times-within}
 use Rattle.ts_series.specs.History.{list_of}
 use Rattle.ts_rules.specs.Rules.{one_of}
 use Rattle.ts_db.proofs.Rows.{within-put, put-within}
+use Rattle.ts_db.proofs.StepBounds.{walk-held}
 use Rattle.ts_db.proofs.store.Store.samples_of.Goals as goal
 
 pub returns-in-None-clause-samples : goal.returns-in-None-clause-samples
@@ -33,3 +34,11 @@ returns-in-Some-clause-within g c =
     IfOk-weaker c.gather_with.result _ _ (λ samples is.
     let same = is ∙ put-within c.args.from c.args.to c.asked_row.result c.row_within.result c.in-Some.row (list_of c.node-node.result.now.series) c.node-node.ensures.kept.ascending c.row_within.ensures c.in-Some.is in
     ap (between c.args.from c.args.to) same ∙ times-within (is_within c.args.from c.args.to) (is_within c.args.from c.args.to) list (λ t x. x) ∙ sym same) c.gather_with.ensures.gathered
+
+pub returns-in-None-clause-steps : goal.returns-in-None-clause-steps
+returns-in-None-clause-steps g c = λ key at.
+    omega (arith, c.gather.ensures.steps, walk-held c.args.self.now c.requires.store key c.args.id c.node-node.result.now (c.node-node.ensures.holds key at) c.args.from c.args.to)
+
+pub returns-in-Some-clause-steps : goal.returns-in-Some-clause-steps
+returns-in-Some-clause-steps g c = λ key at.
+    omega (arith, c.gather_with.ensures.steps, walk-held c.args.self.now c.requires.store key c.args.id c.node-node.result.now (c.node-node.ensures.holds key at) c.args.from c.args.to)

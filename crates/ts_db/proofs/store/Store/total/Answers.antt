@@ -1,8 +1,14 @@
 use Rattle.std.proofs.Common.{◌≡◌, ◌+◌, ◌<◌, ◌^◌, length, sym, ◌∙◌, ap, subst, arith, rules}
+use Rattle.std.specs.Prelude.{sum_by}
+use Rattle.ts_spec.specs.Keyed.{Entry}
+use Rattle.ts_spec.specs.Kept.{Kept}
 use Rattle.ts_series.specs.History.{list_of}
+use Rattle.ts_db.specs.Held.{reach_at}
+use Rattle.ts_db.specs.Bounds.{reach_of_all}
+use Rattle.ts_db.specs.Store.{stock_of}
 use Rattle.ts_db.specs.Totals.{samples_in}
 use Rattle.ts_db.proofs.Selecting.{HaveNodes, listing, listing-entries, all-there}
-use Rattle.ts_db.proofs.Totals.{total-next, total-fits}
+use Rattle.ts_db.proofs.Totals.{reaches, reaches-listing, total-next, total-fits}
 use Rattle.ts_db.proofs.store.Store.total.Goals as goal
 
 pub loop-key-init : goal.loop-key-init
@@ -10,11 +16,13 @@ loop-key-init g c =
     let all : c.into_iter-key-iterator.result ≡ c.args.self.now.keys.entries = c.into_iter-key-iterator.ensures.into_iter_gives ∙ c.iter-key-items.ensures.rest in
     let given : samples_in (listing c.args.self.now.nodes c.into_iter-key-iterator.result) ≡ samples_in (listing c.args.self.now.nodes c.args.self.now.keys.entries) =
     ap (λ l. samples_in (listing c.args.self.now.nodes l)) all in
+    let reached : reaches c.args.self.now.nodes c.into_iter-key-iterator.result ≡ reaches c.args.self.now.nodes c.args.self.now.keys.entries = ap (reaches c.args.self.now.nodes) all in
     record {
       sum = omega (arith, given);
       there = subst (HaveNodes c.args.self.now.nodes) (sym all)
           (all-there c.args.self.now.nodes c.args.self.now.keys.entries c.args.self.now.keys.entries c.requires.stored c.iter-key-items.ensures.found);
       counted = omega arith;
+      steps = omega (arith, reached);
     }
 
 pub overflow_add-total : goal.overflow_add-total
@@ -36,3 +44,12 @@ returns-clause-total g c =
     let none : samples_in (listing nodes c.loop-key._key-iterator) ≡ 0 = ap (λ l. samples_in (listing nodes l)) c.in-None.ensures.steps.0 in
     let count : c.loop-key.total ≡ samples_in (listing nodes es) = omega (arith, c.loop-key.invariant.sum, none) in
     count ∙ sym (ap samples_in (listing-entries nodes es c.iter-key-items.ensures.ordered (all-there nodes es es c.requires.stored c.iter-key-items.ensures.found)))
+
+pub returns-clause-steps : goal.returns-clause-steps
+returns-clause-steps g c =
+    let nodes = c.args.self.now.nodes in
+    let es = c.args.self.now.keys.entries in
+    let there : HaveNodes nodes es = all-there nodes es es c.requires.stored c.iter-key-items.ensures.found in
+    let all : reach_of_all (stock_of c.args.self.now) ≡ reaches nodes es =
+    ap (sum_by (λ (e : Entry Kept). reach_at (stock_of c.args.self.now) e.key)) (listing-entries nodes es c.iter-key-items.ensures.ordered there) ∙ reaches-listing nodes es es there c.iter-key-items.ensures.found in
+    omega (arith, c.loop-key.invariant.steps, all)

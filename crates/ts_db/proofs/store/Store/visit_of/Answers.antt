@@ -6,6 +6,7 @@ use Rattle.ts_series.specs.History.{list_of}
 use Rattle.ts_series.proofs.Counting.{times-length}
 use Rattle.ts_rules.specs.Rules.{one_of}
 use Rattle.ts_db.proofs.Rows.{within-put, put-within}
+use Rattle.ts_db.proofs.StepBounds.{walk-held}
 use Rattle.ts_db.proofs.store.Store.visit_of.Goals as goal
 
 pub scan-requires : goal.scan-requires
@@ -13,8 +14,10 @@ scan-requires g c = record {
   room = omega (arith, times-length (is_within c.args.from c.args.to) (list_of c.node-node.result.now.series), c.node-node.ensures.within, c.known.ensures, c.requires.room);
 }
 
-pub scan_with-requires-clause-room : goal.scan_with-requires-clause-room
-scan_with-requires-clause-room g c = omega (arith, times-length (is_within c.args.from c.args.to) (list_of c.node-node.result.now.series), c.node-node.ensures.within, c.known.ensures, c.requires.room)
+pub scan_with-requires : goal.scan_with-requires
+scan_with-requires g c = record {
+  room = omega (arith, times-length (is_within c.args.from c.args.to) (list_of c.node-node.result.now.series), c.node-node.ensures.within, c.known.ensures, c.requires.room);
+}
 
 pub returns-in-None-clause-visited : goal.returns-in-None-clause-visited
 returns-in-None-clause-visited g c = λ key at.
@@ -32,3 +35,11 @@ returns-in-Some-clause-visited g c = λ key at.
     ∙ ap (visited g.V.Visit.step c.args.visit.now)
     (put-within c.args.from c.args.to c.asked_row.result c.row_within.result c.in-Some.row list c.node-node.ensures.kept.ascending c.row_within.ensures c.in-Some.is
     ∙ ap (between c.args.from c.args.to) (sym (c.asked_row.ensures key c.node-node.result.now (c.node-node.ensures.holds key at))))
+
+pub returns-in-None-clause-steps : goal.returns-in-None-clause-steps
+returns-in-None-clause-steps g c = λ key at.
+    omega (arith, c.scan.ensures.bounded, walk-held c.args.self.now c.requires.store key c.args.id c.node-node.result.now (c.node-node.ensures.holds key at) c.args.from c.args.to)
+
+pub returns-in-Some-clause-steps : goal.returns-in-Some-clause-steps
+returns-in-Some-clause-steps g c = λ key at.
+    omega (arith, c.scan_with.ensures.steps, walk-held c.args.self.now c.requires.store key c.args.id c.node-node.result.now (c.node-node.ensures.holds key at) c.args.from c.args.to)

@@ -1,4 +1,4 @@
-use Rattle.std.proofs.Common.{◌≡◌, refl, sym, ◌∙◌, ap, subst}
+use Rattle.std.proofs.Common.{◌≡◌, refl, sym, ◌∙◌, ap, subst, ◌≤◌, ◌+◌, ◌*◌, ℕ, List, arith}
 use Rattle.std.specs.Prelude.{None, Some, Ok, Err}
 use Rattle.ts_spec.specs.Sample.{Point, first_of}
 use Rattle.ts_spec.specs.Keyed.{with_key}
@@ -12,9 +12,8 @@ use Rattle.ts_db.specs.declared.node.Node.{Node}
 use Rattle.ts_db.specs.declared.work.Work.TheVariants.{Write}
 use Rattle.ts_db.specs.Faults.{refusal_of}
 use Rattle.ts_db.specs.Growing.{StaysOpen, kept_grown}
-use Rattle.ts_db.specs.Held.{Stock}
-use Rattle.ts_db.specs.Planning.{changed_by, gone_by, rows_by_work, AllTake}
-use Rattle.ts_db.specs.Store.{key_in, kept_at, stock_of, IsNode}
+use Rattle.ts_db.specs.Planning.{changed_by, gone_by, rows_by_work, AllTake, shares_of, AreEasyOf}
+use Rattle.ts_db.specs.Store.{key_in, kept_at, stock_of, contents_of, Contents, IsNode, IsDb, Holds}
 use Rattle.ts_db.specs.Answering.{node_after, IsKeptAnswer}
 use Rattle.ts_db.proofs.Known.{takes, distinct, links}
 use Rattle.ts_db.proofs.Owning.{own-fault}
@@ -22,6 +21,14 @@ use Rattle.ts_db.proofs.StayingOpen.{open-for, open-room, no_plans, none-fed, no
 use Rattle.ts_db.proofs.Unplanned.{destination-own}
 use Rattle.ts_db.proofs.Working.{ArePlanned, planned-for, unplanned-for, changed-live, changed-grids, is-feed, still-fed, worked}
 use Rattle.ts_db.proofs.Writing.{IsWritten, writes-after, within-planned, written-sample, planned-answers, unplanned-answers, refused-answers}
+use Rattle.ts_spec.specs.Key.{Key}
+use Rattle.ts_sample.specs.declared.id.Id.{Id}
+use Rattle.ts_series.specs.History.{reach}
+use Rattle.ts_rules.specs.declared.rule.Rule.{Rule}
+use Rattle.ts_db.specs.declared.store.Store.{Store}
+use Rattle.ts_db.specs.Bounds.{write_steps, IsEasyAppend}
+use Rattle.ts_db.proofs.Reaches.{reach-held}
+use Rattle.ts_db.proofs.EasyWrites.{write-total, easy-rules, few-own, last-own}
 use Rattle.ts_db.proofs.store.Store.write.Goals as goal
 
 pub returns-in-Err-clause-written : goal.returns-in-Err-clause-written
@@ -100,14 +107,14 @@ returns-clause-written g c key n holds =
     planned-for c.args.self.now (Write c.in-Some-wrote.wrote) work c.in-Some.node.now n c.deref-2.result.now c.in-Ok-plan_rules.planned.rules.items c.in-Ok-plan_rules.planned.plans.items (ap (λ (q : Point). Write q) p.sample) it c.deref-2.ensures.value
     (record { changed = c.in-Ok-plan_rules.ensures.rules; fed = c.in-Ok-plan_rules.ensures.fed; fit = c.in-Ok-plan_rules.ensures.fit }) in
     let done = worked c.args.self.now c.requires.db key c.args.id n holds c.apply.new.self c.apply.ensures.elsewhere (rows_by_work work n.series) (gone_by work n.series)
-    (kept_at c.args.self.now.nodes (node_after c.in-Ok.plan None (Some c.in-Ok-plan_rules.planned.rules) n)) (stock_of c.feed.new.self) (c.apply.ensures.applied key n holds)
+    (kept_at c.args.self.now.nodes (node_after c.in-Ok.plan None (Some c.in-Ok-plan_rules.planned.rules) n)) (contents_of c.feed.new.self) (c.apply.ensures.applied key n holds)
     (c.feed.ensures.fed (rows_by_work work n.series) (gone_by work n.series) n.rules.items
     (still-fed c.args.self.now c.requires.db key c.args.id n holds c.apply.new.self c.apply.ensures.elsewhere (rows_by_work work n.series) (gone_by work n.series) c.in-Ok-plan_rules.planned.plans.items planned.fed)
     (distinct c.args.self.now n.rules.items (links c.args.self.now c.requires.db key c.args.id n holds).apart)) in (
       subst (λ (what : Merged). kept_write_merged c.args.self.now.limits (stock_of c.args.self.now).keys key c.args.time what ≡ record { keys = (stock_of c.feed.new.self).keys; response = Count c.args.time }) (sym p.sets)
-          (planned-answers c.args.self.now c.requires.db key c.args.id n holds c.in-Ok.plan (kept_at c.args.self.now.nodes (node_after c.in-Ok.plan None (Some c.in-Ok-plan_rules.planned.rules) n)) c.args.time p.value (stock_of c.feed.new.self) p.writes
+          (planned-answers c.args.self.now c.requires.db key c.args.id n holds c.in-Ok.plan (kept_at c.args.self.now.nodes (node_after c.in-Ok.plan None (Some c.in-Ok-plan_rules.planned.rules) n)) c.args.time p.value (contents_of c.feed.new.self) p.writes
           (writes-after (key_in c.args.self.now.nodes) n c.in-Ok.plan c.in-Ok-plan_rules.planned.rules c.args.time p.value p.writes.0 planned.changed) planned.fit done),
-      ap (λ (x : Stock). x.limits) done,
+      ap (λ (x : Contents). x.limits) done,
     )
 
 -- ---- an append that stays in all open buckets
@@ -148,12 +155,80 @@ returns-then-stays_open-clause-written g c key n holds =
     let fed = still-fed c.args.self.now c.requires.db key c.args.id n holds c.grow.new.self c.grow.ensures.elsewhere (rows_by_work (Write sample) n.series) (gone_by (Write sample) n.series) (no_plans n.rules.items)
     (none-fed c.args.self.now c.requires.db.store n.series sample open_there.append n.rules.items open_there.at rules) in
     let done = worked c.args.self.now c.requires.db key c.args.id n holds c.grow.new.self c.grow.ensures.elsewhere (rows_by_work (Write sample) n.series) (gone_by (Write sample) n.series)
-    (kept_grown c.args.self.now.nodes c.in-Some-plan_append.plan sample n) (stock_of c.grow.new.self)
-    (c.grow.ensures.grown key n holds ∙ ap (λ (q : Point). record (stock_of c.args.self.now) { keys = with_key key (kept_grown c.args.self.now.nodes c.in-Some-plan_append.plan q n) (stock_of c.args.self.now).keys }) p.sample)
+    (kept_grown c.args.self.now.nodes c.in-Some-plan_append.plan sample n) (contents_of c.grow.new.self)
+    (c.grow.ensures.grown key n holds ∙ ap (λ (q : Point). record (contents_of c.args.self.now) { keys = with_key key (kept_grown c.args.self.now.nodes c.in-Some-plan_append.plan q n) (stock_of c.args.self.now).keys }) p.sample)
     (fed-nothing c.grow.new.self c.grow.ensures.store (rows_by_work (Write sample) n.series) (gone_by (Write sample) n.series) n.rules.items n.rules.items fed
     (distinct c.args.self.now n.rules.items (links c.args.self.now c.requires.db key c.args.id n holds).apart)) in (
       subst (λ (what : Merged). kept_write_merged c.args.self.now.limits (stock_of c.args.self.now).keys key c.args.time what ≡ record { keys = (stock_of c.grow.new.self).keys; response = Count c.args.time }) (sym p.sets)
-          (planned-answers c.args.self.now c.requires.db key c.args.id n holds c.in-Some-plan_append.plan (kept_grown c.args.self.now.nodes c.in-Some-plan_append.plan sample n) c.args.time p.value (stock_of c.grow.new.self) p.writes
+          (planned-answers c.args.self.now c.requires.db key c.args.id n holds c.in-Some-plan_append.plan (kept_grown c.args.self.now.nodes c.in-Some-plan_append.plan sample n) c.args.time p.value (contents_of c.grow.new.self) p.writes
           (grown-after c.args.self.now n c.in-Some-plan_append.plan c.args.time p.value p.writes.0 open_there) (none-full c.args.self.now c.requires.db.store n.series sample open_there.append n.rules.items open_there.at rules) done),
-      ap (λ (x : Stock). x.limits) done,
+      ap (λ (x : Contents). x.limits) done,
     )
+
+-- ---- how much is decoded
+
+-- the series and its rules, by what contracts see
+module _ (s : Store) (db : IsDb s) (key : Key) (id : Id) (n : Node) (holds : Holds s key id n) (wrote : Point) (time : ℕ) (at : wrote.time ≡ time) (rs : List Rule) (items : rs ≡ n.rules.items) where
+  total : 3 * reach n.series + shares_of s.nodes (Write wrote) n.series rs ≡ write_steps (stock_of s) key time
+  total =
+      ap (λ (l : List Rule). 3 * reach n.series + shares_of s.nodes (Write wrote) n.series l) items
+      ∙ write-total s db key id n holds wrote
+      ∙ ap (write_steps (stock_of s) key) at
+
+  easy : IsEasyAppend (stock_of s) key time → AreEasyOf s.limits.samples s.nodes (Write wrote) n.series rs
+  easy e =
+      subst (AreEasyOf s.limits.samples s.nodes (Write wrote) n.series) (sym items)
+      (easy-rules s db key id n holds wrote (subst (IsEasyAppend (stock_of s) key) (sym at) e))
+
+least : (s : Store) (key : Key) (id : Id) (n : Node) → Holds s key id n → (time : ℕ) → 3 * reach n.series ≤ write_steps (stock_of s) key time
+least s key id n holds time = omega (arith, reach-held s key id n holds)
+
+pub returns-in-Err-clause-steps : goal.returns-in-Err-clause-steps
+returns-in-Err-clause-steps g c key number =
+    let holds : Holds c.args.self.now key c.args.id c.in-Some.node.now = record { number = number; node = sym c.in-Some.ensures } in
+    omega (arith, c.put.ensures.bounded, least c.args.self.now key c.args.id c.in-Some.node.now holds c.args.time)
+
+pub returns-in-Err-clause-easy : goal.returns-in-Err-clause-easy
+returns-in-Err-clause-easy g c key number e =
+    let holds : Holds c.args.self.now key c.args.id c.in-Some.node.now = record { number = number; node = sym c.in-Some.ensures } in
+    c.put.ensures.easy (few-own c.args.self.now c.requires.db key c.args.id c.in-Some.node.now holds c.args.time e) (last-own c.args.self.now c.requires.db key c.args.id c.in-Some.node.now holds c.args.time e)
+
+pub returns-in_default-wrote-clause-steps : goal.returns-in_default-wrote-clause-steps
+returns-in_default-wrote-clause-steps g c key number =
+    let holds : Holds c.args.self.now key c.args.id c.in-Some.node.now = record { number = number; node = sym c.in-Some.ensures } in
+    omega (arith, c.put.ensures.bounded, least c.args.self.now key c.args.id c.in-Some.node.now holds c.args.time)
+
+pub returns-in_default-wrote-clause-easy : goal.returns-in_default-wrote-clause-easy
+returns-in_default-wrote-clause-easy g c key number e =
+    let holds : Holds c.args.self.now key c.args.id c.in-Some.node.now = record { number = number; node = sym c.in-Some.ensures } in
+    c.put.ensures.easy (few-own c.args.self.now c.requires.db key c.args.id c.in-Some.node.now holds c.args.time e) (last-own c.args.self.now c.requires.db key c.args.id c.in-Some.node.now holds c.args.time e)
+
+pub returns-in-Err-plan_rules-clause-steps : goal.returns-in-Err-plan_rules-clause-steps
+returns-in-Err-plan_rules-clause-steps g c key number =
+    let holds : Holds c.args.self.now key c.args.id c.in-Some.node.now = record { number = number; node = sym c.in-Some.ensures } in
+    let time : c.in-Some-wrote.wrote.time ≡ c.args.time =
+    ap (λ (q : Point). q.time) (written-sample c.in-Ok.plan (met c.args.how c.args.time c.args.value c.in-Some.node.now.series) c.args.self.now.limits.samples c.args.time c.in-Some.node.now.series c.in-Some-wrote.wrote c.in-Ok.ensures.answer c.in-Some-wrote.ensures).sample in
+    omega (arith, c.put.ensures.bounded, c.plan_rules.ensures.steps, total c.args.self.now c.requires.db key c.args.id c.in-Some.node.now holds c.in-Some-wrote.wrote c.args.time time c.deref-2.result.now c.deref-2.ensures.value)
+
+pub returns-in-Err-plan_rules-clause-easy : goal.returns-in-Err-plan_rules-clause-easy
+returns-in-Err-plan_rules-clause-easy g c key number e =
+    let holds : Holds c.args.self.now key c.args.id c.in-Some.node.now = record { number = number; node = sym c.in-Some.ensures } in
+    let time : c.in-Some-wrote.wrote.time ≡ c.args.time =
+    ap (λ (q : Point). q.time) (written-sample c.in-Ok.plan (met c.args.how c.args.time c.args.value c.in-Some.node.now.series) c.args.self.now.limits.samples c.args.time c.in-Some.node.now.series c.in-Some-wrote.wrote c.in-Ok.ensures.answer c.in-Some-wrote.ensures).sample in
+    c.plan_rules.ensures.easy (easy c.args.self.now c.requires.db key c.args.id c.in-Some.node.now holds c.in-Some-wrote.wrote c.args.time time c.deref-2.result.now c.deref-2.ensures.value e)
+    ∙ c.put.ensures.easy (few-own c.args.self.now c.requires.db key c.args.id c.in-Some.node.now holds c.args.time e) (last-own c.args.self.now c.requires.db key c.args.id c.in-Some.node.now holds c.args.time e)
+
+pub returns-clause-steps : goal.returns-clause-steps
+returns-clause-steps g c key number =
+    let holds : Holds c.args.self.now key c.args.id c.in-Some.node.now = record { number = number; node = sym c.in-Some.ensures } in
+    let time : c.in-Some-wrote.wrote.time ≡ c.args.time =
+    ap (λ (q : Point). q.time) (written-sample c.in-Ok.plan (met c.args.how c.args.time c.args.value c.in-Some.node.now.series) c.args.self.now.limits.samples c.args.time c.in-Some.node.now.series c.in-Some-wrote.wrote c.in-Ok.ensures.answer c.in-Some-wrote.ensures).sample in
+    omega (arith, c.put.ensures.bounded, c.plan_rules.ensures.steps, total c.args.self.now c.requires.db key c.args.id c.in-Some.node.now holds c.in-Some-wrote.wrote c.args.time time c.deref-2.result.now c.deref-2.ensures.value)
+
+pub returns-clause-easy : goal.returns-clause-easy
+returns-clause-easy g c key number e =
+    let holds : Holds c.args.self.now key c.args.id c.in-Some.node.now = record { number = number; node = sym c.in-Some.ensures } in
+    let time : c.in-Some-wrote.wrote.time ≡ c.args.time =
+    ap (λ (q : Point). q.time) (written-sample c.in-Ok.plan (met c.args.how c.args.time c.args.value c.in-Some.node.now.series) c.args.self.now.limits.samples c.args.time c.in-Some.node.now.series c.in-Some-wrote.wrote c.in-Ok.ensures.answer c.in-Some-wrote.ensures).sample in
+    c.plan_rules.ensures.easy (easy c.args.self.now c.requires.db key c.args.id c.in-Some.node.now holds c.in-Some-wrote.wrote c.args.time time c.deref-2.result.now c.deref-2.ensures.value e)
+    ∙ c.put.ensures.easy (few-own c.args.self.now c.requires.db key c.args.id c.in-Some.node.now holds c.args.time e) (last-own c.args.self.now c.requires.db key c.args.id c.in-Some.node.now holds c.args.time e)

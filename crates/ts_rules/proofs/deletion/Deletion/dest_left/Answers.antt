@@ -1,12 +1,14 @@
-use Rattle.std.proofs.Common.{ℕ, List, sym, ap, ◌∙◌, subst}
-use Rattle.ts_spec.specs.Sample.{Point, IsAscending, is_within}
+use Rattle.std.proofs.Common.{ℕ, List, ◌≤◌, length, sym, ap, ◌∙◌, subst, arith}
+use Rattle.ts_spec.specs.Sample.{Point, IsAscending, between, is_within}
 use Rattle.ts_spec.specs.Bucket.{start}
 use Rattle.ts_spec.specs.Rules.{is_past}
+use Rattle.ts_spec.proofs.Buckets.{start-le}
 use Rattle.ts_series.specs.History.{list_of}
 use Rattle.ts_series.specs.Plan.{AreWithin, AreMade}
 use Rattle.ts_rules.specs.Plans.{IsMending}
 use Rattle.ts_rules.specs.Deletions.{span_left}
 use Rattle.ts_rules.proofs.DestLeft.{dest-stays, dest-mended, left-ascending, left-within, left-made}
+use Rattle.ts_rules.proofs.Sizes.{between-fewer}
 use Rattle.ts_rules.proofs.deletion.Deletion.dest_left.Goals as goal
 
 pub returns-then-not-is_closed-clause-mended : goal.returns-then-not-is_closed-clause-mended
@@ -41,3 +43,26 @@ returns-in-Ok-clause-mended g c =
     c.args.limit c.mended.result
     (subst (λ (ends : ℕ × ℕ × List Point). IsMending c.args.limit (is_within ends.0 ends.1) ends.2 c.args.dest.now c.mended.result) (λ i. (c.start_of-first.ensures i, c.start_of-last.ensures i, rows i))
     c.mended.ensures.mended)
+
+pub returns-in-Ok-clause-bounded : goal.returns-in-Ok-clause-bounded
+returns-in-Ok-clause-bounded g c =
+    let grid = c.args.self.now.rule.now.grid in
+    let upto : c.start_of-last.result ≤ c.args.self.now.to = omega (arith, c.start_of-last.ensures, start-le grid c.args.self.now.to c.known.ensures.some) in
+    omega (
+      arith,
+      c.span_left.ensures.bounded,
+      c.mended.ensures.bounded,
+      ap (λ n. length (between n c.start_of-last.result (list_of c.args.dest.now))) c.start_of-first.ensures,
+      between-fewer (start grid c.args.self.now.from) c.start_of-last.result c.args.self.now.to (list_of c.args.dest.now) upto,
+    )
+
+pub returns-in-Err-clause-bounded : goal.returns-in-Err-clause-bounded
+returns-in-Err-clause-bounded g c =
+    let grid = c.args.self.now.rule.now.grid in
+    let upto : c.start_of-last.result ≤ c.args.self.now.to = omega (arith, c.start_of-last.ensures, start-le grid c.args.self.now.to c.known.ensures.some) in
+    omega (
+      arith,
+      c.span_left.ensures.bounded,
+      ap (λ n. length (between n c.start_of-last.result (list_of c.args.dest.now))) c.start_of-first.ensures,
+      between-fewer (start grid c.args.self.now.from) c.start_of-last.result c.args.self.now.to (list_of c.args.dest.now) upto,
+    )

@@ -2,6 +2,7 @@ use Rattle.std.proofs.Common.{sym, ap, ◌∙◌}
 use Rattle.ts_series.specs.Held.{points}
 use Rattle.ts_series.proofs.PlannedPieces.{kept-view}
 use Rattle.ts_series.proofs.OneRow.{count-at, found}
+use Rattle.ts_series.proofs.Putting.{at-past}
 use Rattle.ts_series.proofs.chunks.Chunks.count_at.Goals as goal
 
 pub returns-in-None-clause-count : goal.returns-in-None-clause-count
@@ -13,3 +14,9 @@ pub returns-in-Some-clause-count : goal.returns-in-Some-clause-count
 returns-in-Some-clause-count g c =
     let kept = kept-view g.C.Chunk.format _ c.args.self.now c.self.inside.count c.self.view_is c.self.invariant in
     ap found c.in-Some.ensures.at ∙ sym (count-at c.args.time (points c.args.self.now) kept.ascending)
+
+pub returns-then-not-is_late-clause-count : goal.returns-then-not-is_late-clause-count
+returns-then-not-is_late-clause-count g c =
+    let kept = kept-view g.C.Chunk.format _ c.args.self.now c.self.inside.count c.self.view_is c.self.invariant in
+    let past = c.is_late.ensures.past c.if-not-is_late.true in
+    sym (count-at c.args.time (points c.args.self.now) kept.ascending ∙ ap found (at-past c.args.time (points c.args.self.now) kept.ascending past))

@@ -5,7 +5,9 @@ use Rattle.ts_series.specs.Held.{points}
 use Rattle.ts_series.specs.History.{History, IsKeptIn}
 use Rattle.ts_series.specs.Mend.{mended_list}
 use Rattle.ts_series.proofs.MendedCount.{mended-most, mended-exceeds}
+use Rattle.ts_series.proofs.Reach.{within-reach}
 use Rattle.ts_series.proofs.Ready.{Shows}
+use Rattle.ts_series.proofs.RowPast.{few-in-chunks}
 use Rattle.ts_series.proofs.line.Line.exceeds.Goals as goal
 
 pub returns-then-saturating_add-limit-clause-exceeds : goal.returns-then-saturating_add-limit-clause-exceeds
@@ -35,3 +37,19 @@ returns-clause-exceeds g c =
     ap (nat_lt c.args.limit) c.saturating_add-2.ensures
     ∙ mended-exceeds c.args.from c.args.to rows h (subst Shows c.self.view_is refl) kept.chunks.ascending c.requires.ascending c.requires.within
     c.args.limit c.edge_at-edge.result c.count_left-left.result c.place_of.result edge c.place_of.ensures.after c.count_left-left.ensures.left (omega (arith, c.ranges.limit))
+
+pub returns-clause-easy : goal.returns-clause-easy
+returns-clause-easy g c = λ row. (
+    let h = c.args.self.now in
+    let kept : IsKeptIn g.C.Chunk.format h = subst (IsKeptIn g.C.Chunk.format) c.self.view_is c.self.invariant in
+    let few = few-in-chunks {format = g.C.Chunk.format} h (subst Shows c.self.view_is refl) kept c.args.limit (within-reach g.met.C.Chunk.at_least kept refl) row.few in
+    absurd (omega (
+      arith,
+      c.if-saturating_add-limit.false,
+      c.saturating_add.ensures,
+      c.len.ensures,
+      c.ranges.limit,
+      few,
+      row.one,
+      ap (λ (k : History). length (points k.held)) c.self.view_is,
+    )))

@@ -5,7 +5,7 @@ use Rattle.ts_spec.proofs.Settles.{times-within}
 use Rattle.ts_sample.specs.Gathered.{Gathering}
 use Rattle.ts_sample.proofs.Visiting.{list-visited}
 use Rattle.ts_series.specs.History.{list_of}
-use Rattle.ts_db.proofs.numbered.gather.Goals as goal
+use Rattle.ts_db.proofs.among.gather.Goals as goal
 
 pub returns-clause-gathered : goal.returns-clause-gathered
 returns-clause-gathered g c =

@@ -1,0 +1,191 @@
+-- What a write and a deletion decode for the rules of a key, by what contracts see.
+use Rattle.std.proofs.Common.{◌≡◌, ◌≤◌, ◌<◌, ◌+◌, ◌*◌, ℕ, true, List, [], ◌∷◌, map, length, refl, sym, ◌∙◌, ap, subst, arith, ltb-true, ◌^◌}
+use Rattle.std.specs.Prelude.{⊤, sum_by, Option, None, Some, option_map, ◌-◌}
+use Rattle.std.proofs.lemmas.List.Sums.{sum_by-cons}
+use Rattle.slab.specs.Slab as slab
+use Rattle.ts_spec.specs.Sample.{Point, between, last_of}
+use Rattle.ts_spec.specs.Bucket.{start, members}
+use Rattle.ts_spec.specs.Key.{Key}
+use Rattle.ts_spec.specs.Keyed.{get}
+use Rattle.ts_spec.specs.State.{Record, link_to}
+use Rattle.ts_spec.specs.State as state
+use Rattle.ts_spec.specs.Rules.{is_append, open_of}
+use Rattle.ts_spec.specs.Valid.{EachRule, IsUpTo, IsSoundRule}
+use Rattle.ts_spec.specs.Kept.{KeptRule, Kept, kept_rule, kept_record}
+use Rattle.ts_spec.specs.KeptStep.{list_at, kept_rules_at}
+use Rattle.ts_spec.proofs.Buckets.{start-order}
+use Rattle.ts_spec.proofs.Linked.{From, mapped-from}
+use Rattle.ts_spec.proofs.KeptMaps.{get-kept}
+use Rattle.ts_sample.specs.Chunk.{IsPast, greatest_limit}
+use Rattle.ts_sample.specs.declared.id.Id.{Id}
+use Rattle.ts_series.specs.History.{History, list_of, reach, limit_for, format_of, IsKept}
+use Rattle.ts_rules.specs.declared.rule.Rule.{Rule}
+use Rattle.ts_rules.specs.Rules.{kept_as}
+use Rattle.ts_rules.specs.Shares as shares
+use Rattle.ts_rules.specs.Shares.{in_buckets}
+use Rattle.ts_db.specs.declared.node.Node.{Node}
+use Rattle.ts_db.specs.declared.store.Store.{Store}
+use Rattle.ts_db.specs.declared.work.Work.TheVariants.{Write, Delete}
+use Rattle.ts_db.specs.Held.{reach_at}
+use Rattle.ts_db.specs.Bounds as bounds
+use Rattle.ts_db.specs.Bounds.{high_at, rule_steps, write_steps, AllClosePastAll, IsEasyAppend, rule_deletion_steps, deletion_steps}
+use Rattle.ts_db.specs.Planning.{share_at, shares_of, IsEasyAt, AreEasyOf}
+use Rattle.ts_db.specs.Store.{rules_by, key_at, key_in, kept_at, number_of, stock_of, AreLive, IsDb, Holds}
+use Rattle.ts_db.proofs.Applying.{there}
+use Rattle.ts_series.specs.Held.{AreChunks, greatest}
+use Rattle.ts_db.proofs.Reaches.{reach-held}
+
+-- ---- an appended sample lies in no bucket before the open one
+
+abbrev AreOpenBefore : ℕ → List KeptRule → Type 0
+AreOpenBefore t [] = ⊤
+AreOpenBefore t (q ∷ qs) = ((b : ℕ) → q.current ≡ Some b → b ≤ start q.grid t) × AreOpenBefore t qs
+
+open-before : (d : Record) (r : state.Rule) (t b : ℕ) → IsSoundRule d r → is_append t d.high ≡ true → open_of r ≡ Some b → b ≤ start r.grid t
+open-before d r t b s fresh is = go r.top refl d.high refl is
+  where
+    go : (top : Option ℕ) → r.top ≡ top → (high : Option ℕ) → d.high ≡ high → option_map (start r.grid) top ≡ Some b → b ≤ start r.grid t
+    go None e high f is = absurd (cc is)
+    go (Some top) e None f is = absurd (subst (λ (o : Option ℕ). IsUpTo o top) f (s.top top e))
+    go (Some top) e (Some high) f is =
+        let upto : top ≤ high = subst (λ (o : Option ℕ). IsUpTo o top) f (s.top top e) in
+        let past : high < t = ltb-true high t (ap (is_append t) (sym f) ∙ fresh) in
+        let here : start r.grid top ≡ b = cc is in
+        let order : start r.grid top ≤ start r.grid t = start-order r.grid top t (omega (arith, upto, past)) in
+        omega (arith, here, order)
+
+all-before : (d : Record) (t : ℕ) (rs : List state.Rule) → is_append t d.high ≡ true → EachRule (IsSoundRule d) rs → AreOpenBefore t (map kept_rule rs)
+all-before d t [] fresh x = tt
+all-before d t (r ∷ rs) fresh x = (λ b is. open-before d r t b x.0 fresh is, all-before d t rs fresh x.1)
+
+module _ (s : Store) (db : IsDb s) (key : Key) (id : Id) (n : Node) (holds : Holds s key id n) where
+  rules-before : (t : ℕ) → is_append t n.series.high ≡ true → AreOpenBefore t (rules_by (key_in s.nodes) n.rules.items)
+  rules-before t fresh =
+      let m = db.stands.to.state in
+      let is : get key (stock_of s).keys ≡ Some (kept_at s.nodes n) = there s db.store key id n holds in
+      let from : From (kept_record (link_to m key)) (get key m) (kept_at s.nodes n) =
+      mapped-from (kept_record (link_to m key)) (get key m) (kept_at s.nodes n) (sym (get-kept m key) ∙ ap (get key) (sym db.stands.stands.state.kept) ∙ is) in
+      subst (AreOpenBefore t) (ap (λ (q : Kept). q.rules) from.gives)
+      (all-before from.value t from.value.rules (ap (is_append t) (ap (λ (q : Kept). q.high) from.gives) ∙ fresh) (db.stands.stands.state.valid.sound key from.value from.is).rules)
+
+  -- ---- the destination of a rule
+
+  holds-dest : (r : Rule) (d : Node) → slab.get s.nodes r.dest.0 ≡ Some d → Holds s (key_in s.nodes r.dest) r.dest d
+  holds-dest r d at = record { number = ap (λ (o : Option Node). number_of (key_at o) s.keys.entries) at ∙ db.store.owned r.dest.0 d at; node = at }
+
+  own : get key (stock_of s).keys ≡ Some (kept_at s.nodes n)
+  own = there s db.store key id n holds
+
+  far : reach_at (stock_of s) key ≡ reach n.series
+  far = reach-held s key id n holds
+
+  live : AreLive s.nodes n.rules.items
+  live = (db.store.live id.0 n holds.node).rules
+
+  -- ---- a write
+
+  share-write : (p : Point) (r : Rule) (d : Node) → slab.get s.nodes r.dest.0 ≡ Some d
+      → share_at (Write p) n.series r (slab.get s.nodes r.dest.0) ≡ rule_steps (stock_of s) key p.time (kept_as (key_in s.nodes r.dest) r)
+  share-write p r d at =
+      let dest_far : reach_at (stock_of s) (key_in s.nodes r.dest) ≡ reach d.series = reach-held s (key_in s.nodes r.dest) r.dest d (holds-dest r d at) in
+      ap (share_at (Write p) n.series r) at
+      ∙ sym (λ i. length (members r.grid (start r.grid p.time) (list_at (own i))) + 4 * far i + 3 * dest_far i)
+
+  shares-write : (p : Point) (rs : List Rule) → AreLive s.nodes rs → shares_of s.nodes (Write p) n.series rs ≡ sum_by (rule_steps (stock_of s) key p.time) (rules_by (key_in s.nodes) rs)
+  shares-write p [] nodes = refl
+  shares-write p (r ∷ rs) nodes =
+      let one = share-write p r nodes.0.node nodes.0.there in
+      let rest = shares-write p rs nodes.1 in
+      (λ i. one i + rest i) ∙ sym (sum_by-cons (rule_steps (stock_of s) key p.time) (kept_as (key_in s.nodes r.dest) r) (rules_by (key_in s.nodes) rs))
+
+  -- what the key and its rules take
+  pub write-total : (p : Point) → 3 * reach n.series + shares_of s.nodes (Write p) n.series n.rules.items ≡ write_steps (stock_of s) key p.time
+  write-total p =
+      let rules : sum_by (rule_steps (stock_of s) key p.time) (kept_rules_at (get key (stock_of s).keys)) ≡ shares_of s.nodes (Write p) n.series n.rules.items =
+      ap (λ (o : Option Kept). sum_by (rule_steps (stock_of s) key p.time) (kept_rules_at o)) own ∙ sym (shares-write p n.rules.items live) in
+      sym (λ i. 3 * far i + rules i)
+
+  -- ---- an easy append
+
+  past-own : (t : ℕ) → bounds.IsPastAll (stock_of s) key t → IsPast (last_of (list_of n.series)) t × (length (list_of n.series) + reach n.series < s.limits.samples)
+  past-own t e = (
+    subst (λ (o : Option Kept). IsPast (last_of (list_at o)) t) own e.past,
+    (let many : length (list_at (get key (stock_of s).keys)) ≡ length (list_of n.series) = ap (λ (o : Option Kept). length (list_at o)) own in omega (arith, e.few, many, far)),
+  )
+
+  past-dest : (r : Rule) (d : Node) (b : ℕ) → slab.get s.nodes r.dest.0 ≡ Some d → bounds.IsPastAll (stock_of s) (key_in s.nodes r.dest) b → shares.IsPastAll s.limits.samples d.series b
+  past-dest r d b at e =
+      let dest : get (key_in s.nodes r.dest) (stock_of s).keys ≡ Some (kept_at s.nodes d) = there s db.store (key_in s.nodes r.dest) r.dest d (holds-dest r d at) in
+      let dest_far : reach_at (stock_of s) (key_in s.nodes r.dest) ≡ reach d.series = reach-held s (key_in s.nodes r.dest) r.dest d (holds-dest r d at) in
+      let many : length (list_at (get (key_in s.nodes r.dest) (stock_of s).keys)) ≡ length (list_of d.series) = ap (λ (o : Option Kept). length (list_at o)) dest in
+      record { past = subst (λ (o : Option Kept). IsPast (last_of (list_at o)) b) dest e.past; few = omega (arith, e.few, many, dest_far) }
+
+  pub fresh-own : (t : ℕ) → IsEasyAppend (stock_of s) key t → is_append t n.series.high ≡ true
+  fresh-own t e = sym (ap (λ (o : Option Kept). is_append t (high_at o)) own) ∙ e.append
+
+  pub few-own : (t : ℕ) → IsEasyAppend (stock_of s) key t → length (list_of n.series) + reach n.series < s.limits.samples
+  few-own t e = (past-own t e.past).1
+
+  pub last-own : (t : ℕ) → IsEasyAppend (stock_of s) key t → IsPast (last_of (list_of n.series)) t
+  last-own t e = (past-own t e.past).0
+
+  -- so it is for each rule
+  pub easy-rules : (p : Point) → IsEasyAppend (stock_of s) key p.time → AreEasyOf s.limits.samples s.nodes (Write p) n.series n.rules.items
+  easy-rules p e =
+      go n.rules.items live (rules-before p.time (fresh-own p.time e)) (subst (λ (o : Option Kept). AllClosePastAll (stock_of s) p.time (kept_rules_at o)) own e.closes)
+    where
+      go : (rs : List Rule) → AreLive s.nodes rs → AreOpenBefore p.time (rules_by (key_in s.nodes) rs) → AllClosePastAll (stock_of s) p.time (rules_by (key_in s.nodes) rs)
+          → AreEasyOf s.limits.samples s.nodes (Write p) n.series rs
+      go [] nodes before closes = tt
+      go (r ∷ rs) nodes before closes = (
+        subst (IsEasyAt s.limits.samples (Write p) n.series r) (sym nodes.0.there)
+            (record { appends = fresh-own p.time e; not_closed = before.0; closes = λ b is past. past-dest r nodes.0.node b nodes.0.there (closes.0 b is past) }),
+        go rs nodes.1 before.1 closes.1,
+      )
+
+  -- ---- a deletion
+
+  share-delete : (from to : ℕ) (r : Rule) (d : Node) → slab.get s.nodes r.dest.0 ≡ Some d
+      → share_at (Delete from to) n.series r (slab.get s.nodes r.dest.0) ≡ rule_deletion_steps (stock_of s) key from to (kept_as (key_in s.nodes r.dest) r)
+  share-delete from to r d at =
+      let dest : get (key_in s.nodes r.dest) (stock_of s).keys ≡ Some (kept_at s.nodes d) = there s db.store (key_in s.nodes r.dest) r.dest d (holds-dest r d at) in
+      let dest_far : reach_at (stock_of s) (key_in s.nodes r.dest) ≡ reach d.series = reach-held s (key_in s.nodes r.dest) r.dest d (holds-dest r d at) in
+      ap (share_at (Delete from to) n.series r) at
+      ∙ sym (λ i. length (in_buckets r.grid from to (list_at (own i))) + 6 * far i + length (between (start r.grid from) to (list_at (dest i))) + 5 * dest_far i)
+
+  shares-delete : (from to : ℕ) (rs : List Rule) → AreLive s.nodes rs
+      → shares_of s.nodes (Delete from to) n.series rs ≡ sum_by (rule_deletion_steps (stock_of s) key from to) (rules_by (key_in s.nodes) rs)
+  shares-delete from to [] nodes = refl
+  shares-delete from to (r ∷ rs) nodes =
+      let one = share-delete from to r nodes.0.node nodes.0.there in
+      let rest = shares-delete from to rs nodes.1 in
+      (λ i. one i + rest i) ∙ sym (sum_by-cons (rule_deletion_steps (stock_of s) key from to) (kept_as (key_in s.nodes r.dest) r) (rules_by (key_in s.nodes) rs))
+
+  -- what the key and its rules take
+  pub deletion-total : (from to : ℕ) → 3 * reach n.series + shares_of s.nodes (Delete from to) n.series n.rules.items ≡ deletion_steps (stock_of s) key from to
+  deletion-total from to =
+      let rules : sum_by (rule_deletion_steps (stock_of s) key from to) (kept_rules_at (get key (stock_of s).keys)) ≡ shares_of s.nodes (Delete from to) n.series n.rules.items =
+      ap (λ (o : Option Kept). sum_by (rule_deletion_steps (stock_of s) key from to) (kept_rules_at o)) own ∙ sym (shares-delete from to n.rules.items live) in
+      sym (λ i. 3 * far i + rules i)
+
+-- ---- a series that is new
+
+small-limits : (format : List Point → List ℕ) (n : ℕ) (pss : List (List Point)) (ns : List ℕ) → n ≤ greatest_limit → AreChunks format pss ns → greatest n ns ≤ greatest_limit
+small-limits format n [] [] small h = small
+small-limits format n [] (m ∷ ns) small h = absurd h
+small-limits format n (ps ∷ pss) [] small h = absurd h
+small-limits format n (ps ∷ pss) (m ∷ ns) small h = omega (arith, h.0.bounds.greatest, small-limits format n pss ns small h.1.1)
+
+small-new : (size : ℕ) → limit_for size ≤ greatest_limit
+small-new size = omega arith
+
+-- the reach of a series is far below the greatest limit of samples
+pub reach-small : (h : History) → IsKept h → reach h < 2 ^ 20
+reach-small h kept = omega (arith, small-limits (format_of h.options.encoding) (limit_for h.options.chunk_size) h.held.pieces h.held.limits (small-new h.options.chunk_size) kept.chunks.chunks)
+
+-- an empty series with this much room takes a sample without steps
+pub few-new : (h : History) → IsKept h → list_of h ≡ [] → length (list_of h) + reach h < 2 ^ 32 - 1
+few-new h kept empty = omega (arith, reach-small h kept, ap (λ (ps : List Point). length ps) empty)
+
+pub past-new : (h : History) (t : ℕ) → list_of h ≡ [] → IsPast (last_of (list_of h)) t
+past-new h t empty = subst (λ (ps : List Point). IsPast (last_of ps) t) (sym empty) tt

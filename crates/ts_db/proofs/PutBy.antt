@@ -1,0 +1,64 @@
+-- A write to a key that is there, by a policy of its own: what it leaves of each state, and that by no policy it is by the series' own.
+use Rattle.std.proofs.Common.{◌≡◌, ◌≤◌, ℕ, ℤ, refl, sym, ◌∙◌, ap, subst}
+use Rattle.std.specs.Prelude.{Option, None, Some, option_map, Result}
+use Rattle.ts_spec.specs.declared.limits.Limits.{Limits}
+use Rattle.ts_spec.specs.declared.series.Policy.{Policy}
+use Rattle.ts_spec.specs.Key.{Key}
+use Rattle.ts_spec.specs.Keyed.{get}
+use Rattle.ts_spec.specs.State.{Record, State, link_to}
+use Rattle.ts_spec.specs.Response.{Count}
+use Rattle.ts_spec.specs.Settings.{nothing}
+use Rattle.ts_spec.specs.SeriesOptions.{spec}
+use Rattle.ts_spec.specs.Step.{Outcome, add_at, put_at}
+use Rattle.ts_spec.specs.Kept.{Kept, Keeping, kept_record}
+use Rattle.ts_spec.specs.KeptStep.{KeptOutcome, kept_add_at, kept_put_at}
+use Rattle.ts_spec.specs.Stands.{StandsFor, IsStepOf}
+use Rattle.ts_spec.proofs.KeptMaps.{get-kept}
+use Rattle.ts_spec.proofs.WriteSteps.{add-step, put-step}
+use Rattle.ts_db.specs.declared.fault.DbFault.{DbFault}
+use Rattle.ts_db.specs.Held.{Stock, AnswersNumber}
+use Rattle.ts_db.specs.Answering.{KeptNumber}
+use Rattle.ts_db.specs.PutBy.{put_by, kept_put_by}
+use Rattle.ts_db.proofs.Refusing.{add-refuses, put-refuses}
+use Rattle.ts_db.proofs.Lifting.{IsLaw, lifted}
+
+-- by no policy it is by the series' own
+pub by-own : (limits : Limits) (m : Keeping) (key : Key) (t : ℕ) (v : ℤ) (o : Option Kept) → kept_put_by limits m key t v None o ≡ kept_put_at limits m key t v o
+by-own limits m key t v None = refl
+by-own limits m key t v (Some d) = refl
+
+module _ (limits : Limits) (keys : Keeping) (m : State) (stands : StandsFor limits keys m) (key : Key) where
+  -- what is kept of the key, by its record
+  abbrev kept_of : Option Record → Option Kept
+  kept_of o = option_map (kept_record (link_to m key)) o
+
+  -- a step by the record of the key
+  by-record : (step : Option Record → Outcome) (kept_step : Option Kept → KeptOutcome) (o : Option Record) → get key m ≡ o
+      → IsStepOf limits (step (get key m)) (kept_step (get key keys)) → IsStepOf limits (step o) (kept_step (kept_of o))
+  by-record step kept_step o is done =
+      subst (λ (q : Option Record). IsStepOf limits (step q) (kept_step (kept_of q))) is
+      (subst (λ (q : Option Kept). IsStepOf limits (step (get key m)) (kept_step q)) (ap (get key) stands.kept ∙ get-kept m key) done)
+
+  -- where the key is missing it is a write by the series' own policy, and else one that would make the series
+  of-record : (room : 1 ≤ limits.samples) (t : ℕ) (v : ℤ) (on : Option Policy) (o : Option Record) → get key m ≡ o
+      → IsLaw limits m (put_by limits m key t v on o) (kept_put_by limits keys key t v on (kept_of o))
+  of-record room t v on None is = record {
+    is_step = by-record (put_at limits m key t v) (kept_put_at limits keys key t v) None is (put-step limits keys m key t v stands);
+    refuses = put-refuses limits m key t v None;
+  }
+  of-record room t v on (Some d) is = record {
+    is_step = by-record (add_at limits m key t v on (spec nothing)) (kept_add_at limits keys key t v on (spec nothing)) (Some d) is (add-step limits keys m key t v on (spec nothing) room stands);
+    refuses = add-refuses limits m key t v on (spec nothing) (Some d);
+  }
+
+  pub put_by-is : (room : 1 ≤ limits.samples) (t : ℕ) (v : ℤ) (on : Option Policy)
+      → IsLaw limits m (put_by limits m key t v on (get key m)) (kept_put_by limits keys key t v on (get key keys))
+  put_by-is room t v on =
+      subst (λ (q : Option Kept). IsLaw limits m (put_by limits m key t v on (get key m)) (kept_put_by limits keys key t v on q))
+      (sym (ap (get key) stands.kept ∙ get-kept m key)) (of-record room t v on (get key m) refl)
+
+-- its answers are those of the step of each state
+pub put_by-law : (old new : Stock) (room : 1 ≤ old.limits.samples) (key : Key) (t : ℕ) (v : ℤ) (on : Option Policy) (r : Result ℕ DbFault)
+    → KeptNumber old (kept_put_by old.limits old.keys key t v on (get key old.keys)) r new → AnswersNumber old (λ h. put_by h.limits h.state key t v on (get key h.state)) r new
+put_by-law old new room key t v on = lifted old new (λ h. put_by h.limits h.state key t v on (get key h.state)) (kept_put_by old.limits old.keys key t v on (get key old.keys))
+    (λ m st. put_by-is old.limits old.keys m st key room t v on) (λ x. Count x)

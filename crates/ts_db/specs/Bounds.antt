@@ -1,0 +1,67 @@
+-- How many samples a call may decode at most, by what contracts see of a database. Each sample that is decoded is a step.
+use Rattle.std.specs.Prelude.{ℕ, ◌+◌, ◌*◌, length, sum_by, ◌≡◌, ◌<◌, true, ⊤, List, [], ◌∷◌, Option, None, Some}
+use Rattle.ts_spec.specs.Sample.{between, last_of}
+use Rattle.ts_spec.specs.Key.{Key}
+use Rattle.ts_spec.specs.Keyed.{get}
+use Rattle.ts_spec.specs.KeptStep.{list_at, kept_rules_at}
+use Rattle.ts_spec.specs.Bucket.{start, members}
+use Rattle.ts_spec.specs.Rules.{is_append}
+use Rattle.ts_spec.specs.Kept.{KeptRule, Kept}
+use Rattle.ts_sample.specs.Chunk.{IsPast}
+use Rattle.ts_rules.specs.Shares.{in_buckets}
+use Rattle.ts_db.specs.Held.{Stock, reach_at}
+
+-- the reach of each series, added up
+abbrev pub reach_of_all : Stock → ℕ
+reach_of_all stock = sum_by (λ e. reach_at stock e.key) stock.keys.entries
+
+-- on a walk from one time to another: the samples of the key between them, and twice its reach
+abbrev pub walk_steps : Stock → Key → (from to : ℕ) → ℕ
+walk_steps stock key from to = length (between from to (list_at (get key stock.keys))) + 2 * reach_at stock key
+
+-- ---- a write
+
+-- the highest time of a key
+abbrev pub high_at : Option Kept → Option ℕ
+high_at None = None
+high_at (Some d) = d.high
+
+-- for a rule: the samples of the key in the bucket of the time, four times its reach, and three times that of the destination
+abbrev pub rule_steps : Stock → Key → (time : ℕ) → KeptRule → ℕ
+rule_steps stock key t q = length (members q.grid (start q.grid t) (list_at (get key stock.keys))) + 4 * reach_at stock key + 3 * reach_at stock q.dest
+
+-- three times the reach of the key, and what each of its rules takes
+abbrev pub write_steps : Stock → Key → (time : ℕ) → ℕ
+write_steps stock key t = 3 * reach_at stock key + sum_by (rule_steps stock key t) (kept_rules_at (get key stock.keys))
+
+-- A time is past all samples of the key, which are fewer than the limit by its reach.
+pub record IsPastAll (stock : Stock) (key : Key) (t : ℕ) : Type 0 where
+  pub past : IsPast (last_of (list_at (get key stock.keys))) t
+  pub few : length (list_at (get key stock.keys)) + reach_at stock key < stock.limits.samples
+
+-- where a write at this time closes the open bucket of a rule, that starts past all samples of the destination
+abbrev pub ClosesPastAll : Stock → (time : ℕ) → KeptRule → Type 0
+ClosesPastAll stock t q = (b : ℕ) → q.current ≡ Some b → b < start q.grid t → IsPastAll stock q.dest b
+
+abbrev pub AllClosePastAll : Stock → (time : ℕ) → List KeptRule → Type 0
+AllClosePastAll stock t [] = ⊤
+AllClosePastAll stock t (q ∷ qs) = ClosesPastAll stock t q × AllClosePastAll stock t qs
+
+-- An easy append: past the highest time and all samples of the key; and so is the bucket of each rule that it closes, at its destination.
+pub record IsEasyAppend (stock : Stock) (key : Key) (t : ℕ) : Type 0 where
+  pub append : is_append t (high_at (get key stock.keys)) ≡ true
+  pub past : IsPastAll stock key t
+  pub closes : AllClosePastAll stock t (kept_rules_at (get key stock.keys))
+
+-- ---- a deletion
+
+-- for a rule: the samples of the key in the buckets that meet the interval, six times its reach, what the destination shows from the start
+-- of the first of these buckets to the interval's end, and five times its reach
+abbrev pub rule_deletion_steps : Stock → Key → (from to : ℕ) → KeptRule → ℕ
+rule_deletion_steps stock key from to q =
+    length (in_buckets q.grid from to (list_at (get key stock.keys))) + 6 * reach_at stock key
+    + length (between (start q.grid from) to (list_at (get q.dest stock.keys))) + 5 * reach_at stock q.dest
+
+-- three times the reach of the key, and what each of its rules takes
+abbrev pub deletion_steps : Stock → Key → (from to : ℕ) → ℕ
+deletion_steps stock key from to = 3 * reach_at stock key + sum_by (rule_deletion_steps stock key from to) (kept_rules_at (get key stock.keys))

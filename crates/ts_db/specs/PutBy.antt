@@ -1,0 +1,21 @@
+-- A write to a key that is there, by a policy of its own.
+use Rattle.std.specs.Prelude.{ℕ, ℤ, Option, None, Some, unwrap_or}
+use Rattle.ts_spec.specs.declared.limits.Limits.{Limits}
+use Rattle.ts_spec.specs.declared.series.Policy.{Policy}
+use Rattle.ts_spec.specs.declared.series.Merge.TheVariants.{By}
+use Rattle.ts_spec.specs.Key.{Key}
+use Rattle.ts_spec.specs.State.{Record, State}
+use Rattle.ts_spec.specs.Refusal.{NoKey}
+use Rattle.ts_spec.specs.Step.{Outcome, refused, write}
+use Rattle.ts_spec.specs.Kept.{Kept, Keeping}
+use Rattle.ts_spec.specs.KeptStep.{KeptOutcome, kept_refused, kept_write}
+
+-- the series is written to by this policy or else its own, and a missing key is refused
+abbrev pub put_by : Limits → State → Key → ℕ → ℤ → Option Policy → Option Record → Outcome
+put_by limits m key t v on None = refused m NoKey
+put_by limits m key t v on (Some d) = write limits m key d (By (unwrap_or on d.options.policy)) t v
+
+-- the same over what is kept
+abbrev pub kept_put_by : Limits → Keeping → Key → ℕ → ℤ → Option Policy → Option Kept → KeptOutcome
+kept_put_by limits m key t v on None = kept_refused m NoKey
+kept_put_by limits m key t v on (Some d) = kept_write limits m key d (By (unwrap_or on d.options.policy)) t v

@@ -1,0 +1,47 @@
+// A write to a key that is there, by a policy of its own.
+ghost use Rattle.std.specs.Prelude.{◌≡◌, ◌≤◌, ◌+◌, IfOk, IfErr};
+ghost use Rattle.ts_spec.specs.Sample.{MAX_TIME};
+ghost use Rattle.ts_spec.specs.Keyed.{get};
+ghost use Rattle.ts_db.specs.Held.{IsOwn};
+ghost use Rattle.ts_db.specs.Store.{stock_of, IsInOrder, IsDb};
+ghost use Rattle.ts_db.specs.Answering.{KeptNumber};
+ghost use Rattle.ts_db.specs.PutBy.{kept_put_by};
+ghost use Rattle.ts_db.specs.Bounds.{write_steps, IsEasyAppend};
+
+use crate::fault::DbFault;
+use crate::store::Store;
+use std::sync::ledger::Ledger;
+use ts_resp::Word;
+use ts_sample::{Steps, Units};
+use ts_spec::{Merge, Policy};
+
+impl Store {
+    // Adds a sample to the series of a key, by this policy or else its own where the time has one. Answers the time.
+    pub(crate) fn put_by<L: Ledger>(
+        &mut self,
+        key: &Word,
+        time: u64,
+        value: Units,
+        on: Option<Policy>,
+        steps: &mut Steps<L>,
+    ) -> Result<u64, DbFault>
+        requires time { time ≤ MAX_TIME }
+        requires db { IsDb self.old }
+        ensures put { KeptNumber (stock_of self.old) (kept_put_by self.old.limits (stock_of self.old).keys key.now time value on (get key.now (stock_of self.old).keys)) result (stock_of self.new) }
+        ensures bounded { IfOk result (λ t. t ≤ MAX_TIME) }
+        ensures own { IfErr result (IsOwn (stock_of self.old) key.now) }
+        ensures store { IsInOrder self.new }
+        ensures counted { steps.old ≤ steps.new }
+        ensures steps { steps.new ≤ steps.old + write_steps (stock_of self.old) key.now time }
+        ensures easy { IsEasyAppend (stock_of self.old) key.now time → steps.new ≡ steps.old }
+    {
+        let Some(id) = self.keys.get(key).copied() else {
+            return Err(DbFault::NoKey);
+        };
+        let Some(node) = self.nodes.get(id.0) else {
+            unreachable!();
+        };
+        let how = Merge::By(on.unwrap_or(node.series.options().policy));
+        self.write(id, how, time, value, steps)
+    }
+}
