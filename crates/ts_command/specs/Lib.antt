@@ -3,5 +3,6 @@ pub mod Answers
 pub mod Faults
 pub mod Forms
 pub mod Given
+pub mod OnDuplicate
 pub mod Options
 pub mod Reading

@@ -1,5 +1,5 @@
-// TS.ADD without options, from the words of its request: most requests of a busy client are such.
-ghost use Rattle.std.specs.Prelude.{◌≡◌, ◌+◌, ◌≤◌, None, length};
+// TS.ADD with no option but ON_DUPLICATE, from the words of its request: most requests of a busy client are such.
+ghost use Rattle.std.specs.Prelude.{◌≡◌, ◌+◌, ◌≤◌, length};
 ghost use Rattle.ts_spec.specs.Keyed.{get};
 ghost use Rattle.ts_spec.specs.Sample.{MAX_TIME};
 ghost use Rattle.ts_spec.specs.Settings.{nothing};
@@ -20,7 +20,7 @@ use ts_db::{Db, DbFault};
 use ts_resp::{Out, Reply, put};
 use ts_sample::Steps;
 
-/// Executes TS.ADD without options and leaves its reply in `out`.
+/// Executes TS.ADD with no option but ON_DUPLICATE, and leaves its reply in `out`.
 pub(crate) fn put_addition<L: Ledger>(
     db: &mut Db,
     alloc: Global,
@@ -47,11 +47,11 @@ fn write<L: Ledger>(
     steps: &mut Steps<L>,
 ) -> Reply
     requires { time ≤ MAX_TIME }
-    ensures answer { Carries db.old db.new (λ from to. StepOrMemory (add_at from.limits from.state addition.now.key.now time addition.now.value None (spec nothing)
+    ensures answer { Carries db.old db.new (λ from to. StepOrMemory (add_at from.limits from.state addition.now.key.now time addition.now.value addition.now.on (spec nothing)
         (get addition.now.key.now from.state)) from (reply_of result) to) }
     ensures short { IsShort (reply_of result) }
 {
-    match db.put(addition.key, time, addition.value, steps) {
+    match db.put_by(addition.key, time, addition.value, addition.on, steps) {
         Ok(time) => number(time),
         Err(fault) => match fault {
             DbFault::NoKey => begin(db, alloc, addition, time, steps),
@@ -70,7 +70,7 @@ fn begin<L: Ledger>(
     steps: &mut Steps<L>,
 ) -> Reply
     requires { time ≤ MAX_TIME }
-    ensures answer { Carries db.old db.new (λ from to. StepOrMemory (add_at from.limits from.state addition.now.key.now time addition.now.value None (spec nothing)
+    ensures answer { Carries db.old db.new (λ from to. StepOrMemory (add_at from.limits from.state addition.now.key.now time addition.now.value addition.now.on (spec nothing)
         (get addition.now.key.now from.state)) from (reply_of result) to) }
     ensures short { IsShort (reply_of result) }
 {
@@ -80,7 +80,7 @@ fn begin<L: Ledger>(
             key,
             time,
             addition.value,
-            None,
+            addition.on,
             Addition::spec(alloc),
             steps,
         ),

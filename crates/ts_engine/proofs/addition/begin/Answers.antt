@@ -1,5 +1,4 @@
 use Rattle.std.proofs.Common.{inr, refl, subst}
-use Rattle.std.specs.Prelude.{None}
 use Rattle.ts_spec.specs.Command.{Spec}
 use Rattle.ts_spec.specs.Key.{Key}
 use Rattle.ts_spec.specs.Keyed.{get}
@@ -16,12 +15,12 @@ pub returns-in-Ok-clause-answer : goal.returns-in-Ok-clause-answer
 returns-in-Ok-clause-answer g c =
     let a = c.args.addition.now in
     let reply = reply_of c.add.result in
-    subst (λ (key : Key). Carries c.args.db.now c.add.new.db (λ from to. StepOrMemory (add_at from.limits from.state key c.args.time a.value None (spec nothing) (get key from.state)) from reply to)) c.in-Ok.ensures
-    (subst (λ (s : Spec). Carries c.args.db.now c.add.new.db (λ from to. StepOrMemory (add_at from.limits from.state c.in-Ok.key c.args.time a.value None s (get c.in-Ok.key from.state)) from reply to)) c.spec.ensures c.add.ensures.answer)
+    subst (λ (key : Key). Carries c.args.db.now c.add.new.db (λ from to. StepOrMemory (add_at from.limits from.state key c.args.time a.value a.on (spec nothing) (get key from.state)) from reply to)) c.in-Ok.ensures
+    (subst (λ (s : Spec). Carries c.args.db.now c.add.new.db (λ from to. StepOrMemory (add_at from.limits from.state c.in-Ok.key c.args.time a.value a.on s (get c.in-Ok.key from.state)) from reply to)) c.spec.ensures c.add.ensures.answer)
 
 pub returns-in-Err-clause-answer : goal.returns-in-Err-clause-answer
 returns-in-Err-clause-answer g c =
     let a = c.args.addition.now in
     let reply = reply_of c.refusal_reply.result in
-    carries_none c.args.db.now (λ from to. StepOrMemory (add_at from.limits from.state a.key.now c.args.time a.value None (spec nothing) (get a.key.now from.state)) from reply to)
+    carries_none c.args.db.now (λ from to. StepOrMemory (add_at from.limits from.state a.key.now c.args.time a.value a.on (spec nothing) (get a.key.now from.state)) from reply to)
     (λ from stands. inr (record { says = c.refusal_reply.ensures.reply c.args.db.now.ids; same = refl }))

@@ -1,5 +1,5 @@
 use Rattle.std.proofs.Common.{arith, sym, subst}
-use Rattle.std.specs.Prelude.{None, Ok, Err}
+use Rattle.std.specs.Prelude.{Ok, Err}
 use Rattle.ts_spec.specs.Keyed.{get}
 use Rattle.ts_spec.specs.Response.{Count}
 use Rattle.ts_spec.specs.Settings.{nothing}
@@ -17,8 +17,8 @@ use Rattle.ts_engine.proofs.addition.write.Goals as goal
 pub returns-in-Ok-clause-answer : goal.returns-in-Ok-clause-answer
 returns-in-Ok-clause-answer g c =
     let a = c.args.addition.now in
-    answered (λ t. Count t) c.args.db.now c.put.new.self (adds a.key.now c.args.time a.value (spec nothing)) (Ok c.in-Ok.time) (reply_of c.number.result) (λ ids. c.number.ensures)
-    (added a.key.now c.args.time a.value (spec nothing) c.args.db.now c.put.new.self c.in-Ok.time c.in-Ok.ensures.put)
+    answered (λ t. Count t) c.args.db.now c.put_by.new.self (adds a.key.now c.args.time a.value a.on (spec nothing)) (Ok c.in-Ok.time) (reply_of c.number.result) (λ ids. c.number.ensures)
+    (added a.key.now c.args.time a.value a.on (spec nothing) c.args.db.now c.put_by.new.self c.in-Ok.time c.in-Ok.ensures.put)
 
 pub returns-in-Ok-clause-short : goal.returns-in-Ok-clause-short
 returns-in-Ok-clause-short g c = subst IsShort (sym c.number.ensures) (short_number c.in-Ok.time (omega (arith, c.in-Ok.ensures.bounded)))
@@ -27,11 +27,11 @@ returns-in-Ok-clause-short g c = subst IsShort (sym c.number.ensures) (short_num
 pub returns-in-NoKey-clause-answer : goal.returns-in-NoKey-clause-answer
 returns-in-NoKey-clause-answer g c =
     let a = c.args.addition.now in
-    subst (λ (s : Stock). Carries s c.begin.new.db (λ from to. StepOrMemory (add_at from.limits from.state a.key.now c.args.time a.value None (spec nothing) (get a.key.now from.state)) from (reply_of c.begin.result) to))
+    subst (λ (s : Stock). Carries s c.begin.new.db (λ from to. StepOrMemory (add_at from.limits from.state a.key.now c.args.time a.value a.on (spec nothing) (get a.key.now from.state)) from (reply_of c.begin.result) to))
     c.in-Err.ensures.put.1 c.begin.ensures.answer
 
 pub returns-in_default-clause-answer : goal.returns-in_default-clause-answer
 returns-in_default-clause-answer g c =
     let a = c.args.addition.now in
-    answered (λ t. Count t) c.args.db.now c.put.new.self (adds a.key.now c.args.time a.value (spec nothing)) (Err c.in-Err.fault) (reply_of c.refusal_reply.result) c.refusal_reply.ensures.reply
-    (not_added a.key.now c.args.time a.value (spec nothing) c.args.db.now c.put.new.self c.in-Err.fault c.in_default.not-NoKey c.in-Err.ensures.put)
+    answered (λ t. Count t) c.args.db.now c.put_by.new.self (adds a.key.now c.args.time a.value a.on (spec nothing)) (Err c.in-Err.fault) (reply_of c.refusal_reply.result) c.refusal_reply.ensures.reply
+    (not_added a.key.now c.args.time a.value a.on (spec nothing) c.args.db.now c.put_by.new.self c.in-Err.fault c.in_default.not-NoKey c.in-Err.ensures.put)

@@ -1,34 +1,58 @@
-use Rattle.std.proofs.Common.{◌≡◌, ◌≤◌, ◌<◌, ℤ, List, [], ◌∷◌, length, get_or, refl, arith, rules}
-use Rattle.std.specs.Prelude.{IsTrue, None, Some, Ok, codes, nat_le}
-use Rattle.std.specs.Str.{str_eq_ignore_ascii_case}
-use Rattle.ts_spec.specs.Command.{Add}
-use Rattle.ts_spec.specs.Names.{named}
-use Rattle.ts_spec.specs.Settings.{Word, at_word, value_word, nothing}
-use Rattle.ts_spec.specs.SeriesOptions.{has_labels, spec}
-use Rattle.ts_spec.specs.Grammar.{commands, option_form, add, command}
-use Rattle.ts_spec.specs.declared.command.At.{At}
-use Rattle.ts_command.proofs.TableLemmas.{named-as}
+use Rattle.std.proofs.Common.{◌≡◌, ◌≤◌, ◌<◌, List, [], ◌∷◌, length, drop, get_or, refl, sym, ◌∙◌, ap, subst, arith}
+use Rattle.std.proofs.lemmas.List.{drop_more, drop_all}
+use Rattle.std.specs.Prelude.{Option, None, Some, IfSome, Ok}
+use Rattle.ts_spec.specs.declared.series.Policy.{Policy}
+use Rattle.ts_spec.specs.Settings.{Word}
+use Rattle.ts_spec.specs.Grammar.{command}
+use Rattle.ts_command.specs.declared.addition.Addition.{Addition}
+use Rattle.ts_command.specs.Addition.{addition_of}
+use Rattle.ts_command.specs.OnDuplicate.{SayPolicy}
 use Rattle.ts_command.proofs.addition.Addition.read.Goals as goal
 
--- what the name finds
-finds_add : (word : Word) → IsTrue (str_eq_ignore_ascii_case (codes "TS.ADD") word) → named commands word ≡ Some (option_form has_labels 3 (nat_le 4) add)
-unfolding commands
-finds_add word is = named-as (codes "TS.ADD") word commands is
-
--- the command of four words that were taken apart by their places
-add-read : (words : List Word) (name key time amount : Word) (at : At) (v : ℤ) → 4 ≤ length words → length words < 5
+-- words begin with those at their first places
+first_four : (words : List Word) (name key time amount : Word) → 4 ≤ length words
     → name ≡ get_or words 0 name → key ≡ get_or words 1 key → time ≡ get_or words 2 time → amount ≡ get_or words 3 amount
-    → IsTrue (str_eq_ignore_ascii_case (codes "TS.ADD") name) → at_word time ≡ Ok at → value_word amount ≡ Ok v
-    → command words ≡ Ok (Add key at v None (spec nothing))
-add-read [] name key time amount at v least most is_name is_key is_time is_amount is_add is_at is_value = absurd (omega arith)
-add-read (a ∷ []) name key time amount at v least most is_name is_key is_time is_amount is_add is_at is_value = absurd (omega arith)
-add-read (a ∷ b ∷ []) name key time amount at v least most is_name is_key is_time is_amount is_add is_at is_value = absurd (omega arith)
-add-read (a ∷ b ∷ c ∷ []) name key time amount at v least most is_name is_key is_time is_amount is_add is_at is_value = absurd (omega arith)
-add-read (a ∷ b ∷ c ∷ d ∷ []) name key time amount at v least most is_name is_key is_time is_amount is_add is_at is_value =
-    rw (← is_name, ← is_key, ← is_time, ← is_amount, finds_add name is_add, is_at, is_value) refl
-add-read (a ∷ b ∷ c ∷ d ∷ e ∷ words) name key time amount at v least most is_name is_key is_time is_amount is_add is_at is_value = absurd (omega arith)
+    → words ≡ name ∷ key ∷ time ∷ amount ∷ drop 4 words
+first_four words name key time amount least is_name is_key is_time is_amount =
+    drop_more words 0 name (omega arith)
+    ∙ ap (λ (w : Word). w ∷ drop 1 words) (sym is_name)
+    ∙ ap (λ (ws : List Word). name ∷ ws) (drop_more words 1 key (omega arith) ∙ ap (λ (w : Word). w ∷ drop 2 words) (sym is_key))
+    ∙ ap (λ (ws : List Word). name ∷ key ∷ ws) (drop_more words 2 time (omega arith) ∙ ap (λ (w : Word). w ∷ drop 3 words) (sym is_time))
+    ∙ ap (λ (ws : List Word). name ∷ key ∷ time ∷ ws) (drop_more words 3 amount (omega arith) ∙ ap (λ (w : Word). w ∷ drop 4 words) (sym is_amount))
 
-pub returns : goal.returns
-returns c =
-    add-read c.args.words.now c.name-item.result c.key-item.result c.time-item.result c.value-item.result c.in-Ok.at c.in-Ok-value_word.value c.in-len4.len_at_least c.in-len4.len_below
-    c.name-item.is c.key-item.is c.time-item.is c.value-item.is (search rules) (rw c.bytes-2.ensures at c.in-Ok.ensures.answer) (rw c.bytes-3.ensures at c.in-Ok-value_word.ensures.answer)
+-- and end with those at their last places
+last_two : (words : List Word) (option policy : Word) → 6 ≤ length words → length words < 7
+    → option ≡ get_or words 4 option → policy ≡ get_or words 5 policy → drop 4 words ≡ option ∷ policy ∷ []
+last_two words option policy least most is_option is_policy =
+    drop_more words 4 option (omega arith)
+    ∙ ap (λ (w : Word). w ∷ drop 5 words) (sym is_option)
+    ∙ ap (λ (ws : List Word). option ∷ ws) (drop_more words 5 policy (omega arith) ∙ ap (λ (w : Word). w ∷ drop 6 words) (sym is_policy))
+    ∙ ap (λ (ws : List Word). option ∷ policy ∷ ws) (drop_all 6 words (omega arith))
+
+-- what is so whatever options say this policy is so of these
+so_of : (name key time amount : Word) (on : Option Policy) (options words : List Word) (result : Option Addition)
+    → words ≡ name ∷ key ∷ time ∷ amount ∷ options → SayPolicy on options
+    → IfSome result (λ a. (options : List Word) → SayPolicy on options → command (name ∷ key ∷ time ∷ amount ∷ options) ≡ Ok (addition_of a))
+    → IfSome result (λ a. command words ≡ Ok (addition_of a))
+so_of name key time amount on options words None are says each = tt
+so_of name key time amount on options words (Some a) are says each = subst (λ (ws : List Word). command ws ≡ Ok (addition_of a)) (sym are) (each options says)
+
+pub returns-in-len4 : goal.returns-in-len4
+returns-in-len4 c =
+    so_of c.name-item.result c.key-item.result c.time-item.result c.value-item.result None (drop 4 c.args.words.now) c.args.words.now c.by_words.result
+    (first_four c.args.words.now c.name-item.result c.key-item.result c.time-item.result c.value-item.result c.in-len4.len_at_least
+    c.name-item.is c.key-item.is c.time-item.is c.value-item.is)
+    (subst (λ (ws : List Word). SayPolicy None ws) (sym (drop_all 4 c.args.words.now (omega (arith, c.in-len4.len_below)))) refl) c.by_words.ensures
+
+pub returns-in_ok-policy-in-len6 : goal.returns-in_ok-policy-in-len6
+returns-in_ok-policy-in-len6 c =
+    let name = c.name-item-then-words-lt7.result in
+    let key = c.key-item-then-words-lt7.result in
+    let time = c.time-item-then-words-lt7.result in
+    let amount = c.value-item-then-words-lt7.result in
+    so_of name key time amount (Some c.in_ok-policy-in-len6.policy) (drop 4 c.args.words.now) c.args.words.now c.by_words-in-len6.result
+    (first_four c.args.words.now name key time amount (omega (arith, c.in-len6.len_at_least))
+    c.name-item-then-words-lt7.is c.key-item-then-words-lt7.is c.time-item-then-words-lt7.is c.value-item-then-words-lt7.is)
+    (subst (λ (ws : List Word). SayPolicy (Some c.in_ok-policy-in-len6.policy) ws)
+    (sym (last_two c.args.words.now c.option-item.result c.policy-item.result c.in-len6.len_at_least c.in-len6.len_below c.option-item.is c.policy-item.is))
+    c.in_ok-policy-in-len6.ensures) c.by_words-in-len6.ensures
