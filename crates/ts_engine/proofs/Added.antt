@@ -1,6 +1,7 @@
--- TS.ADD without options to a key that is there: a write by the series' own policy.
+-- TS.ADD to a key that is there: a write by its policy, or else by the series' own.
 use Rattle.std.proofs.Common.{◌≡◌, ◌≢◌, ℕ, ℤ, refl, sym, ap}
 use Rattle.std.specs.Prelude.{Option, None, Some, Ok, Err, true, false}
+use Rattle.ts_spec.specs.declared.series.Policy.{Policy}
 use Rattle.ts_spec.specs.Command.{Spec}
 use Rattle.ts_spec.specs.Key.{Key}
 use Rattle.ts_spec.specs.Keyed.{Keyed, get}
@@ -8,9 +9,10 @@ use Rattle.ts_spec.specs.Refusal as refusal
 use Rattle.ts_spec.specs.Refusal.{Refusal}
 use Rattle.ts_spec.specs.Response.{Count, Refused}
 use Rattle.ts_spec.specs.State.{Record}
-use Rattle.ts_spec.specs.Step.{Outcome, add_at, put_at}
+use Rattle.ts_spec.specs.Step.{Outcome, add_at}
 use Rattle.ts_sample.specs.declared.id.Id.{Id}
 use Rattle.ts_db.specs.Faults.{refusal_of}
+use Rattle.ts_db.specs.PutBy.{put_by}
 use Rattle.ts_db.specs.Held.{Held, Stock, AnswersNumber, IsDone, IsAnswer}
 use Rattle.ts_db.specs.declared.fault.DbFault.{DbFault}
 use Rattle.ts_db.specs.declared.fault.DbFault.TheVariants.{KeyExists, NoKey, KeysFull, LabelsFull, TooOld, Duplicate, OutOfRange, BeforeLast, SamplesFull, DeleteBeyondRetention, SameKey, SourceIsDest, DestIsSource, DestHasSource, RulesSpent, RulesFull, NoRule, Memory}
@@ -37,21 +39,21 @@ only_missing ids RulesFull is = absurd (cc is)
 only_missing ids NoRule is = absurd (cc is)
 only_missing ids (Memory e) is = absurd (cc is)
 
-module _ (key : Key) (t : ℕ) (v : ℤ) (spec : Spec) where
-  -- a triple of TS.MADD, and TS.ADD
+module _ (key : Key) (t : ℕ) (v : ℤ) (on : Option Policy) (spec : Spec) where
+  -- a write to a key that is there, and TS.ADD
   abbrev pub puts : Held → Outcome
-  puts h = put_at h.limits h.state key t v (get key h.state)
+  puts h = put_by h.limits h.state key t v on (get key h.state)
 
   abbrev pub adds : Held → Outcome
-  adds h = add_at h.limits h.state key t v None spec (get key h.state)
+  adds h = add_at h.limits h.state key t v on spec (get key h.state)
 
   done_as : (time : ℕ) (from : Held) (new : Stock) (o : Option Record)
-      → IsDone (Count time) from.limits (put_at from.limits from.state key t v o) new → IsDone (Count time) from.limits (add_at from.limits from.state key t v None spec o) new
+      → IsDone (Count time) from.limits (put_by from.limits from.state key t v on o) new → IsDone (Count time) from.limits (add_at from.limits from.state key t v on spec o) new
   done_as time from new None done = absurd (cc done.says)
   done_as time from new (Some d) done = done
 
   refused_as : (r : Option Refusal) (from : Held) (o : Option Record) → r ≢ Some refusal.NoKey
-      → IsAnswer r from.state (put_at from.limits from.state key t v o) → IsAnswer r from.state (add_at from.limits from.state key t v None spec o)
+      → IsAnswer r from.state (put_by from.limits from.state key t v on o) → IsAnswer r from.state (add_at from.limits from.state key t v on spec o)
   refused_as None from o other is = tt
   refused_as (Some r) from None other is =
       let same : Refused refusal.NoKey ≡ Refused r = ap (λ (s : Outcome). s.response) is in

@@ -1,6 +1,6 @@
 -- The rows that a walk over the samples of a key hands on.
 use Rattle.std.proofs.Common.{◌≡◌, List, [], ◌∷◌, ◌++◌, sym, ◌∙◌, ap, subst, append-nil, append_assoc, ℕ, Bool, true}
-use Rattle.std.specs.Prelude.{filter, Option, None, Some, is_some, Result, Ok, Err, IfOk, IfErr}
+use Rattle.std.specs.Prelude.{filter, Option, None, Some, is_some, Result, Ok, Err, IfOk, IfErr, IfNone}
 use Rattle.std.proofs.lemmas.Bool.{false≢true}
 use Rattle.ts_spec.specs.declared.limits.Limits.{Limits}
 use Rattle.ts_spec.specs.Command.{Query}
@@ -41,3 +41,14 @@ for-each-key (Err e) P Q h = tt
 pub for-each-key-refused : {X E : Type 0} (r : Result X E) (fault : E) (P Q : Key → Type 0) → ((k : Key) → P k → IfErr r (λ e. e ≡ fault → Q k)) → IfErr r (λ e. e ≡ fault → (k : Key) → P k → Q k)
 for-each-key-refused (Ok x) fault P Q h = tt
 for-each-key-refused (Err e) fault P Q h = λ is k at. h k at is
+
+-- a key that is there is answered with its rows, or that they are too many
+pub answer_here : (limits : Limits) (m : State) (key : Key) (with_open : Bool) (q : Query) (o : Option Record) (written : List ℕ) → true ≡ is_some o
+    → IsReplyText (rows_response (answer limits.empty_rows q (asked m with_open key))) written → IsReplyText (range_response limits m key with_open q o) written
+answer_here limits m key with_open q None written here told = absurd (false≢true (sym here))
+answer_here limits m key with_open q (Some d) written here told = told
+
+-- what follows where there is no value
+pub none_then : {X P Q : Type 0} (o : Option X) → (P → Q) → IfNone o P → IfNone o Q
+none_then None f h = f h
+none_then (Some x) f h = tt

@@ -4,11 +4,13 @@ pub mod Carrying
 pub mod Dropping
 pub mod Executed
 pub mod Faulted
+pub mod Few
 pub mod Finding
 pub mod Handing
 pub mod Headlines
 pub mod InfoTexts
 pub mod Items
+pub mod LastRows
 pub mod Links
 pub mod Lists
 pub mod ManyTexts
@@ -23,6 +25,7 @@ pub mod ReachingBack
 pub mod Refusals
 pub mod WrittenRows
 pub mod Sessions
+pub mod InShares
 pub mod Short
 pub mod Summaries
 pub mod Spending

@@ -18,7 +18,7 @@ down : (t u v : ℕ) → u ≤ v → nat_le v t ≡ true → nat_le u t ≡ true
 down t u v le is = grind (arith, nat_tests)
 
 -- the samples of an interval begin with those up to a time in it
-parts : (from to t : ℕ) (l : List Point) → IsAscending l → t ≤ to → between from to l ≡ between from t l ++ at_times (λ u. not (nat_le u t)) (between from to l)
+pub parts : (from to t : ℕ) (l : List Point) → IsAscending l → t ≤ to → between from to l ≡ between from t l ++ at_times (λ u. not (nat_le u t)) (between from to l)
 parts from to t l rises upto =
     let all = between from to l in
     let first : at_times (λ u. nat_le u t) all ≡ between from t l =

@@ -18,7 +18,7 @@ down : (t u v : ℕ) → u ≤ v → nat_lt v t ≡ true → nat_lt u t ≡ true
 down t u v le is = grind (arith, nat_tests)
 
 -- the samples of an interval end with those from a time in it on
-parts : (from to t : ℕ) (l : List Point) → IsAscending l → from ≤ t → between from to l ≡ at_times (λ u. nat_lt u t) (between from to l) ++ between t to l
+pub parts : (from to t : ℕ) (l : List Point) → IsAscending l → from ≤ t → between from to l ≡ at_times (λ u. nat_lt u t) (between from to l) ++ between t to l
 parts from to t l rises on =
     let all = between from to l in
     let last : at_times (λ u. not (nat_lt u t)) all ≡ between t to l =

@@ -10,6 +10,7 @@ ghost use Rattle.ts_db.specs.Held.{Held, Stands};
 ghost use Rattle.ts_engine.specs.Answering.{IsReplyText};
 
 use crate::answers::{refusal_reply, too_many_rows};
+use crate::filled_reply::put_filled;
 use crate::found::find_asked;
 use crate::room::put_no_memory;
 use crate::row_lists::is_walked;
@@ -17,7 +18,7 @@ use crate::rows::{put_last, put_rows};
 use crate::walked::put_walked;
 use std::sync::ledger::Ledger;
 use ts_db::Db;
-use ts_range::{Asked, Query, RangeFault, answer};
+use ts_range::{Asked, Query, RangeFault, answer, filled_buckets};
 use ts_resp::{Out, Word, put};
 use ts_sample::Steps;
 
@@ -38,8 +39,11 @@ pub(crate) fn put_range<L: Ledger>(
 {
     if is_walked(query) {
         put_walked(db, key, latest, query, out, steps);
-    } else {
-        put_gathered(db, key, latest, query, out, steps);
+        return;
+    }
+    match filled_buckets(query) {
+        Some(buckets) => put_filled(db, key, latest, query, &buckets, out, steps),
+        None => put_gathered(db, key, latest, query, out, steps),
     }
 }
 

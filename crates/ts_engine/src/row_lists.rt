@@ -8,13 +8,14 @@ ghost use Rattle.ts_range.specs.Query.{query_of, row_of};
 ghost use Rattle.ts_range.specs.declared.fault.RangeFault.TheVariants.{EmptyRows};
 ghost use Rattle.ts_db.specs.Held.{IsLive};
 
+use crate::filled::rows_filled;
 use crate::found::asked_of;
 use crate::walked::{handed, last_wanted};
 use crate::walked_back::rows_back;
 use std::alloc::AllocError;
 use std::sync::ledger::Ledger;
 use ts_db::{Db, Id};
-use ts_range::{Filters, Limited, Query, RangeFault, Row, RowList, answer};
+use ts_range::{Filters, Limited, Query, RangeFault, Row, RowList, answer, filled_buckets};
 use ts_sample::Steps;
 
 /// Whether one walk over the samples tells the rows.
@@ -42,7 +43,10 @@ pub(crate) fn rows_of<L: Ledger>(
         → spec_answer db.now.limits.empty_rows (query_of query.now) (kept_asked db.now.keys latest key) ≡ None) }
 {
     if !is_walked(query) {
-        return rows_gathered(db, id, latest, query, steps);
+        return match filled_buckets(query) {
+            Some(buckets) => rows_filled(db, id, latest, query, &buckets, steps),
+            None => rows_gathered(db, id, latest, query, steps),
+        };
     }
     match rows_walked(db, id, latest, query, steps) {
         Ok(rows) => Ok(rows),

@@ -61,12 +61,12 @@ impl RowTexts {
 }
 
 impl Take for RowTexts {
-    ghost use Rattle.std.specs.Prelude.{None};
+    ghost use Rattle.ts_range.specs.Taking.{no_limit};
     ghost use Rattle.ts_engine.specs.RowTexts.{AreWritten};
 
     ghost has = { λ t rows. AreWritten t.lost t.count t.out.bytes rows };
 
-    ghost limit = { λ t. None };
+    ghost limit = { λ t. no_limit };
 
     fn row(&mut self, row: Row) {
         if self.lost {
@@ -83,5 +83,9 @@ impl Take for RowTexts {
                 self.count = count;
             }
         }
+    }
+
+    fn is_full(&self) -> bool {
+        self.lost
     }
 }

@@ -15,6 +15,7 @@ ghost use Rattle.ts_engine.specs.Answering.{IsReplyText};
 
 use crate::answers::refusal_reply;
 use crate::room::put_no_memory;
+use crate::shares::walked_as_asked;
 use crate::texts::{FIRST_ROOM, RowTexts};
 use crate::walked_back::put_rows_back;
 use std::sync::ledger::Ledger;
@@ -160,7 +161,7 @@ pub(crate) fn handed<T: Take, L: Ledger>(
     ensures limit { T.limit result ≡ T.limit taker }
 {
     let walk = Walk::new(filters, query.buckets, taker);
-    walked(db, id, latest, query.from, to, walk, steps)
+    walked_as_asked(db, id, latest, query, query.from, to, walk, steps)
 }
 
 /// The taker of a walk that has not begun, after the samples of the key of a number.

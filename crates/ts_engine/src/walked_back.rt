@@ -1,12 +1,11 @@
 // A question that tells the last row first, answered by one walk over the samples.
-ghost use Rattle.std.specs.Prelude.{◌≡◌, ◌+◌, ◌≤◌, true, false, [], length, map, filter, Some, option_map, IfOk};
-ghost use Rattle.ts_spec.specs.Answer.{tells_empty, rows};
+ghost use Rattle.std.specs.Prelude.{◌≡◌, ◌+◌, ◌≤◌, true, false, [], length, map, filter, reverse, Some, option_map, IfOk};
+ghost use Rattle.ts_spec.specs.Answer.{tells_empty, rows, first_ones, is_let_through};
 ghost use Rattle.ts_spec.specs.Key.{Key};
 ghost use Rattle.ts_spec.specs.Keyed.{get};
 ghost use Rattle.ts_spec.specs.KeptQuestions.{kept_asked};
 ghost use Rattle.ts_spec.specs.Response.{Rows};
 ghost use Rattle.ts_spec.specs.Sample.{between};
-ghost use Rattle.ts_range.specs.Filters.{passes};
 ghost use Rattle.ts_range.specs.Query.{buckets_of, query_of, row_of};
 ghost use Rattle.ts_range.specs.Walking.{rows_chosen};
 ghost use Rattle.ts_db.specs.Held.{IsLive};
@@ -14,7 +13,8 @@ ghost use Rattle.ts_engine.specs.Answering.{IsReplyText};
 
 use crate::room::put_no_memory;
 use crate::rows::put_rows;
-use crate::walked::{tells_each, walked};
+use crate::shares::walked_as_asked;
+use crate::walked::tells_each;
 use std::alloc::AllocError;
 use std::sync::ledger::Ledger;
 use ts_db::{Db, Id};
@@ -60,9 +60,8 @@ pub(crate) fn rows_back<L: Ledger>(
     ensures { IfOk result (λ found. (key : Key) → get key db.now.ids ≡ Some id
         → map row_of found.items ≡ rows (query_of query.now) (kept_asked db.now.keys latest key)) }
 {
-    let filters = Filters::of(query)?;
     let from = first_wanted(db, id, latest, query);
-    let rows = rows_from(db, id, latest, query, from, filters, steps)?;
+    let rows = last_rows(db, id, latest, query, from, steps)?;
     Ok(turned(rows, query.count))
 }
 
@@ -90,6 +89,48 @@ fn first_wanted(db: &Db, id: Id, latest: bool, query: &Query) -> u64
     db.reach_back_of(id, query.from, query.to, count)
 }
 
+// How many samples more than rows are wanted are tried at first, and how many times as many are tried then.
+const SHARE: u64 = 1024;
+
+const TRIES: [u64; 4] = [1, 8, 64, 512];
+
+// Rows, the last of which are the last ones of the samples from a time on, so many as are wanted. Where few are wanted,
+// the last samples are tried first.
+fn last_rows<L: Ledger>(
+    db: &Db,
+    id: Id,
+    latest: bool,
+    query: &Query,
+    from: u64,
+    steps: &mut Steps<L>,
+) -> Result<Vec<Row>, AllocError>
+    requires live { IsLive db.now.ids id }
+    ensures { IfOk result (λ found. (key : Key) → get key db.now.ids ≡ Some id
+        → first_ones query.now.count (reverse (map row_of found.items))
+        ≡ first_ones query.now.count (reverse (rows_chosen (option_map buckets_of query.now.buckets) (kept_asked db.now.keys latest key)
+        (filter (is_let_through (query_of query.now)) (between from query.now.to (kept_asked db.now.keys latest key)))))) }
+{
+    let Some(count) = query.count else {
+        return rows_from(db, id, latest, query, from, steps);
+    };
+    if query.to < from {
+        return rows_from(db, id, latest, query, from, steps);
+    }
+    db.known();
+    for times in TRIES {
+        let share = count.saturating_add(SHARE).saturating_mul(times);
+        let near = db.reach_back_of(id, from, query.to, share);
+        let rows = rows_from(db, id, latest, query, near, steps)?;
+        if near == from {
+            return Ok(rows);
+        }
+        if count < rows.len() as u64 {
+            return Ok(rows);
+        }
+    }
+    rows_from(db, id, latest, query, from, steps)
+}
+
 // The rows of the samples from a time on, in their order.
 fn rows_from<L: Ledger>(
     db: &Db,
@@ -97,15 +138,14 @@ fn rows_from<L: Ledger>(
     latest: bool,
     query: &Query,
     from: u64,
-    filters: Filters,
     steps: &mut Steps<L>,
 ) -> Result<Vec<Row>, AllocError>
     requires live { IsLive db.now.ids id }
     ensures { IfOk result (λ found. (key : Key) → get key db.now.ids ≡ Some id
         → map row_of found.items ≡ rows_chosen (option_map buckets_of query.now.buckets) (kept_asked db.now.keys latest key)
-        (filter (passes filters) (between from query.now.to (kept_asked db.now.keys latest key)))) }
+        (filter (is_let_through (query_of query.now)) (between from query.now.to (kept_asked db.now.keys latest key)))) }
 {
     let taker = RowList::with_room(db.alloc(), 0)?;
-    let walk = Walk::new(filters, query.buckets, taker);
-    walked(db, id, latest, from, query.to, walk, steps).into_rows()
+    let walk = Walk::new(Filters::of(query)?, query.buckets, taker);
+    walked_as_asked(db, id, latest, query, from, query.to, walk, steps).into_rows()
 }

@@ -23,7 +23,7 @@ past-others : (t : ℕ) (qs : List Point) (p : Point) → IsAfter t (qs ++ p ∷
 past-others t [] p h = h.0
 past-others t (q ∷ qs) p h = past-others t qs p h.1
 
-back-ascends : (qs ps : List Point) → IsAscending (qs ++ ps) → IsAscending ps
+pub back-ascends : (qs ps : List Point) → IsAscending (qs ++ ps) → IsAscending ps
 back-ascends [] ps h = h
 back-ascends (q ∷ qs) ps h = back-ascends qs ps h.1
 

@@ -13,7 +13,7 @@ use Rattle.ts_bucket.proofs.Numbers.{number, start_number, reached, passed, apar
 use Rattle.ts_range.proofs.Line.{begin, number-mono, between-is}
 
 module _ (g : Grid) (some : 1 ≤ g.duration) (lo : ℕ) where
-  after-align : (k : ℕ) → number g lo < k → begin g k + (g.align * g.duration - g.align) ≡ g.duration * k
+  pub after-align : (k : ℕ) → number g lo < k → begin g k + (g.align * g.duration - g.align) ≡ g.duration * k
   after-align k less =
       let e = passed g some lo in
       let f : g.duration * suc (number g lo) ≤ g.duration * k = mul-le-mul_left g.duration less in
@@ -28,7 +28,7 @@ module _ (g : Grid) (some : 1 ≤ g.duration) (lo : ℕ) where
       let h : g.duration * suc (number g lo) ≡ g.duration * number g lo + g.duration = mul-suc g.duration (number g lo) in
       omega arith
 
-  number-begin : (k : ℕ) → number g lo < k → number g (begin g k) ≡ k
+  pub number-begin : (k : ℕ) → number g lo < k → number g (begin g k) ≡ k
   number-begin k less = ap (λ (n : ℕ). n / g.duration) (after-align k less) ∙ mul-div_cancel_left k (omega arith)
 
   -- each begins where its bucket does

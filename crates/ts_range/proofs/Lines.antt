@@ -27,7 +27,7 @@ use Rattle.ts_range.proofs.Reversed.{map-reverse, first_rows}
 
 -- ---- cells
 
-empty-told : (a : Aggregator) (b : ℕ) (asked : List Point) → empty_cell a b asked ≡ empty_cell_of a (last_before b asked)
+pub empty-told : (a : Aggregator) (b : ℕ) (asked : List Point) → empty_cell a b asked ≡ empty_cell_of a (last_before b asked)
 empty-told Avg b asked = refl
 empty-told Sum b asked = refl
 empty-told Min b asked = refl
@@ -95,7 +95,7 @@ rows-wanted f r count xs =
 
 -- ---- the last sample before a bucket
 
-first-asked : (a : List Point) (o : Option (ℕ × ℕ)) (e : ℕ × ℕ) → o ≡ Some e → o ≡ times_of (first_of a) (last_of a) → (p : Point) × (first_of a ≡ Some p) × (p.time ≡ e.0)
+pub first-asked : (a : List Point) (o : Option (ℕ × ℕ)) (e : ℕ × ℕ) → o ≡ Some e → o ≡ times_of (first_of a) (last_of a) → (p : Point) × (first_of a ≡ Some p) × (p.time ≡ e.0)
 first-asked [] o e is ends = absurd (cc)
 first-asked (p ∷ ps) o e is ends = (p, refl, (cc))
 

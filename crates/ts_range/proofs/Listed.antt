@@ -1,13 +1,14 @@
 -- Whether a time is among given ones, in whichever order these stand.
-use Rattle.std.proofs.Common.{◌≡◌, ℕ, ◌<◌, ◌≤◌, false, List, [], ◌∷◌, length, get_or, refl, sym, ◌∙◌, ap, eqb, arith, inl, inr, ne_eqb, eq-eqb}
+use Rattle.std.proofs.Common.{◌≡◌, ℕ, ◌-◌, ◌<◌, ◌≤◌, true, false, nat_lt, nat_le, List, [], ◌∷◌, length, get_or, refl, sym, ◌∙◌, ap, eqb, arith, inl, inr, ne_eqb, eq-eqb}
 use Rattle.std.specs.List.{list_any, All}
-use Rattle.std.specs.List.Sorted.{IsPermutation, IsNonDecreasing, IsBinarySearchResult}
+use Rattle.std.specs.List.Sorted.{IsPermutation, IsNonDecreasing, IsBinarySearchResult, IsPartitionPoint}
 use Rattle.std.specs.Ordering.{nat_cmp}
 use Rattle.std.specs.Prelude.{Result, Ok, Err, is_ok, ◌||◌, MatchResult}
 use Rattle.std.proofs.lemmas.List.{get_or_default}
 use Rattle.std.proofs.lemmas.List.Sorted.{list_any-IsPermutation, searched}
 use Rattle.std.proofs.lemmas.List.Folds.{list_any_at, list_any_none}
 use Rattle.std.proofs.lemmas.Bool.{cases_lt}
+use Rattle.std.proofs.lemmas.Bool.Decides.{nat_tests}
 use Rattle.ts_spec.specs.Answer.{is_listed}
 
 listed-any : (us : List ℕ) (t : ℕ) → is_listed us t ≡ list_any (λ u. eqb u t) us
@@ -39,3 +40,40 @@ told us t (Err i) found = sym (listed-any us t ∙ list_any_none (λ u. eqb u t)
 -- a search among rising times tells it
 pub listed_by_search : (us : List ℕ) (t : ℕ) (r : Result ℕ ℕ) → IsNonDecreasing us → IsBinarySearchResult (λ u. nat_cmp u t) us r → is_ok r ≡ is_listed us t
 listed_by_search us t r rising found = told us t r (searched us t r found (λ i j le within. rising i j 0 le within))
+
+-- a time between two of them that stand side by side is not among them
+unlisted : (us : List ℕ) (t i : ℕ) → ((k : ℕ) → k < i → get_or us k 0 < t) → ((k : ℕ) → i ≤ k → k < length us → t < get_or us k 0) → is_listed us t ≡ false
+unlisted us t i below above = listed-any us t ∙ list_any_none (λ u. eqb u t) us (other us t i below above)
+
+is-less : (u t : ℕ) → nat_lt u t ≡ true → u < t
+is-less u t is = grind (arith, nat_tests)
+
+is-least : (u t : ℕ) → nat_lt u t ≡ false → t ≤ u
+is-least u t is = grind (arith, nat_tests)
+
+is-upto : (u t : ℕ) → nat_le u t ≡ true → u ≤ t
+is-upto u t is = grind (arith, nat_tests)
+
+is-past : (u t : ℕ) → nat_le u t ≡ false → t < u
+is-past u t is = grind (arith, nat_tests)
+
+module _ (us : List ℕ) (rising : IsNonDecreasing us) (i : ℕ) where
+  -- where the first ones that are not before a time stand
+  module _ (from : ℕ) (point : IsPartitionPoint (λ u. nat_lt u from ≡ true) (λ u. nat_lt u from ≡ false) us i) where
+    pub first-is : i < length us → from ≤ get_or us i 0
+    first-is within = is-least (get_or us i 0) from (point.1 i 0 (omega arith) within)
+
+    pub before-first : (t : ℕ) → from ≤ t → (i < length us → t < get_or us i 0) → is_listed us t ≡ false
+    before-first t le less =
+        unlisted us t i (λ k low. let early = is-less (get_or us k 0) from (point.0 k 0 (omega arith) low) in omega arith)
+        (λ k high within. let up : get_or us i 0 ≤ get_or us k 0 = rising i k 0 high within in let here = less (omega arith) in omega arith)
+
+  -- how many are not past a time
+  module _ (to : ℕ) (within : i ≤ length us) (point : IsPartitionPoint (λ u. nat_le u to ≡ true) (λ u. nat_le u to ≡ false) us i) where
+    pub last-is : 0 < i → get_or us (i - 1) 0 ≤ to
+    last-is some = is-upto (get_or us (i - 1) 0) to (point.0 (i - 1) 0 (omega arith) (omega arith))
+
+    pub past-last : (t : ℕ) → t ≤ to → (0 < i → get_or us (i - 1) 0 < t) → is_listed us t ≡ false
+    past-last t le less =
+        unlisted us t i (λ k low. let up : get_or us k 0 ≤ get_or us (i - 1) 0 = rising k (i - 1) 0 (omega arith) (omega arith) in let here = less (omega arith) in omega arith)
+        (λ k high inside. let late = is-past (get_or us k 0) to (point.1 k 0 high inside) in omega arith)

@@ -33,7 +33,7 @@ module _ (g : Grid) (some : 1 ≤ g.duration) (lo hi : ℕ) (le : lo ≤ hi) whe
   pub length-line : length (starts_between g lo hi) ≡ suc (number g hi - number g lo)
   length-line = ap length (between-is g some lo hi le) ∙ length-map-range_with_len (begin g) (number g lo) (suc (number g hi - number g lo))
 
-  at-line : (i b : ℕ) → slice_get (starts_between g lo hi) i ≡ Some b → IsNumbered g (number g lo) (number g hi) b (number g lo + i)
+  pub at-line : (i b : ℕ) → slice_get (starts_between g lo hi) i ≡ Some b → IsNumbered g (number g lo) (number g hi) b (number g lo + i)
   at-line i b is =
       let n = suc (number g hi - number g lo) in
       let mono = number-mono g some lo hi le in

@@ -1,10 +1,12 @@
 pub mod Cutting
 pub mod Empty
+pub mod Filling
 pub mod Filters
 pub mod Order
 pub mod Query
 pub mod Spans
 pub mod Starts
+pub mod Stretches
 pub mod Taking
 pub mod Told
 pub mod Walk

@@ -3,6 +3,16 @@ use Rattle.std.specs.Prelude.{◌≡◌, ℕ, ◌-◌, Bool, false, List, map, l
 use Rattle.ts_spec.specs.Answer.{Row as TheRow, first_ones}
 use Rattle.ts_range.specs.declared.row.Row.{Row}
 use Rattle.ts_range.specs.Query.{row_of}
+use Rattle.ts_range.specs.Filling.{Filling}
+
+-- what limits the rows that a taker hands on: their number, if there is a limit, and the line of buckets that it fills in, if it does
+pub record Limit : Type 0 where
+  pub count : Option ℕ
+  pub filling : Option Filling
+
+-- nothing does
+abbrev pub no_limit : Limit
+no_limit = record { count = None; filling = None }
 
 -- the rows kept are these, unless there was no memory
 abbrev pub IsListOf : (lost : Bool) → (kept : List Row) → List TheRow → Type 0

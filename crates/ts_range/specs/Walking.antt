@@ -8,16 +8,17 @@ use Rattle.ts_spec.specs.Command as spec
 use Rattle.ts_spec.specs.Answer.{Row, row_of, lets_time, lets_value}
 use Rattle.ts_range.specs.declared.cutter.Cutter.{Cutter}
 use Rattle.ts_range.specs.Query.{span_of}
+use Rattle.ts_range.specs.Taking.{Limit}
 use Rattle.ts_range.specs.Told.{rows_told}
 use Rattle.ts_range.specs.Cutting.{IsCut, HasAtMost}
 
--- What it lets through, the buckets that it tells of, if not of samples, how many rows are kept, if there is a limit, and the samples
--- that it was given.
+-- What it lets through, the buckets that it tells of, if not of samples, what limits the rows that are handed on, and the samples that
+-- it was given.
 pub record Walking : Type 0 where
   pub times : Option (List ℕ)
   pub values : Option (ℤ × ℤ)
   pub buckets : Option spec.Buckets
-  pub limit : Option ℕ
+  pub limit : Limit
   pub seen : List Point
 
 -- whether it lets a sample through

@@ -1,4 +1,4 @@
-ghost use Rattle.std.specs.Prelude.{◌≡◌, List, map, Some, None, IfOk, IfErr};
+ghost use Rattle.std.specs.Prelude.{◌≡◌, ◌≢◌, List, map, Some, None, IfOk, IfErr};
 ghost use Rattle.ts_spec.specs.Sample.{Point, IsAscending, between};
 ghost use Rattle.ts_spec.specs.Answer as spec;
 ghost use Rattle.ts_range.specs.Query.{query_of, row_of};
@@ -6,6 +6,8 @@ ghost use Rattle.ts_range.specs.Walk.{IsAskedOf};
 
 use crate::empty::{all_rows, are_too_many};
 use crate::fault::RangeFault;
+use crate::fillable::filled_buckets;
+use crate::filled_rows::filled_rows;
 use crate::filters::Filters;
 use crate::query::Query;
 use crate::row::{Asked, Row};
@@ -30,8 +32,11 @@ pub fn answer(
     ensures refused { (l : List Point) → IsAscending l → IsAskedOf query.now asked.now l
         → IfErr result (λ fault. fault ≡ RangeFault.EmptyRows
         → spec.answer empty_rows (query_of query.now) l ≡ None) }
+    ensures memory { (l : List Point) → IsAscending l → IsAskedOf query.now asked.now l
+        → IfErr result (λ fault. fault ≢ RangeFault.EmptyRows
+        → spec.answer empty_rows (query_of query.now) l ≢ None) }
 {
-    if are_too_many(query, asked, empty_rows) {
+    if are_too_many(query, asked.ends, empty_rows) {
         return Err(RangeFault::EmptyRows);
     }
     match rows(alloc, query, asked) {
@@ -48,6 +53,9 @@ fn rows(alloc: Global, query: &Query, asked: &Asked) -> Result<Vec<Row>, AllocEr
         → IfOk result (λ rows. map row_of rows.items ≡ spec.rows (query_of query.now) l) }
 {
     let filters = Filters::of(query)?;
+    if let Some(buckets) = filled_buckets(query) {
+        return filled_rows(alloc, query, &buckets, filters, asked);
+    }
     let Some(buckets) = &query.buckets else {
         return walked_rows(alloc, query, filters, &asked.rows);
     };

@@ -1,13 +1,13 @@
 // The rows of all buckets, those without samples too.
-ghost use Rattle.std.specs.Prelude.{◌≡◌, ◌≤◌, ◌<◌, ◌^◌, ◌&&◌, ◌==◌, List, map, filter, length, nat_lt, IfOk};
-ghost use Rattle.ts_spec.specs.Sample.{Point, MAX_TIME, IsAscending, between};
+ghost use Rattle.std.specs.Prelude.{◌≡◌, ◌≤◌, ◌<◌, ◌^◌, ◌&&◌, ◌==◌, List, map, filter, length, nat_lt, IsTrue, IfOk};
+ghost use Rattle.ts_spec.specs.Sample.{Point, MAX_TIME, IsAscending, between, first_of, last_of};
 ghost use Rattle.ts_spec.specs.Bucket.{start as start_of};
 ghost use Rattle.ts_spec.specs.Answer as spec;
 ghost use Rattle.ts_range.specs.Query.{buckets_of, cell_of, query_of, row_of};
 ghost use Rattle.ts_range.specs.Empty.{known_before, empty_cell_of, cell_told};
 ghost use Rattle.ts_range.specs.Filters.{passes};
 ghost use Rattle.ts_range.specs.Starts.{starts_within};
-ghost use Rattle.ts_range.specs.Walk.{IsAroundOf, IsAskedOf};
+ghost use Rattle.ts_range.specs.Walk.{times_of, IsAroundOf};
 
 use crate::cells::bucket_value;
 use crate::cut::cut;
@@ -19,9 +19,9 @@ use std::alloc::{AllocError, Global};
 use ts_agg::Aggregator;
 use ts_sample::{Cell, Sample, Units, place_of};
 
-// Whether empty buckets are told and the rows are more than the limit.
-pub(crate) fn are_too_many(query: &Query, asked: &Asked, limit: u32) -> bool
-    ensures { (l : List Point) → IsAskedOf query.now asked.now l
+/// Whether empty buckets are told and the rows are more than the limit, of samples whose first and last times these are.
+pub fn are_too_many(query: &Query, ends: Option<(u64, u64)>, limit: u32) -> bool
+    ensures { (l : List Point) → (IsTrue (spec.tells_empty (query_of query.now).buckets) → ends ≡ times_of (first_of l) (last_of l))
         → result ≡ (spec.tells_empty (query_of query.now).buckets
         && nat_lt limit (length (spec.rows (query_of query.now) l))) }
 {
@@ -31,7 +31,7 @@ pub(crate) fn are_too_many(query: &Query, asked: &Asked, limit: u32) -> bool
     if !buckets.empty {
         return false;
     }
-    match Starts::over(query, &buckets.grid, asked.ends) {
+    match Starts::over(query, &buckets.grid, ends) {
         None => false,
         Some(starts) => u64::from(limit) < starts.wanted(query.count),
     }
@@ -110,7 +110,7 @@ fn empty_cell(agg: Aggregator, asked: &Asked, start: u64, first: bool) -> Cell
 }
 
 // The last sample asked before the start of a bucket.
-fn before(asked: &Asked, start: u64, first: bool) -> Option<Sample>
+pub(crate) fn before(asked: &Asked, start: u64, first: bool) -> Option<Sample>
     requires { IsAscending asked.now.rows.items }
     ensures { result ≡ known_before first start asked.now }
 {

@@ -1,4 +1,4 @@
-ghost use Rattle.std.specs.Prelude.{◌≡◌, ℕ, None, IfOk, IsTrue, option_map};
+ghost use Rattle.std.specs.Prelude.{◌≡◌, ◌≤◌, ◌<◌, ℕ, false, ◌&&◌, None, IfOk, IfSome, IfNone, IsTrue, option_map};
 ghost use Rattle.std.specs.Option.{ForSome};
 ghost use Rattle.std.specs.List.Sorted.{IsNonDecreasing};
 ghost use Rattle.ts_spec.specs.Answer.{is_listed};
@@ -21,7 +21,7 @@ pub struct Filters {
 }
 
 impl Filters {
-    ghost use Rattle.ts_spec.specs.Sample.{Point};
+    ghost use Rattle.ts_spec.specs.Sample.{Point, is_within};
     ghost use Rattle.ts_spec.specs.Answer.{is_let_through, lets_time, lets_value};
     ghost use Rattle.ts_range.specs.Query.{query_of, span_of};
     ghost use Rattle.ts_range.specs.Filters.{passes};
@@ -57,6 +57,23 @@ impl Filters {
         self.let_time(sample.time) && self.let_value(sample.value)
     }
 
+    // The part of an interval outside of which they let none of its samples through, if they let any through.
+    pub(crate) fn part_of(&self, from: u64, to: u64) -> Option<(u64, u64)>
+        ensures within { IfSome result (λ part. (from ≤ part.0) × ((part.0 ≤ part.1) × (part.1 ≤ to))) }
+        ensures all { IfSome result (λ part. (p : Point) →
+            (is_within part.0 part.1 p.time && passes self.now p) ≡ (is_within from to p.time && passes self.now p)) }
+        ensures none { IfNone result ((p : Point) → (is_within from to p.time && passes self.now p) ≡ false) }
+    {
+        let (first, last) = match &self.times {
+            None => (from, to),
+            Some(times) => (first_from(times, from)?, last_upto(times, to)?),
+        };
+        if last < first {
+            return None;
+        }
+        Some((first, last))
+    }
+
     // Whether the time is among those asked for.
     #[inline]
     fn let_time(&self, time: u64) -> bool
@@ -88,4 +105,30 @@ fn sorted(alloc: Global, times: &[u64]) -> Result<Vec<u64>, AllocError>
     let mut sorted = times.to_vec(alloc)?;
     sorted.sort_unstable();
     Ok(sorted)
+}
+
+// The first of these times that is not before a time.
+fn first_from(times: &[u64], from: u64) -> Option<u64>
+    requires { IsNonDecreasing times.now }
+    ensures first { IfSome result (λ first. (from ≤ first) × ((t : ℕ) → from ≤ t → t < first → is_listed times.now t ≡ false)) }
+    ensures none { IfNone result ((t : ℕ) → from ≤ t → is_listed times.now t ≡ false) }
+{
+    let place = times.partition_point(|time| *time < from);
+    if place == times.len() {
+        return None;
+    }
+    Some(times[place])
+}
+
+// The last of these times that is not past a time.
+fn last_upto(times: &[u64], to: u64) -> Option<u64>
+    requires { IsNonDecreasing times.now }
+    ensures last { IfSome result (λ last. (last ≤ to) × ((t : ℕ) → last < t → t ≤ to → is_listed times.now t ≡ false)) }
+    ensures none { IfNone result ((t : ℕ) → t ≤ to → is_listed times.now t ≡ false) }
+{
+    let count = times.partition_point(|time| *time <= to);
+    if count == 0 {
+        return None;
+    }
+    Some(times[count - 1])
 }

@@ -1,5 +1,5 @@
 // A taker that hands on the first rows, so many as are wanted.
-ghost use Rattle.std.specs.Prelude.{◌≡◌, List, []};
+ghost use Rattle.std.specs.Prelude.{◌≡◌, List, [], None};
 ghost use Rattle.ts_spec.specs.Answer.{Row as TheRow, first_ones};
 ghost use Rattle.ts_range.specs.Taking.{IsFirstOf};
 
@@ -44,7 +44,7 @@ impl<T: Take> Limited<T> {
 impl<T: Take> Take for Limited<T> {
     ghost has = { λ t rows. IsFirstOf (T.has t.taker) t.count t.left rows };
 
-    ghost limit = { λ t. t.count };
+    ghost limit = { λ t. record { count = t.count; filling = None } };
 
     fn row(&mut self, row: Row) {
         match self.left {
@@ -55,5 +55,9 @@ impl<T: Take> Take for Limited<T> {
                 self.taker.row(row);
             }
         }
+    }
+
+    fn is_full(&self) -> bool {
+        self.left == Some(0)
     }
 }

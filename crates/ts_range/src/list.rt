@@ -1,9 +1,9 @@
 // A taker that keeps the rows.
-ghost use Rattle.std.specs.Prelude.{◌≡◌, ◌≤◌, false, List, [], ◌∷◌, ◌++◌, None, map, IfOk, OnOk};
+ghost use Rattle.std.specs.Prelude.{◌≡◌, ◌≤◌, false, List, [], ◌∷◌, ◌++◌, map, IfOk, OnOk};
 ghost use Rattle.ts_spec.specs.Answer.{Row as TheRow};
 ghost use Rattle.ts_spec.specs.Sample.{MAX_TIME};
 ghost use Rattle.ts_range.specs.Query.{cell_of, row_of};
-ghost use Rattle.ts_range.specs.Taking.{IsListOf};
+ghost use Rattle.ts_range.specs.Taking.{IsListOf, no_limit};
 
 use crate::row::Row;
 use crate::take::Take;
@@ -45,7 +45,7 @@ impl RowList {
 impl Take for RowList {
     ghost has = { λ t rows. IsListOf t.lost t.rows.items rows };
 
-    ghost limit = { λ t. None };
+    ghost limit = { λ t. no_limit };
 
     fn row(&mut self, row: Row) {
         if self.lost {
@@ -55,6 +55,10 @@ impl Take for RowList {
             Ok(()) => {}
             Err(_) => self.lost = true,
         }
+    }
+
+    fn is_full(&self) -> bool {
+        self.lost
     }
 }
 

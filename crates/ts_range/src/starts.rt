@@ -16,6 +16,7 @@ pub(crate) struct Starts {
     // How many there are.
     count: u64,
     ghost some: { 1 ≤ count },
+    ghost first_fits: { first ≤ MAX_TIME },
     ghost fits: { second + (count - 2) * duration ≤ MAX_TIME },
 }
 
@@ -42,7 +43,7 @@ impl Starts {
     }
 
     // Those from the bucket of one time to that of another.
-    fn between(grid: &Grid, from: u64, to: u64) -> Starts
+    pub(crate) fn between(grid: &Grid, from: u64, to: u64) -> Starts
         requires ordered { from ≤ to }
         requires time { to ≤ MAX_TIME }
         ensures { starts_of result ≡ starts_between grid.now from to }
@@ -97,7 +98,8 @@ impl Starts {
     // The one at this place, counted from the last one where that comes first.
     pub(crate) fn at(&self, reverse: bool, i: u64) -> u64
         requires { i < length (starts_of self.now) }
-        ensures { slice_get (in_order reverse (starts_of self.now)) i ≡ Some result }
+        ensures start { slice_get (in_order reverse (starts_of self.now)) i ≡ Some result }
+        ensures time { result ≤ MAX_TIME }
     {
         let number = self.number(reverse, i);
         if number == 0 {

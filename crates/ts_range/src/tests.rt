@@ -105,6 +105,26 @@ fn samples(rt: HostRuntime) -> Result<(), Fail> {
 }
 
 #[test]
+fn parts_of_intervals(rt: HostRuntime) -> Result<(), Fail> {
+    let alloc = rt.alloc();
+    let mut asked = query(None, None, false);
+    asked.times = Some(vec![in alloc; 7, 3, 5]?);
+    let filters = Filters::of(&asked)?;
+    for (from, to, part) in [
+        (0u64, 9u64, Some((3u64, 7u64))),
+        (3, 5, Some((3, 5))),
+        (4, 6, Some((5, 5))),
+        (4, 4, None),
+        (0, 2, None),
+        (8, 9, None),
+        (7, 3, None),
+    ] {
+        assert_eq!(rt; filters.part_of(from, to), part);
+    }
+    Ok(())
+}
+
+#[test]
 fn stamps(rt: HostRuntime) -> Result<(), Fail> {
     let alloc = rt.alloc();
     for (stamp, first, second) in [

@@ -46,8 +46,8 @@ impl<T: Take> Model for Walk<T> {
 }
 
 impl<T: Take> Walk<T> {
-    ghost use Rattle.std.specs.Prelude.{◌≡◌, []};
-    ghost use Rattle.ts_spec.specs.Sample.{Point, IsAscending};
+    ghost use Rattle.std.specs.Prelude.{◌≡◌, ◌≤◌, [], ◌++◌, filter, IfOk, IfErr, IfSome, IfNone};
+    ghost use Rattle.ts_spec.specs.Sample.{Point, IsAscending, between};
     ghost use Rattle.ts_range.specs.Query.{buckets_of};
     ghost use Rattle.ts_range.specs.Filters.{passes};
     ghost use Rattle.ts_range.specs.Walking.{lets, rows_of_walk};
@@ -73,6 +73,16 @@ impl<T: Take> Walk<T> {
         }
     }
 
+    /// The part of an interval outside of which it lets none of its samples through, if it lets any through.
+    pub fn wanted_part(&self, from: u64, to: u64) -> Option<(u64, u64)>
+        ensures within { IfSome result (λ part. (from ≤ part.0) × ((part.0 ≤ part.1) × (part.1 ≤ to))) }
+        ensures all { IfSome result (λ part. (ps : List Point) →
+            filter (lets self.now) (between part.0 part.1 ps) ≡ filter (lets self.now) (between from to ps)) }
+        ensures none { IfNone result ((ps : List Point) → filter (lets self.now) (between from to ps) ≡ []) }
+    {
+        self.filters.part_of(from, to)
+    }
+
     /// The taker, to which the rows of all samples were handed.
     pub fn finish(self) -> T
         ensures rows { IsAscending self.seen → (asked : List Point) → T.has result (rows_of_walk self asked) }
@@ -88,6 +98,25 @@ impl<T: Take> Walk<T> {
             cutter.close(&mut taker);
         }
         taker
+    }
+
+    /// The taker, if more samples would change nothing of the rows that it keeps; else the walk as it is.
+    pub fn finish_if_full(self) -> Result<T, Walk<T>>
+        ensures rows { IfOk result (λ taker. (more asked : List Point) → IsAscending (self.seen ++ more)
+            → T.has taker (rows_of_walk (record self { seen = self.seen ++ more }) asked)) }
+        ensures limit { IfOk result (λ taker. T.limit taker ≡ self.limit) }
+        ensures walk { IfErr result (λ walk. walk ≡ self) }
+    {
+        if !self.taker.is_full() {
+            return Err(self);
+        }
+        let Walk {
+            filters: _,
+            cut: _,
+            taker,
+            seen: _,
+        } = self;
+        Ok(taker)
     }
 }
 

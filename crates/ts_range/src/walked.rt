@@ -17,7 +17,7 @@ use std::alloc::{AllocError, Global};
 use ts_sample::{Sample, Visit};
 
 // A walk takes no more samples. There is no memory for as many.
-const MOST: usize = 100_000_000_000_000;
+pub(crate) const MOST: usize = 100_000_000_000_000;
 
 // The rows of the samples that are let through, or of their buckets.
 pub(crate) fn walked_rows(
@@ -95,7 +95,7 @@ fn room(buckets: Option<Buckets>, count: Option<u64>, samples: usize) -> usize {
 }
 
 // The taker of a walk that has not begun, after all samples.
-fn walked<T: Take>(samples: &[Sample], mut walk: Walk<T>) -> T
+pub(crate) fn walked<T: Take>(samples: &[Sample], mut walk: Walk<T>) -> T
     requires ascending { IsAscending samples.now }
     requires room { length samples.now ≤ 10 ^ 14 }
     requires none { walk.seen ≡ [] }

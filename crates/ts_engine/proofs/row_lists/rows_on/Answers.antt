@@ -6,6 +6,7 @@ use Rattle.ts_spec.specs.Keyed.{get}
 use Rattle.ts_spec.specs.KeptQuestions.{kept_asked}
 use Rattle.ts_spec.specs.Sample.{Point, between}
 use Rattle.ts_range.specs.Filters.{passes}
+use Rattle.ts_range.specs.Taking.{Limit}
 use Rattle.ts_range.specs.Query.{buckets_of, query_of, row_of}
 use Rattle.ts_range.specs.Walking.{rows_chosen}
 use Rattle.ts_range.proofs.Whole.{walk-rows}
@@ -21,7 +22,7 @@ returns g c =
     let all : List Point = asked key in
     let lets = passes c.in_ok-filters.filters in
     let handed : List Row = rows_chosen (option_map buckets_of query.buckets) all (filter lets (between query.from c.last_wanted-to.result all)) in
-    let count : c.handed-taker.result.count ≡ query.count = c.handed-taker.ensures.limit ∙ c.new-taker.ensures.count in
+    let count : c.handed-taker.result.count ≡ query.count = ap (λ (l : Limit). l.count) c.handed-taker.ensures.limit ∙ c.new-taker.ensures.count in
     let same : first_ones c.handed-taker.result.count handed ≡ rows (query_of query) all =
     ap (λ (o : Option ℕ). first_ones o handed) count ∙ walk-rows (record (query_of query) { to = c.last_wanted-to.result }) all lets c.in_ok-filters.ensures c.requires.forward c.requires.full
     ∙ c.last_wanted-to.ensures key at in

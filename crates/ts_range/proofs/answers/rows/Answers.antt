@@ -21,45 +21,45 @@ chosen : (q : Query) (f : Filters) (samples l : List Point) → ((p : Point) →
 chosen q f samples l lets rows =
     filter_agree (passes f) (spec.is_let_through (query_of q)) lets samples ∙ ap (filter (spec.is_let_through (query_of q))) (sym rows)
 
-pub returns-in_default : goal.returns-in_default
-returns-in_default c = λ l rises is.
+pub returns-in_default-buckets : goal.returns-in_default-buckets
+returns-in_default-buckets c = λ l rises is.
     let q = query_of c.args.query.now in
     let samples = c.deref.ensures.value in
     let lets = chosen c.args.query.now c.in_ok-filters.filters c.args.asked.now.rows.items l c.in_ok-filters.ensures is.rows in
     IfOk-weaker c.walked_rows.result _ _
     (λ rows told.
     told
-    ∙ ap (λ (o : Option Buckets). spec.first_ones q.count (spec.turned q.reverse (rows_chosen (option_map buckets_of o) l (filter (passes c.in_ok-filters.filters) c.deref.result.now)))) c.in_default.is
+    ∙ ap (λ (o : Option Buckets). spec.first_ones q.count (spec.turned q.reverse (rows_chosen (option_map buckets_of o) l (filter (passes c.in_ok-filters.filters) c.deref.result.now)))) c.in_default-buckets.is
     ∙ ap (λ (ps : List Point). spec.first_ones q.count (spec.turned q.reverse (map spec.row_of (filter (passes c.in_ok-filters.filters) ps)))) samples
     ∙ ap (λ (ps : List Point). spec.first_ones q.count (spec.turned q.reverse (map spec.row_of ps))) lets
-    ∙ sym (rows-single q l (ap (option_map buckets_of) c.in_default.is)))
+    ∙ sym (rows-single q l (ap (option_map buckets_of) c.in_default-buckets.is)))
     (c.walked_rows.ensures l)
 
 pub returns-then-buckets : goal.returns-then-buckets
 returns-then-buckets c = λ l rises is.
     let q = query_of c.args.query.now in
-    let bs = buckets_of c.in-Some.buckets in
+    let bs = buckets_of c.in-Some-buckets.buckets in
     let asked = c.args.asked.now in
-    let around = is.around c.in-Some.buckets c.in-Some.is c.if-buckets.true in
+    let around = is.around c.in-Some-buckets.buckets c.in-Some-buckets.is c.if-buckets.true in
     let lets = chosen c.args.query.now c.in_ok-filters.filters asked.rows.items l c.in_ok-filters.ensures is.rows in
     IfOk-weaker c.all_rows.result _ _
     (λ rows told.
     told
     ∙ ap (λ (ps : List Point). spec.first_ones q.count (spec.turned q.reverse (map (spec.bucket_row bs l ps) (starts_within bs.grid q.from q.to asked.ends)))) lets
-    ∙ sym (rows-all q l bs (ap (option_map buckets_of) c.in-Some.is) c.if-buckets.true asked.ends around.ends))
+    ∙ sym (rows-all q l bs (ap (option_map buckets_of) c.in-Some-buckets.is) c.if-buckets.true asked.ends around.ends))
     (c.all_rows.ensures l rises is.rows around)
 
 pub returns-else-buckets : goal.returns-else-buckets
 returns-else-buckets c = λ l rises is.
     let q = query_of c.args.query.now in
-    let bs = buckets_of c.in-Some.buckets in
+    let bs = buckets_of c.in-Some-buckets.buckets in
     let samples = c.deref-else-buckets.ensures.value in
     let lets = chosen c.args.query.now c.in_ok-filters.filters c.args.asked.now.rows.items l c.in_ok-filters.ensures is.rows in
     IfOk-weaker c.walked_rows-else-buckets.result _ _
     (λ rows told.
     told
-    ∙ ap (λ (o : Option Buckets). spec.first_ones q.count (spec.turned q.reverse (rows_chosen (option_map buckets_of o) l (filter (passes c.in_ok-filters.filters) c.deref-else-buckets.result.now)))) c.in-Some.is
+    ∙ ap (λ (o : Option Buckets). spec.first_ones q.count (spec.turned q.reverse (rows_chosen (option_map buckets_of o) l (filter (passes c.in_ok-filters.filters) c.deref-else-buckets.result.now)))) c.in-Some-buckets.is
     ∙ ap (λ (ps : List Point). spec.first_ones q.count (spec.turned q.reverse (rows_told bs l (filter (passes c.in_ok-filters.filters) ps)))) samples
     ∙ ap (λ (ps : List Point). spec.first_ones q.count (spec.turned q.reverse (rows_told bs l ps))) lets
-    ∙ sym (rows-told q l bs (ap (option_map buckets_of) c.in-Some.is) c.if-buckets.false))
+    ∙ sym (rows-told q l bs (ap (option_map buckets_of) c.in-Some-buckets.is) c.if-buckets.false))
     (c.walked_rows-else-buckets.ensures l)

@@ -17,7 +17,6 @@ use Rattle.ts_range.proofs.Within.{times-within}
 use Rattle.ts_range.proofs.Lines.{cell-told, left-same, row-more, rows-wanted, before-known}
 use Rattle.ts_range.proofs.Turns.{told-start, told-within, told-beyond}
 use Rattle.ts_range.proofs.empty.all_rows.Goals as goal
-use Rattle.ts_range.proofs.empty.all_rows.Goals.{After-at-start, After-is_first-first}
 
 pub loop-i-init : goal.loop-i-init
 loop-i-init c =
@@ -34,16 +33,16 @@ loop-i-init c =
 
 pub cut-requires-clause-time : goal.cut-requires-clause-time
 cut-requires-clause-time c =
-    let within = told-within c.args.buckets.now.grid c.known.ensures.some c.args.query.now.from c.args.query.now.to c.args.asked.now.ends c.in-Some.starts c.in-Some.ensures _ _ _ c.at-start.ensures in
+    let within = told-within c.args.buckets.now.grid c.known.ensures.some c.args.query.now.from c.args.query.now.to c.args.asked.now.ends c.in-Some.starts c.in-Some.ensures _ _ _ c.at-start.ensures.start in
     omega (arith, c.args.query.now.to_fits)
 
 pub cut-requires-clause-begins : goal.cut-requires-clause-begins
 cut-requires-clause-begins c =
-    told-start c.args.buckets.now.grid c.known.ensures.some c.args.query.now.from c.args.query.now.to c.args.asked.now.ends c.in-Some.starts c.in-Some.ensures _ _ _ c.at-start.ensures
+    told-start c.args.buckets.now.grid c.known.ensures.some c.args.query.now.from c.args.query.now.to c.args.asked.now.ends c.in-Some.starts c.in-Some.ensures _ _ _ c.at-start.ensures.start
 
 pub stamp-requires : goal.stamp-requires
 stamp-requires c =
-    let within = told-within c.args.buckets.now.grid c.known.ensures.some c.args.query.now.from c.args.query.now.to c.args.asked.now.ends c.in-Some.starts c.in-Some.ensures _ _ _ c.at-start.ensures in
+    let within = told-within c.args.buckets.now.grid c.known.ensures.some c.args.query.now.from c.args.query.now.to c.args.asked.now.ends c.in-Some.starts c.in-Some.ensures _ _ _ c.at-start.ensures.start in
     omega (arith, c.args.query.now.to_fits)
 
 pub loop-i-preserved : goal.loop-i-preserved
@@ -57,19 +56,19 @@ loop-i-preserved c =
     let s = c.in-Some.starts in
     let i = c.loop-i.i in
     let b = c.at-start.result in
-    let here : c.cut.result.0.now ≡ members g b samples = c.cut.ensures.bucket ∙ c.loop-i.invariant.left i b (omega arith) c.at-start.ensures in
+    let here : c.cut.result.0.now ≡ members g b samples = c.cut.ensures.bucket ∙ c.loop-i.invariant.left i b (omega arith) c.at-start.ensures.start in
     record {
       ascending = subst IsAscending (sym c.cut.ensures.others) (ascending-times (λ t. is_beyond q.reverse b (start g t)) c.loop-i.rest.now c.loop-i.invariant.ascending);
       times = subst (λ (ps : List Point). All (λ (p : Point). p.time ≤ MAX_TIME) ps) (sym c.cut.ensures.others)
           (All-filter (λ (p : Point). is_beyond q.reverse b (start g p.time)) (λ (p : Point). p.time ≤ MAX_TIME) c.loop-i.rest.now c.loop-i.invariant.times);
       left = λ k x le is.
           (ap (members g x) c.cut.ensures.others
-          ∙ left-same q.reverse g b x c.loop-i.rest.now (told-beyond g c.known.ensures.some q.from q.to asked.ends s c.in-Some.ensures q.reverse i k b x (omega arith) c.at-start.ensures is)
+          ∙ left-same q.reverse g b x c.loop-i.rest.now (told-beyond g c.known.ensures.some q.from q.to asked.ends s c.in-Some.ensures q.reverse i k b x (omega arith) c.at-start.ensures.start is)
           ∙ c.loop-i.invariant.left k x (omega arith) is);
       so_far = λ a rises rows around.
           (let before : known_before c.is_first-first.result b asked ≡ last_before b a =
           ap (λ (x : Bool). known_before x b asked) c.is_first-first.ensures
-          ∙ before-known q g c.known.ensures.some asked s c.in-Some.ensures a rises rows around q.reverse i b c.at-start.ensures in
+          ∙ before-known q g c.known.ensures.some asked s c.in-Some.ensures a rises rows around q.reverse i b c.at-start.ensures.start in
           let told : cell_of c.cell.result ≡ spec.cell_of bs.agg b a (members g b (filter lets samples)) =
           c.cell.ensures ∙ cell-told bs.agg g b lets a samples c.cut.result.0.now (known_before c.is_first-first.result b asked) here before in
           ap (map row_of) c.push_reserved.ensures.items
@@ -77,7 +76,7 @@ loop-i-preserved c =
           ∙ ap (λ (rs : List spec.Row). rs ++ record { time = c.stamp.result; value = cell_of c.cell.result } ∷ []) (c.loop-i.invariant.so_far a rises rows around)
           ∙ ap (λ (n : ℕ). take i (map (spec.bucket_row bs a (filter lets samples)) (in_order q.reverse (starts_of s))) ++ record { time = n; value = cell_of c.cell.result } ∷ []) c.stamp.ensures
           ∙ ap (λ (x : spec.Cell). take i (map (spec.bucket_row bs a (filter lets samples)) (in_order q.reverse (starts_of s))) ++ record { time = stamp g b bs.stamp; value = x } ∷ []) told
-          ∙ sym (row-more (spec.bucket_row bs a (filter lets samples)) (in_order q.reverse (starts_of s)) i b c.at-start.ensures));
+          ∙ sym (row-more (spec.bucket_row bs a (filter lets samples)) (in_order q.reverse (starts_of s)) i b c.at-start.ensures.start));
       so_many = omega (arith, c.push_reserved.ensures.len);
       room = omega (arith, c.push_reserved.ensures.capacity);
     }

@@ -1,0 +1,159 @@
+// A question that tells of empty buckets, answered by one walk over the samples.
+ghost use Rattle.std.specs.Prelude.{◌≡◌, ◌+◌, ◌≤◌, List, [], length, map, false, None, Some, IfErr, IfNone, IfOk, IfSome};
+ghost use Rattle.ts_spec.specs.Sample.{Point};
+ghost use Rattle.ts_spec.specs.Answer.{Row as TheRow, is_let_through, answer as spec_answer, rows, turned as spec_turned};
+ghost use Rattle.ts_spec.specs.Key.{Key};
+ghost use Rattle.ts_spec.specs.Keyed.{get};
+ghost use Rattle.ts_spec.specs.KeptQuestions.{kept_asked};
+ghost use Rattle.ts_spec.specs.Response.{Rows};
+ghost use Rattle.ts_range.specs.Filters.{passes};
+ghost use Rattle.ts_range.specs.Query.{query_of, row_of};
+ghost use Rattle.ts_range.specs.Stretches.{IsFilledIn, IsStretchIn};
+ghost use Rattle.ts_range.specs.declared.fault.RangeFault.TheVariants.{EmptyRows};
+ghost use Rattle.ts_db.specs.Held.{IsLive};
+ghost use Rattle.ts_engine.specs.Answering.{IsReplyText};
+
+use crate::room::put_no_memory;
+use crate::texts::{FIRST_ROOM, RowTexts};
+use crate::walked::walked;
+use std::alloc::AllocError;
+use std::sync::ledger::Ledger;
+use ts_db::{Db, Id};
+use ts_range::{
+    Buckets, Filters, Query, RangeFault, Row, RowList, Stretch, Take, are_too_many, turned,
+};
+use ts_resp::Out;
+use ts_sample::Steps;
+
+/// The stretch of buckets that is told of the key of a number, if a row is wanted, unless the rows are too many.
+pub(crate) fn stretch_of<L: Ledger>(
+    db: &Db,
+    id: Id,
+    latest: bool,
+    query: &Query,
+    buckets: &Buckets,
+    steps: &mut Steps<L>,
+) -> Result<Option<Stretch>, RangeFault>
+    requires live { IsLive db.now.ids id }
+    requires filled { IsFilledIn query.now buckets.now }
+    ensures some { IfOk result (λ found. IfSome found (λ stretch. (key : Key) → get key db.now.ids ≡ Some id → IsStretchIn query.now (kept_asked db.now.keys latest key) stretch)) }
+    ensures none { IfOk result (λ found. IfNone found ((key : Key) → get key db.now.ids ≡ Some id → rows (query_of query.now) (kept_asked db.now.keys latest key) ≡ [])) }
+    ensures few { IfOk result (λ found. (key : Key) → get key db.now.ids ≡ Some id
+        → spec_answer db.now.limits.empty_rows (query_of query.now) (kept_asked db.now.keys latest key) ≡ Some (rows (query_of query.now) (kept_asked db.now.keys latest key))) }
+    ensures refused { IfErr result (λ fault. (key : Key) → get key db.now.ids ≡ Some id
+        → spec_answer db.now.limits.empty_rows (query_of query.now) (kept_asked db.now.keys latest key) ≡ None) }
+    ensures fault { IfErr result (λ fault. fault ≡ EmptyRows) }
+{
+    let ends = db.ends_of(id, latest, steps);
+    if are_too_many(query, ends, db.limits().empty_rows) {
+        return Err(RangeFault::EmptyRows);
+    }
+    Ok(Stretch::of(query, buckets, ends))
+}
+
+/// The rows of the key of a number, in the order asked, unless they are too many.
+pub(crate) fn rows_filled<L: Ledger>(
+    db: &Db,
+    id: Id,
+    latest: bool,
+    query: &Query,
+    buckets: &Buckets,
+    steps: &mut Steps<L>,
+) -> Result<Vec<Row>, RangeFault>
+    requires live { IsLive db.now.ids id }
+    requires filled { IsFilledIn query.now buckets.now }
+    ensures rows { IfOk result (λ found. (key : Key) → get key db.now.ids ≡ Some id
+        → spec_answer db.now.limits.empty_rows (query_of query.now) (kept_asked db.now.keys latest key) ≡ Some (map row_of found.items)) }
+    ensures refused { IfErr result (λ fault. fault ≡ EmptyRows → (key : Key) → get key db.now.ids ≡ Some id
+        → spec_answer db.now.limits.empty_rows (query_of query.now) (kept_asked db.now.keys latest key) ≡ None) }
+{
+    let Some(stretch) = stretch_of(db, id, latest, query, buckets, steps)? else {
+        return Ok(Vec::new(db.alloc()));
+    };
+    match stretch_rows(db, id, latest, query, &stretch, steps) {
+        Ok(rows) => Ok(rows),
+        Err(fault) => Err(RangeFault::Memory(fault)),
+    }
+}
+
+// The rows of a stretch of the key of a number, in the order asked.
+fn stretch_rows<L: Ledger>(
+    db: &Db,
+    id: Id,
+    latest: bool,
+    query: &Query,
+    stretch: &Stretch,
+    steps: &mut Steps<L>,
+) -> Result<Vec<Row>, AllocError>
+    requires live { IsLive db.now.ids id }
+    requires stretch { (key : Key) → get key db.now.ids ≡ Some id → IsStretchIn query.now (kept_asked db.now.keys latest key) stretch.now }
+    ensures { IfOk result (λ found. (key : Key) → get key db.now.ids ≡ Some id
+        → map row_of found.items ≡ rows (query_of query.now) (kept_asked db.now.keys latest key)) }
+{
+    let filters = Filters::of(query)?;
+    let taker = RowList::with_room(db.alloc(), 0)?;
+    let rows = stretch_handed(db, id, latest, query, stretch, filters, taker, steps).into_rows()?;
+    if query.reverse {
+        return Ok(turned(rows, None));
+    }
+    Ok(rows)
+}
+
+/// Writes the rows of a stretch of the key of a number, the first one first, while the samples are scanned.
+pub(crate) fn put_stretch<L: Ledger>(
+    db: &Db,
+    id: Id,
+    latest: bool,
+    query: &Query,
+    stretch: &Stretch,
+    out: &mut Out,
+    steps: &mut Steps<L>,
+)
+    requires live { IsLive db.now.ids id }
+    requires forward { query.now.reverse ≡ false }
+    requires stretch { (key : Key) → get key db.now.ids ≡ Some id → IsStretchIn query.now (kept_asked db.now.keys latest key) stretch.now }
+    requires empty { out.old.bytes ≡ [] }
+    requires room { 128 ≤ out.old.spare }
+    ensures reply { (key : Key) → get key db.now.ids ≡ Some id
+        → IsReplyText (Rows (rows (query_of query.now) (kept_asked db.now.keys latest key))) out.new.bytes }
+    ensures room { 128 ≤ length out.new.bytes + out.new.spare }
+{
+    match out.reserve(FIRST_ROOM) {
+        Ok(()) => {}
+        Err(_) => {
+            put_no_memory(out);
+            return;
+        }
+    }
+    let Ok(filters) = Filters::of(query) else {
+        put_no_memory(out);
+        return;
+    };
+    let taker = RowTexts::begin(out.take());
+    *out = stretch_handed(db, id, latest, query, stretch, filters, taker, steps).finish();
+}
+
+// The taker to which the rows of a stretch were handed, the first one first.
+fn stretch_handed<T: Take, L: Ledger>(
+    db: &Db,
+    id: Id,
+    latest: bool,
+    query: &Query,
+    stretch: &Stretch,
+    filters: Filters,
+    taker: T,
+    steps: &mut Steps<L>,
+) -> T
+    requires live { IsLive db.now.ids id }
+    requires stretch { (key : Key) → get key db.now.ids ≡ Some id → IsStretchIn query.now (kept_asked db.now.keys latest key) stretch.now }
+    requires lets { (p : Point) → passes filters p ≡ is_let_through (query_of query.now) p }
+    requires none { T.has taker [] }
+    ensures { (key : Key) → get key db.now.ids ≡ Some id
+        → (handed : List TheRow) × T.has result handed × (spec_turned query.now.reverse handed ≡ rows (query_of query.now) (kept_asked db.now.keys latest key)) }
+{
+    db.known();
+    let ahead = db.before_of(id, stretch.first(), latest, steps);
+    let prior = db.before_of(id, stretch.from, latest, steps);
+    let walk = stretch.walk(filters, ahead, prior, taker);
+    walked(db, id, latest, stretch.from, stretch.to, walk, steps).into_taker()
+}

@@ -1,0 +1,241 @@
+-- The rows of all buckets that a question wants told are those of one walk over its samples, filled in.
+use Rattle.std.proofs.Common.{◌≡◌, ℕ, zero, suc, ◌+◌, ◌-◌, ◌<◌, ◌≤◌, max, min, Bool, true, false, ◌&&◌, ◌==◌, List, [], ◌∷◌, map, refl, sym, ◌∙◌, ap, subst, arith, inl, inr, eqb-true}
+use Rattle.std.specs.Prelude.{filter, Option, None, Some, option_map}
+use Rattle.std.specs.List.{All, range_with_len}
+use Rattle.std.proofs.lemmas.Bool.{cases_lt}
+use Rattle.std.proofs.lemmas.Bool.Decides.{nat_tests}
+use Rattle.std.proofs.lemmas.List.Elements.{All-nil, All-cons, All-head, All-tail, All-weaker, All-filter, filter_passes, filter_agree}
+use Rattle.ts_spec.specs.declared.bucket.Aggregator.TheVariants.{Last}
+use Rattle.ts_spec.specs.Sample.{Point, MAX_TIME, IsAscending, is_within, between, first_of, last_of}
+use Rattle.ts_spec.specs.Bucket.{Grid, start, members}
+use Rattle.ts_spec.specs.Command.{Span}
+use Rattle.ts_spec.specs.Answer.{Cell, Row, first_ones, bucket_row, cell_of, lets_time, lets_value, is_let_through, selected, rows, starts_between, turned}
+use Rattle.ts_spec.proofs.Buckets.{start-le}
+use Rattle.ts_spec.proofs.Samples.{ascending-times, ascending-filter}
+use Rattle.ts_sample.proofs.Between.{filter-filter}
+use Rattle.ts_bucket.proofs.Numbers.{number, start_number, apart}
+use Rattle.ts_range.specs.declared.query.Buckets.{Buckets}
+use Rattle.ts_range.specs.declared.query.Query.{Query}
+use Rattle.ts_range.specs.declared.stretch.Stretch.{Stretch}
+use Rattle.ts_range.specs.Empty.{empty_cell_of}
+use Rattle.ts_range.specs.Filling.{begun, filled, filled_line, row_at}
+use Rattle.ts_range.specs.Query.{buckets_of, query_of, span_of}
+use Rattle.ts_range.specs.Starts.{starts_of, starts_within}
+use Rattle.ts_range.specs.Stretches.{IsPart, IsStretchOf, IsStretchIn, IsFilledIn, filling_with}
+use Rattle.ts_range.specs.Told.{rows_told}
+use Rattle.ts_range.specs.Walk.{times_of, last_before}
+use Rattle.ts_range.proofs.Filtered.{filter-same, filter-swap, filter-all, map-same, after-all}
+use Rattle.ts_range.proofs.Gaps.{begin-mono, IsOnLine}
+use Rattle.ts_range.proofs.Later.{begin-past}
+use Rattle.ts_range.proofs.Line.{begin, between-is, number-mono}
+use Rattle.ts_range.proofs.Saying.{IsSaying, line-filled}
+use Rattle.ts_range.proofs.Whole.{rows-all}
+
+-- ---- the ends of a list
+
+first-all : (l : List Point) (p : Point) → IsAscending l → first_of l ≡ Some p → All (λ r. p.time ≤ r.time) l
+first-all [] p rises is = All-nil (λ r. p.time ≤ r.time)
+first-all (q ∷ l) p rises is =
+    let same : q.time ≡ p.time = (let e : q ≡ p = cc is in ap (λ (x : Point). x.time) e) in
+    All-cons (λ r. p.time ≤ r.time) q l (omega arith) (All-weaker (λ r. q.time < r.time) (λ r. p.time ≤ r.time) (λ r less. omega arith) l (after-all q.time l rises.0))
+
+last-all : (l : List Point) (p : Point) → IsAscending l → last_of l ≡ Some p → All (λ r. r.time ≤ p.time) l
+last-all [] p rises is = All-nil (λ r. r.time ≤ p.time)
+last-all (q ∷ []) p rises is =
+    let same : q.time ≡ p.time = (let e : q ≡ p = cc is in ap (λ (x : Point). x.time) e) in
+    All-cons (λ r. r.time ≤ p.time) q [] (omega arith) (All-nil (λ r. r.time ≤ p.time))
+last-all (q ∷ r ∷ l) p rises is =
+    let rest = last-all (r ∷ l) p rises.1 is in
+    let next : r.time ≤ p.time = All-head (λ (x : Point). x.time ≤ p.time) r l rest in
+    All-cons (λ x. x.time ≤ p.time) q (r ∷ l) (let less = rises.0.0 in omega arith) rest
+
+-- a sample is between the ends
+pub record IsInside (times : ℕ × ℕ) (p : Point) : Type 0 where
+  pub from : times.0 ≤ p.time
+  pub to : p.time ≤ times.1
+
+all-inside : (l : List Point) (times : ℕ × ℕ) → IsAscending l → Some times ≡ times_of (first_of l) (last_of l) → All (IsInside times) l
+all-inside [] times rises ends = All-nil (IsInside times)
+all-inside (p ∷ l) times rises ends = go (last_of (p ∷ l)) refl ends
+  where
+    go : (o : Option Point) → last_of (p ∷ l) ≡ o → Some times ≡ times_of (Some p) o → All (IsInside times) (p ∷ l)
+    go None is ends = absurd (cc ends)
+    go (Some q) is ends =
+        let same : times ≡ (p.time, q.time) = cc ends in
+        let low = first-all (p ∷ l) p rises refl in
+        let high = last-all (p ∷ l) q rises is in
+        subst (λ (ts : ℕ × ℕ). All (IsInside ts) (p ∷ l)) (sym same) (both (p ∷ l) low high)
+      where
+        both : (ps : List Point) → All (λ r. p.time ≤ r.time) ps → All (λ r. r.time ≤ q.time) ps → All (IsInside (p.time, q.time)) ps
+        both [] low high = All-nil (IsInside (p.time, q.time))
+        both (r ∷ ps) low high =
+            All-cons (IsInside (p.time, q.time)) r ps (record { from = All-head (λ (x : Point). p.time ≤ x.time) r ps low; to = All-head (λ (x : Point). x.time ≤ q.time) r ps high })
+            (both ps (All-tail (λ (x : Point). p.time ≤ x.time) r ps low) (All-tail (λ (x : Point). x.time ≤ q.time) r ps high))
+
+-- ---- a part of the times
+
+-- a test that matters only where another one holds
+where-both : (a b t : Bool) → (t ≡ true → a ≡ b) → (a && t) ≡ (b && t)
+where-both a b true same = ap (λ (x : Bool). x && true) (same refl)
+where-both a b false same = none a ∙ sym (none b)
+  where
+    none : (x : Bool) → (x && false) ≡ false
+    none true = refl
+    none false = refl
+
+all-within : (g : Grid) (P : ℕ → Type 0) (n k : ℕ) → ((m : ℕ) → k ≤ m → m < k + n → P (begin g m)) → All P (map (begin g) (range_with_len k n))
+all-within g P zero k h = All-nil P
+all-within g P (suc n) k h = All-cons P (begin g k) (map (begin g) (range_with_len (k + 1) n)) (h k (omega arith) (omega arith)) (all-within g P n (k + 1) (λ m low high. h m (omega arith) (omega arith)))
+
+module _ (g : Grid) (some : 1 ≤ g.duration) where
+  number-upto : (t u : ℕ) → start g t ≤ start g u → number g t ≤ number g u
+  number-upto t u le = elim (cases_lt (number g u) (number g t)) [
+    | inl less ↦ (let e = apart g some u t less in let f = start-le g u some in absurd (omega arith))
+    | inr more ↦ more
+  ]
+
+  module _ (from to : ℕ) (times : ℕ × ℕ) (low upto high : ℕ) (part : IsPart g (max from times.0) (min to times.1) low upto high) (l : List Point) (in-ends : All (IsInside times) l) (lets : Point → Bool) where
+    -- a bucket of the part has the same samples there
+    part-members : (m : ℕ) → number g low ≤ m → m ≤ number g upto → members g (begin g m) (filter lets (between low high l)) ≡ members g (begin g m) (filter lets (between from to l))
+    part-members m least most =
+        let c = begin g m in
+        filter-swap (λ (p : Point). start g p.time == c) lets (between low high l)
+        ∙ ap (filter lets)
+        (filter-filter (λ (p : Point). start g p.time == c) (λ (p : Point). is_within low high p.time) l
+        ∙ filter-same (λ (p : Point). is_within low high p.time && (start g p.time == c)) (λ (p : Point). is_within from to p.time && (start g p.time == c)) l
+        (All-weaker (IsInside times) (λ (p : Point). (is_within low high p.time && (start g p.time == c)) ≡ (is_within from to p.time && (start g p.time == c)))
+        (λ p at. where-both (is_within low high p.time) (is_within from to p.time) (start g p.time == c) (λ here. same-within p at (eqb-true (start g p.time) c here))) l in-ends)
+        ∙ sym (filter-filter (λ (p : Point). start g p.time == c) (λ (p : Point). is_within from to p.time) l))
+        ∙ sym (filter-swap (λ (p : Point). start g p.time == c) lets (between from to l))
+      where
+        same-within : (p : Point) → IsInside times p → start g p.time ≡ begin g m → is_within low high p.time ≡ is_within from to p.time
+        same-within p at here =
+            let early = part.early in
+            let late = part.late in
+            let after = at.from in
+            let before = at.to in
+            elim (cases_lt p.time (max from times.0)) [
+              | inl less ↦ grind (arith, nat_tests)
+              | inr enough ↦ elim (cases_lt (min to times.1) p.time) [
+                | inl past ↦ grind (arith, nat_tests)
+                | inr inside ↦
+                    let e = begin-mono g some (number g low) m least in
+                    let f = begin-mono g some m (number g upto) most in
+                    let h = start_number g some low in
+                    let k = start_number g some upto in
+                    let both = part.whole p.time enough inside (omega arith) (omega arith) in
+                    let one = both.0 in
+                    let other = both.1 in
+                    grind (arith, nat_tests)
+              ]
+            ]
+
+    -- the samples of the part lie in its buckets
+    part-on : to ≤ MAX_TIME → All (IsOnLine g (number g low) (number g upto)) (filter lets (between low high l))
+    part-on time =
+        All-filter lets (IsOnLine g (number g low) (number g upto)) (between low high l)
+        (All-weaker (λ (p : Point). is_within low high p.time ≡ true) (IsOnLine g (number g low) (number g upto))
+        (λ p is.
+        let least : low ≤ p.time = grind (arith, nat_tests) in
+        let most : p.time ≤ high = grind (arith, nat_tests) in
+        let late = part.late in
+        record {
+          from = number-mono g some low p.time least;
+          to = number-upto p.time upto (part.within p.time most);
+          time = omega arith;
+        }) (between low high l) (filter_passes (λ (p : Point). is_within low high p.time) l))
+
+-- ---- the rows
+
+module _ (q : Query) (bs : Buckets) (is : q.buckets ≡ Some bs) (empty : bs.empty ≡ true) (some : 1 ≤ bs.grid.duration) (l : List Point) (rises : IsAscending l)
+    (ends : Option (ℕ × ℕ)) (around : ends ≡ times_of (first_of l) (last_of l)) (stretch : Stretch) (told : IsStretchOf q bs ends stretch)
+    (lets : Point → Bool) (agree : (p : Point) → lets p ≡ is_let_through (query_of q) p) (plain : bs.agg ≡ Last → (q.times ≡ None) × (q.values ≡ None))
+    (first others : Cell) (says : first ≡ empty_cell_of bs.agg (last_before (start bs.grid stretch.from) l)) (say : others ≡ empty_cell_of bs.agg (last_before stretch.from l)) where
+  in-ends : All (IsInside told.times) l
+  in-ends = all-inside l told.times rises (sym told.are ∙ around)
+
+  lets-all : bs.agg ≡ Last → (ps : List Point) → filter lets ps ≡ ps
+  lets-all last ps =
+      let none = plain last in
+      filter-all lets ps (all ps (λ p. agree p ∙ ap (λ (o : Option (List ℕ)). lets_time o p.time && lets_value (option_map span_of q.values) p.value) (ap (option_map (λ times. times.items)) none.0) ∙ ap (λ (o : Option Span). lets_value o p.value) (ap (option_map span_of) none.1)))
+    where
+      all : (ps : List Point) → ((p : Point) → lets p ≡ true) → All (λ p. lets p ≡ true) ps
+      all [] h = All-nil (λ p. lets p ≡ true)
+      all (p ∷ ps) h = All-cons (λ p. lets p ≡ true) p ps (h p) (all ps h)
+
+  begins : begin bs.grid (number bs.grid stretch.from) ≡ start bs.grid stretch.from
+  begins = sym (start_number bs.grid some stretch.from)
+
+  from-is : max stretch.from (begin bs.grid (number bs.grid stretch.from)) ≡ stretch.from
+  from-is = let e = start-le bs.grid stretch.from some in let f = begins in omega arith
+
+  saying : IsSaying (buckets_of bs) l stretch.from stretch.to (number bs.grid stretch.from) first others (filter lets (between stretch.from stretch.to l))
+  saying = record {
+    first = says ∙ ap (λ (t : ℕ). empty_cell_of bs.agg (last_before t l)) (sym begins);
+    others = say ∙ ap (λ (t : ℕ). empty_cell_of bs.agg (last_before t l)) (sym from-is);
+    all = λ last. lets-all last (between stretch.from stretch.to l) ∙ ap (λ (t : ℕ). between t stretch.to l) (sym from-is);
+  }
+
+  filled-part : filled (buckets_of bs) first others (starts_between bs.grid stretch.from told.upto) (rows_told (begun (buckets_of bs)) l (filter lets (between stretch.from stretch.to l)))
+      ≡ map (bucket_row (buckets_of bs) l (filter lets (between stretch.from stretch.to l))) (starts_between bs.grid stretch.from told.upto)
+  filled-part =
+      let g = bs.grid in
+      let k = number g stretch.from in
+      let n = suc (number g told.upto - k) in
+      let ps = filter lets (between stretch.from stretch.to l) in
+      let ordered = told.part.ordered in
+      let mono = number-mono g some stretch.from told.upto ordered in
+      let line : starts_between g stretch.from told.upto ≡ map (begin g) (range_with_len k n) = between-is g some stretch.from told.upto ordered in
+      let upto : begin g (number g told.upto) ≤ stretch.to = (let e = start_number g some told.upto in let f = start-le g told.upto some in let r = told.part.reached in omega arith) in
+      ap (λ (xs : List ℕ). filled (buckets_of bs) first others xs (rows_told (begun (buckets_of bs)) l ps)) line
+      ∙ line-filled (buckets_of bs) some l rises stretch.from stretch.to stretch.from k (number g told.upto) (omega arith) (begin-past g some stretch.from (suc k) (omega arith)) upto n first others ps (omega arith)
+      (ascending-filter lets (between stretch.from stretch.to l) (ascending-times (is_within stretch.from stretch.to) l rises))
+      (part-on g some q.from q.to told.times stretch.from told.upto stretch.to told.part l in-ends lets q.to_fits) saying
+      ∙ ap (map (bucket_row (buckets_of bs) l ps)) (sym line)
+
+  same-rows : map (bucket_row (buckets_of bs) l (filter lets (between stretch.from stretch.to l))) (starts_between bs.grid stretch.from told.upto)
+      ≡ map (bucket_row (buckets_of bs) l (selected (query_of q) l)) (starts_between bs.grid stretch.from told.upto)
+  same-rows =
+      let g = bs.grid in
+      let k = number g stretch.from in
+      let n = suc (number g told.upto - k) in
+      let ps = filter lets (between stretch.from stretch.to l) in
+      let ordered = told.part.ordered in
+      let mono = number-mono g some stretch.from told.upto ordered in
+      let line : starts_between g stretch.from told.upto ≡ map (begin g) (range_with_len k n) = between-is g some stretch.from told.upto ordered in
+      let all : filter lets (between q.from q.to l) ≡ selected (query_of q) l = filter_agree lets (is_let_through (query_of q)) agree (between q.from q.to l) in
+      map-same (bucket_row (buckets_of bs) l ps) (bucket_row (buckets_of bs) l (selected (query_of q) l)) (starts_between g stretch.from told.upto)
+      (subst (All (λ (b : ℕ). bucket_row (buckets_of bs) l ps b ≡ bucket_row (buckets_of bs) l (selected (query_of q) l) b)) (sym line)
+      (all-within g (λ (b : ℕ). bucket_row (buckets_of bs) l ps b ≡ bucket_row (buckets_of bs) l (selected (query_of q) l) b) n k
+      (λ m low high. ap (λ (ms : List Point). row_at (buckets_of bs) (begin g m) (cell_of bs.agg (begin g m) l ms))
+      (part-members g some q.from q.to told.times stretch.from told.upto stretch.to told.part l in-ends lets m low (omega arith) ∙ ap (members g (begin g m)) all))))
+
+  -- those that are wanted
+  pub all-rows : turned q.reverse (filled (buckets_of bs) first others (starts_of stretch.starts) (rows_told (begun (buckets_of bs)) l (filter lets (between stretch.from stretch.to l)))) ≡ rows (query_of q) l
+  all-rows =
+      ap (λ (xs : List ℕ). turned q.reverse (filled (buckets_of bs) first others xs (rows_told (begun (buckets_of bs)) l (filter lets (between stretch.from stretch.to l))))) told.starts
+      ∙ ap (turned q.reverse) (filled-part ∙ same-rows ∙ ap (map (bucket_row (buckets_of bs) l (selected (query_of q) l))) (sym told.starts))
+      ∙ sym (told.rows (bucket_row (buckets_of bs) l (selected (query_of q) l)))
+      ∙ sym (rows-all (query_of q) l (buckets_of bs) (ap (option_map buckets_of) is) empty ends around)
+
+-- the same by the taker that is made for the stretch
+pub stretch-rows : (q : Query) (bs : Buckets) → IsFilledIn q bs → (l : List Point) → IsAscending l → (ends : Option (ℕ × ℕ)) → ends ≡ times_of (first_of l) (last_of l) → (stretch : Stretch) → IsStretchOf q bs ends stretch
+    → (lets : Point → Bool) → ((p : Point) → lets p ≡ is_let_through (query_of q) p) → (ahead prior : Option Point) → ahead ≡ last_before (start stretch.buckets.grid stretch.from) l → prior ≡ last_before stretch.from l
+    → turned q.reverse (filled_line (filling_with stretch ahead prior) (rows_told (begun (buckets_of stretch.buckets)) l (filter lets (between stretch.from stretch.to l)))) ≡ rows (query_of q) l
+stretch-rows q bs fills l rises ends around stretch told lets agree ahead prior is-ahead is-prior =
+    let before : ahead ≡ last_before (start bs.grid stretch.from) l = is-ahead ∙ ap (λ (b : Buckets). last_before (start b.grid stretch.from) l) told.buckets in
+    ap (λ (b : Buckets). turned q.reverse (filled (buckets_of b) (empty_cell_of b.agg ahead) (empty_cell_of b.agg prior) (starts_of stretch.starts) (rows_told (begun (buckets_of b)) l (filter lets (between stretch.from stretch.to l))))) told.buckets
+    ∙ all-rows q bs fills.told fills.empty told.some l rises ends around stretch told lets agree fills.known (empty_cell_of bs.agg ahead) (empty_cell_of bs.agg prior) (ap (empty_cell_of bs.agg) before) (ap (empty_cell_of bs.agg) is-prior)
+
+-- no row is wanted
+pub no-rows : (q : Query) (bs : Buckets) → IsFilledIn q bs → (l : List Point) (ends : Option (ℕ × ℕ)) → ends ≡ times_of (first_of l) (last_of l)
+    → ((f : ℕ → Row) → first_ones q.count (turned q.reverse (map f (starts_within bs.grid q.from q.to ends))) ≡ []) → rows (query_of q) l ≡ []
+no-rows q bs fills l ends around none =
+    rows-all (query_of q) l (buckets_of bs) (ap (option_map buckets_of) fills.told) fills.empty ends around ∙ none (bucket_row (buckets_of bs) l (selected (query_of q) l))
+
+-- what a walk hands on to that taker
+pub walked-rows : (q : Query) (l : List Point) (stretch : Stretch) → IsAscending l → IsStretchIn q l stretch
+    → (lets : Point → Bool) → ((p : Point) → lets p ≡ is_let_through (query_of q) p) → (ahead prior : Option Point) → ahead ≡ last_before (start stretch.buckets.grid stretch.from) l → prior ≡ last_before stretch.from l
+    → turned q.reverse (filled_line (filling_with stretch ahead prior) (rows_told (begun (buckets_of stretch.buckets)) l (filter lets (between stretch.from stretch.to l)))) ≡ rows (query_of q) l
+walked-rows q l stretch rises is lets agree ahead prior is-ahead is-prior =
+    stretch-rows q is.buckets is.filled l rises (times_of (first_of l) (last_of l)) refl stretch is.is lets agree ahead prior is-ahead is-prior

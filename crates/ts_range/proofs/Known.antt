@@ -1,0 +1,82 @@
+-- What is known before a stretch of buckets, of what lies around the interval.
+use Rattle.std.proofs.Common.{◌≡◌, ℕ, ◌<◌, ◌≤◌, false, max, Bool, ◌&&◌, nat_lt, List, sym, ◌∙◌, ap, arith, inl, inr, lt-ltb, le-ltb}
+use Rattle.std.specs.Option.{option_or}
+use Rattle.std.proofs.lemmas.Bool.{cases_lt}
+use Rattle.std.proofs.lemmas.Bool.Decides.{nat_tests}
+use Rattle.std.proofs.lemmas.List.Elements.{filter_agree}
+use Rattle.ts_spec.specs.Sample.{Point, IsAscending, is_within, between}
+use Rattle.ts_spec.specs.Bucket.{start}
+use Rattle.ts_spec.proofs.Buckets.{start-le, start-mono, start-start}
+use Rattle.ts_sample.proofs.Between.{filter-filter}
+use Rattle.ts_range.specs.declared.query.Buckets.{Buckets}
+use Rattle.ts_range.specs.declared.query.Query.{Query}
+use Rattle.ts_range.specs.declared.row.Asked.{Asked}
+use Rattle.ts_range.specs.declared.stretch.Stretch.{Stretch}
+use Rattle.ts_range.specs.Empty.{known_before}
+use Rattle.ts_range.specs.Stretches.{IsStretchOf}
+use Rattle.ts_range.specs.Walk.{IsAroundOf, last_before}
+use Rattle.ts_range.proofs.Around.{before-is}
+use Rattle.ts_range.proofs.Lines.{first-asked}
+
+module _ (q : Query) (bs : Buckets) (l : List Point) (rises : IsAscending l) (asked : Asked) (rows : between q.from q.to l ≡ asked.rows.items) (around : IsAroundOf q bs.grid asked l)
+    (stretch : Stretch) (told : IsStretchOf q bs asked.ends stretch) where
+  -- it lies in the interval
+  from-least : q.from ≤ stretch.from
+  from-least = let early = told.part.early in omega arith
+
+  to-most : stretch.to ≤ q.to
+  to-most = let late = told.part.late in omega arith
+
+  from-most : stretch.from ≤ q.to
+  from-most = let ordered = told.part.ordered in let reached = told.part.reached in omega (arith, to-most)
+
+  -- its samples are there
+  pub part-of : between stretch.from stretch.to asked.rows.items ≡ between stretch.from stretch.to l
+  part-of =
+      ap (between stretch.from stretch.to) (sym rows)
+      ∙ filter-filter (λ (p : Point). is_within stretch.from stretch.to p.time) (λ (p : Point). is_within q.from q.to p.time) l
+      ∙ filter_agree (λ (p : Point). is_within q.from q.to p.time && is_within stretch.from stretch.to p.time) (λ (p : Point). is_within stretch.from stretch.to p.time) (λ p. inner q.from q.to stretch.from stretch.to p.time from-least to-most) l
+    where
+      inner : (from to low high t : ℕ) → from ≤ low → high ≤ to → (is_within from to t && is_within low high t) ≡ is_within low high t
+      inner from to low high t least most = grind (arith, nat_tests)
+
+  before-time : (t : ℕ) → q.from ≤ t → t ≤ q.to → known_before false t asked ≡ last_before t l
+  before-time t low high =
+      ap (λ (ps : List Point). option_or (last_before t ps) asked.prior) (sym rows)
+      ∙ ap (option_or (last_before t (between q.from q.to l))) around.prior
+      ∙ before-is q.from q.to t l rises low high
+
+  -- the last sample before its first time
+  pub prior-known : known_before false stretch.from asked ≡ last_before stretch.from l
+  prior-known = before-time stretch.from from-least from-most
+
+  -- where its first bucket begins before the interval, it is the first one of all
+  first-of-all : start bs.grid stretch.from < q.from → stretch.from ≡ max q.from told.times.0
+  first-of-all less =
+      let g = bs.grid in
+      let lo = max q.from told.times.0 in
+      let early = told.part.early in
+      let ordered = told.part.ordered in
+      let reached = told.part.reached in
+      let late = told.part.late in
+      let same = start-start g stretch.from told.some in
+      let low = start-mono g (start g stretch.from) lo told.some (omega arith) in
+      let high = start-mono g lo told.upto told.some (omega arith) in
+      let both = told.part.whole lo (omega arith) (omega arith) (omega arith) high in
+      let least = both.0 in
+      omega arith
+
+  -- the last sample before its first bucket
+  pub ahead-known : known_before (nat_lt (start bs.grid stretch.from) q.from) (start bs.grid stretch.from) asked ≡ last_before (start bs.grid stretch.from) l
+  ahead-known = elim (cases_lt (start bs.grid stretch.from) q.from) [
+    | inl less ↦
+        let p = first-asked l asked.ends told.times told.are around.ends in
+        ap (λ (b : Bool). known_before b (start bs.grid stretch.from) asked) (lt-ltb (start bs.grid stretch.from) q.from less)
+        ∙ around.ahead p.0 p.1
+        ∙ ap (λ (t : ℕ). last_before (start bs.grid (max q.from t)) l) p.2
+        ∙ ap (λ (t : ℕ). last_before (start bs.grid t) l) (sym (first-of-all less))
+    | inr le ↦
+        let low = start-le bs.grid stretch.from told.some in
+        ap (λ (b : Bool). known_before b (start bs.grid stretch.from) asked) (le-ltb (start bs.grid stretch.from) q.from le)
+        ∙ before-time (start bs.grid stretch.from) le (omega (arith, from-most))
+  ]

@@ -1,0 +1,52 @@
+use Rattle.std.proofs.Common.{◌≡◌, ℕ, List, sym, ◌∙◌, ap, subst}
+use Rattle.std.specs.Prelude.{filter, nat_lt, slice_range, Option, Some}
+use Rattle.std.proofs.lemmas.Result.{IfOk-weaker}
+use Rattle.ts_spec.specs.Answer.{Row, rows, turned}
+use Rattle.ts_spec.specs.Bucket.{start}
+use Rattle.ts_spec.specs.Command as spec
+use Rattle.ts_spec.specs.Sample.{Point, IsAscending, is_within, between}
+use Rattle.ts_spec.proofs.Samples.{ascending-times}
+use Rattle.ts_range.specs.declared.query.Buckets.{Buckets}
+use Rattle.ts_range.specs.Empty.{known_before}
+use Rattle.ts_range.specs.Filling.{Filling, filling_of, filled_line}
+use Rattle.ts_range.specs.Query.{query_of}
+use Rattle.ts_range.specs.Stretches.{filling_with}
+use Rattle.ts_range.specs.Taking.{Limit}
+use Rattle.ts_range.specs.Walk.{last_before}
+use Rattle.ts_range.specs.Walking.{lets, rows_chosen}
+use Rattle.ts_range.proofs.AllRows.{stretch-rows}
+use Rattle.ts_range.proofs.Known.{part-of, ahead-known, prior-known}
+use Rattle.ts_range.proofs.filled_rows.stretch_rows.Goals as goal
+
+pub walked-requires-clause-ascending : goal.walked-requires-clause-ascending
+walked-requires-clause-ascending c =
+    let stretch = c.args.stretch.now in
+    subst IsAscending (sym c.places_between.ensures.inside)
+    (ascending-times (is_within stretch.from stretch.to) c.as_slice-samples.result.now (subst IsAscending (sym c.as_slice-samples.ensures.value) c.requires.ascending))
+
+pub returns : goal.returns
+returns c = λ l buckets rises is filled told.
+    let q = c.args.query.now in
+    let asked = c.args.asked.now in
+    let stretch = c.args.stretch.now in
+    let walk = c.walk.result in
+    let around = is.around buckets filled.told filled.empty in
+    let samples : List Point = slice_range c.as_slice-samples.result.now c.places_between.result.start c.places_between.result.end in
+    let all : samples ≡ between stretch.from stretch.to l =
+    c.places_between.ensures.inside ∙ ap (between stretch.from stretch.to) c.as_slice-samples.ensures.value ∙ part-of q buckets l rises asked is.rows around stretch told in
+    let handed : List Row = rows_chosen walk.buckets l (filter (lets walk) samples) in
+    let line : Filling = filling_of c.walked.result.filling in
+    let known : Filling = filling_with stretch c.before-ahead.result c.before-prior.result in
+    let kept : Some line ≡ Some known = ap (λ (k : Limit). k.filling) (c.walked.ensures.limit ∙ c.walk.ensures.limit) in
+    let same : line ≡ known = cc kept in
+    let begins : c.first-first.result ≡ start buckets.grid stretch.from = c.first-first.ensures.start ∙ ap (λ (b : Buckets). start b.grid stretch.from) told.buckets in
+    let ahead : c.before-ahead.result ≡ last_before (start stretch.buckets.grid stretch.from) l =
+    c.before-ahead.ensures ∙ ap (λ (t : ℕ). known_before (nat_lt t q.from) t asked) begins ∙ ahead-known q buckets l rises asked is.rows around stretch told
+    ∙ sym (ap (λ (b : Buckets). last_before (start b.grid stretch.from) l) told.buckets) in
+    let prior : c.before-prior.result ≡ last_before stretch.from l = c.before-prior.ensures ∙ prior-known q buckets l rises asked is.rows around stretch told in
+    let answer : turned q.reverse (filled_line line handed) ≡ rows (query_of q) l =
+    ap (λ (f : Filling). turned q.reverse (filled_line f handed)) same
+    ∙ ap (λ (ps : List Point). turned q.reverse (filled_line known (rows_chosen walk.buckets l (filter (lets walk) ps)))) all
+    ∙ ap (λ (o : Option spec.Buckets). turned q.reverse (filled_line known (rows_chosen o l (filter (lets walk) (between stretch.from stretch.to l))))) c.walk.ensures.buckets
+    ∙ stretch-rows q buckets filled l rises asked.ends around.ends stretch told (lets walk) (λ p. c.walk.ensures.lets p ∙ c.requires.lets p) c.before-ahead.result c.before-prior.result ahead prior in
+    IfOk-weaker c.into_rows.result _ _ (λ kept are. ap (turned q.reverse) are ∙ answer) (c.into_rows.ensures (filled_line line handed) (c.into_taker.ensures handed (c.walked.ensures.rows l)))

@@ -1,0 +1,56 @@
+-- The stretch of buckets that an answer with empty ones tells of.
+use Rattle.std.specs.Prelude.{◌≡◌, ◌≤◌, ℕ, max, min, true, List, map, Option, None, Some}
+use Rattle.ts_spec.specs.declared.bucket.Aggregator.TheVariants.{Last}
+use Rattle.ts_spec.specs.Sample.{Point, first_of, last_of}
+use Rattle.ts_spec.specs.Bucket.{Grid, start}
+use Rattle.ts_spec.specs.Answer.{Row, starts_between, first_ones, turned}
+use Rattle.ts_range.specs.declared.stretch.Stretch.{Stretch}
+use Rattle.ts_range.specs.declared.query.Buckets.{Buckets}
+use Rattle.ts_range.specs.declared.query.Query.{Query}
+use Rattle.ts_range.specs.Empty.{empty_cell_of}
+use Rattle.ts_range.specs.Filling.{Filling}
+use Rattle.ts_range.specs.Query.{buckets_of}
+use Rattle.ts_range.specs.Starts.{starts_of, starts_within}
+use Rattle.ts_range.specs.Walk.{times_of}
+
+-- of the times from one to another, those from `from` to `to` are those of the buckets from that of `from` to that of `upto`
+pub record IsPart (g : Grid) (first last from upto to : ℕ) : Type 0 where
+  pub early : first ≤ from
+  pub ordered : from ≤ upto
+  pub reached : upto ≤ to
+  pub late : to ≤ last
+  pub within : (t : ℕ) → t ≤ to → start g t ≤ start g upto
+  pub whole : (t : ℕ) → first ≤ t → t ≤ last → start g from ≤ start g t → start g t ≤ start g upto → (from ≤ t) × (t ≤ to)
+
+-- these are the buckets whose rows are wanted, and the times of the interval that lie in them
+pub record IsStretchOf (q : Query) (bs : Buckets) (ends : Option (ℕ × ℕ)) (stretch : Stretch) : Type 0 where
+  pub buckets : stretch.buckets ≡ bs
+  pub some : 1 ≤ bs.grid.duration
+  pub rows : (f : ℕ → Row) → first_ones q.count (turned q.reverse (map f (starts_within bs.grid q.from q.to ends)))
+      ≡ turned q.reverse (map f (starts_of stretch.starts))
+  pub times : ℕ × ℕ
+  pub are : ends ≡ Some times
+  pub upto : ℕ
+  pub starts : starts_of stretch.starts ≡ starts_between bs.grid stretch.from upto
+  pub part : IsPart bs.grid (max q.from times.0) (min q.to times.1) stretch.from upto stretch.to
+
+-- its buckets, of which the first empty one says that the one sample is the last before it, and the others that the other is
+abbrev pub filling_with : Stretch → (ahead prior : Option Point) → Filling
+filling_with stretch ahead prior = record {
+  buckets = buckets_of stretch.buckets;
+  starts = starts_of stretch.starts;
+  first = empty_cell_of stretch.buckets.agg ahead;
+  others = empty_cell_of stretch.buckets.agg prior;
+}
+
+-- these buckets are told, empty ones too, and what those say is known from the samples that are let through
+pub record IsFilledIn (q : Query) (bs : Buckets) : Type 0 where
+  pub told : q.buckets ≡ Some bs
+  pub empty : bs.empty ≡ true
+  pub known : bs.agg ≡ Last → (q.times ≡ None) × (q.values ≡ None)
+
+-- what is wanted of this list is a stretch of buckets that are filled in
+pub record IsStretchIn (q : Query) (ps : List Point) (stretch : Stretch) : Type 0 where
+  pub buckets : Buckets
+  pub filled : IsFilledIn q buckets
+  pub is : IsStretchOf q buckets (times_of (first_of ps) (last_of ps)) stretch

@@ -1,0 +1,70 @@
+// The rows of all buckets of a question, those without samples too, by one walk over the samples.
+ghost use Rattle.std.specs.Prelude.{◌≡◌, List, map, IfOk};
+ghost use Rattle.ts_spec.specs.Sample.{Point, IsAscending};
+ghost use Rattle.ts_spec.specs.Answer as spec;
+ghost use Rattle.ts_range.specs.Filters.{passes};
+ghost use Rattle.ts_range.specs.Query.{query_of, row_of};
+ghost use Rattle.ts_range.specs.Stretches.{IsFilledIn, IsStretchOf};
+ghost use Rattle.ts_range.specs.Walk.{IsAskedOf};
+
+use crate::empty::before;
+use crate::filters::Filters;
+use crate::list::RowList;
+use crate::query::{Buckets, Query};
+use crate::row::{Asked, Row};
+use crate::stretch::Stretch;
+use crate::walked::{MOST, turned, walked};
+use std::alloc::{AllocError, Global};
+use ts_sample::places_between;
+
+// The rows that are wanted of these buckets, in the order asked.
+pub(crate) fn filled_rows(
+    alloc: Global,
+    query: &Query,
+    buckets: &Buckets,
+    filters: Filters,
+    asked: &Asked,
+) -> Result<Vec<Row>, AllocError>
+    requires filled { IsFilledIn query.now buckets.now }
+    requires lets { (p : Point) → passes filters p ≡ spec.is_let_through (query_of query.now) p }
+    requires ascending { IsAscending asked.now.rows.items }
+    ensures { (l : List Point) → IsAscending l → IsAskedOf query.now asked.now l
+        → IfOk result (λ rows. map row_of rows.items ≡ spec.rows (query_of query.now) l) }
+{
+    let Some(stretch) = Stretch::of(query, buckets, asked.ends) else {
+        return Ok(Vec::new(alloc));
+    };
+    let rows = stretch_rows(alloc, query, &stretch, filters, asked)?;
+    if query.reverse {
+        return Ok(turned(rows, None));
+    }
+    Ok(rows)
+}
+
+// The rows of a stretch of buckets, the first one first.
+fn stretch_rows(
+    alloc: Global,
+    query: &Query,
+    stretch: &Stretch,
+    filters: Filters,
+    asked: &Asked,
+) -> Result<Vec<Row>, AllocError>
+    requires lets { (p : Point) → passes filters p ≡ spec.is_let_through (query_of query.now) p }
+    requires ascending { IsAscending asked.now.rows.items }
+    ensures { (l : List Point) (buckets : Buckets) → IsAscending l → IsAskedOf query.now asked.now l → IsFilledIn query.now buckets
+        → IsStretchOf query.now buckets asked.now.ends stretch.now
+        → IfOk result (λ rows. spec.turned query.now.reverse (map row_of rows.items) ≡ spec.rows (query_of query.now) l) }
+{
+    let first = stretch.first();
+    let ahead = before(asked, first, first < query.from);
+    let prior = before(asked, stretch.from, false);
+    let samples = asked.rows.as_slice();
+    let samples = &samples[places_between(samples, stretch.from, stretch.to)];
+    if samples.len() > MOST {
+        return Err(AllocError);
+    }
+    let taker = RowList::with_room(alloc, 0)?;
+    walked(samples, stretch.walk(filters, ahead, prior, taker))
+        .into_taker()
+        .into_rows()
+}

@@ -1,0 +1,99 @@
+// What is told of the buckets of a line, those without samples too.
+ghost use Rattle.std.specs.Prelude.{◌≡◌, ◌≤◌, ◌<◌, ◌^◌, IfNone, IfSome, Some, Option, length, option_map, slice_get};
+ghost use Rattle.ts_spec.specs.Sample.{MAX_TIME};
+ghost use Rattle.ts_spec.specs.Answer.{Cell as TheCell};
+ghost use Rattle.ts_spec.specs.Bucket.{stamp};
+ghost use Rattle.ts_range.specs.Query.{cell_of};
+ghost use Rattle.ts_range.specs.Empty.{empty_cell_of};
+ghost use Rattle.ts_range.specs.Filling.{said_after, said_of, said_now};
+ghost use Rattle.ts_range.specs.Starts.{starts_of};
+
+use crate::query::Buckets;
+use crate::row::Row;
+use crate::starts::Starts;
+use ts_agg::Aggregator;
+use ts_sample::{Cell, Sample, Units};
+
+// The buckets, and what the empty ones say before the row of another one is told.
+#[derive(Clone, Copy)]
+pub(crate) struct Filling {
+    pub(crate) buckets: Buckets,
+    pub(crate) starts: Starts,
+    // What the first one says, and what the others do.
+    pub(crate) first: Cell,
+    pub(crate) others: Cell,
+}
+
+// How far they were told.
+#[derive(Clone, Copy)]
+pub(crate) struct Place {
+    // How many.
+    pub(crate) told: u64,
+    // The last value, once there is one, where empty buckets say that.
+    pub(crate) last: Option<Cell>,
+}
+
+impl Filling {
+    // The start of the bucket that is told next, if one is left.
+    pub(crate) fn next(&self, place: &Place) -> Option<u64>
+        ensures some { IfSome result (λ start. slice_get (starts_of self.now.starts) place.now.told ≡ Some start) }
+        ensures time { IfSome result (λ start. start ≤ MAX_TIME) }
+        ensures few { length (starts_of self.now.starts) < 2 ^ 64 }
+        ensures none { IfNone result (length (starts_of self.now.starts) ≤ place.now.told) }
+    {
+        if place.told < self.starts.wanted(None) {
+            Some(self.starts.at(false, place.told))
+        } else {
+            None
+        }
+    }
+
+    // What it says if it is empty.
+    pub(crate) fn says(&self, place: &Place) -> Cell
+        ensures { cell_of result ≡ said_now place.now.told (cell_of self.now.first) (said_of (cell_of self.now.others) (option_map cell_of place.now.last)) }
+    {
+        if place.told == 0 {
+            return self.first;
+        }
+        match place.last {
+            None => self.others,
+            Some(value) => value,
+        }
+    }
+
+    // Its row, which tells this.
+    pub(crate) fn row(&self, start: u64, value: Cell) -> Row
+        requires { start ≤ MAX_TIME }
+        ensures time { result.time ≡ stamp self.now.buckets.grid start self.now.buckets.stamp }
+        ensures value { result.value ≡ value }
+    {
+        Row {
+            time: self.buckets.grid.stamp(start, self.buckets.stamp),
+            value,
+        }
+    }
+
+    // The last value past a bucket with this one.
+    pub(crate) fn last_after(&self, place: &Place, value: &Cell) -> Option<Cell>
+        ensures { (others : TheCell) → said_of others (option_map cell_of result) ≡ said_after self.now.buckets.agg (said_of others (option_map cell_of place.now.last)) (cell_of value.now) }
+    {
+        match self.buckets.agg {
+            Aggregator::Last => Some(*value),
+            _ => place.last,
+        }
+    }
+}
+
+// What is told of a bucket without samples, where this is the last one before it.
+pub(crate) fn empty_cell(agg: Aggregator, before: Option<Sample>) -> Cell
+    ensures { cell_of result ≡ empty_cell_of agg before }
+{
+    match agg {
+        Aggregator::Sum | Aggregator::Count => Cell::Number(Units::ZERO),
+        Aggregator::Last => match before {
+            Some(sample) => Cell::Number(sample.value),
+            None => Cell::Nan,
+        },
+        _ => Cell::Nan,
+    }
+}
