@@ -17,6 +17,3 @@ mod zigzag;
 
 pub use chunk::PackedChunk;
 pub use laws::packed_samples_read_back;
-
-#[cfg(test)]
-mod tests;

@@ -37,6 +37,3 @@ pub use ts_bucket::Grid;
 pub use ts_labels::{Change, Filter, Show, Spec};
 pub use ts_range::Query;
 pub use ts_spec::{Aggregator, At, Encoding, Options, Policy, ValueFault};
-
-#[cfg(test)]
-mod tests;

@@ -12,6 +12,3 @@ pub use filter_text::FilterFault;
 pub use labels::Labels;
 pub use show::Show;
 pub use spec::{Change, Spec};
-
-#[cfg(test)]
-mod tests;

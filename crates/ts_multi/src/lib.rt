@@ -15,6 +15,3 @@ pub use member_texts::{encode_last_member, encode_member};
 pub use replies::{multi, multi_last};
 pub use row_texts::encode_rows;
 pub use ts_labels::Show;
-
-#[cfg(test)]
-mod tests;

@@ -24,6 +24,7 @@ mod rollups;
 mod rules;
 mod series;
 mod sessions;
+mod shares;
 mod sixteen;
 mod sizes;
 mod talk;

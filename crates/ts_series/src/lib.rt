@@ -38,12 +38,3 @@ pub use append::Append;
 pub use plan::{PutFault, SeriesPlan};
 pub use series::Series;
 pub use ts_spec::{Encoding, Merge, Options, Policy};
-
-#[cfg(test)]
-mod chunk_tests;
-#[cfg(test)]
-mod mend_tests;
-#[cfg(test)]
-mod question_tests;
-#[cfg(test)]
-mod tests;

@@ -1,7 +1,7 @@
 // Rows that take the place of the samples of an interval, in chunks.
 ghost use Rattle.std.specs.Prelude.{◌≡◌, ◌≤◌, ◌+◌, ◌*◌, ◌∷◌, [], length, IfOk};
-ghost use Rattle.ts_spec.specs.Sample.{IsAscending, between, outside, put_all};
-ghost use Rattle.ts_sample.specs.Chunk.{IsLimit, joined};
+ghost use Rattle.ts_spec.specs.Sample.{IsAscending, between, last_of, outside, put_all};
+ghost use Rattle.ts_sample.specs.Chunk.{IsLimit, IsPast, joined};
 ghost use Rattle.ts_series.specs.Held.{points, longest, pieces_after, replaced, IsMeeting, IsReady, HasLimits};
 ghost use Rattle.ts_series.specs.Plan.{AreWithin};
 
@@ -34,6 +34,7 @@ impl<C: Chunk> Chunks<C> {
         ensures removed { IfOk result (λ r. r.1 ≡ length (between from to (points self.now))) }
         ensures counted { steps.old ≤ steps.new }
         ensures bounded { steps.new ≤ steps.old + 2 * longest self.now.pieces }
+        ensures easy { from ≡ to → length rows.now ≡ 1 → IsPast (last_of (points self.now)) from → steps.new ≡ steps.old }
     {
         if from == to {
             if let [row] = rows {

@@ -31,6 +31,27 @@ fn empty_buckets(rt: HostRuntime) -> Result<(), Fail> {
             "TS.RANGE e - + FILTER_BY_TS 35 EMPTY AGGREGATION last 10",
             "[0:NaN, 10:2, 20:2, 30:4]",
         ),
+        (
+            "TS.RANGE e - + FILTER_BY_TS 35 EMPTY AGGREGATION sum 10",
+            "[0:0, 10:0, 20:0, 30:4]",
+        ),
+        (
+            "TS.RANGE e 2 30 EMPTY AGGREGATION last 10 BUCKETTIMESTAMP +",
+            "[10:NaN, 20:2, 30:2, 40:2]",
+        ),
+        (
+            "TS.RANGE e - + EMPTY AGGREGATION last 10 COUNT 2",
+            "[0:2, 10:2]",
+        ),
+        (
+            "TS.REVRANGE e - + EMPTY AGGREGATION last 10 COUNT 3",
+            "[30:4, 20:2, 10:2]",
+        ),
+        (
+            "TS.REVRANGE e - + EMPTY AGGREGATION last 10 COUNT 1",
+            "[30:4]",
+        ),
+        ("TS.RANGE e 36 + EMPTY AGGREGATION last 10", "[]"),
     ];
     const FEW: Row = Row {
         empty_rows: 3,
