@@ -10,7 +10,7 @@ use Rattle.ts_spec.specs.Keyed.{get, with_key}
 use Rattle.ts_spec.specs.Kept.{Kept, Keeping}
 use Rattle.ts_spec.specs.Mending.{kept_without, keep_deleted}
 use Rattle.ts_spec.specs.Response.{Count}
-use Rattle.ts_spec.specs.KeptStep.{KeptOutcome, kept_refused, kept_told, kept_meets_expired, kept_unless_full, kept_within_destinations, kept_delete_at}
+use Rattle.ts_spec.specs.KeptStep.{KeptOutcome, kept_refused, unchanged_with, kept_meets_expired, kept_unless_full, kept_within_destinations, kept_delete_at}
 use Rattle.ts_spec.proofs.PlainWrite.{times-swap}
 use Rattle.ts_sample.specs.declared.id.Id.{Id}
 use Rattle.ts_series.specs.History.{History, list_of, low, IsKept}
@@ -75,19 +75,19 @@ expired-at s n from edge rs result b low_is rules_are tells is =
 module _ (s : Store) (store : IsInOrder s) (key : Key) (id : Id) (n : Node) (holds : Holds s key id n) (from to : ℕ) where
   -- the step, by whether the interval is crossed and whether it meets an expired bucket
   delete-tested : (a b : Bool) → nat_lt to from ≡ a → kept_meets_expired from (low n.series) (rules_by (key_in s.nodes) n.rules.items) ≡ b
-      → kept_delete_at s.limits (stock_of s).keys key from to (get key (stock_of s).keys) ≡ (if a then kept_told (stock_of s).keys (Count 0)
+      → kept_delete_at s.limits (stock_of s).keys key from to (get key (stock_of s).keys) ≡ (if a then unchanged_with (stock_of s).keys (Count 0)
       else (if b then kept_refused (stock_of s).keys refusal.DeleteBeyondRetention
       else kept_within_destinations s.limits (stock_of s).keys key (record { keys = keep_deleted key from to (stock_of s).keys; response = Count (length (between from to (list_of n.series))) })))
   delete-tested a b e f =
       let done : KeptOutcome = record { keys = keep_deleted key from to (stock_of s).keys; response = Count (length (between from to (list_of n.series))) } in
       ap (kept_delete_at s.limits (stock_of s).keys key from to) (there s store key id n holds)
-      ∙ ap (λ c. if c then kept_told (stock_of s).keys (Count 0)
+      ∙ ap (λ c. if c then unchanged_with (stock_of s).keys (Count 0)
       else (if kept_meets_expired from (low n.series) (rules_by (key_in s.nodes) n.rules.items) then kept_refused (stock_of s).keys refusal.DeleteBeyondRetention
       else kept_within_destinations s.limits (stock_of s).keys key done)) e
-      ∙ ap (λ c. if a then kept_told (stock_of s).keys (Count 0)
+      ∙ ap (λ c. if a then unchanged_with (stock_of s).keys (Count 0)
       else (if c then kept_refused (stock_of s).keys refusal.DeleteBeyondRetention else kept_within_destinations s.limits (stock_of s).keys key done)) f
 
-  pub delete-crossed : nat_lt to from ≡ true → kept_delete_at s.limits (stock_of s).keys key from to (get key (stock_of s).keys) ≡ kept_told (stock_of s).keys (Count 0)
+  pub delete-crossed : nat_lt to from ≡ true → kept_delete_at s.limits (stock_of s).keys key from to (get key (stock_of s).keys) ≡ unchanged_with (stock_of s).keys (Count 0)
   delete-crossed e = delete-tested true (kept_meets_expired from (low n.series) (rules_by (key_in s.nodes) n.rules.items)) e refl
 
   pub delete-expired : nat_lt to from ≡ false → kept_meets_expired from (low n.series) (rules_by (key_in s.nodes) n.rules.items) ≡ true

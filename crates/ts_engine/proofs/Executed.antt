@@ -66,9 +66,9 @@ sure_executes reading command old new reply written carries is =
     (λ from to done. record { reply = reply; its_text = is; done = inl done }) carries
 
 -- a question that takes none
-pub told_executes : (reading : ℕ) (command : Command) (stock : Stock) (reply : Reply) (written : List ℕ)
+pub executes_with : (reading : ℕ) (command : Command) (stock : Stock) (reply : Reply) (written : List ℕ)
     → ((from : Held) → Stands stock from → IsAnswered reading command from reply from) → written ≡ text reply → Carries stock stock (λ from to. Executes reading command from written to)
-told_executes reading command stock reply written answered is =
+executes_with reading command stock reply written answered is =
     sure_executes reading command stock stock reply written (carries_none stock (λ from to. IsAnswered reading command from reply to) answered) is
 
 -- a question

@@ -38,20 +38,20 @@ faulted_no_quit words fault is =
     (λ (want : IsWantOfMemory words fault). lists_no_quit words want.lists)
     (fault-or-memory words fault is)
 
-pub short_told : (fault : CommandFault) → IsShort (Error (message fault))
-short_told code.UnknownCommand = short_fault refusal.UnknownCommand
-short_told code.Arity = short_fault refusal.Arity
-short_told code.BadTimestamp = short_fault refusal.BadTimestamp
-short_told (code.BadValue fault) = short_fault (refusal.BadValue fault)
-short_told code.BadOption = short_fault refusal.BadOption
-short_told code.RepeatedOption = short_fault refusal.RepeatedOption
-short_told code.BadLabels = short_fault refusal.BadLabels
-short_told code.BadChunkSize = short_fault refusal.BadChunkSize
-short_told code.BadPolicy = short_fault refusal.BadPolicy
-short_told code.BadEncoding = short_fault refusal.BadEncoding
-short_told code.UnknownAggregator = short_fault refusal.UnknownAggregator
-short_told code.AggregatorNotInProfile = short_fault refusal.AggregatorNotInProfile
-short_told code.BadDuration = short_fault refusal.BadDuration
-short_told code.BadFilter = short_fault refusal.BadFilter
-short_told code.NoPositiveFilter = short_fault refusal.NoPositiveFilter
-short_told (code.Memory error) = short_memory
+pub message_is_short : (fault : CommandFault) → IsShort (Error (message fault))
+message_is_short code.UnknownCommand = short_fault refusal.UnknownCommand
+message_is_short code.Arity = short_fault refusal.Arity
+message_is_short code.BadTimestamp = short_fault refusal.BadTimestamp
+message_is_short (code.BadValue fault) = short_fault (refusal.BadValue fault)
+message_is_short code.BadOption = short_fault refusal.BadOption
+message_is_short code.RepeatedOption = short_fault refusal.RepeatedOption
+message_is_short code.BadLabels = short_fault refusal.BadLabels
+message_is_short code.BadChunkSize = short_fault refusal.BadChunkSize
+message_is_short code.BadPolicy = short_fault refusal.BadPolicy
+message_is_short code.BadEncoding = short_fault refusal.BadEncoding
+message_is_short code.UnknownAggregator = short_fault refusal.UnknownAggregator
+message_is_short code.AggregatorNotInProfile = short_fault refusal.AggregatorNotInProfile
+message_is_short code.BadDuration = short_fault refusal.BadDuration
+message_is_short code.BadFilter = short_fault refusal.BadFilter
+message_is_short code.NoPositiveFilter = short_fault refusal.NoPositiveFilter
+message_is_short (code.Memory error) = short_memory

@@ -60,10 +60,10 @@ first_end (q ∷ qs) p first last ends is =
     ap (λ (e : ℕ × ℕ). e.0) both ∙ ap (λ (x : Point). x.time) same
 
 -- the rows of a key that is there
-pub range_told : (limits : Limits) (m : State) (key : Key) (with_open : Bool) (q : query.Query) (o : Option Record) (what : Asked → Type 0) (a : Asked) (written : List ℕ)
+pub range_response_found : (limits : Limits) (m : State) (key : Key) (with_open : Bool) (q : query.Query) (o : Option Record) (what : Asked → Type 0) (a : Asked) (written : List ℕ)
     → Finds o what (Ok a) → IsReplyText (rows_response (answer limits.empty_rows q (asked m with_open key))) written → IsReplyText (range_response limits m key with_open q o) written
-range_told limits m key with_open q None what a written finds is = absurd finds
-range_told limits m key with_open q (Some d) what a written finds is = is
+range_response_found limits m key with_open q None what a written finds is = absurd finds
+range_response_found limits m key with_open q (Some d) what a written finds is = is
 
 -- what is kept of a key shows ascending samples too
 pub kept_ascending : (stock : Stock) → Leads stock (λ held. ⊤) → (latest : Bool) (k : Key) → IsAscending (kept_asked stock.keys latest k)

@@ -48,7 +48,7 @@ so_far_more : (reading : ℕ) (all rest : List Triple) (triple : Triple) (old mi
     → HasItem mid.limits reading triple mid.state item new.state → new.limits ≡ mid.limits → after ≡ before ++ text item → SoFar reading all rest old new after
 so_far_more reading all rest triple old mid new item before after so_far told limits is = record {
   items = so_far.items ++ item ∷ [];
-  goes_on = λ others to rest_told.
+  goes_on = λ others to rest_of_triples_answered.
       subst (λ (l : List Reply). HaveItems old.limits reading all old.state l to) (sym (append_assoc so_far.items (item ∷ []) others))
       (so_far.goes_on (item ∷ others) to (record {
         first = item;
@@ -56,7 +56,7 @@ so_far_more reading all rest triple old mid new item before after so_far told li
         mid = new.state;
         split = refl;
         here = subst (λ (l : Limits). HasItem l reading triple mid.state item new.state) so_far.limits told;
-        after = rest_told;
+        after = rest_of_triples_answered;
       }));
   bytes = is ∙ ap (λ (l : List ℕ). l ++ text item) so_far.bytes
       ∙ append_assoc (line_text 42 (decimal (length all))) (texts (listed so_far.items)) (text item)
@@ -90,8 +90,8 @@ each_more reading all here rest triple first mid new item before after so_far sp
 }
 
 -- all of them had
-all_told : (reading : ℕ) (all : List Triple) (old new : Held) (written : List ℕ) → SoFar reading all [] old new written → WritesAll reading all old written new
-all_told reading all old new written so_far =
+all_triples_answered : (reading : ℕ) (all : List Triple) (old new : Held) (written : List ℕ) → SoFar reading all [] old new written → WritesAll reading all old written new
+all_triples_answered reading all old new written so_far =
     let size : length all ≡ count_of (listed so_far.items) = omega (arith, so_far.count, count-listed so_far.items) in
     record {
       reply = array so_far.items;
@@ -104,10 +104,10 @@ all_told reading all old new written so_far =
       };
     }
 
-pub each_told : (reading : ℕ) (all rest : List Triple) (old new : Stock) (written : List ℕ) → EachSoFar reading all rest old new written → rest ≡ [] → Carries old new (λ from to. WritesAll reading all from written to)
-each_told reading all rest old new written so_far none =
+pub each_triple_answered : (reading : ℕ) (all rest : List Triple) (old new : Stock) (written : List ℕ) → EachSoFar reading all rest old new written → rest ≡ [] → Carries old new (λ from to. WritesAll reading all from written to)
+each_triple_answered reading all rest old new written so_far none =
     carries_as old new (λ from to. SoFar reading all rest from to written) (λ from to. WritesAll reading all from written to)
-    (λ from to so. all_told reading all from to written (subst (λ (l : List Triple). SoFar reading all l from to written) none so)) so_far.each
+    (λ from to so. all_triples_answered reading all from to written (subst (λ (l : List Triple). SoFar reading all l from to written) none so)) so_far.each
 
 -- the items so far stand in the room, and there is room for those of the triples that are left
 pub record Adding (reading : ℕ) (all rest : List Triple) (first now : Stock) (written : List ℕ) (spare : ℕ) : Type 0 where

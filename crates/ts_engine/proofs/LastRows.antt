@@ -11,7 +11,7 @@ use Rattle.ts_spec.specs.Command.{Buckets}
 use Rattle.ts_spec.specs.Sample.{Point, IsAfter, IsAscending, at_times, is_within, between}
 use Rattle.ts_spec.proofs.Buckets.{start-order}
 use Rattle.ts_spec.proofs.Samples.{ascending-times, ascending-filter}
-use Rattle.ts_range.specs.Told.{rows_told}
+use Rattle.ts_range.specs.BucketRows.{bucket_rows}
 use Rattle.ts_range.specs.Walking.{rows_chosen}
 use Rattle.ts_range.proofs.Cuts.{back-ascends}
 use Rattle.ts_range.proofs.Filtered.{after-all, parted}
@@ -61,8 +61,8 @@ one-few bs b (p ∷ ps) = omega arith
 
 module _ (bs : Buckets) (asked : List Point) where
   -- the first bucket of the later samples may have earlier ones too, and the others have not
-  bucket-rows : (n : ℕ) (early late : List Point) → IsAscending (early ++ late) → n < length (rows_told bs asked late)
-      → take n (reverse (rows_told bs asked (early ++ late))) ≡ take n (reverse (rows_told bs asked late))
+  bucket-rows : (n : ℕ) (early late : List Point) → IsAscending (early ++ late) → n < length (bucket_rows bs asked late)
+      → take n (reverse (bucket_rows bs asked (early ++ late))) ≡ take n (reverse (bucket_rows bs asked late))
   bucket-rows n early [] rises more = absurd (omega (arith, more))
   bucket-rows n early (p ∷ ps) rises more =
       let g = bs.grid in
@@ -80,14 +80,14 @@ module _ (bs : Buckets) (asked : List Point) where
       (filter_passes (λ q. not (nat_le (start g q.time) b)) (p ∷ ps)) in
       let below : All (λ q. start g q.time < suc b) early =
       All-weaker (λ q. q.time < p.time) (λ q. start g q.time < suc b) (λ q less. let le = start-order g q.time p.time (omega arith) in omega arith) early (before-one early p ps rises) in
-      let of-late : rows_told bs asked (p ∷ ps) ≡ rows_told bs asked here ++ rows_told bs asked rest = ap (rows_told bs asked) both ∙ rows-append bs asked (suc b) here rest upto above in
-      let of-all : rows_told bs asked (early ++ p ∷ ps) ≡ rows_told bs asked (early ++ here) ++ rows_told bs asked rest =
-      ap (λ (l : List Point). rows_told bs asked (early ++ l)) both ∙ ap (rows_told bs asked) (sym (append_assoc early here rest))
+      let of-late : bucket_rows bs asked (p ∷ ps) ≡ bucket_rows bs asked here ++ bucket_rows bs asked rest = ap (bucket_rows bs asked) both ∙ rows-append bs asked (suc b) here rest upto above in
+      let of-all : bucket_rows bs asked (early ++ p ∷ ps) ≡ bucket_rows bs asked (early ++ here) ++ bucket_rows bs asked rest =
+      ap (λ (l : List Point). bucket_rows bs asked (early ++ l)) both ∙ ap (bucket_rows bs asked) (sym (append_assoc early here rest))
       ∙ rows-append bs asked (suc b) (early ++ here) rest (All-append (λ q. start g q.time < suc b) early here below upto) above in
-      let enough : n ≤ length (rows_told bs asked rest) =
-      omega (arith, more, ap length of-late, length-append (rows_told bs asked here) (rows_told bs asked rest), ap length (rows-one bs asked b here same), one-few bs b here) in
-      ends n (rows_told bs asked (early ++ p ∷ ps)) (rows_told bs asked (early ++ here)) (rows_told bs asked rest) enough of-all
-      ∙ sym (ends n (rows_told bs asked (p ∷ ps)) (rows_told bs asked here) (rows_told bs asked rest) enough of-late)
+      let enough : n ≤ length (bucket_rows bs asked rest) =
+      omega (arith, more, ap length of-late, length-append (bucket_rows bs asked here) (bucket_rows bs asked rest), ap length (rows-one bs asked b here same), one-few bs b here) in
+      ends n (bucket_rows bs asked (early ++ p ∷ ps)) (bucket_rows bs asked (early ++ here)) (bucket_rows bs asked rest) enough of-all
+      ∙ sym (ends n (bucket_rows bs asked (p ∷ ps)) (bucket_rows bs asked here) (bucket_rows bs asked rest) enough of-late)
 
 last-rows : (o : Option Buckets) (n : ℕ) (early late asked : List Point) → IsAscending (early ++ late) → n < length (rows_chosen o asked late)
     → take n (reverse (rows_chosen o asked (early ++ late))) ≡ take n (reverse (rows_chosen o asked late))

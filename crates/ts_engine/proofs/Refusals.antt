@@ -55,8 +55,8 @@ is_lost ids NoRule is = absurd is
 is_lost ids (Memory e) is = refl
 
 -- a question that finds nothing is told that there is no such key, or no memory
-pub lost_told : {T : Type 0} (response : Option Record → Response) (o : Option Record) (what : T → Type 0) (fault : DbFault) (ids : Keyed Id) (written : List ℕ) → response None ≡ Refused refusal.NoKey
+pub missing_key_response : {T : Type 0} (response : Option Record → Response) (o : Option Record) (what : T → Type 0) (fault : DbFault) (ids : Keyed Id) (written : List ℕ) → response None ≡ Refused refusal.NoKey
     → Finds o what (Err fault) → written ≡ text (Error (message_of (refusal_of ids fault))) → IsReplyText (response o) written
-lost_told response None what fault ids written none finds is =
+missing_key_response response None what fault ids written none finds is =
     inl (is ∙ ap (λ (f : DbFault). text (Error (message_of (refusal_of ids f)))) finds ∙ ap (λ (r : Response). text (reply_to r)) (sym none))
-lost_told response (Some d) what fault ids written none finds is = inr (is ∙ ap (λ (o : Option refusal.Refusal). text (Error (message_of o))) (is_lost ids fault finds))
+missing_key_response response (Some d) what fault ids written none finds is = inr (is ∙ ap (λ (o : Option refusal.Refusal). text (Error (message_of o))) (is_lost ids fault finds))

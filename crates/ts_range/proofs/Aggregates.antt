@@ -8,7 +8,7 @@ use Rattle.ts_spec.specs.Sample.{Point}
 use Rattle.ts_spec.specs.Aggregate.{Summary, aggregate}
 use Rattle.ts_spec.proofs.Aggregates.{summary-count}
 use Rattle.ts_agg.specs.Running.{StandsFor}
-use Rattle.ts_range.specs.Told.{told_of}
+use Rattle.ts_range.specs.BucketRows.{value_of_bucket}
 use Rattle.ts_range.proofs.Filtered.{length-filter}
 
 -- ---- a walk over samples, of which those that pass are pushed
@@ -41,6 +41,6 @@ none-is None h = (cc)
 none-is (Some v) h = (cc)
 
 pub told-is : (a : Aggregator) (s : Summary) (r : Option ℤ) (ms : List Point) → StandsFor s ms → ((ps : List Point) → StandsFor s ps → 0 < length ps → r ≡ Some (aggregate a ps)) → (s.count ≡ 0 → is_some r ≡ false)
-    → r ≡ told_of a ms
+    → r ≡ value_of_bucket a ms
 told-is a s r [] stands value none = none-is r (none (ap (λ (x : Summary). x.count) stands))
 told-is a s r (p ∷ ps) stands value none = value (p ∷ ps) stands (omega arith)

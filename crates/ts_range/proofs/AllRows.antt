@@ -22,7 +22,7 @@ use Rattle.ts_range.specs.Filling.{begun, filled, filled_line, row_at}
 use Rattle.ts_range.specs.Query.{buckets_of, query_of, span_of}
 use Rattle.ts_range.specs.Starts.{starts_of, starts_within}
 use Rattle.ts_range.specs.Stretches.{IsPart, IsStretchOf, IsStretchIn, IsFilledIn, filling_with}
-use Rattle.ts_range.specs.Told.{rows_told}
+use Rattle.ts_range.specs.BucketRows.{bucket_rows}
 use Rattle.ts_range.specs.Walk.{times_of, last_before}
 use Rattle.ts_range.proofs.Filtered.{filter-same, filter-swap, filter-all, map-same, after-all}
 use Rattle.ts_range.proofs.Gaps.{begin-mono, IsOnLine}
@@ -176,7 +176,7 @@ module _ (q : Query) (bs : Buckets) (is : q.buckets ≡ Some bs) (empty : bs.emp
     all = λ last. lets-all last (between stretch.from stretch.to l) ∙ ap (λ (t : ℕ). between t stretch.to l) (sym from-is);
   }
 
-  filled-part : filled (buckets_of bs) first others (starts_between bs.grid stretch.from told.upto) (rows_told (begun (buckets_of bs)) l (filter lets (between stretch.from stretch.to l)))
+  filled-part : filled (buckets_of bs) first others (starts_between bs.grid stretch.from told.upto) (bucket_rows (begun (buckets_of bs)) l (filter lets (between stretch.from stretch.to l)))
       ≡ map (bucket_row (buckets_of bs) l (filter lets (between stretch.from stretch.to l))) (starts_between bs.grid stretch.from told.upto)
   filled-part =
       let g = bs.grid in
@@ -187,7 +187,7 @@ module _ (q : Query) (bs : Buckets) (is : q.buckets ≡ Some bs) (empty : bs.emp
       let mono = number-mono g some stretch.from told.upto ordered in
       let line : starts_between g stretch.from told.upto ≡ map (begin g) (range_with_len k n) = between-is g some stretch.from told.upto ordered in
       let upto : begin g (number g told.upto) ≤ stretch.to = (let e = start_number g some told.upto in let f = start-le g told.upto some in let r = told.part.reached in omega arith) in
-      ap (λ (xs : List ℕ). filled (buckets_of bs) first others xs (rows_told (begun (buckets_of bs)) l ps)) line
+      ap (λ (xs : List ℕ). filled (buckets_of bs) first others xs (bucket_rows (begun (buckets_of bs)) l ps)) line
       ∙ line-filled (buckets_of bs) some l rises stretch.from stretch.to stretch.from k (number g told.upto) (omega arith) (begin-past g some stretch.from (suc k) (omega arith)) upto n first others ps (omega arith)
       (ascending-filter lets (between stretch.from stretch.to l) (ascending-times (is_within stretch.from stretch.to) l rises))
       (part-on g some q.from q.to told.times stretch.from told.upto stretch.to told.part l in-ends lets q.to_fits) saying
@@ -211,9 +211,9 @@ module _ (q : Query) (bs : Buckets) (is : q.buckets ≡ Some bs) (empty : bs.emp
       (part-members g some q.from q.to told.times stretch.from told.upto stretch.to told.part l in-ends lets m low (omega arith) ∙ ap (members g (begin g m)) all))))
 
   -- those that are wanted
-  pub all-rows : turned q.reverse (filled (buckets_of bs) first others (starts_of stretch.starts) (rows_told (begun (buckets_of bs)) l (filter lets (between stretch.from stretch.to l)))) ≡ rows (query_of q) l
+  pub all-rows : turned q.reverse (filled (buckets_of bs) first others (starts_of stretch.starts) (bucket_rows (begun (buckets_of bs)) l (filter lets (between stretch.from stretch.to l)))) ≡ rows (query_of q) l
   all-rows =
-      ap (λ (xs : List ℕ). turned q.reverse (filled (buckets_of bs) first others xs (rows_told (begun (buckets_of bs)) l (filter lets (between stretch.from stretch.to l))))) told.starts
+      ap (λ (xs : List ℕ). turned q.reverse (filled (buckets_of bs) first others xs (bucket_rows (begun (buckets_of bs)) l (filter lets (between stretch.from stretch.to l))))) told.starts
       ∙ ap (turned q.reverse) (filled-part ∙ same-rows ∙ ap (map (bucket_row (buckets_of bs) l (selected (query_of q) l))) (sym told.starts))
       ∙ sym (told.rows (bucket_row (buckets_of bs) l (selected (query_of q) l)))
       ∙ sym (rows-all (query_of q) l (buckets_of bs) (ap (option_map buckets_of) is) empty ends around)
@@ -221,10 +221,10 @@ module _ (q : Query) (bs : Buckets) (is : q.buckets ≡ Some bs) (empty : bs.emp
 -- the same by the taker that is made for the stretch
 pub stretch-rows : (q : Query) (bs : Buckets) → IsFilledIn q bs → (l : List Point) → IsAscending l → (ends : Option (ℕ × ℕ)) → ends ≡ times_of (first_of l) (last_of l) → (stretch : Stretch) → IsStretchOf q bs ends stretch
     → (lets : Point → Bool) → ((p : Point) → lets p ≡ is_let_through (query_of q) p) → (ahead prior : Option Point) → ahead ≡ last_before (start stretch.buckets.grid stretch.from) l → prior ≡ last_before stretch.from l
-    → turned q.reverse (filled_line (filling_with stretch ahead prior) (rows_told (begun (buckets_of stretch.buckets)) l (filter lets (between stretch.from stretch.to l)))) ≡ rows (query_of q) l
+    → turned q.reverse (filled_line (filling_with stretch ahead prior) (bucket_rows (begun (buckets_of stretch.buckets)) l (filter lets (between stretch.from stretch.to l)))) ≡ rows (query_of q) l
 stretch-rows q bs fills l rises ends around stretch told lets agree ahead prior is-ahead is-prior =
     let before : ahead ≡ last_before (start bs.grid stretch.from) l = is-ahead ∙ ap (λ (b : Buckets). last_before (start b.grid stretch.from) l) told.buckets in
-    ap (λ (b : Buckets). turned q.reverse (filled (buckets_of b) (empty_cell_of b.agg ahead) (empty_cell_of b.agg prior) (starts_of stretch.starts) (rows_told (begun (buckets_of b)) l (filter lets (between stretch.from stretch.to l))))) told.buckets
+    ap (λ (b : Buckets). turned q.reverse (filled (buckets_of b) (empty_cell_of b.agg ahead) (empty_cell_of b.agg prior) (starts_of stretch.starts) (bucket_rows (begun (buckets_of b)) l (filter lets (between stretch.from stretch.to l))))) told.buckets
     ∙ all-rows q bs fills.told fills.empty told.some l rises ends around stretch told lets agree fills.known (empty_cell_of bs.agg ahead) (empty_cell_of bs.agg prior) (ap (empty_cell_of bs.agg) before) (ap (empty_cell_of bs.agg) is-prior)
 
 -- no row is wanted
@@ -236,6 +236,6 @@ no-rows q bs fills l ends around none =
 -- what a walk hands on to that taker
 pub walked-rows : (q : Query) (l : List Point) (stretch : Stretch) → IsAscending l → IsStretchIn q l stretch
     → (lets : Point → Bool) → ((p : Point) → lets p ≡ is_let_through (query_of q) p) → (ahead prior : Option Point) → ahead ≡ last_before (start stretch.buckets.grid stretch.from) l → prior ≡ last_before stretch.from l
-    → turned q.reverse (filled_line (filling_with stretch ahead prior) (rows_told (begun (buckets_of stretch.buckets)) l (filter lets (between stretch.from stretch.to l)))) ≡ rows (query_of q) l
+    → turned q.reverse (filled_line (filling_with stretch ahead prior) (bucket_rows (begun (buckets_of stretch.buckets)) l (filter lets (between stretch.from stretch.to l)))) ≡ rows (query_of q) l
 walked-rows q l stretch rises is lets agree ahead prior is-ahead is-prior =
     stretch-rows q is.buckets is.filled l rises (times_of (first_of l) (last_of l)) refl stretch is.is lets agree ahead prior is-ahead is-prior

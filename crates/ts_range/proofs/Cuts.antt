@@ -12,7 +12,7 @@ use Rattle.ts_agg.specs.Tally.{Tells}
 use Rattle.ts_range.specs.declared.query.Buckets.{Buckets}
 use Rattle.ts_range.specs.declared.bucket.Bucket.{Bucket}
 use Rattle.ts_range.specs.Query.{buckets_of}
-use Rattle.ts_range.specs.Told.{row_with, rows_told}
+use Rattle.ts_range.specs.BucketRows.{row_with, bucket_rows}
 use Rattle.ts_range.specs.Spans.{IsSpan}
 use Rattle.ts_range.specs.Cutting.{IsOpenAt}
 use Rattle.ts_range.proofs.Groups.{one_row, rows-append, rows-one}
@@ -47,14 +47,14 @@ module _ (has : List Row → Type 0) (bs : Buckets) (o : Bucket) (ps : List Poin
   -- the row of the bucket is handed on
   pub closed : (has' : List Row → Type 0)
       → ((qs : List Point) → Tells bs.agg o.tally qs → start bs.grid o.start ≡ o.start → (rows : List Row) → has rows → has' (rows ++ row_with (buckets_of bs) o.start qs ∷ []))
-      → (asked : List Point) → has' (rows_told (buckets_of bs) asked ps)
+      → (asked : List Point) → has' (bucket_rows (buckets_of bs) asked ps)
   closed has' told asked =
-      let more : rows_told (buckets_of bs) asked ps ≡ rows_told (buckets_of bs) asked is.early ++ row_with (buckets_of bs) o.start is.here ∷ [] =
-      ap (rows_told (buckets_of bs) asked) is.parts
+      let more : bucket_rows (buckets_of bs) asked ps ≡ bucket_rows (buckets_of bs) asked is.early ++ row_with (buckets_of bs) o.start is.here ∷ [] =
+      ap (bucket_rows (buckets_of bs) asked) is.parts
       ∙ rows-append (buckets_of bs) asked o.start is.early is.here is.before
       (All-weaker (λ (p : Point). start bs.grid p.time ≡ o.start) (λ (p : Point). o.start ≤ start bs.grid p.time) (λ p e. omega arith) is.here is.inside)
-      ∙ ap (λ (rs : List Row). rows_told (buckets_of bs) asked is.early ++ rs) (rows-one (buckets_of bs) asked o.start is.here is.inside ∙ one-row bs o.start is.here is.tells.some) in
-      subst has' (sym more) (told is.here is.tells is.span.begins (rows_told (buckets_of bs) asked is.early) (is.taken asked))
+      ∙ ap (λ (rs : List Row). bucket_rows (buckets_of bs) asked is.early ++ rs) (rows-one (buckets_of bs) asked o.start is.here is.inside ∙ one-row bs o.start is.here is.tells.some) in
+      subst has' (sym more) (told is.here is.tells is.span.begins (bucket_rows (buckets_of bs) asked is.early) (is.taken asked))
 
   module _ (p : Point) (rises : IsAscending (ps ++ p ∷ [])) where
     here-rises : IsAscending (is.here ++ p ∷ [])

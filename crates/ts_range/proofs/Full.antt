@@ -12,7 +12,7 @@ use Rattle.ts_range.specs.declared.cutter.Cutter.{Cutter}
 use Rattle.ts_range.specs.declared.query.Buckets.{Buckets}
 use Rattle.ts_range.specs.declared.bucket.Bucket.{Bucket}
 use Rattle.ts_range.specs.Query.{buckets_of}
-use Rattle.ts_range.specs.Told.{rows_told}
+use Rattle.ts_range.specs.BucketRows.{bucket_rows}
 use Rattle.ts_range.specs.Cutting.{IsCut}
 use Rattle.ts_range.specs.Walking.{AreWalked, rows_chosen}
 use Rattle.ts_range.proofs.Cuts.{back-ascends}
@@ -31,10 +31,10 @@ later g some b (p ∷ ps) more few all rises =
     All-weaker (λ q. p.time < q.time) (λ q. b ≤ start g q.time) (λ q less. omega (arith, start-mono g p.time q.time some (omega arith))) more (after-all p.time more (after-back p.time ps more rises.0))
 
 module _ (has : List Row → Type 0) (full : (rows more : List Row) → has rows → has (rows ++ more)) where
-  cut-full : (bs : Buckets) (current : Option Bucket) (ps more asked : List Point) → IsAscending (ps ++ more) → IsCut has bs current ps → has (rows_told (buckets_of bs) asked (ps ++ more))
-  cut-full bs None ps more asked rises is = full [] (rows_told (buckets_of bs) asked (ps ++ more)) is.1
+  cut-full : (bs : Buckets) (current : Option Bucket) (ps more asked : List Point) → IsAscending (ps ++ more) → IsCut has bs current ps → has (bucket_rows (buckets_of bs) asked (ps ++ more))
+  cut-full bs None ps more asked rises is = full [] (bucket_rows (buckets_of bs) asked (ps ++ more)) is.1
   cut-full bs (Some o) ps more asked rises is =
-      let told = rows_told (buckets_of bs) asked in
+      let told = bucket_rows (buckets_of bs) asked in
       let up : IsAscending (is.here ++ more) =
       back-ascends is.early (is.here ++ more) (subst IsAscending (ap (λ (l : List Point). l ++ more) is.parts ∙ append_assoc is.early is.here more) rises) in
       let all : told (ps ++ more) ≡ told is.early ++ told (is.here ++ more) =

@@ -15,7 +15,7 @@ use Rattle.ts_spec.proofs.Buckets.{start-le, start-start}
 use Rattle.ts_spec.proofs.Samples.{ascending-times}
 use Rattle.ts_sample.proofs.Between.{filter-filter}
 use Rattle.ts_bucket.proofs.Numbers.{number, start_number}
-use Rattle.ts_range.specs.Told.{rows_told}
+use Rattle.ts_range.specs.BucketRows.{bucket_rows}
 use Rattle.ts_range.specs.Filling.{said_after, row_at, begun, filled}
 use Rattle.ts_range.proofs.Filtered.{filter-same, map-same, parted}
 use Rattle.ts_range.proofs.Groups.{one_row, rows-append, rows-one, starts-all}
@@ -122,12 +122,12 @@ module _ (bs : Buckets) (some : 1 ≤ bs.grid.duration) (l : List Point) (lo fir
     next : begin bs.grid k < begin bs.grid (suc k)
     next = begin-later bs.grid some lo k (suc k) (omega arith) (omega arith)
 
-    split : rows_told (begun bs) l ps ≡ one_row (begun bs) (begin bs.grid k) (upto bs.grid k ps) ++ rows_told (begun bs) l (past bs.grid k ps)
+    split : bucket_rows (begun bs) l ps ≡ one_row (begun bs) (begin bs.grid k) (upto bs.grid k ps) ++ bucket_rows (begun bs) l (past bs.grid k ps)
     split =
-        ap (rows_told (begun bs) l) parts
+        ap (bucket_rows (begun bs) l) parts
         ∙ rows-append (begun bs) l (begin bs.grid (suc k)) (upto bs.grid k ps) (past bs.grid k ps)
         (All-weaker (λ (p : Point). start bs.grid p.time ≡ begin bs.grid k) (λ (p : Point). start bs.grid p.time < begin bs.grid (suc k)) (λ p e. let less = next in omega arith) (upto bs.grid k ps) upto-in) past-begins
-        ∙ ap (λ (rs : List Row). rs ++ rows_told (begun bs) l (past bs.grid k ps)) (rows-one (begun bs) l (begin bs.grid k) (upto bs.grid k ps) upto-in)
+        ∙ ap (λ (rs : List Row). rs ++ bucket_rows (begun bs) l (past bs.grid k ps)) (rows-one (begun bs) l (begin bs.grid k) (upto bs.grid k ps) upto-in)
 
     -- a bucket that has samples begins at a time
     begins-at : (xs : List Point) → All (λ p. start bs.grid p.time ≡ begin bs.grid k) xs → All (λ p. p.time ≤ MAX_TIME) xs → 0 < length xs → stamp bs.grid (begin bs.grid k) Low ≤ begin bs.grid k
@@ -142,7 +142,7 @@ module _ (bs : Buckets) (some : 1 ≤ bs.grid.duration) (l : List Point) (lo fir
     upto-times : All (λ p. p.time ≤ MAX_TIME) (upto bs.grid k ps)
     upto-times = filter-has (λ p. nat_lt (number bs.grid p.time) (suc k)) (IsOnLine bs.grid k last) (λ p. p.time ≤ MAX_TIME) (λ p less at. at.time) ps on
 
-    later-rows : All (λ r. begin bs.grid k < r.time) (rows_told (begun bs) l (past bs.grid k ps))
+    later-rows : All (λ r. begin bs.grid k < r.time) (bucket_rows (begun bs) l (past bs.grid k ps))
     later-rows =
         All-map (λ (r : Row). begin bs.grid k < r.time) (bucket_row (begun bs) l (past bs.grid k ps)) (starts bs.grid (past bs.grid k ps))
         (starts-all bs.grid (λ c. begin bs.grid k < stamp bs.grid c Low) (past bs.grid k ps)
@@ -191,7 +191,7 @@ module _ (bs : Buckets) (some : 1 ≤ bs.grid.duration) (l : List Point) (lo fir
         ]
 
   pub fill-line : (n k : ℕ) (now later : Cell) (ps : List Point) → first ≤ k → k + n ≡ suc last → IsAscending ps → All (IsOnLine bs.grid k last) ps → (k ≤ last → J k now later ps)
-      → filled bs now later (map (begin bs.grid) (range_with_len k n)) (rows_told (begun bs) l ps) ≡ map (bucket_row bs l ps) (map (begin bs.grid) (range_with_len k n))
+      → filled bs now later (map (begin bs.grid) (range_with_len k n)) (bucket_rows (begun bs) l ps) ≡ map (bucket_row bs l ps) (map (begin bs.grid) (range_with_len k n))
   fill-line zero k now later ps from end rises on j = refl
   fill-line (suc n) k now later ps from end rises on j =
       let g = bs.grid in
@@ -201,7 +201,7 @@ module _ (bs : Buckets) (some : 1 ≤ bs.grid.duration) (l : List Point) (lo fir
       let line = map (begin g) (range_with_len (k + 1) n) in
       let said = said_past bs later xs in
       let one : k + 1 ≡ suc k = omega arith in
-      let rest : filled bs said said line (rows_told (begun bs) l ys) ≡ map (bucket_row bs l ys) line =
+      let rest : filled bs said said line (bucket_rows (begun bs) l ys) ≡ map (bucket_row bs l ys) line =
       fill-line n (k + 1) said said ys (omega arith) (omega arith) (ascending-times (λ t. not (nat_lt (number g t) (suc k))) ps rises)
       (subst (λ (m : ℕ). All (IsOnLine g m last) ys) (sym one) (past-on k from ps rises on))
       (λ le. subst (λ (m : ℕ). J m said said ys) (sym one) (goes k now later ps from (omega arith) rises (j (omega arith)))) in
@@ -212,6 +212,6 @@ module _ (bs : Buckets) (some : 1 ≤ bs.grid.duration) (l : List Point) (lo fir
       let cell : cell_or bs now xs ≡ cell_of bs.agg b l (members g b ps) =
       cell-same bs l now b xs (says k now later ps (j (omega arith))) ∙ ap (cell_of bs.agg b l) (sym (here-members k from ps rises on)) in
       ap (filled bs now later (b ∷ line)) (split k from ps rises on)
-      ∙ one-more bs now later b line xs (rows_told (begun bs) l ys) (begins-at k from ps rises on xs (upto-in k from ps rises on) (upto-times k from ps rises on)) (later-rows k from ps rises on)
+      ∙ one-more bs now later b line xs (bucket_rows (begun bs) l ys) (begins-at k from ps rises on xs (upto-in k from ps rises on) (upto-times k from ps rises on)) (later-rows k from ps rises on)
       ∙ ap (λ (rs : List Row). row_at bs b (cell_or bs now xs) ∷ rs) (rest ∙ others)
       ∙ ap (λ (x : Cell). row_at bs b x ∷ map (bucket_row bs l ps) line) cell

@@ -8,7 +8,7 @@ use Rattle.ts_spec.specs.Bucket.{Grid, start, stamp, members, with_start, starts
 use Rattle.ts_spec.specs.Aggregate.{aggregate}
 use Rattle.ts_spec.specs.Command.{Buckets}
 use Rattle.ts_spec.specs.Answer.{Row, Number, cell_of, bucket_row}
-use Rattle.ts_range.specs.Told.{rows_told}
+use Rattle.ts_range.specs.BucketRows.{bucket_rows}
 use Rattle.ts_range.proofs.Filtered.{filter-none, filter-all, map-same}
 
 -- ---- the starts of samples
@@ -77,10 +77,10 @@ module _ (bs : Buckets) (asked : List Point) where
       filter-all (λ p. start bs.grid p.time == b) ps (All-weaker (λ p. start bs.grid p.time ≡ b) (λ p. (start bs.grid p.time == b) ≡ true) (λ p e. eq-eqb (start bs.grid p.time) b e) ps h)
 
   -- the rows of earlier buckets, and then those of later ones
-  pub rows-append : (k : ℕ) (xs ys : List Point) → All (λ p. start bs.grid p.time < k) xs → All (λ p. k ≤ start bs.grid p.time) ys → rows_told bs asked (xs ++ ys) ≡ rows_told bs asked xs ++ rows_told bs asked ys
+  pub rows-append : (k : ℕ) (xs ys : List Point) → All (λ p. start bs.grid p.time < k) xs → All (λ p. k ≤ start bs.grid p.time) ys → bucket_rows bs asked (xs ++ ys) ≡ bucket_rows bs asked xs ++ bucket_rows bs asked ys
   rows-append k xs ys below above =
       let g = bs.grid in
-      let early : map (bucket_row bs asked (xs ++ ys)) (starts g xs) ≡ rows_told bs asked xs =
+      let early : map (bucket_row bs asked (xs ++ ys)) (starts g xs) ≡ bucket_rows bs asked xs =
       map-same (bucket_row bs asked (xs ++ ys)) (bucket_row bs asked xs) (starts g xs)
       (All-weaker (λ b. b < k) (λ b. bucket_row bs asked (xs ++ ys) b ≡ bucket_row bs asked xs b)
       (λ b less. ap (λ (ms : List Point). row_with bs asked b ms)
@@ -88,7 +88,7 @@ module _ (bs : Buckets) (asked : List Point) where
       ∙ ap (λ (ms : List Point). members g b xs ++ ms) (members-none b ys (All-weaker (λ p. k ≤ start g p.time) (λ p. start g p.time ≡ b → ⊥) (λ p le e. omega arith) ys above))
       ∙ append-nil (members g b xs)))
       (starts g xs) (starts-all g (λ b. b < k) xs below)) in
-      let late : map (bucket_row bs asked (xs ++ ys)) (starts g ys) ≡ rows_told bs asked ys =
+      let late : map (bucket_row bs asked (xs ++ ys)) (starts g ys) ≡ bucket_rows bs asked ys =
       map-same (bucket_row bs asked (xs ++ ys)) (bucket_row bs asked ys) (starts g ys)
       (All-weaker (λ b. k ≤ b) (λ b. bucket_row bs asked (xs ++ ys) b ≡ bucket_row bs asked ys b)
       (λ b le. ap (λ (ms : List Point). row_with bs asked b ms)
@@ -98,10 +98,10 @@ module _ (bs : Buckets) (asked : List Point) where
       ap (map (bucket_row bs asked (xs ++ ys))) (starts-append g k xs ys below above)
       ∙ map-append (bucket_row bs asked (xs ++ ys)) (starts g xs) (starts g ys)
       ∙ ap (λ (rs : List Row). rs ++ map (bucket_row bs asked (xs ++ ys)) (starts g ys)) early
-      ∙ ap (λ (rs : List Row). rows_told bs asked xs ++ rs) late
+      ∙ ap (λ (rs : List Row). bucket_rows bs asked xs ++ rs) late
 
   -- the rows of samples of one bucket
-  pub rows-one : (b : ℕ) (ms : List Point) → All (λ p. start bs.grid p.time ≡ b) ms → rows_told bs asked ms ≡ one_row bs b ms
+  pub rows-one : (b : ℕ) (ms : List Point) → All (λ p. start bs.grid p.time ≡ b) ms → bucket_rows bs asked ms ≡ one_row bs b ms
   rows-one b [] h = refl
   rows-one b (p ∷ ps) h =
       ap (map (bucket_row bs asked (p ∷ ps))) (starts-one bs.grid b p ps h)

@@ -16,7 +16,7 @@ use Rattle.ts_bucket.proofs.Numbers.{number}
 use Rattle.ts_range.specs.declared.query.Query.{Query}
 use Rattle.ts_range.specs.declared.row.Asked.{Asked}
 use Rattle.ts_range.specs.declared.starts.Starts.{Starts}
-use Rattle.ts_range.specs.Empty.{known_before, empty_cell_of, cell_told}
+use Rattle.ts_range.specs.Empty.{known_before, empty_cell_of, cell_of_bucket}
 use Rattle.ts_range.specs.Order.{in_order, is_beyond, beyond}
 use Rattle.ts_range.specs.Starts.{starts_of, starts_within}
 use Rattle.ts_range.specs.Walk.{times_of, last_before, IsAroundOf, most_of}
@@ -37,16 +37,16 @@ empty-told Count b asked = refl
 empty-told First b asked = refl
 empty-told Last b asked = refl
 
-told : (a : Aggregator) (b : ℕ) (asked ms : List Point) → cell_of a b asked ms ≡ cell_told a ms (last_before b asked)
+told : (a : Aggregator) (b : ℕ) (asked ms : List Point) → cell_of a b asked ms ≡ cell_of_bucket a ms (last_before b asked)
 told a b asked [] = empty-told a b asked
 told a b asked (p ∷ ps) = refl
 
 -- a bucket's cell, of its samples that are let through, and of the last sample before it
 pub cell-told : (a : Aggregator) (g : Grid) (b : ℕ) (lets : Point → Bool) (asked samples bucket : List Point) (before : Option Point) → bucket ≡ members g b samples → before ≡ last_before b asked
-    → cell_told a (filter lets bucket) before ≡ cell_of a b asked (members g b (filter lets samples))
+    → cell_of_bucket a (filter lets bucket) before ≡ cell_of a b asked (members g b (filter lets samples))
 cell-told a g b lets asked samples bucket before here last =
-    ap (λ (ms : List Point). cell_told a (filter lets ms) before) here
-    ∙ ap (cell_told a (filter lets (members g b samples))) last
+    ap (λ (ms : List Point). cell_of_bucket a (filter lets ms) before) here
+    ∙ ap (cell_of_bucket a (filter lets (members g b samples))) last
     ∙ sym (told a b asked (filter lets (members g b samples)))
     ∙ ap (cell_of a b asked) (filter-swap lets (λ (p : Point). start g p.time == b) samples)
 

@@ -17,7 +17,7 @@ use Rattle.ts_sample.proofs.Between.{filter-filter}
 use Rattle.ts_bucket.proofs.Numbers.{number, start_number, passed}
 use Rattle.ts_range.specs.Empty.{empty_cell_of}
 use Rattle.ts_range.specs.Filling.{said_after, begun, filled}
-use Rattle.ts_range.specs.Told.{rows_told}
+use Rattle.ts_range.specs.BucketRows.{bucket_rows}
 use Rattle.ts_range.specs.Walk.{last_before}
 use Rattle.ts_range.proofs.Around.{before-is}
 use Rattle.ts_range.proofs.Gaps.{said_past, upto, past, IsOnLine, begin-mono, fill-line}
@@ -136,6 +136,6 @@ module _ (bs : Buckets) (some : 1 ≤ bs.grid.duration) (l : List Point) (rises 
 
   -- the rows of the buckets with samples, filled in, are those of all buckets of the line
   pub line-filled : (n : ℕ) (now later : Cell) (ps : List Point) → first + n ≡ suc last → IsAscending ps → All (IsOnLine bs.grid first last) ps → IsSaying bs l from to first now later ps
-      → filled bs now later (map (begin bs.grid) (range_with_len first n)) (rows_told (begun bs) l ps) ≡ map (bucket_row bs l ps) (map (begin bs.grid) (range_with_len first n))
+      → filled bs now later (map (begin bs.grid) (range_with_len first n)) (bucket_rows (begun bs) l ps) ≡ map (bucket_row bs l ps) (map (begin bs.grid) (range_with_len first n))
   line-filled n now later ps end up on is =
       fill-line bs some l lo first last base (IsSaying bs l from to) says (λ k now later ps low high rises is. goes k low high now later ps is) n first now later ps (omega arith) end up on (λ le. is)

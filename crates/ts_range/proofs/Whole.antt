@@ -7,7 +7,7 @@ use Rattle.ts_spec.specs.Bucket.{Grid, starts}
 use Rattle.ts_spec.specs.Command.{Query, Buckets}
 use Rattle.ts_spec.specs.Answer.{row_of, is_let_through, selected, bucket_row, ends_between, turned, first_ones, rows, rows_of, tells_empty, answer}
 use Rattle.ts_range.specs.Starts.{starts_within}
-use Rattle.ts_range.specs.Told.{rows_told}
+use Rattle.ts_range.specs.BucketRows.{bucket_rows}
 use Rattle.ts_range.specs.Walk.{times_of}
 use Rattle.ts_range.specs.Walking.{rows_chosen}
 
@@ -26,7 +26,7 @@ module _ (q : Query) (l : List Point) where
     with-buckets = ap (λ (o : Option Buckets). first_ones q.count (turned q.reverse (rows_of o q l))) is
 
     -- of the buckets with samples
-    pub rows-told : bs.empty ≡ false → rows q l ≡ first_ones q.count (turned q.reverse (rows_told bs l (selected q l)))
+    pub rows-told : bs.empty ≡ false → rows q l ≡ first_ones q.count (turned q.reverse (bucket_rows bs l (selected q l)))
     rows-told full =
         with-buckets
         ∙ ap (λ (b : Bool). first_ones q.count (turned q.reverse (map (bucket_row bs l (selected q l)) (if b then ends_between bs.grid q.from q.to (first_of l) (last_of l) else starts bs.grid (selected q l))))) full

@@ -10,7 +10,7 @@ use Rattle.ts_range.specs.declared.query.Buckets.{Buckets}
 use Rattle.ts_range.specs.declared.bucket.Bucket.{Bucket}
 use Rattle.ts_range.specs.Query.{buckets_of}
 use Rattle.ts_range.specs.Spans.{IsSpan}
-use Rattle.ts_range.specs.Told.{rows_told}
+use Rattle.ts_range.specs.BucketRows.{bucket_rows}
 
 -- A bucket is open: it has the last ones of these samples, and the rows of the buckets before it were handed on.
 pub record IsOpenAt (has : List Row → Type 0) (bs : Buckets) (o : Bucket) (ps : List Point) : Type 0 where
@@ -21,7 +21,7 @@ pub record IsOpenAt (has : List Row → Type 0) (bs : Buckets) (o : Bucket) (ps 
   pub before : All (λ p. start bs.grid p.time < o.start) early
   pub inside : All (λ p. start bs.grid p.time ≡ o.start) here
   pub tells : Tells bs.agg o.tally here
-  pub taken : (asked : List Point) → has (rows_told (buckets_of bs) asked early)
+  pub taken : (asked : List Point) → has (bucket_rows (buckets_of bs) asked early)
 
 -- the bucket of the last of these samples is open, if there are any
 abbrev pub IsCut : (has : List Row → Type 0) → Buckets → Option Bucket → List Point → Type 0

@@ -22,6 +22,6 @@ empty_cell_of Last before = last_value before
 empty_cell_of other before = Nan
 
 -- what is told of a bucket with these samples, where this is the last one before it
-abbrev pub cell_told : Aggregator → List Point → Option Point → Cell
-cell_told a [] before = empty_cell_of a before
-cell_told a (p ∷ ps) before = Number (aggregate a (p ∷ ps))
+abbrev pub cell_of_bucket : Aggregator → List Point → Option Point → Cell
+cell_of_bucket a [] before = empty_cell_of a before
+cell_of_bucket a (p ∷ ps) before = Number (aggregate a (p ∷ ps))

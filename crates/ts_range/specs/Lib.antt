@@ -1,3 +1,4 @@
+pub mod BucketRows
 pub mod Cutting
 pub mod Empty
 pub mod Filling
@@ -8,6 +9,5 @@ pub mod Spans
 pub mod Starts
 pub mod Stretches
 pub mod Taking
-pub mod Told
 pub mod Walk
 pub mod Walking

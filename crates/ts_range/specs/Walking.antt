@@ -9,7 +9,7 @@ use Rattle.ts_spec.specs.Answer.{Row, row_of, lets_time, lets_value}
 use Rattle.ts_range.specs.declared.cutter.Cutter.{Cutter}
 use Rattle.ts_range.specs.Query.{span_of}
 use Rattle.ts_range.specs.Taking.{Limit}
-use Rattle.ts_range.specs.Told.{rows_told}
+use Rattle.ts_range.specs.BucketRows.{bucket_rows}
 use Rattle.ts_range.specs.Cutting.{IsCut, HasAtMost}
 
 -- What it lets through, the buckets that it tells of, if not of samples, what limits the rows that are handed on, and the samples that
@@ -32,7 +32,7 @@ with_seen w p = record w { seen = w.seen ++ p ∷ [] }
 -- the rows of the samples that were let through: of each, or of their buckets
 abbrev pub rows_chosen : Option spec.Buckets → (asked chosen : List Point) → List Row
 rows_chosen None asked chosen = map row_of chosen
-rows_chosen (Some bs) asked chosen = rows_told bs asked chosen
+rows_chosen (Some bs) asked chosen = bucket_rows bs asked chosen
 
 -- the rows of the samples that it was given
 abbrev pub rows_of_walk : Walking → (asked : List Point) → List Row

@@ -29,7 +29,7 @@ impl Bucket {
     ghost use Rattle.ts_spec.specs.Answer.{Row as TheRow};
     ghost use Rattle.ts_agg.specs.Tally.{Tells, counted};
     ghost use Rattle.ts_range.specs.Query.{buckets_of};
-    ghost use Rattle.ts_range.specs.Told.{row_with};
+    ghost use Rattle.ts_range.specs.BucketRows.{row_with};
 
     // The bucket of a sample, which is the only one in it yet.
     pub(crate) fn of(buckets: &Buckets, sample: &Sample) -> Bucket

@@ -17,7 +17,7 @@ impl Cutter {
     ghost use Rattle.ts_spec.specs.Sample.{Point, IsAscending};
     ghost use Rattle.ts_agg.specs.Tally.{counted};
     ghost use Rattle.ts_range.specs.Query.{buckets_of};
-    ghost use Rattle.ts_range.specs.Told.{rows_told};
+    ghost use Rattle.ts_range.specs.BucketRows.{bucket_rows};
     ghost use Rattle.ts_range.specs.Cutting.{IsCut, HasAtMost};
 
     // No sample yet.
@@ -57,7 +57,7 @@ impl Cutter {
     // Hands on the row of the bucket that is open.
     pub(crate) fn close<T: Take>(&self, taker: &mut T)
         ensures limit { T.limit taker.new ≡ T.limit taker.old }
-        ensures closed { (ps asked : List Point) → IsCut (T.has taker.old) self.now.buckets self.now.current ps → T.has taker.new (rows_told (buckets_of self.now.buckets) asked ps) }
+        ensures closed { (ps asked : List Point) → IsCut (T.has taker.old) self.now.buckets self.now.current ps → T.has taker.new (bucket_rows (buckets_of self.now.buckets) asked ps) }
     {
         if let Some(bucket) = &self.current {
             bucket.tell(&self.buckets, taker);

@@ -4,7 +4,7 @@ ghost use Rattle.ts_spec.specs.Sample.{Point, MAX_TIME, IsAscending, between, fi
 ghost use Rattle.ts_spec.specs.Bucket.{start as start_of};
 ghost use Rattle.ts_spec.specs.Answer as spec;
 ghost use Rattle.ts_range.specs.Query.{buckets_of, cell_of, query_of, row_of};
-ghost use Rattle.ts_range.specs.Empty.{known_before, empty_cell_of, cell_told};
+ghost use Rattle.ts_range.specs.Empty.{known_before, empty_cell_of, cell_of_bucket};
 ghost use Rattle.ts_range.specs.Filters.{passes};
 ghost use Rattle.ts_range.specs.Starts.{starts_within};
 ghost use Rattle.ts_range.specs.Walk.{times_of, IsAroundOf};
@@ -86,7 +86,7 @@ fn cell(
 ) -> Cell
     requires few { length samples.now ≤ 10 ^ 14 }
     requires ascending { IsAscending asked.now.rows.items }
-    ensures { cell_of result ≡ cell_told agg (filter (passes filters.now) samples.now) (known_before first start asked.now) }
+    ensures { cell_of result ≡ cell_of_bucket agg (filter (passes filters.now) samples.now) (known_before first start asked.now) }
 {
     match bucket_value(filters, agg, samples) {
         Some(value) => Cell::Number(value),

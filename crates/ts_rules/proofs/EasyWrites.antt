@@ -9,7 +9,7 @@ use Rattle.ts_spec.specs.Mending.{closing_row}
 use Rattle.ts_series.specs.History.{History, list_of}
 use Rattle.ts_rules.specs.declared.rule.Rule.{Rule}
 use Rattle.ts_rules.specs.Rules.{kept_as}
-use Rattle.ts_rules.specs.Writes.{row_told}
+use Rattle.ts_rules.specs.Writes.{row_for_dest}
 use Rattle.ts_rules.specs.Shares.{IsPastAll, IsEasyWrite}
 use Rattle.ts_rules.proofs.Written.{row-none, row-here, row-past}
 
@@ -18,7 +18,7 @@ time_of_first : List Point → ℕ
 time_of_first [] = 0
 time_of_first (p ∷ ps) = p.time
 
-pub easy-row : (limit : ℕ) (r : Rule) (source : History) (p : Point) (dest : History) (born : ℕ) (row : Point) → IsEasyWrite limit r source p dest → row ∷ [] ≡ row_told source p born r → IsPastAll limit dest row.time
+pub easy-row : (limit : ℕ) (r : Rule) (source : History) (p : Point) (dest : History) (born : ℕ) (row : Point) → IsEasyWrite limit r source p dest → row ∷ [] ≡ row_for_dest source p born r → IsPastAll limit dest row.time
 unfolding time_of_first
 easy-row limit r source p dest born row h told = go r.current refl
   where

@@ -5,9 +5,9 @@ use Rattle.ts_series.specs.History.{History}
 use Rattle.ts_rules.specs.declared.rule.Rule.{Rule}
 use Rattle.ts_rules.specs.declared.plan.RulePlan.{RulePlan}
 use Rattle.ts_rules.specs.declared.fault.RuleFault.{RuleFault}
-use Rattle.ts_rules.specs.Writes.{rule_after, row_told}
+use Rattle.ts_rules.specs.Writes.{rule_after, row_for_dest}
 use Rattle.ts_rules.specs.Plans.{IsPlanned}
 
 -- a write of this sample to the source, as it was before
 abbrev pub IsPlanOfWrite : (limit : ℕ) → Rule → (source : History) → Point → (dest : History) → Result RulePlan RuleFault → Type 0
-IsPlanOfWrite limit r source p dest result = IsPlanned limit (rule_after source p) (λ t. false) (row_told source p dest.born r) r dest result
+IsPlanOfWrite limit r source p dest result = IsPlanned limit (rule_after source p) (λ t. false) (row_for_dest source p dest.born r) r dest result

@@ -13,5 +13,5 @@ abbrev pub rule_after : (source : History) → Point → KeptRule → KeptRule
 rule_after source p q = written_rule (is_append p.time source.high) p (put p (list_of source)) q
 
 -- the row that the destination is told, which has this many rules ever made
-abbrev pub row_told : (source : History) → Point → (born : ℕ) → Rule → List Point
-row_told source p born r = written_row p (put p (list_of source)) born (kept_as [] r)
+abbrev pub row_for_dest : (source : History) → Point → (born : ℕ) → Rule → List Point
+row_for_dest source p born r = written_row p (put p (list_of source)) born (kept_as [] r)

@@ -8,7 +8,7 @@ ghost use Rattle.ts_spec.specs.Mending.{counted_anew};
 ghost use Rattle.ts_series.specs.History.{list_of};
 ghost use Rattle.ts_rules.specs.Rules.{kept_as, one_of, IsChanged, TakesAppended};
 ghost use Rattle.ts_rules.specs.Shares.{source_share, IsNotClosed};
-ghost use Rattle.ts_rules.specs.Writes.{rule_after, row_told};
+ghost use Rattle.ts_rules.specs.Writes.{rule_after, row_for_dest};
 
 use crate::count::count_written;
 use crate::open::{latest, opened, row};
@@ -29,7 +29,7 @@ pub(crate) fn written<L: Ledger>(
 ) -> (Rule, Option<Sample>)
     requires { TakesAppended rule.now source.now wrote.now }
     ensures rule { IsChanged (rule_after source.now wrote.now) rule.now result.0 }
-    ensures row { one_of result.1 ≡ row_told source.now wrote.now born rule.now }
+    ensures row { one_of result.1 ≡ row_for_dest source.now wrote.now born rule.now }
     ensures counted { steps.old ≤ steps.new }
     ensures bounded { steps.new ≤ steps.old + source_share rule.now source.now wrote.now.time }
     ensures easy { is_append wrote.now.time source.now.high ≡ true → IsNotClosed rule.now wrote.now.time → steps.new ≡ steps.old }

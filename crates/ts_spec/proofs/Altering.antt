@@ -8,7 +8,7 @@ use Rattle.ts_spec.specs.Bucket.{start}
 use Rattle.ts_spec.specs.Key.{Key, same}
 use Rattle.ts_spec.specs.Keyed.{get}
 use Rattle.ts_spec.specs.State.{Label, Rule, Record, State, Link, link_to, change, edge, edge_of}
-use Rattle.ts_spec.specs.Rules.{bucket_sample, is_closed, is_told, shown, shown_by, tidied_by, edge_at, expired, cleared_to, clear_record, lost_by, lost_from, lost, settled}
+use Rattle.ts_spec.specs.Rules.{bucket_sample, is_closed, has_row_of, shown, shown_by, tidied_by, edge_at, expired, cleared_to, clear_record, lost_by, lost_from, lost, settled}
 use Rattle.ts_spec.specs.Command.{Change}
 use Rattle.ts_spec.specs.Step.{altered, is_longer}
 use Rattle.ts_spec.specs.Valid.{IsCountable, IsSoundRule, IsOwn, IsSound, IsSoleLink, IsValid}
@@ -59,12 +59,12 @@ bodies-nothing key f m =
         λ i. Some (record c { plain = plain i; rules = rules i })
 
 -- what a rule tells, of a settled state, is not before the edge of its destination
-pub told-edge : (m : State) (k : Key) (l : Link) (d : Record) (b : ℕ) → settled m ≡ m → link_to m k ≡ Some l → get k m ≡ Some d → is_told l.rule b ≡ true → nat_le (edge d) b ≡ true
+pub told-edge : (m : State) (k : Key) (l : Link) (d : Record) (b : ℕ) → settled m ≡ m → link_to m k ≡ Some l → get k m ≡ Some d → has_row_of l.rule b ≡ true → nat_le (edge d) b ≡ true
 told-edge m k l d b h x there t =
     let low : edge_at (get l.rule.dest m) ≡ edge d = ap (λ (j : Key). edge_at (get j m)) (link-dest m k l x) ∙ ap edge_at there in
     let same_rule : expired (edge d) l.rule ≡ l.rule = ap (λ (n : ℕ). expired n l.rule) (sym low) ∙ link-expired m k l h x in
-    let told : (not (nat_lt b (edge d)) && is_told l.rule b) ≡ true = sym (told-cleared_at (λ c. nat_lt c (edge d)) l.rule b) ∙ ap (λ (r : Rule). is_told r b) same_rule ∙ t in
-    let late : not (nat_lt b (edge d)) ≡ true = (and_parts (not (nat_lt b (edge d))) (is_told l.rule b) told).0 in
+    let told : (not (nat_lt b (edge d)) && has_row_of l.rule b) ≡ true = sym (told-cleared_at (λ c. nat_lt c (edge d)) l.rule b) ∙ ap (λ (r : Rule). has_row_of r b) same_rule ∙ t in
+    let late : not (nat_lt b (edge d)) ≡ true = (and_parts (not (nat_lt b (edge d))) (has_row_of l.rule b) told).0 in
     le-leb (edge d) b (ltb-false b (edge d) (untrue (nat_lt b (edge d)) late))
   where
     untrue : (c : Bool) → not c ≡ true → c ≡ false
@@ -119,9 +119,9 @@ module _ (limits : Limits) (m : State) (key : Key) (d : Record) (c : Change) (v 
         where
           inner : (t : ℕ) (b : Bool) → nat_le (edge d) t ≡ b → option_or (tells l.rule d.born t) (at t d.plain) ≡ (if b then option_or (tells l.rule d.born t) (at t d.plain) else None)
           inner t true y = refl
-          inner t false y = nothing (is_told l.rule t) refl (at t d.plain) refl
+          inner t false y = nothing (has_row_of l.rule t) refl (at t d.plain) refl
             where
-              nothing : (a : Bool) → is_told l.rule t ≡ a → (o : Option Point) → at t d.plain ≡ o → option_or (tells l.rule d.born t) (at t d.plain) ≡ None
+              nothing : (a : Bool) → has_row_of l.rule t ≡ a → (o : Option Point) → at t d.plain ≡ o → option_or (tells l.rule d.born t) (at t d.plain) ≡ None
               nothing true z o w = absurd (false≢true (sym y ∙ told-edge m key l d t v.settled x there z))
               nothing false z (Some p) w = absurd (false≢true (sym y ∙ (own-tidy m key d t p v.settled there w).0))
               nothing false z None w = ap (λ (a : Bool). option_or (if a then Some (bucket_sample l.rule d.born t) else None) (at t d.plain)) z ∙ w

@@ -7,7 +7,7 @@ use Rattle.ts_spec.specs.Sample.{Point, IsAscending, at, at_times, between, outs
 use Rattle.ts_spec.specs.Key.{Key, same}
 use Rattle.ts_spec.specs.Keyed.{get}
 use Rattle.ts_spec.specs.State.{Rule, Record, State, Link, link_to, rule_into, edge, edge_of}
-use Rattle.ts_spec.specs.Rules.{tidied, is_told, told_by, bucket_sample, shown, shown_by, cleared_to, risen_by, tidied_by, expired, edge_at, raised, sample_for, counted, with_sample, without, recounted, write_touches, meets, high_at, plain_at, lost_by, lost_from, settled, written, deleted}
+use Rattle.ts_spec.specs.Rules.{tidied, has_row_of, is_row_by, bucket_sample, shown, shown_by, cleared_to, risen_by, tidied_by, expired, edge_at, raised, sample_for, counted, with_sample, without, recounted, write_touches, meets, high_at, plain_at, lost_by, lost_from, settled, written, deleted}
 use Rattle.ts_spec.specs.Valid.{EachRule, EachRecord, IsUpTo, IsSound, IsValid}
 use Rattle.ts_spec.proofs.Keys.{same-refl}
 use Rattle.ts_spec.proofs.Samples.{at-times, at-put, ascending-times, ascending-put, ascending-same}
@@ -43,7 +43,7 @@ shown-own m key d f g touches test l h x up t =
     ∙ ap (λ (o : Option Rule). shown_by o (tidied_by (Some (cleared_to key test l.rule)) (f d))) (own-rule-after m key d f g touches test h l x)
     ∙ ap (λ (o : Option Record). shown_by (Some (expired (edge_at o) (cleared_to key test l.rule))) (tidied_by (Some (cleared_to key test l.rule)) (f d))) (own-after m key d f g touches test h l x))
     ∙ shown-tidied (λ b. same l.rule.dest key && test b) l.rule (f d) t
-    (λ b y z. up b (high-tidy m key d b h.settled h.there (ap (λ (o : Option Link). told_by (option_map (λ (q : Link). q.rule) o) b) x ∙ y)))
+    (λ b y z. up b (high-tidy m key d b h.settled h.there (ap (λ (o : Option Link). is_row_by (option_map (λ (q : Link). q.rule) o) b) x ∙ y)))
     ∙ ap (λ (b : Bool). if nat_le (edge (f d)) t then option_or (if b && test t then None else tells l.rule (f d).born t) (at t (f d).plain) else None)
     (ap (λ (j : Key). same j key) (link-dest m key l x) ∙ same-refl key)
 
@@ -167,8 +167,8 @@ shown-dest m key d f g touches test h k r e x there t =
         ap (λ (o : Option Point). option_or o (at t (tidied_by (Some (g d r)) (lost_from key touches (Some (record { source = key; rule = g d r })) e)).plain)) (tells-expired (edge (risen_by (Some (g d r)) e)) (g d r) e.born t y)
         ∙ ap (option_or (tells (g d r) e.born t))
         (at-times t (stays (edge (risen_by (Some (g d r)) e)) (Some (g d r))) (lost_from key touches (Some (record { source = key; rule = g d r })) e).plain
-        ∙ ap (λ (b : Bool). if b && not (is_told (g d r) t) then at t (lost_from key touches (Some (record { source = key; rule = g d r })) e).plain else None) y)
-        ∙ hidden (is_told (g d r) t)
+        ∙ ap (λ (b : Bool). if b && not (has_row_of (g d r) t) then at t (lost_from key touches (Some (record { source = key; rule = g d r })) e).plain else None) y)
+        ∙ hidden (has_row_of (g d r) t)
         ∙ ap (option_or (tells (g d r) e.born t)) (at-times t (λ u. not (lost_by key touches (Some (record { source = key; rule = g d r })) u)) e.plain)
       where
         hidden : (c : Bool) → option_or (if c then Some (bucket_sample (g d r) e.born t) else None) (if not c then at t (lost_from key touches (Some (record { source = key; rule = g d r })) e).plain else None) ≡

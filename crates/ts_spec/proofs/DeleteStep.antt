@@ -13,7 +13,7 @@ use Rattle.ts_spec.specs.Writing.{meets_expired, delete_at}
 use Rattle.ts_spec.specs.Valid.{IsValid}
 use Rattle.ts_spec.specs.Kept.{Kept, Keeping, kept_record, kept}
 use Rattle.ts_spec.specs.Mending.{keep_deleted}
-use Rattle.ts_spec.specs.KeptStep.{kept_refused, kept_told, kept_meets_expired, kept_delete_at}
+use Rattle.ts_spec.specs.KeptStep.{kept_refused, unchanged_with, kept_meets_expired, kept_delete_at}
 use Rattle.ts_spec.specs.Stands.{StandsFor, IsStepOf}
 use Rattle.ts_spec.proofs.Keeps.{shown-there}
 use Rattle.ts_spec.proofs.StepKeeps.{delete-good}
@@ -24,7 +24,7 @@ use Rattle.ts_spec.proofs.Deleted.{kept-deleted}
 deletion-agrees : (limits : Limits) (m : State) (key : Key) (d : Record) (from to : ℕ) → IsValid limits m → get key m ≡ Some d →
     Agrees (delete_at limits m key from to (Some d)) (kept_delete_at limits (kept m) key from to (Some (kept_record (link_to m key) d)))
 deletion-agrees limits m key d from to v there =
-    agrees-if (nat_lt to from) (nat_lt to from) (answer_only m (Count 0)) _ (kept_told (kept m) (Count 0)) _ refl
+    agrees-if (nat_lt to from) (nat_lt to from) (answer_only m (Count 0)) _ (unchanged_with (kept m) (Count 0)) _ refl
     (λ x. agrees-told m (kept m) (Count 0) (Count 0) refl refl)
     (λ x. agrees-if (meets_expired from (edge d) d.rules) (kept_meets_expired from (edge d) (kept_record (link_to m key) d).rules)
     (refused m DeleteBeyondRetention) _ (kept_refused (kept m) DeleteBeyondRetention) _ (sym (meets-kept from (edge d) d.rules))

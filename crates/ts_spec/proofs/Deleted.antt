@@ -6,7 +6,7 @@ use Rattle.ts_spec.specs.Sample.{Point, IsAscending, between, outside, is_within
 use Rattle.ts_spec.specs.Key.{Key, same}
 use Rattle.ts_spec.specs.Keyed.{get}
 use Rattle.ts_spec.specs.State.{Rule, Record, State, Link, rule_to, link_to, rule_into}
-use Rattle.ts_spec.specs.Rules.{told_by, high_by, cleared_to, recounted, without, meets, lost_by, plain_at, shown, shown_by, deleted}
+use Rattle.ts_spec.specs.Rules.{is_row_by, high_by, cleared_to, recounted, without, meets, lost_by, plain_at, shown, shown_by, deleted}
 use Rattle.ts_spec.specs.Valid.{EachRule, IsSoundRule, IsLinked, IsValid}
 use Rattle.ts_spec.specs.Kept.{KeptRule, Kept, kept_rule, kept_record, kept}
 use Rattle.ts_spec.specs.Mending.{kept_rule_to, mended_kept, deleted_rule, loses, deleted_rows, kept_without, fed_by_deletion, after_deletion, keep_deleted}
@@ -79,7 +79,7 @@ module _ (limits : Limits) (m : State) (key : Key) (d : Record) (from to : ℕ) 
           ap (λ (o : Option Rule). high_by o d.high) (own-rule m key d (without from to) recount touched_by (is_within from to) (deletion-done limits m key d from to v there) l x)
           ∙ high-same (Some (cleared_to key (is_within from to) l.rule)) d.high
           (λ b y. high-tidy m key d b v.settled there
-          (ap (λ (o : Option Link). told_by (option_map (λ (q : Link). q.rule) o) b) x ∙ told-cleared (λ c. same l.rule.dest key && is_within from to c) (Some l.rule) b y))
+          (ap (λ (o : Option Link). is_row_by (option_map (λ (q : Link). q.rule) o) b) x ∙ told-cleared (λ c. same l.rule.dest key && is_within from to c) (Some l.rule) b y))
 
   -- its rules
   own-rules-deleted : map kept_rule (map (recount d) d.rules) ≡

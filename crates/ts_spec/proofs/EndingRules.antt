@@ -7,7 +7,7 @@ use Rattle.ts_spec.specs.Sample.{Point, IsAscending, at, at_times, put_all}
 use Rattle.ts_spec.specs.Key.{Key}
 use Rattle.ts_spec.specs.Keyed.{get}
 use Rattle.ts_spec.specs.State.{Rule, Record, State, Link, rule_to, link_to, rule_into, edge}
-use Rattle.ts_spec.specs.Rules.{is_told, bucket_sample, closed_rows, told_by, tidied_by, edge_at, expired, expired_in, expire_record, shown, shown_by, ends_into, ended_in, ended}
+use Rattle.ts_spec.specs.Rules.{has_row_of, bucket_sample, closed_rows, is_row_by, tidied_by, edge_at, expired, expired_in, expire_record, shown, shown_by, ends_into, ended_in, ended}
 use Rattle.ts_spec.specs.Valid.{Every, EachRule, IsCountable, IsSoundRule, IsOwn, IsSound, IsSoleLink, IsWithin, IsValid}
 use Rattle.ts_spec.proofs.Maps.{get-each, count-each}
 use Rattle.ts_spec.proofs.Links.{Found, link-found}
@@ -108,15 +108,15 @@ module _ (limits : Limits) (m : State) (ends : Key → Key → Bool) (v : IsVali
   shown-own k d x None y = (v.sound k d x).own
   shown-own k d x (Some r) y = λ t p e. own t p (nat_le (edge d) t) (sym (at-shown r d t) ∙ e)
     where
-      own : (t : ℕ) (p : Point) (b : Bool) → (if b then option_or (if is_told r t then Some (bucket_sample r d.born t) else None) (at t d.plain) else None) ≡ Some p → IsOwn d p
+      own : (t : ℕ) (p : Point) (b : Bool) → (if b then option_or (if has_row_of r t then Some (bucket_sample r d.born t) else None) (at t d.plain) else None) ≡ Some p → IsOwn d p
       own t p false z = absurd (cc z)
-      own t p true z = inner (is_told r t) refl z
+      own t p true z = inner (has_row_of r t) refl z
         where
-          inner : (c : Bool) → is_told r t ≡ c → option_or (if c then Some (bucket_sample r d.born t) else None) (at t d.plain) ≡ Some p → IsOwn d p
+          inner : (c : Bool) → has_row_of r t ≡ c → option_or (if c then Some (bucket_sample r d.born t) else None) (at t d.plain) ≡ Some p → IsOwn d p
           inner false f w = (v.sound k d x).own t p w
           inner true f w =
               subst (IsOwn d) (some-same (bucket_sample r d.born t) p w)
-              (record { time = high-tidy m k d t v.settled x (ap (λ (q : Option Rule). told_by q t) y ∙ f); made = omega arith })
+              (record { time = high-tidy m k d t v.settled x (ap (λ (q : Option Rule). is_row_by q t) y ∙ f); made = omega arith })
 
   sound-rules : (d : Record) (plain : List Point) → IsSound d → (k : Key) → (plain ≡ d.plain) ⊎ (d.rules ≡ []) →
       EachRule (IsSoundRule (record d { plain = plain; rules = filter (λ r. not (ends k r.dest)) d.rules })) (filter (λ r. not (ends k r.dest)) d.rules)

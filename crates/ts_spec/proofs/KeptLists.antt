@@ -6,7 +6,7 @@ use Rattle.ts_spec.specs.Sample.{Point, IsAscending, at, at_times}
 use Rattle.ts_spec.specs.Key.{Key}
 use Rattle.ts_spec.specs.Keyed.{get}
 use Rattle.ts_spec.specs.State.{Rule, Record, State, link_to, rule_into, edge}
-use Rattle.ts_spec.specs.Rules.{is_told, told_by, bucket_sample, shown_by}
+use Rattle.ts_spec.specs.Rules.{has_row_of, is_row_by, bucket_sample, shown_by}
 use Rattle.ts_spec.specs.Valid.{IsUpTo, IsValid}
 use Rattle.ts_spec.specs.Kept.{Kept, Keeping, kept_record}
 use Rattle.ts_spec.specs.KeptStep.{kept_edge}
@@ -36,13 +36,13 @@ shown-known limits m k d t p v there = go (rule_into m k) refl
 
     go : (o : Option Rule) → rule_into m k ≡ o → at t (shown_by o d) ≡ Some p → IsShown d t p
     go None e x = own p x
-    go (Some r) e x = told (nat_le (edge d) t) refl (is_told r t) refl (sym (at-shown r d t) ∙ x)
+    go (Some r) e x = told (nat_le (edge d) t) refl (has_row_of r t) refl (sym (at-shown r d t) ∙ x)
       where
-        told : (b : Bool) → nat_le (edge d) t ≡ b → (c : Bool) → is_told r t ≡ c → (if b then option_or (if c then Some (bucket_sample r d.born t) else None) (at t d.plain) else None) ≡ Some p → IsShown d t p
+        told : (b : Bool) → nat_le (edge d) t ≡ b → (c : Bool) → has_row_of r t ≡ c → (if b then option_or (if c then Some (bucket_sample r d.born t) else None) (at t d.plain) else None) ≡ Some p → IsShown d t p
         told false f c g y = absurd (cc y)
         told true f true g y = record {
           from_edge = f;
-          below = high-tidy m k d t v.settled there (ap (λ (q : Option Rule). told_by q t) e ∙ g);
+          below = high-tidy m k d t v.settled there (ap (λ (q : Option Rule). is_row_by q t) e ∙ g);
           made = subst (λ (q : Point). q.made ≤ d.born) (some-same (bucket_sample r d.born t) p y) (omega arith);
         }
         told true f false g y = own p y

@@ -13,7 +13,7 @@ use Rattle.ts_spec.specs.Step.{Outcome, refused, answer_only, shows_more, first_
 use Rattle.ts_spec.specs.Valid.{IsValid}
 use Rattle.ts_spec.specs.Kept.{Kept, Keeping, kept_rule, kept_record, kept}
 use Rattle.ts_spec.specs.Mending.{kept_rule_to}
-use Rattle.ts_spec.specs.KeptStep.{KeptOutcome, kept_refused, kept_told, kept_edge, list_at, keeps_more, kept_first_full, kept_rules_at, kept_unless_full, kept_within_destinations, kept_meets_expired, any_rules}
+use Rattle.ts_spec.specs.KeptStep.{KeptOutcome, kept_refused, unchanged_with, kept_edge, list_at, keeps_more, kept_first_full, kept_rules_at, kept_unless_full, kept_within_destinations, kept_meets_expired, any_rules}
 use Rattle.ts_spec.specs.KeptQuestions.{rule_from}
 use Rattle.ts_spec.specs.Stands.{IsStepOf}
 use Rattle.ts_spec.proofs.Maps.{get-each, count-each, maps-same}
@@ -123,7 +123,7 @@ pub record Agrees (done : Outcome) (kept_done : KeptOutcome) : Type 0 where
 pub agreed : (limits : Limits) (done : Outcome) (kept_done : KeptOutcome) → IsValid limits done.state → Agrees done kept_done → IsStepOf limits done kept_done
 agreed limits done kept_done v a = record { response = a.response; stands = record { valid = v; kept = a.keys } }
 
-pub agrees-told : (m : State) (keys : Keeping) (r q : Response) → keys ≡ kept m → r ≡ q → Agrees (answer_only m r) (kept_told keys q)
+pub agrees-told : (m : State) (keys : Keeping) (r q : Response) → keys ≡ kept m → r ≡ q → Agrees (answer_only m r) (unchanged_with keys q)
 agrees-told m keys r q e x = record { response = x; keys = e }
 
 pub agrees-refused : (m : State) (keys : Keeping) (refusal : Refusal) → keys ≡ kept m → Agrees (refused m refusal) (kept_refused keys refusal)

@@ -12,7 +12,7 @@ use Rattle.ts_spec.specs.Response.{Item, IsWrong, Response, Done, Count, Items, 
 use Rattle.ts_spec.specs.Step.{step, Outcome, time_of, triple_step, item_of, madd, members_response, ping_response}
 use Rattle.ts_spec.specs.Valid.{IsValid}
 use Rattle.ts_spec.specs.Kept.{Keeping, kept}
-use Rattle.ts_spec.specs.KeptStep.{KeptOutcome, kept_told, kept_triple, kept_madd}
+use Rattle.ts_spec.specs.KeptStep.{KeptOutcome, unchanged_with, kept_triple, kept_madd}
 use Rattle.ts_spec.specs.KeptQuestions.{kept_members_of, kept_last_member, kept_step}
 use Rattle.ts_spec.specs.Stands.{StandsFor, IsStepOf}
 use Rattle.ts_spec.proofs.StepKeeps.{triple-good, step-valid, empty-valid}
@@ -52,7 +52,7 @@ madd-agrees limits m reading items (x ∷ xs) v =
         (subst (λ (r : Response). Agrees (madd limits done.state reading (items ++ item_of done.response) xs) (kept_madd limits (kept done.state) reading (items ++ item_of r) xs)) a.response ih)
 
 -- a question
-asked-agrees : (m : State) (r q : Response) → q ≡ r → Agrees (record { state = m; response = r }) (kept_told (kept m) q)
+asked-agrees : (m : State) (r q : Response) → q ≡ r → Agrees (record { state = m; response = r }) (unchanged_with (kept m) q)
 asked-agrees m r q e = agrees-told m (kept m) r q refl (sym e)
 
 pub step-agrees : (limits : Limits) (m : State) (reading : ℕ) (c : Command) → IsValid limits m → Agrees (step limits m reading c) (kept_step limits (kept m) reading c)

@@ -6,7 +6,7 @@ use Rattle.ts_spec.specs.Sample.{Point, at_times, put}
 use Rattle.ts_spec.specs.Key.{Key, same}
 use Rattle.ts_spec.specs.Keyed.{get}
 use Rattle.ts_spec.specs.State.{Rule, Record, State, Link, rule_to, link_to, rule_into, edge_of}
-use Rattle.ts_spec.specs.Rules.{told_by, raised, is_append, sample_for, counted, with_sample, write_touches, high_at, high_by, cleared_to, lost_by, shown, shown_by, written}
+use Rattle.ts_spec.specs.Rules.{is_row_by, raised, is_append, sample_for, counted, with_sample, write_touches, high_at, high_by, cleared_to, lost_by, shown, shown_by, written}
 use Rattle.ts_spec.specs.Valid.{EachRule, EachRecord, IsSound, IsSoundRule, IsValid}
 use Rattle.ts_spec.specs.Kept.{KeptRule, Kept, kept_rule, kept_record, kept}
 use Rattle.ts_spec.specs.Mending.{kept_rule_to, written_rule, written_row, kept_with, fed_by_write, after_write, keep_written}
@@ -54,7 +54,7 @@ module _ (limits : Limits) (m : State) (key : Key) (d : Record) (t : ℕ) (v : �
           ap (λ (o : Option Rule). high_by o (raised t d.high)) (own-rule m key d (with_sample t v) counts (write_touches t (high_at (get key m))) (λ b. b == t) done l x)
           ∙ high-same (Some (cleared_to key (λ b. b == t) l.rule)) (raised t d.high)
           (λ b y. upto-raised t b d.high (high-tidy m key d b h.settled there
-          (ap (λ (o : Option Link). told_by (option_map (λ (q : Link). q.rule) o) b) x ∙ told-cleared (λ c. same l.rule.dest key && (c == t)) (Some l.rule) b y)))
+          (ap (λ (o : Option Link). is_row_by (option_map (λ (q : Link). q.rule) o) b) x ∙ told-cleared (λ c. same l.rule.dest key && (c == t)) (Some l.rule) b y)))
 
   own-rules : map kept_rule (map (counted_by t v d) d.rules) ≡
       map (written_rule (is_append t d.high) (sample_for t v d) (put (sample_for t v d) (shown_by (rule_into m key) d))) (map kept_rule d.rules)

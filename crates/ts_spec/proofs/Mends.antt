@@ -7,7 +7,7 @@ use Rattle.ts_spec.specs.Bucket.{starts}
 use Rattle.ts_spec.specs.Key.{Key}
 use Rattle.ts_spec.specs.Keyed.{get}
 use Rattle.ts_spec.specs.State.{Rule, Record, State, Link, link_to, rule_into, edge, edge_of}
-use Rattle.ts_spec.specs.Rules.{is_closed, is_told, told_by, bucket_sample, raised, risen, high_by, lost_by, shown, shown_by, settled}
+use Rattle.ts_spec.specs.Rules.{is_closed, has_row_of, is_row_by, bucket_sample, raised, risen, high_by, lost_by, shown, shown_by, settled}
 use Rattle.ts_spec.specs.Valid.{EachRecord, IsUpTo, IsSound}
 use Rattle.ts_spec.specs.Kept.{kept_record, kept}
 use Rattle.ts_spec.specs.Mending.{high_with, mended, mended_kept}
@@ -62,8 +62,8 @@ has-times b (p ∷ rows) = go (p.time == b) (has-times b rows)
     go true ih = refl
     go false ih = ih
 
-some-tells : (r : Rule) (born t : ℕ) → is_some (tells r born t) ≡ is_told r t
-some-tells r born t = go (is_told r t)
+some-tells : (r : Rule) (born t : ℕ) → is_some (tells r born t) ≡ has_row_of r t
+some-tells r born t = go (has_row_of r t)
   where
     go : (b : Bool) → is_some (if b then Some (bucket_sample r born t) else None) ≡ b
     go true = refl
@@ -71,18 +71,18 @@ some-tells r born t = go (is_told r t)
 
 -- The highest time of a destination rises to the rows.
 pub high-mended : (r r1 : Rule) (born : ℕ) (lost gone : ℕ → Bool) (rows : List Point) (high : Option ℕ) → IsMending r r1 born lost gone rows →
-    ((b : ℕ) → is_told r b ≡ true → IsUpTo high b) → high_by (Some r1) high ≡ high_with rows high
+    ((b : ℕ) → has_row_of r b ≡ true → IsUpTo high b) → high_by (Some r1) high ≡ high_with rows high
 high-mended r r1 born lost gone rows high h up =
     risen-alike (filter (is_closed r1) (starts r1.grid r1.seen)) (times_of rows) high
-    (λ b x. covered b (at b rows) refl (gone b) (is_told r b) refl (sym (told-by b) ∙ sym (has-told r1 b) ∙ x))
+    (λ b x. covered b (at b rows) refl (gone b) (has_row_of r b) refl (sym (told-by b) ∙ sym (has-told r1 b) ∙ x))
     (λ b x. risen-covers (filter (is_closed r1) (starts r1.grid r1.seen)) b high (has-told r1 b ∙ told-by b ∙ row b (at b rows) (sym (has-times b rows) ∙ x)))
     ∙ sym (high_with-risen rows high)
   where
     -- whether r1 tells a sample
-    told-by : (b : ℕ) → is_told r1 b ≡ is_some (option_or (at b rows) (if gone b then None else tells r born b))
+    told-by : (b : ℕ) → has_row_of r1 b ≡ is_some (option_or (at b rows) (if gone b then None else tells r born b))
     told-by b = sym (some-tells r1 born b) ∙ ap is_some (h.told b)
 
-    covered : (b : ℕ) (o : Option Point) → at b rows ≡ o → (x y : Bool) → is_told r b ≡ y →
+    covered : (b : ℕ) (o : Option Point) → at b rows ≡ o → (x y : Bool) → has_row_of r b ≡ y →
         is_some (option_or o (if x then None else (if y then Some (bucket_sample r born b) else None))) ≡ true → IsUpTo (risen high (times_of rows)) b
     covered b (Some p) e x y w z = risen-covers (times_of rows) b high (has-times b rows ∙ ap is_some e)
     covered b None e false true w z = upto-risen (times_of rows) b high (up b w)
@@ -152,7 +152,7 @@ module _ (m : State) (key : Key) (d : Record) (f : Record → Record) (g : Recor
     where
       risen : high_by (Some (g d r)) e.high ≡ high_with rows e.high
       risen = high-mended r (g d r) e.born (lost_by key touches (Some (record { source = key; rule = g d r }))) gone rows e.high mends
-          (λ b y. high-tidy m k e b h.settled there (ap (λ (o : Option Link). told_by (option_map (λ (l : Link). l.rule) o) b) x ∙ y))
+          (λ b y. high-tidy m k e b h.settled there (ap (λ (o : Option Link). is_row_by (option_map (λ (l : Link). l.rule) o) b) x ∙ y))
 
       high : high_by (rule_into (bodies key f touches test m) k) e.high ≡ high_with rows e.high
       high = ap (λ (o : Option Rule). high_by o e.high) (dest-rule m key d f g touches test h k r x (dest-other m key d f g touches test h k r x)) ∙ risen

@@ -6,14 +6,14 @@ use Rattle.ts_spec.specs.Bucket.{members}
 use Rattle.ts_spec.specs.Key.{Key}
 use Rattle.ts_spec.specs.State.{Rule, State, edge, edge_of}
 use Rattle.ts_spec.specs.Aggregate.{aggregate}
-use Rattle.ts_spec.specs.Rules.{is_closed, has_any, is_told, bucket_sample, shown, shown_by}
+use Rattle.ts_spec.specs.Rules.{is_closed, has_any, has_row_of, bucket_sample, shown, shown_by}
 use Rattle.ts_spec.specs.OneBucket.{DiffersInOneBucket}
 use Rattle.ts_spec.proofs.Shows.{at-shown}
 use Rattle.ts_spec.proofs.Keeps.{shown-there}
 
 -- what a rule tells at a time depends on what it counts there
 told-same : (r : Rule) (qs : List Point) (born t : ℕ) → members r.grid t r.seen ≡ members r.grid t qs →
-    (if is_told r t then Some (bucket_sample r born t) else None) ≡ (if is_told (record r { seen = qs }) t then Some (bucket_sample (record r { seen = qs }) born t) else None)
+    (if has_row_of r t then Some (bucket_sample r born t) else None) ≡ (if has_row_of (record r { seen = qs }) t then Some (bucket_sample (record r { seen = qs }) born t) else None)
 told-same r qs born t h =
     ap (λ (ps : List Point). if is_closed r t && has_any ps then Some (record { time = t; value = aggregate r.agg ps; made = born }) else None) h
 
@@ -25,11 +25,11 @@ one-bucket-shows m n k b h t other =
     ∙ sym (at-shown (record h.rule { seen = h.other.seen }) h.second t)
     ∙ ap (at t) (ap (λ (o : Option Rule). shown_by o h.second) (ap (λ (r : Rule). Some r) (sym h.rules) ∙ sym h.other_there) ∙ sym (shown-there n k h.second h.second_there))
   where
-    inside : (if nat_le (edge h.first) t then option_or (if is_told h.rule t then Some (bucket_sample h.rule h.first.born t) else None) (at t h.first.plain) else None) ≡
-        (if nat_le (edge h.second) t then option_or (if is_told (record h.rule { seen = h.other.seen }) t then Some (bucket_sample (record h.rule { seen = h.other.seen }) h.second.born t) else None) (at t h.second.plain) else None)
+    inside : (if nat_le (edge h.first) t then option_or (if has_row_of h.rule t then Some (bucket_sample h.rule h.first.born t) else None) (at t h.first.plain) else None) ≡
+        (if nat_le (edge h.second) t then option_or (if has_row_of (record h.rule { seen = h.other.seen }) t then Some (bucket_sample (record h.rule { seen = h.other.seen }) h.second.born t) else None) (at t h.second.plain) else None)
     inside =
-        let told : (if is_told h.rule t then Some (bucket_sample h.rule h.first.born t) else None) ≡ (if is_told (record h.rule { seen = h.other.seen }) t then Some (bucket_sample (record h.rule { seen = h.other.seen }) h.second.born t) else None) =
+        let told : (if has_row_of h.rule t then Some (bucket_sample h.rule h.first.born t) else None) ≡ (if has_row_of (record h.rule { seen = h.other.seen }) t then Some (bucket_sample (record h.rule { seen = h.other.seen }) h.second.born t) else None) =
         told-same h.rule h.other.seen h.first.born t (h.counted t other)
-        ∙ ap (λ (n : ℕ). if is_told (record h.rule { seen = h.other.seen }) t then Some (bucket_sample (record h.rule { seen = h.other.seen }) n t) else None) h.born in
+        ∙ ap (λ (n : ℕ). if has_row_of (record h.rule { seen = h.other.seen }) t then Some (bucket_sample (record h.rule { seen = h.other.seen }) n t) else None) h.born in
         let plain : at t h.first.plain ≡ at t h.second.plain = h.plain t other in
         λ i. if nat_le (edge_of (h.options i).retention (h.high i)) t then option_or (told i) (plain i) else None

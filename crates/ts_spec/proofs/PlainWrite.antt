@@ -6,7 +6,7 @@ use Rattle.ts_spec.specs.Sample.{is_within, Point, at_times, outside, between, p
 use Rattle.ts_spec.specs.Key.{Key, same}
 use Rattle.ts_spec.specs.Keyed.{get, with_key}
 use Rattle.ts_spec.specs.State.{Rule, Record, State, Link, link_to, rule_into, change, edge, edge_of}
-use Rattle.ts_spec.specs.Rules.{plain_at, meets, deleted, shown, shown_at, shown_by, risen_by, told_by, raised, sample_for, with_sample, counted, without, recounted, lost_from, lost, cleared_to, clear_record, clear_into, write_touches, high_at, tidied_by, edge_at, expired, expired_in, expire_record, tidied, settled, written}
+use Rattle.ts_spec.specs.Rules.{plain_at, meets, deleted, shown, shown_at, shown_by, risen_by, is_row_by, raised, sample_for, with_sample, counted, without, recounted, lost_from, lost, cleared_to, clear_record, clear_into, write_touches, high_at, tidied_by, edge_at, expired, expired_in, expire_record, tidied, settled, written}
 use Rattle.ts_spec.specs.Valid.{IsLinked, IsSoleLink, EachRule}
 use Rattle.ts_spec.proofs.Keys.{same-true, same-refl, same-sym}
 use Rattle.ts_spec.proofs.Maps.{get-each, get-with, maps-same}
@@ -183,7 +183,7 @@ own-kept m k d h e =
     let low : edge (risen_by (rule_into m k) d) ≡ edge d = ap edge tidy in
     ap (at_times (nat_le (edge d))) (sym plain)
     ∙ times-within (nat_le (edge d)) (stays (edge (risen_by (rule_into m k) d)) (rule_into m k)) d.plain
-    (λ t x. ap (λ (y : ℕ). nat_le y t) (sym low) ∙ (and_parts (nat_le (edge (risen_by (rule_into m k) d)) t) (not (told_by (rule_into m k) t)) x).0)
+    (λ t x. ap (λ (y : ℕ). nat_le y t) (sym low) ∙ (and_parts (nat_le (edge (risen_by (rule_into m k) d)) t) (not (is_row_by (rule_into m k) t)) x).0)
     ∙ plain
 
 -- the record after a plain deletion

@@ -6,7 +6,7 @@ use Rattle.ts_spec.specs.Bucket.{Grid, start, members, starts}
 use Rattle.ts_spec.specs.Key.{Key}
 use Rattle.ts_spec.specs.Keyed.{get, each}
 use Rattle.ts_spec.specs.State.{Rule, Record, State, rule_into, edge, edge_of}
-use Rattle.ts_spec.specs.Rules.{is_closed, has_any, has_members, told_by, raised, risen, high_by, risen_by, tidied_by, edge_at, cleared, expired, expired_in, expire_record, tidied, settled}
+use Rattle.ts_spec.specs.Rules.{is_closed, has_any, has_members, is_row_by, raised, risen, high_by, risen_by, tidied_by, edge_at, cleared, expired, expired_in, expire_record, tidied, settled}
 use Rattle.ts_spec.specs.Valid.{IsUpTo}
 use Rattle.ts_spec.proofs.Maps.{get-each, maps-same}
 use Rattle.ts_spec.proofs.Links.{IsReshape}
@@ -73,11 +73,11 @@ risen-same (b ∷ bs) high h =
     later false y e = e
 
 -- the highest time of a destination is at least each closed bucket with counted samples
-pub high-covers : (o : Option Rule) (high : Option ℕ) (b : ℕ) → told_by o b ≡ true → IsUpTo (high_by o high) b
+pub high-covers : (o : Option Rule) (high : Option ℕ) (b : ℕ) → is_row_by o b ≡ true → IsUpTo (high_by o high) b
 high-covers None high b h = absurd (false≢true h)
 high-covers (Some r) high b h = risen-covers (filter (is_closed r) (starts r.grid r.seen)) b high (has-told r b ∙ h)
 
-pub high-same : (o : Option Rule) (high : Option ℕ) → ((b : ℕ) → told_by o b ≡ true → IsUpTo high b) → high_by o high ≡ high
+pub high-same : (o : Option Rule) (high : Option ℕ) → ((b : ℕ) → is_row_by o b ≡ true → IsUpTo high b) → high_by o high ≡ high
 high-same None high h = refl
 high-same (Some r) high h = risen-same (filter (is_closed r) (starts r.grid r.seen)) high (λ b k. h b (sym (has-told r b) ∙ k))
 
@@ -88,7 +88,7 @@ upto-high (Some r) high u h = upto-risen (filter (is_closed r) (starts r.grid r.
 -- ---- each record
 
 -- a rule without some of its counted samples tells less
-pub told-cleared : (test : ℕ → Bool) (o : Option Rule) (b : ℕ) → told_by (option_map (cleared test) o) b ≡ true → told_by o b ≡ true
+pub told-cleared : (test : ℕ → Bool) (o : Option Rule) (b : ℕ) → is_row_by (option_map (cleared test) o) b ≡ true → is_row_by o b ≡ true
 told-cleared test None b h = h
 told-cleared test (Some r) b h =
     let parts : (is_closed r b ≡ true) × (has_members (cleared test r) b ≡ true) = and_parts (is_closed r b) (has_members (cleared test r) b) h in
@@ -138,36 +138,36 @@ edge-expired m n k = ap edge_at (get-each (λ j d. expire_record m d) k n) ∙ g
     go None = refl
     go (Some d) = refl
 
-told-expired : (n : State) (o : Option Rule) (b : ℕ) → told_by (option_map (expired_in n) o) b ≡ true → told_by o b ≡ true
+told-expired : (n : State) (o : Option Rule) (b : ℕ) → is_row_by (option_map (expired_in n) o) b ≡ true → is_row_by o b ≡ true
 told-expired n None b h = h
 told-expired n (Some r) b h = told-cleared (λ c. nat_lt c (edge_at (get r.dest n))) (Some r) b h
 
 -- the test that a tidied record's own samples have passed
 abbrev pub stays : (low : ℕ) → Option Rule → ℕ → Bool
-stays low o t = nat_le low t && not (told_by o t)
+stays low o t = nat_le low t && not (is_row_by o t)
 
 -- a record that is tidied by a rule stays so by one that tells less
-tidied-again : (n : State) (o q : Option Rule) (d : Record) → ((b : ℕ) → told_by q b ≡ true → told_by o b ≡ true) →
+tidied-again : (n : State) (o q : Option Rule) (d : Record) → ((b : ℕ) → is_row_by q b ≡ true → is_row_by o b ≡ true) →
     tidied_by q (expire_record n (tidied_by o d)) ≡ expire_record n (tidied_by o d)
 tidied-again n o q d less =
     let high : high_by q (high_by o d.high) ≡ high_by o d.high = high-same q (high_by o d.high) (λ b h. high-covers o d.high b (less b h)) in
     let low : edge (risen_by q (tidied_by o d)) ≡ edge (risen_by o d) = ap (edge_of d.options.retention) high in
     let plain : at_times (stays (edge (risen_by q (tidied_by o d))) q) (at_times (stays (edge (risen_by o d)) o) d.plain) ≡ at_times (stays (edge (risen_by o d)) o) d.plain =
     times-within (stays (edge (risen_by q (tidied_by o d))) q) (stays (edge (risen_by o d)) o) d.plain
-    (λ t h. weaker t (and_parts (nat_le (edge (risen_by o d)) t) (not (told_by o t)) h) low) in
+    (λ t h. weaker t (and_parts (nat_le (edge (risen_by o d)) t) (not (is_row_by o t)) h) low) in
     λ i. record (expire_record n (tidied_by o d)) { high = high i; plain = plain i }
   where
-    fewer : (t : ℕ) → not (told_by o t) ≡ true → not (told_by q t) ≡ true
-    fewer t h = go (told_by q t) (told_by o t) refl refl h
+    fewer : (t : ℕ) → not (is_row_by o t) ≡ true → not (is_row_by q t) ≡ true
+    fewer t h = go (is_row_by q t) (is_row_by o t) refl refl h
       where
-        go : (x y : Bool) → told_by q t ≡ x → told_by o t ≡ y → not y ≡ true → not x ≡ true
+        go : (x y : Bool) → is_row_by q t ≡ x → is_row_by o t ≡ y → not y ≡ true → not x ≡ true
         go true true e f k = k
         go true false e f k = absurd (false≢true (sym f ∙ less t e))
         go false y e f k = refl
 
-    weaker : (t : ℕ) → (nat_le (edge (risen_by o d)) t ≡ true) × (not (told_by o t) ≡ true) → edge (risen_by q (tidied_by o d)) ≡ edge (risen_by o d) →
+    weaker : (t : ℕ) → (nat_le (edge (risen_by o d)) t ≡ true) × (not (is_row_by o t) ≡ true) → edge (risen_by q (tidied_by o d)) ≡ edge (risen_by o d) →
         stays (edge (risen_by q (tidied_by o d))) q t ≡ true
-    weaker t h low = and_from (nat_le (edge (risen_by q (tidied_by o d))) t) (not (told_by q t)) (ap (λ (x : ℕ). nat_le x t) low ∙ h.0) (fewer t h.1)
+    weaker t h low = and_from (nat_le (edge (risen_by q (tidied_by o d))) t) (not (is_row_by q t)) (ap (λ (x : ℕ). nat_le x t) low ∙ h.0) (fewer t h.1)
 
 -- what is settled is tidy
 pub settled-tidy : (m : State) → tidied (settled m) ≡ settled m
@@ -177,7 +177,7 @@ settled-tidy m = maps-same (tidied (settled m)) (settled m) (λ k. get-tidied (s
     go k None = refl
     go k (Some d) = ap (λ (x : Record). Some x)
         (tidied-again (tidied m) (rule_into m k) (rule_into (settled m) k) d
-        (λ b h. told-expired (tidied m) (rule_into m k) b (ap (λ (q : Option Rule). told_by q b) (sym (rule-settled m k)) ∙ h)))
+        (λ b h. told-expired (tidied m) (rule_into m k) b (ap (λ (q : Option Rule). is_row_by q b) (sym (rule-settled m k)) ∙ h)))
 
 -- expiry twice by the same edge is expiry once
 expired-twice : (low : ℕ) (r : Rule) → expired low (expired low r) ≡ expired low r

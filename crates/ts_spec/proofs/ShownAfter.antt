@@ -6,7 +6,7 @@ use Rattle.ts_spec.specs.Sample.{Point, at, at_times}
 use Rattle.ts_spec.specs.Bucket.{Grid, start, members}
 use Rattle.ts_spec.specs.State.{Rule, Record, edge, edge_of}
 use Rattle.ts_spec.specs.Aggregate.{aggregate}
-use Rattle.ts_spec.specs.Rules.{is_closed, has_any, is_told, bucket_sample, shown_by, cleared, high_by, tidied_by, expired}
+use Rattle.ts_spec.specs.Rules.{is_closed, has_any, has_row_of, bucket_sample, shown_by, cleared, high_by, tidied_by, expired}
 use Rattle.ts_spec.specs.Valid.{IsUpTo}
 use Rattle.ts_spec.proofs.Samples.{at-times}
 use Rattle.ts_spec.proofs.Shows.{at-shown}
@@ -34,7 +34,7 @@ members-cleared g gone b (p ∷ ps) = go (gone (start g p.time)) (start g p.time
 
 -- what a rule tells at a time
 abbrev pub tells : Rule → (born : ℕ) → ℕ → Option Point
-tells r born t = if is_told r t then Some (bucket_sample r born t) else None
+tells r born t = if has_row_of r t then Some (bucket_sample r born t) else None
 
 -- the sample of a bucket with these members
 abbrev pub sample_over : Rule → (born : ℕ) → ℕ → List Point → Point
@@ -54,7 +54,7 @@ tells-cleared test r born t =
     go false true = refl
     go false false = refl
 
-pub told-cleared_at : (test : ℕ → Bool) (r : Rule) (t : ℕ) → is_told (cleared test r) t ≡ (not (test t) && is_told r t)
+pub told-cleared_at : (test : ℕ → Bool) (r : Rule) (t : ℕ) → has_row_of (cleared test r) t ≡ (not (test t) && has_row_of r t)
 told-cleared_at test r t =
     ap (λ (ps : List Point). is_closed r t && has_any ps) (members-cleared r.grid (λ b. test b && is_closed r b) t r.seen) ∙ go (is_closed r t) (test t)
   where
@@ -73,7 +73,7 @@ tells-expired low r born t h =
 -- ---- a destination that a client changes
 
 -- the record is tidied by a cleared rule, and the rule expired: what is then shown at a time
-pub shown-tidied : (test : ℕ → Bool) (r : Rule) (d : Record) (t : ℕ) → ((b : ℕ) → is_told r b ≡ true → test b ≡ false → IsUpTo d.high b) →
+pub shown-tidied : (test : ℕ → Bool) (r : Rule) (d : Record) (t : ℕ) → ((b : ℕ) → has_row_of r b ≡ true → test b ≡ false → IsUpTo d.high b) →
     at t (shown_by (Some (expired (edge (tidied_by (Some (cleared test r)) d)) (cleared test r))) (tidied_by (Some (cleared test r)) d)) ≡
     (if nat_le (edge d) t then option_or (if test t then None else tells r d.born t) (at t d.plain) else None)
 shown-tidied test r d t up =
@@ -88,7 +88,7 @@ shown-tidied test r d t up =
         untrue true e = absurd (false≢true e)
         untrue false e = refl
 
-        covered : (b : ℕ) (x : Bool) → not (test b) ≡ x → (x && is_told r b) ≡ true → IsUpTo d.high b
+        covered : (b : ℕ) (x : Bool) → not (test b) ≡ x → (x && has_row_of r b) ≡ true → IsUpTo d.high b
         covered b true e y = up b y (untrue (test b) e)
         covered b false e y = absurd (false≢true y)
 
@@ -101,8 +101,8 @@ shown-tidied test r d t up =
     go false e = refl
     go true e =
         ap (λ (o : Option Point). option_or o (at t (at_times (stays (edge d) (Some (cleared test r))) d.plain))) (tells-expired (edge d) (cleared test r) d.born t e)
-        ∙ ap (option_or (tells (cleared test r) d.born t)) (at-times t (stays (edge d) (Some (cleared test r))) d.plain ∙ ap (λ (b : Bool). if b && not (is_told (cleared test r) t) then at t d.plain else None) e)
-        ∙ hidden (is_told (cleared test r) t)
+        ∙ ap (option_or (tells (cleared test r) d.born t)) (at-times t (stays (edge d) (Some (cleared test r))) d.plain ∙ ap (λ (b : Bool). if b && not (has_row_of (cleared test r) t) then at t d.plain else None) e)
+        ∙ hidden (has_row_of (cleared test r) t)
         ∙ ap (λ (o : Option Point). option_or o (at t d.plain)) (tells-cleared test r d.born t)
       where
         hidden : (c : Bool) → option_or (if c then Some (bucket_sample (cleared test r) d.born t) else None) (if not c then at t d.plain else None) ≡ option_or (if c then Some (bucket_sample (cleared test r) d.born t) else None) (at t d.plain)

@@ -5,7 +5,7 @@ use Rattle.std.proofs.lemmas.Bool.{false≢true}
 use Rattle.ts_spec.specs.Sample.{Point, IsAscending, at, put_all}
 use Rattle.ts_spec.specs.Bucket.{Grid, start, members, starts, with_start}
 use Rattle.ts_spec.specs.State.{Rule, Record, edge}
-use Rattle.ts_spec.specs.Rules.{is_closed, has_any, is_told, bucket_sample, closed_rows, shown_by}
+use Rattle.ts_spec.specs.Rules.{is_closed, has_any, has_row_of, bucket_sample, closed_rows, shown_by}
 use Rattle.ts_spec.proofs.Samples.{at-times, at-put_all, ascending-put_all, ascending-times}
 
 -- whether a number is in a list
@@ -52,7 +52,7 @@ has-filter test (c ∷ bs) b = go (test c) (c == b) (test b) refl refl refl (has
     go false false z e f h ih = rw (← h) ih
 
 -- the times of the samples that a rule tells
-pub has-told : (r : Rule) (b : ℕ) → has (filter (is_closed r) (starts r.grid r.seen)) b ≡ is_told r b
+pub has-told : (r : Rule) (b : ℕ) → has (filter (is_closed r) (starts r.grid r.seen)) b ≡ has_row_of r b
 has-told r b = has-filter (is_closed r) (starts r.grid r.seen) b ∙ ap (λ (x : Bool). is_closed r b && x) (has-starts r.grid r.seen b)
 
 at-samples : (r : Rule) (born t : ℕ) (bs : List ℕ) → at t (map (bucket_sample r born) bs) ≡ (if has bs t then Some (bucket_sample r born t) else None)
@@ -65,13 +65,13 @@ at-samples r born t (b ∷ bs) = go (b == t) refl (at-samples r born t bs)
     go false e ih = ih
 
 -- a closed bucket with counted samples tells one sample, at its start
-pub at-told : (r : Rule) (born t : ℕ) → at t (closed_rows r born) ≡ (if is_told r t then Some (bucket_sample r born t) else None)
+pub at-told : (r : Rule) (born t : ℕ) → at t (closed_rows r born) ≡ (if has_row_of r t then Some (bucket_sample r born t) else None)
 at-told r born t =
     at-samples r born t (filter (is_closed r) (starts r.grid r.seen)) ∙ ap (λ (x : Bool). if x then Some (bucket_sample r born t) else None) (has-told r t)
 
 -- the sample that a destination shows at a time
 pub at-shown : (r : Rule) (d : Record) (t : ℕ) → at t (shown_by (Some r) d) ≡
-    (if nat_le (edge d) t then option_or (if is_told r t then Some (bucket_sample r d.born t) else None) (at t d.plain) else None)
+    (if nat_le (edge d) t then option_or (if has_row_of r t then Some (bucket_sample r d.born t) else None) (at t d.plain) else None)
 at-shown r d t =
     at-times t (nat_le (edge d)) (put_all (closed_rows r d.born) d.plain)
     ∙ ap (λ (x : Option Point). if nat_le (edge d) t then x else None)

@@ -5,7 +5,7 @@ use Rattle.ts_spec.specs.Sample.{Point, at, at_times}
 use Rattle.ts_spec.specs.Key.{Key, same}
 use Rattle.ts_spec.specs.Keyed.{get, each}
 use Rattle.ts_spec.specs.State.{Rule, Record, State, Link, rule_to, link_to, rule_into, edge}
-use Rattle.ts_spec.specs.Rules.{told_by, risen_by, tidied_by, expire_record, tidied, settled}
+use Rattle.ts_spec.specs.Rules.{is_row_by, risen_by, tidied_by, expire_record, tidied, settled}
 use Rattle.ts_spec.specs.Valid.{IsUpTo}
 use Rattle.ts_spec.proofs.Keys.{same-true}
 use Rattle.ts_spec.proofs.Samples.{at-times}
@@ -30,13 +30,13 @@ record-expired m k d h e =
     some-same (expire_record m d) d (sym (get-to (λ j c. expire_record m c) k m d e) ∙ ap (get k) whole ∙ e)
 
 -- the highest time is at least each closed bucket with counted samples
-pub high-tidy : (m : State) (k : Key) (d : Record) (b : ℕ) → settled m ≡ m → get k m ≡ Some d → told_by (rule_into m k) b ≡ true → IsUpTo d.high b
+pub high-tidy : (m : State) (k : Key) (d : Record) (b : ℕ) → settled m ≡ m → get k m ≡ Some d → is_row_by (rule_into m k) b ≡ true → IsUpTo d.high b
 high-tidy m k d b h e t =
     subst (λ (x : Option ℕ). IsUpTo x b) (ap (λ (x : Record). x.high) (record-tidy m k d h e)) (high-covers (rule_into m k) d.high b t)
 
 -- none of its own samples is before the edge or at the start of such a bucket
 pub own-tidy : (m : State) (k : Key) (d : Record) (t : ℕ) (p : Point) → settled m ≡ m → get k m ≡ Some d → at t d.plain ≡ Some p →
-    (nat_le (edge d) t ≡ true) × (told_by (rule_into m k) t ≡ false)
+    (nat_le (edge d) t ≡ true) × (is_row_by (rule_into m k) t ≡ false)
 own-tidy m k d t p h e x =
     let tidy : tidied_by (rule_into m k) d ≡ d = record-tidy m k d h e in
     let plain : at_times (stays (edge (risen_by (rule_into m k) d)) (rule_into m k)) d.plain ≡ d.plain = ap (λ (y : Record). y.plain) tidy in
@@ -44,9 +44,9 @@ own-tidy m k d t p h e x =
     let passed : (if stays (edge (risen_by (rule_into m k) d)) (rule_into m k) t then at t d.plain else None) ≡ Some p =
     sym (at-times t (stays (edge (risen_by (rule_into m k) d)) (rule_into m k)) d.plain) ∙ ap (at t) plain ∙ x in
     let test : stays (edge (risen_by (rule_into m k) d)) (rule_into m k) t ≡ true = tested (stays (edge (risen_by (rule_into m k) d)) (rule_into m k) t) passed in
-    let parts : (nat_le (edge (risen_by (rule_into m k) d)) t ≡ true) × (not (told_by (rule_into m k) t) ≡ true) =
-    and_parts (nat_le (edge (risen_by (rule_into m k) d)) t) (not (told_by (rule_into m k) t)) test in
-    (ap (λ (y : ℕ). nat_le y t) (sym low) ∙ parts.0, untrue (told_by (rule_into m k) t) parts.1)
+    let parts : (nat_le (edge (risen_by (rule_into m k) d)) t ≡ true) × (not (is_row_by (rule_into m k) t) ≡ true) =
+    and_parts (nat_le (edge (risen_by (rule_into m k) d)) t) (not (is_row_by (rule_into m k) t)) test in
+    (ap (λ (y : ℕ). nat_le y t) (sym low) ∙ parts.0, untrue (is_row_by (rule_into m k) t) parts.1)
   where
     tested : (b : Bool) → (if b then at t d.plain else None) ≡ Some p → b ≡ true
     tested true y = refl

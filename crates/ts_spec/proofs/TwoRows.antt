@@ -122,14 +122,14 @@ two-rows from to ps born q order a =
     no_row : (t : ℕ) → members q.grid t (outside from to ps) ≡ [] → row t ≡ None
     no_row t e = ap (λ (qs : List Point). at t (bucket_row q.agg born t (summary (filter (λ p. nat_le q.made p.made) qs)))) e
 
-    nothing_told : (o : Option Point) → o ≡ None → (x y z : Bool) → None ≡ option_or (if x then o else None) (if y then None else (if z then o else None))
-    nothing_told None e true true z = refl
-    nothing_told None e true false true = refl
-    nothing_told None e true false false = refl
-    nothing_told None e false true z = refl
-    nothing_told None e false false true = refl
-    nothing_told None e false false false = refl
-    nothing_told (Some p) e x y z = absurd (cc e)
+    no_rows_shown : (o : Option Point) → o ≡ None → (x y z : Bool) → None ≡ option_or (if x then o else None) (if y then None else (if z then o else None))
+    no_rows_shown None e true true z = refl
+    no_rows_shown None e true false true = refl
+    no_rows_shown None e true false false = refl
+    no_rows_shown None e false true z = refl
+    no_rows_shown None e false false true = refl
+    no_rows_shown None e false false false = refl
+    no_rows_shown (Some p) e x y z = absurd (cc e)
 
     first_told : (o : Option Point) (y z : Bool) → o ≡ option_or o (if y then None else (if z then o else None))
     first_told None true z = refl
@@ -152,7 +152,7 @@ two-rows from to ps born q order a =
         none false y true = refl
         none false true false = refl
         none false false false = refl
-    go t true e [] f x u y w z k = nothing_told (row t) (no_row t f) (x && true) z (y && true)
+    go t true e [] f x u y w z k = no_rows_shown (row t) (no_row t f) (x && true) z (y && true)
     go t true e (p ∷ qs) f true u y w z k = first_told (row t) z (y && true)
     go t true e (p ∷ qs) f false u true w true k = absurd (false≢true (sym u ∙ eq-eqb (start q.grid from) t (eqb-true (start q.grid from) (start q.grid to) k ∙ eqb-true (start q.grid to) t w)))
     go t true e (p ∷ qs) f false u true w false k = refl

@@ -6,7 +6,7 @@ use Rattle.ts_spec.specs.Command.{Create, MRange, MGet, QueryIndex, All, Selecte
 use Rattle.ts_spec.specs.Filter.{Among, NotAmong, Absent}
 use Rattle.ts_spec.specs.FilterText.{filter_of}
 use Rattle.ts_spec.specs.Grammar.{commands, command}
-use Rattle.ts_spec.specs.ManySeries.{filter_word, series_told, last_options, many_options}
+use Rattle.ts_spec.specs.ManySeries.{filter_word, shown_options, last_options, many_options}
 use Rattle.ts_spec.specs.Ranges.{range_options, count_word}
 use Rattle.ts_spec.specs.Refusal.{BadOption, RepeatedOption, BadLabels, BadFilter, NoPositiveFilter}
 use Rattle.ts_spec.specs.SeriesOptions.{series_options, alter_options, retention_word}
@@ -40,19 +40,19 @@ an_empty_value = refl
 pub ranges : command (codes "TS.MREVRANGE" ∷ codes "-" ∷ codes "9" ∷ codes "FILTER" ∷ codes "a=x" ∷ codes "b!=y" ∷ codes "SELECTED_LABELS" ∷ codes "a" ∷ codes "zone" ∷ codes "COUNT" ∷ codes "3" ∷ [])
     ≡ Ok (MRange false (Selected (codes "a" ∷ codes "zone" ∷ [])) (Among (codes "a") (codes "x" ∷ []) ∷ NotAmong (codes "b") (codes "y" ∷ []) ∷ [])
     (record (question 0 9 None) { count = Some 3; reverse = true }))
-unfolding commands end_word time_word many_options series_told range_options filter_word filter_of count_word
+unfolding commands end_word time_word many_options shown_options range_options filter_word filter_of count_word
 ranges = refl
 
 pub the_last_ones : command (codes "ts.mget" ∷ codes "WITHLABELS" ∷ codes "FILTER" ∷ codes "a=x" ∷ []) ≡ Ok (MGet false All (Among (codes "a") (codes "x" ∷ []) ∷ []))
-unfolding commands last_options series_told filter_word filter_of
+unfolding commands last_options shown_options filter_word filter_of
 the_last_ones = refl
 
 pub no_filter : command (codes "TS.MGET" ∷ codes "WITHLABELS" ∷ codes "SELECTED_LABELS" ∷ []) ≡ Err RepeatedOption
-unfolding commands last_options series_told
+unfolding commands last_options shown_options
 no_filter = refl
 
 pub filters_are_needed : command (codes "TS.MRANGE" ∷ codes "-" ∷ codes "+" ∷ codes "COUNT" ∷ codes "3" ∷ []) ≡ Err BadOption
-unfolding commands end_word many_options series_told range_options count_word
+unfolding commands end_word many_options shown_options range_options count_word
 filters_are_needed = refl
 
 pub none_is_positive : command (codes "TS.QUERYINDEX" ∷ codes "a!=x" ∷ codes "b=" ∷ []) ≡ Err NoPositiveFilter

@@ -5,7 +5,7 @@ use Rattle.ts_spec.specs.Command.{CreateRule, DeleteRule, Get, MGet, InfoOf, Not
 use Rattle.ts_spec.specs.Filter.{Among}
 use Rattle.ts_spec.specs.FilterText.{filter_of}
 use Rattle.ts_spec.specs.Grammar.{commands, command}
-use Rattle.ts_spec.specs.ManySeries.{filter_word, series_told, last_options}
+use Rattle.ts_spec.specs.ManySeries.{filter_word, shown_options, last_options}
 use Rattle.ts_spec.specs.Names.{aggregators}
 use Rattle.ts_spec.specs.Ranges.{aggregator_word, duration_word, range_options}
 use Rattle.ts_spec.specs.Refusal.{Arity, BadOption, BadTimestamp, BadDuration, UnknownAggregator, AggregatorNotInProfile, RepeatedOption}
@@ -58,7 +58,7 @@ unfolding commands
 the_open_bucket_too = refl
 
 pub open_buckets_of_many : command (codes "TS.MGET" ∷ codes "LATEST" ∷ codes "FILTER" ∷ codes "a=x" ∷ []) ≡ Ok (MGet true Nothing (Among (codes "a") (codes "x" ∷ []) ∷ []))
-unfolding commands last_options series_told filter_word filter_of
+unfolding commands last_options shown_options filter_word filter_of
 open_buckets_of_many = refl
 
 pub asked_twice : command (codes "TS.RANGE" ∷ codes "d" ∷ codes "-" ∷ codes "+" ∷ codes "LATEST" ∷ codes "LATEST" ∷ []) ≡ Err RepeatedOption

@@ -75,14 +75,14 @@ ends_between g from to None last = []
 ends_between g from to (Some p) None = []
 ends_between g from to (Some p) (Some q) = starts_between g (max from p.time) (min to q.time)
 
-abbrev pub starts_told : Query → Buckets → (asked chosen : List Point) → List ℕ
-starts_told q bs asked chosen =
+abbrev pub starts_of_rows : Query → Buckets → (asked chosen : List Point) → List ℕ
+starts_of_rows q bs asked chosen =
     if bs.empty then ends_between bs.grid q.from q.to (first_of asked) (last_of asked) else starts bs.grid chosen
 
 -- the rows before they are turned round and cut off
 abbrev pub rows_of : Option Buckets → Query → List Point → List Row
 rows_of None q asked = map row_of (selected q asked)
-rows_of (Some bs) q asked = map (bucket_row bs asked (selected q asked)) (starts_told q bs asked (selected q asked))
+rows_of (Some bs) q asked = map (bucket_row bs asked (selected q asked)) (starts_of_rows q bs asked (selected q asked))
 
 -- the rows, the last one first where that is asked
 abbrev pub turned : Bool → List Row → List Row

@@ -14,7 +14,7 @@ use Rattle.ts_spec.specs.Outcome.{time_of}
 use Rattle.ts_spec.specs.Questions.{rows_response, labels_shown, members_response, last_row, row_list, time_or_0, ping_response}
 use Rattle.ts_spec.specs.Kept.{KeptRule, Kept, Keeping}
 use Rattle.ts_spec.specs.Mending.{bucket_row, kept_rule_to}
-use Rattle.ts_spec.specs.KeptStep.{KeptOutcome, kept_told, kept_edge, list_at, kept_rules_at, kept_create, kept_alter_at, kept_add_at, kept_madd, kept_incr_at, kept_delete_at, kept_create_rule, kept_delete_rule_at, kept_drop_keys, kept_count_there}
+use Rattle.ts_spec.specs.KeptStep.{KeptOutcome, unchanged_with, kept_edge, list_at, kept_rules_at, kept_create, kept_alter_at, kept_add_at, kept_madd, kept_incr_at, kept_delete_at, kept_create_rule, kept_delete_rule_at, kept_drop_keys, kept_count_there}
 
 -- the rule that leads to a key, by the key of its source
 abbrev pub rule_from : Keeping → Key → Option Key → Option KeptRule
@@ -105,14 +105,14 @@ kept_step limits m reading (Incr key change at spec) = kept_incr_at limits m key
 kept_step limits m reading (DelRange key from to) = kept_delete_at limits m key from to (get key m)
 kept_step limits m reading (CreateRule source dest agg grid) = kept_create_rule limits m source dest agg grid
 kept_step limits m reading (DeleteRule source dest) = kept_delete_rule_at m source dest (get source m)
-kept_step limits m reading (Range key latest q) = kept_told m (kept_range_response limits m key latest q (get key m))
-kept_step limits m reading (MRange latest show filters q) = kept_told m (members_response (kept_members_of limits m latest show q (kept_selection m filters)))
-kept_step limits m reading (Get key latest) = kept_told m (kept_last_response m key latest (get key m))
-kept_step limits m reading (MGet latest show filters) = kept_told m (LastRows (map (kept_last_member m latest show) (kept_selection m filters)))
-kept_step limits m reading (QueryIndex filters) = kept_told m (Keys (kept_selection m filters))
-kept_step limits m reading (InfoOf key) = kept_told m (kept_info_response (get key m))
-kept_step limits m reading (Ping word) = kept_told m (ping_response word)
-kept_step limits m reading (Echo word) = kept_told m (Word word)
-kept_step limits m reading Quit = kept_told m Done
+kept_step limits m reading (Range key latest q) = unchanged_with m (kept_range_response limits m key latest q (get key m))
+kept_step limits m reading (MRange latest show filters q) = unchanged_with m (members_response (kept_members_of limits m latest show q (kept_selection m filters)))
+kept_step limits m reading (Get key latest) = unchanged_with m (kept_last_response m key latest (get key m))
+kept_step limits m reading (MGet latest show filters) = unchanged_with m (LastRows (map (kept_last_member m latest show) (kept_selection m filters)))
+kept_step limits m reading (QueryIndex filters) = unchanged_with m (Keys (kept_selection m filters))
+kept_step limits m reading (InfoOf key) = unchanged_with m (kept_info_response (get key m))
+kept_step limits m reading (Ping word) = unchanged_with m (ping_response word)
+kept_step limits m reading (Echo word) = unchanged_with m (Word word)
+kept_step limits m reading Quit = unchanged_with m Done
 kept_step limits m reading (Drop keys) = kept_drop_keys m 0 keys
-kept_step limits m reading (Exists keys) = kept_told m (Count (kept_count_there m keys))
+kept_step limits m reading (Exists keys) = unchanged_with m (Count (kept_count_there m keys))

@@ -32,8 +32,8 @@ pub record KeptOutcome : Type 0 where
 abbrev pub kept_refused : Keeping → Refusal → KeptOutcome
 kept_refused m refusal = record { keys = m; response = Refused refusal }
 
-abbrev pub kept_told : Keeping → Response → KeptOutcome
-kept_told m response = record { keys = m; response = response }
+abbrev pub unchanged_with : Keeping → Response → KeptOutcome
+unchanged_with m response = record { keys = m; response = response }
 
 -- the earliest time that a key keeps
 abbrev pub kept_edge : Kept → ℕ
@@ -87,7 +87,7 @@ kept_within_samples limits m key done =
 
 abbrev pub kept_write_merged : Limits → Keeping → Key → ℕ → Merged → KeptOutcome
 kept_write_merged limits m key t (Refuse refusal) = kept_refused m refusal
-kept_write_merged limits m key t Keep = kept_told m (Count t)
+kept_write_merged limits m key t Keep = unchanged_with m (Count t)
 kept_write_merged limits m key t (To v) = kept_within_samples limits m key (record { keys = keep_written key t v m; response = Count t })
 
 abbrev pub kept_write : Limits → Keeping → Key → Kept → Merge → ℕ → ℤ → KeptOutcome
@@ -108,12 +108,12 @@ kept_put_at limits m key t v (Some d) = kept_write limits m key d (By d.options.
 
 -- a triple of TS.MADD, unless its time or its value is none
 abbrev pub kept_triple : Limits → Keeping → (reading : ℕ) → Key → Result At Fault → Result ℤ Fault → KeptOutcome
-kept_triple limits m reading key (Err fault) value = kept_told m (Items (IsWrong fault ∷ []))
-kept_triple limits m reading key (Ok at) (Err fault) = kept_told m (Items (IsWrong fault ∷ []))
+kept_triple limits m reading key (Err fault) value = unchanged_with m (Items (IsWrong fault ∷ []))
+kept_triple limits m reading key (Ok at) (Err fault) = unchanged_with m (Items (IsWrong fault ∷ []))
 kept_triple limits m reading key (Ok at) (Ok v) = kept_put_at limits m key (time_of reading at) v (get key m)
 
 abbrev pub kept_madd : Limits → Keeping → (reading : ℕ) → (so_far : List Item) → List Triple → KeptOutcome
-kept_madd limits m reading so_far [] = kept_told m (Items so_far)
+kept_madd limits m reading so_far [] = unchanged_with m (Items so_far)
 kept_madd limits m reading so_far (x ∷ xs) =
     let done : KeptOutcome = kept_triple limits m reading x.key x.at x.value in
     kept_madd limits done.keys reading (so_far ++ item_of done.response) xs
@@ -136,7 +136,7 @@ kept_meets_expired from low (q ∷ qs) = nat_lt (start q.grid from) low || kept_
 abbrev pub kept_delete_at : Limits → Keeping → Key → (from to : ℕ) → Option Kept → KeptOutcome
 kept_delete_at limits m key from to None = kept_refused m NoKey
 kept_delete_at limits m key from to (Some d) =
-    if nat_lt to from then kept_told m (Count 0)
+    if nat_lt to from then unchanged_with m (Count 0)
     else (if kept_meets_expired from (kept_edge d) d.rules then kept_refused m DeleteBeyondRetention
     else kept_within_destinations limits m key (record { keys = keep_deleted key from to m; response = Count (length (between from to d.list)) }))
 
@@ -168,7 +168,7 @@ kept_delete_rule_at m source dest (Some d) =
     if is_some (kept_rule_to dest d.rules) then record { keys = keep_without_rule source dest m; response = Done } else kept_refused m NoRule
 
 abbrev pub kept_drop_keys : Keeping → (so_far : ℕ) → List Key → KeptOutcome
-kept_drop_keys m so_far [] = kept_told m (Count so_far)
+kept_drop_keys m so_far [] = unchanged_with m (Count so_far)
 kept_drop_keys m so_far (k ∷ ks) =
     let there : Bool = is_some (get k m) in
     kept_drop_keys (if there then keep_dropped k m else m) (if there then so_far + 1 else so_far) ks

@@ -42,8 +42,8 @@ abbrev pub filter : Setting
 filter = some_words (λ given. is_some given.filters) (λ words given. and_then (filters_of words) (λ fs. Ok (record given { filters = Some fs })))
 
 -- the options that say which series, and which labels
-unfoldable pub series_told : Table Setting
-series_told =
+unfoldable pub shown_options : Table Setting
+shown_options =
     (codes "WITHLABELS", with_labels)
     ∷ (codes "SELECTED_LABELS", selected_labels)
     ∷ (codes "FILTER", filter)
@@ -51,11 +51,11 @@ series_told =
 
 -- those of a question about the last samples of many series
 unfoldable pub last_options : Table Setting
-last_options = (codes "LATEST", latest) ∷ series_told
+last_options = (codes "LATEST", latest) ∷ shown_options
 
 -- those of a question over the intervals of many series
 unfoldable pub many_options : Table Setting
-many_options = series_told ++ range_options
+many_options = shown_options ++ range_options
 
 -- ---- what is asked
 

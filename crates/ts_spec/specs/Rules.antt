@@ -7,7 +7,7 @@ use Rattle.ts_spec.specs.Keyed.{get, each, without_key}
 use Rattle.ts_spec.specs.State.{Rule, Record, State, Link, link_to, rule_into, change, edge}
 pub use Rattle.ts_spec.specs.Counting.{is_eligible, taken_anew, touched, raised, is_append, counted_samples, counted, write_touches, list_any, meets}
 pub use Rattle.ts_spec.specs.Merging.{within_bound, merge_by, merge, Merged, Refuse, Keep, To}
-pub use Rattle.ts_spec.specs.Shown.{open_of, is_past, is_closed, has_any, has_members, is_told, bucket_sample, closed_rows, shown_by, opened, latest_by, shown_at, latest_at, shown, latest}
+pub use Rattle.ts_spec.specs.Shown.{open_of, is_past, is_closed, has_any, has_members, has_row_of, bucket_sample, closed_rows, shown_by, opened, latest_by, shown_at, latest_at, shown, latest}
 
 -- ---- parts of a command
 
@@ -66,9 +66,9 @@ clear_into key test m = each (λ k d. clear_record key test d) m
 -- ---- what follows each command
 
 -- whether a rule, if there is one, tells a sample at this time
-abbrev pub told_by : Option Rule → ℕ → Bool
-told_by None t = false
-told_by (Some r) t = is_told r t
+abbrev pub is_row_by : Option Rule → ℕ → Bool
+is_row_by None t = false
+is_row_by (Some r) t = has_row_of r t
 
 -- the highest time, raised to these
 abbrev pub risen : Option ℕ → List ℕ → Option ℕ
@@ -86,7 +86,7 @@ risen_by r d = record d { high = high_by r d.high }
 
 -- and without its own samples at the starts of such buckets, and without those before its edge
 abbrev pub tidied_by : Option Rule → Record → Record
-tidied_by r d = record d { high = high_by r d.high; plain = at_times (λ t. nat_le (edge (risen_by r d)) t && not (told_by r t)) d.plain }
+tidied_by r d = record d { high = high_by r d.high; plain = at_times (λ t. nat_le (edge (risen_by r d)) t && not (is_row_by r t)) d.plain }
 
 -- the edge of the record at a key
 abbrev pub edge_at : Option Record → ℕ

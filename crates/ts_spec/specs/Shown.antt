@@ -32,8 +32,8 @@ abbrev pub has_members : Rule → ℕ → Bool
 has_members r b = has_any (members r.grid b r.seen)
 
 -- whether a closed bucket with counted samples starts at this time
-abbrev pub is_told : Rule → ℕ → Bool
-is_told r b = is_closed r b && has_members r b
+abbrev pub has_row_of : Rule → ℕ → Bool
+has_row_of r b = is_closed r b && has_members r b
 
 -- the sample that a bucket gives to a destination with this many rules ever made
 abbrev pub bucket_sample : Rule → (born : ℕ) → ℕ → Point

@@ -20,15 +20,15 @@ abbrev pub link_line_of : (link executed : ℕ) → LinkEnd → List ℕ
 link_line_of link executed how = ended (codes "link " ++ decimal link ++ codes " executed " ++ decimal executed ++ codes " " ++ word_of how)
 
 -- a word and a number
-abbrev pub told : List ℕ → ℕ → List ℕ
-told word number = ended (word ++ codes " " ++ decimal number)
+abbrev pub summary_line : List ℕ → ℕ → List ℕ
+summary_line word number = ended (word ++ codes " " ++ decimal number)
 
 -- the summary of a workload: its six numbers in their order
 abbrev pub summary_of : List ℕ → List ℕ
 summary_of numbers =
-    told (codes "requests") (slice_index numbers 0)
-    ++ told (codes "in") (slice_index numbers 1)
-    ++ told (codes "out") (slice_index numbers 2)
-    ++ told (codes "errors") (slice_index numbers 3)
-    ++ told (codes "keys") (slice_index numbers 4)
-    ++ told (codes "samples") (slice_index numbers 5)
+    summary_line (codes "requests") (slice_index numbers 0)
+    ++ summary_line (codes "in") (slice_index numbers 1)
+    ++ summary_line (codes "out") (slice_index numbers 2)
+    ++ summary_line (codes "errors") (slice_index numbers 3)
+    ++ summary_line (codes "keys") (slice_index numbers 4)
+    ++ summary_line (codes "samples") (slice_index numbers 5)

@@ -1,5 +1,5 @@
 ghost use Rattle.std.specs.Prelude.{◌≡◌, ◌+◌, ◌≤◌, ◌++◌, length, take};
-ghost use Rattle.ts_words.specs.Lines.{told, summary_of};
+ghost use Rattle.ts_words.specs.Lines.{summary_line, summary_of};
 
 use crate::room::{put, put_number};
 
@@ -8,19 +8,19 @@ use crate::room::{put, put_number};
 pub fn summary<'a>(numbers: &[u64; 6], room: &'a mut [u8; 192]) -> &'a [u8]
     ensures { result.now ≡ summary_of numbers.now }
 {
-    let at = put_told(room, 0, b"requests", numbers[0]);
-    let at = put_told(room, at, b"in", numbers[1]);
-    let at = put_told(room, at, b"out", numbers[2]);
-    let at = put_told(room, at, b"errors", numbers[3]);
-    let at = put_told(room, at, b"keys", numbers[4]);
-    let at = put_told(room, at, b"samples", numbers[5]);
+    let at = put_summary_line(room, 0, b"requests", numbers[0]);
+    let at = put_summary_line(room, at, b"in", numbers[1]);
+    let at = put_summary_line(room, at, b"out", numbers[2]);
+    let at = put_summary_line(room, at, b"errors", numbers[3]);
+    let at = put_summary_line(room, at, b"keys", numbers[4]);
+    let at = put_summary_line(room, at, b"samples", numbers[5]);
     &room[..at]
 }
 
 // Puts a line of a word and a number at a place of the room, and gives the place after it.
-fn put_told(room: &mut [u8; 192], at: usize, word: &[u8], number: u64) -> usize
+fn put_summary_line(room: &mut [u8; 192], at: usize, word: &[u8], number: u64) -> usize
     requires { at + length word.now + 22 ≤ 192 }
-    ensures text { take result room.new ≡ take at room.old ++ told word.now number }
+    ensures text { take result room.new ≡ take at room.old ++ summary_line word.now number }
     ensures after { result ≤ at + length word.now + 22 }
 {
     let at = put(room, at, word);

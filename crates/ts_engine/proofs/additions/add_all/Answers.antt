@@ -4,7 +4,7 @@ use Rattle.std.specs.Vec.Iter.{into_iter_items}
 use Rattle.ts_spec.specs.Text.{line_text}
 use Rattle.ts_command.specs.Reading.{triple_of, triples_of}
 use Rattle.ts_resp.specs.Replies.{reply_of}
-use Rattle.ts_engine.proofs.Items.{each_none, adding_more, each_told, length-triples, no_items}
+use Rattle.ts_engine.proofs.Items.{each_none, adding_more, each_triple_answered, length-triples, no_items}
 use Rattle.ts_engine.proofs.Short.{short_head}
 use Rattle.ts_engine.proofs.additions.add_all.Goals as goal
 
@@ -55,5 +55,5 @@ loop-triple-preserved-in-Some-3 g c =
 pub returns-clause-reply : goal.returns-clause-reply
 returns-clause-reply g c =
     let none : into_iter_items c.loop-triple.triple-iterator ≡ [] = no_items (into_iter_items c.loop-triple.triple-iterator) (omega (arith, c.in-None.ensures.steps.0, c.loop-triple.triple-iterator.rest.ok.0)) in
-    each_told c.args.reading (triples_of c.args.triples.items) (triples_of (into_iter_items c.loop-triple.triple-iterator)) c.args.db.now c.loop-triple.db c.loop-triple.out.bytes
+    each_triple_answered c.args.reading (triples_of c.args.triples.items) (triples_of (into_iter_items c.loop-triple.triple-iterator)) c.args.db.now c.loop-triple.db c.loop-triple.out.bytes
     c.loop-triple.invariant.so_far (ap triples_of none)

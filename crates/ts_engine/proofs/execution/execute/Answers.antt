@@ -17,7 +17,7 @@ use Rattle.ts_spec.specs.Response.{Word}
 use Rattle.ts_spec.specs.Step.{time_of, create, alter_at, add_at, incr_at, delete_at, create_rule, drop_keys, count_there}
 use Rattle.ts_db.specs.Held.{Held, Stands, Carries}
 use Rattle.ts_engine.specs.Turn.{IsStep, StepOrMemory}
-use Rattle.ts_engine.proofs.Executed.{alone, step_executes, sure_executes, told_executes, asks_execute, pings_execute}
+use Rattle.ts_engine.proofs.Executed.{alone, step_executes, sure_executes, executes_with, asks_execute, pings_execute}
 use Rattle.ts_engine.proofs.execution.execute.Goals as goal
 
 pub returns-in-Create-clause-executes : goal.returns-in-Create-clause-executes
@@ -111,7 +111,7 @@ returns-in-Echo-clause-executes g c =
 
 pub returns-in-Quit-clause-executes : goal.returns-in-Quit-clause-executes
 returns-in-Quit-clause-executes g c =
-    rw c.in-Quit.is (told_executes c.args.reading Quit c.args.db.now (reply_of c.ok.result) c.put-in-Quit.new.out.bytes (λ from stands. record { says = c.ok.ensures; state = refl; limits = refl })
+    rw c.in-Quit.is (executes_with c.args.reading Quit c.args.db.now (reply_of c.ok.result) c.put-in-Quit.new.out.bytes (λ from stands. record { says = c.ok.ensures; state = refl; limits = refl })
     (alone (reply_of c.ok.result) c.clear.new.self.bytes c.put-in-Quit.new.out.bytes c.put-in-Quit.ensures.bytes c.clear.ensures.empty))
 
 pub returns-in-Drop-clause-executes : goal.returns-in-Drop-clause-executes
@@ -122,7 +122,7 @@ returns-in-Drop-clause-executes g c =
 
 pub returns-in-Exists-clause-executes : goal.returns-in-Exists-clause-executes
 returns-in-Exists-clause-executes g c =
-    rw c.in-Exists.is (told_executes c.args.reading (Exists c.in-Exists.keys.items) c.args.db.now (reply_of c.count_keys.result) c.put-in-Exists.new.out.bytes
+    rw c.in-Exists.is (executes_with c.args.reading (Exists c.in-Exists.keys.items) c.args.db.now (reply_of c.count_keys.result) c.put-in-Exists.new.out.bytes
     (λ from stands. record {
       says = c.count_keys.ensures.answer from stands ∙ ap (λ (keys : List Key). number (count_there from.state keys)) c.deref-in-Exists.ensures.value;
       state = refl;

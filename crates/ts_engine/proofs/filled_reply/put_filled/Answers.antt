@@ -15,14 +15,14 @@ use Rattle.ts_engine.specs.Answering.{IsReplyText}
 use Rattle.ts_engine.proofs.Executed.{alone}
 use Rattle.ts_engine.proofs.Finding.{asked_stands, finds_none}
 use Rattle.ts_engine.proofs.Handing.{answer_here}
-use Rattle.ts_engine.proofs.Refusals.{lost_told}
+use Rattle.ts_engine.proofs.Refusals.{missing_key_response}
 use Rattle.ts_engine.proofs.filled_reply.put_filled.Goals as goal
 
 pub returns-in-None-clause-reply : goal.returns-in-None-clause-reply
 returns-in-None-clause-reply g c = λ from stands.
     let q = query_of c.args.query.now in
     let key = c.args.key.now in
-    lost_told (range_response from.limits from.state key c.args.latest q) (get key from.state) (λ (a : Asked). ⊤) NoKey
+    missing_key_response (range_response from.limits from.state key c.args.latest q) (get key from.state) (λ (a : Asked). ⊤) NoKey
     c.args.db.now.ids c.put.new.out.bytes refl
     (finds_none (get key from.state) (λ (a : Asked). ⊤)
     (ap is_some (sym c.in-None.is) ∙ there-law c.args.db.now key (is_some c.id_of.result) c.id_of.ensures.there from stands))

@@ -9,7 +9,7 @@ use Rattle.ts_db.specs.declared.info.Info.{Info}
 use Rattle.ts_resp.specs.Replies.{reply_of}
 use Rattle.ts_engine.proofs.Executed.{alone}
 use Rattle.ts_engine.proofs.Finding.{found}
-use Rattle.ts_engine.proofs.Refusals.{lost_told}
+use Rattle.ts_engine.proofs.Refusals.{missing_key_response}
 use Rattle.ts_engine.proofs.info.put_info.Goals as goal
 
 pub returns-in-Ok-info_reply-clause-reply : goal.returns-in-Ok-info_reply-clause-reply
@@ -21,6 +21,6 @@ returns-in-Ok-info_reply-clause-reply g c = λ from stands.
 
 pub returns-in-Err-clause-reply : goal.returns-in-Err-clause-reply
 returns-in-Err-clause-reply g c = λ from stands.
-    lost_told (info_response from.state c.args.key.now) (get c.args.key.now from.state)
+    missing_key_response (info_response from.state c.args.key.now) (get c.args.key.now from.state)
     (λ (info : Info). Told (info_of info) ≡ info_response from.state c.args.key.now (get c.args.key.now from.state)) c.in-Err.fault c.args.db.now.ids c.put.new.out.bytes refl (c.in-Err.ensures.info from stands)
     (alone (reply_of c.refusal_reply.result) c.args.out.now.bytes c.put.new.out.bytes c.put.ensures.bytes c.requires.empty ∙ ap text (c.refusal_reply.ensures.reply c.args.db.now.ids))

@@ -3,12 +3,12 @@ use Rattle.ts_spec.specs.Text.{text}
 use Rattle.ts_resp.specs.Replies.{reply_of}
 use Rattle.ts_engine.specs.Answering.{IsShort}
 use Rattle.ts_command.specs.Reading.{command_of}
-use Rattle.ts_engine.proofs.Faulted.{faulted_no_quit, short_told}
+use Rattle.ts_engine.proofs.Faulted.{faulted_no_quit, message_is_short}
 use Rattle.ts_engine.proofs.Turned.{turns_by, turns_faulted}
 use Rattle.ts_engine.proofs.turn.take_command.Goals as goal
 
 pub put-requires : goal.put-requires
-put-requires g c = omega (arith, subst IsShort (sym c.fault_reply.ensures) (short_told c.in-Err.fault), c.clear.ensures.room, c.requires)
+put-requires g c = omega (arith, subst IsShort (sym c.fault_reply.ensures) (message_is_short c.in-Err.fault), c.clear.ensures.room, c.requires)
 
 pub returns-in-Err-clause-turn : goal.returns-in-Err-clause-turn
 returns-in-Err-clause-turn g c =

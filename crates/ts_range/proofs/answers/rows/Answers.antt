@@ -10,7 +10,7 @@ use Rattle.ts_range.specs.declared.query.Query.{Query}
 use Rattle.ts_range.specs.Query.{buckets_of, query_of}
 use Rattle.ts_range.specs.Filters.{passes}
 use Rattle.ts_range.specs.Starts.{starts_within}
-use Rattle.ts_range.specs.Told.{rows_told}
+use Rattle.ts_range.specs.BucketRows.{bucket_rows}
 use Rattle.ts_range.specs.Walking.{rows_chosen}
 use Rattle.ts_range.proofs.Whole.{rows-single, rows-told, rows-all}
 use Rattle.ts_range.proofs.answers.rows.Goals as goal
@@ -59,7 +59,7 @@ returns-else-buckets c = λ l rises is.
     (λ rows told.
     told
     ∙ ap (λ (o : Option Buckets). spec.first_ones q.count (spec.turned q.reverse (rows_chosen (option_map buckets_of o) l (filter (passes c.in_ok-filters.filters) c.deref-else-buckets.result.now)))) c.in-Some-buckets.is
-    ∙ ap (λ (ps : List Point). spec.first_ones q.count (spec.turned q.reverse (rows_told bs l (filter (passes c.in_ok-filters.filters) ps)))) samples
-    ∙ ap (λ (ps : List Point). spec.first_ones q.count (spec.turned q.reverse (rows_told bs l ps))) lets
+    ∙ ap (λ (ps : List Point). spec.first_ones q.count (spec.turned q.reverse (bucket_rows bs l (filter (passes c.in_ok-filters.filters) ps)))) samples
+    ∙ ap (λ (ps : List Point). spec.first_ones q.count (spec.turned q.reverse (bucket_rows bs l ps))) lets
     ∙ sym (rows-told q l bs (ap (option_map buckets_of) c.in-Some-buckets.is) c.if-buckets.false))
     (c.walked_rows-else-buckets.ensures l)

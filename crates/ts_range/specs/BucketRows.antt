@@ -8,14 +8,14 @@ use Rattle.ts_spec.specs.Command.{Buckets}
 use Rattle.ts_spec.specs.Answer.{Row, Number, bucket_row}
 
 -- what an aggregator tells of these samples, if there are any
-abbrev pub told_of : Aggregator → List Point → Option ℤ
-told_of a [] = None
-told_of a (p ∷ ps) = Some (aggregate a (p ∷ ps))
+abbrev pub value_of_bucket : Aggregator → List Point → Option ℤ
+value_of_bucket a [] = None
+value_of_bucket a (p ∷ ps) = Some (aggregate a (p ∷ ps))
 
 -- the row of a bucket that begins there and has these samples
 abbrev pub row_with : Buckets → ℕ → List Point → Row
 row_with bs b ps = record { time = stamp bs.grid b bs.stamp; value = Number (aggregate bs.agg ps) }
 
 -- the rows of the buckets of these samples
-abbrev pub rows_told : Buckets → (asked chosen : List Point) → List Row
-rows_told bs asked chosen = map (bucket_row bs asked chosen) (starts bs.grid chosen)
+abbrev pub bucket_rows : Buckets → (asked chosen : List Point) → List Row
+bucket_rows bs asked chosen = map (bucket_row bs asked chosen) (starts bs.grid chosen)
