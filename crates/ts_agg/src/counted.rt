@@ -1,3 +1,4 @@
+// What a rule counts of its source's samples, by a visitor over them.
 ghost use Rattle.std.specs.Prelude.{◌≡◌, List, nat_le, filter};
 ghost use Rattle.ts_spec.specs.Sample.{Point};
 ghost use Rattle.ts_spec.specs.Aggregate.{nothing, summary};

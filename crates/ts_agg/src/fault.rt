@@ -1,3 +1,4 @@
+// Why a name is no aggregator's.
 use thiserror::Error;
 
 /// Why a name names no aggregator of this server.

@@ -1,3 +1,4 @@
+// The names of aggregators, and how a word is looked up in a table of names.
 ghost use Rattle.std.specs.Prelude.{◌≡◌, map, Ok};
 ghost use Rattle.std.specs.Str.{str_eq_ignore_ascii_case};
 ghost use Rattle.ts_spec.specs.Names.{named};

@@ -1,3 +1,4 @@
+// What is kept of samples that come one after another, so that each aggregator can be told at any time.
 ghost use Rattle.std.specs.Prelude.{◌≡◌, ◌<◌, ◌^◌, ◌↔◌, List, [], ◌∷◌, ◌++◌, length, int_lt, if◌then◌else◌, Some, IsNone};
 ghost use Rattle.ts_spec.specs.Sample.{Point};
 ghost use Rattle.ts_spec.specs.Aggregate.{aggregate, push, result_of};

@@ -1,3 +1,4 @@
+// Where buckets of time begin and end.
 ghost use Rattle.std.specs.Prelude.{◌≡◌, ◌≤◌, ◌<◌, ◌↔◌, pos, ◌+ℤ◌, IsSome, IfSome, IfNone};
 ghost use Rattle.ts_spec.specs.Sample.{MAX_TIME};
 ghost use Rattle.ts_spec.specs.Bucket.{raw, start, stamp};

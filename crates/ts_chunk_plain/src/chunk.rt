@@ -1,3 +1,4 @@
+// A chunk that keeps each sample in 28 bytes, so that none has to be decoded to find another.
 ghost use Rattle.std.specs.Prelude.{◌≡◌, ◌+◌, ◌≤◌, nat_lt, nat_le, List, [], ◌∷◌, ◌++◌, map, take, drop, length, IfOk, vec_capacity};
 ghost use Rattle.ts_chunk_plain.specs.Plain.{bytes_of, plain, sample_of};
 ghost use Rattle.ts_sample.specs.Chunk.{AreFine};

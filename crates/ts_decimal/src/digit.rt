@@ -1,3 +1,4 @@
+// One digit at the front of a text.
 ghost use Rattle.std.specs.Prelude.{MatchOption};
 ghost use Rattle.ts_decimal.specs.Digits.{BeginsWith, HasNoDigit};
 

@@ -1,3 +1,4 @@
+// The exponent of a value's text.
 ghost use Rattle.std.specs.Prelude.{◌≡◌, ◌≤◌, ◌<◌, ℕ, true, false, MatchOption, IfSome};
 ghost use Rattle.ts_spec.specs.Value.{is_short, number_after, exponent};
 

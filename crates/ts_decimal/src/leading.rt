@@ -1,3 +1,4 @@
+// The first digits of a number of any length, of which no more are needed to round it.
 ghost use Rattle.std.specs.Prelude.{◌≡◌, ℕ, ◌+◌, ◌*◌, ◌^◌, ◌<◌, ◌≤◌, length};
 ghost use Rattle.ts_spec.specs.Value.{digits, after_digits, fraction, after_fraction, number_after};
 ghost use Rattle.ts_decimal.specs.Leading.{Leads};

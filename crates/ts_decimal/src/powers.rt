@@ -1,3 +1,4 @@
+// The powers of ten that are looked up.
 ghost use Rattle.std.specs.Prelude.{◌≡◌, ◌^◌, ◌<◌, ◌≤◌};
 
 /// The powers of ten that a value can be scaled by.

@@ -1,3 +1,4 @@
+// The value of a text: its digits, its point and its exponent.
 ghost use Rattle.std.specs.Prelude.{◌≡◌, ℕ, ◌+◌, ◌*◌, ◌/◌, ◌^◌, ◌≤◌, ◌<◌, Bool, length, MatchOption, IfSome};
 ghost use Rattle.ts_spec.specs.Value.{bound, value, nearest, signed, decimal_of};
 ghost use Rattle.ts_decimal.specs.Leading.{Leads};

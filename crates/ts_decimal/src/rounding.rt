@@ -1,3 +1,4 @@
+// Division that rounds a half away from zero, and the bound of values.
 ghost use Rattle.std.specs.Prelude.{◌≡◌, ℕ, ◌*◌, ◌<◌, ◌≤◌, unsigned_abs};
 ghost use Rattle.ts_spec.specs.Value.{clamp, div_round};
 

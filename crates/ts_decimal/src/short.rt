@@ -1,3 +1,4 @@
+// Short texts, which most values have, by one pass in 64 bits.
 ghost use Rattle.std.specs.Prelude.{◌≡◌, ℕ, ◌+◌, ◌*◌, ◌^◌, ◌≤◌, Bool, length, IfSome};
 ghost use Rattle.ts_spec.specs.Value.{digits, after_digits, number_after, decimal_of};
 ghost use Rattle.ts_decimal.specs.Reading.{IsRounded};

@@ -1,3 +1,4 @@
+// The sign at the front of a value's text.
 ghost use Rattle.std.specs.Prelude.{◌≡◌, ◌≤◌, length};
 ghost use Rattle.ts_spec.specs.Value.{is_negative, unsigned};
 

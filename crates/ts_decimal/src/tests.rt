@@ -1,3 +1,4 @@
+// Texts and their values, by tables.
 use super::*;
 use std::test::*;
 use ts_sample::Units;

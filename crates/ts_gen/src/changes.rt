@@ -1,3 +1,4 @@
+// The changes of a workload, drawn one after another from its seed.
 ghost use Rattle.std.specs.Prelude.{◌≡◌, ◌<◌, ◌≤◌, ◌%◌, ◌^◌, ◌++◌, pos, ◌-ℤ◌, OnOk};
 ghost use Rattle.std.specs.Fmt.{signed_decimal};
 ghost use Rattle.ts_spec.specs.Encoded.{encoded_word, encoded_request};

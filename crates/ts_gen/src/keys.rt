@@ -1,3 +1,4 @@
+// The keys of a workload, and the requests that make them and their rules.
 ghost use Rattle.std.specs.Prelude.{◌≡◌, ◌<◌, ◌++◌, codes, OnOk};
 ghost use Rattle.ts_spec.specs.Encoded.{encoded, encoded_request};
 ghost use Rattle.ts_gen.specs.Workload as workload;

@@ -1,3 +1,4 @@
+// The law that the bytes of a workload are its requests.
 ghost use Rattle.std.specs.Prelude.{◌≡◌, ◌≤◌, ℕ};
 ghost use Rattle.ts_spec.specs.Limits.{usual};
 ghost use Rattle.ts_spec.specs.Wire.{Ended, stream_at, requests_of, ending_of};

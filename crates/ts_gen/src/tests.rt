@@ -1,3 +1,4 @@
+// Lengths and sums of workloads that were made elsewhere.
 use super::*;
 use std::test::Fail;
 

@@ -1,3 +1,4 @@
+// The whole workload of a seed.
 ghost use Rattle.std.specs.Prelude.{◌≡◌, ◌≤◌, ◌++◌, IfOk, OnOk};
 ghost use Rattle.ts_spec.specs.Encoded.{encoded, encoded_request};
 ghost use Rattle.ts_gen.specs.Workload as workload;

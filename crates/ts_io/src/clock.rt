@@ -1,3 +1,4 @@
+// What a session reads the time from.
 ghost use Rattle.std.specs.Prelude.{◌≡◌, ℕ, List, Option, IfSome};
 ghost use Rattle.std.specs.Option.{option_map};
 ghost use Rattle.ts_io.specs.Clocks.{reading_of, readings_after};

@@ -1,3 +1,4 @@
+// The failure of a call on the outside, which a count tells of.
 ghost use Rattle.std.specs.Prelude.{◌≡◌, ◌≤◌, Some, codes};
 ghost use Rattle.ts_io.specs.Causes.{counted};
 

@@ -1,3 +1,4 @@
+// What a server takes its connections from.
 ghost use Rattle.std.specs.Prelude.{◌≡◌, ◌≤◌, ℕ, List, Option, Bool, true, false, is_ok, IfOk, OnErr};
 ghost use Rattle.ts_io.specs.Causes.{HasCause};
 ghost use Rattle.ts_io.specs.Links.{TakesFront, AddsAtEnd};

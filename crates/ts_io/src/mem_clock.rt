@@ -1,3 +1,4 @@
+// A clock for tests and proofs, with known readings.
 ghost use Rattle.std.specs.Prelude.{◌≡◌, Some};
 ghost use Rattle.ts_io.specs.Clocks.{reading_of, readings_after};
 

@@ -1,3 +1,4 @@
+// A listener for tests, whose links are in memory.
 ghost use Rattle.std.specs.Prelude.{◌≡◌, ◌≤◌, ◌⊎◌, [], ◌∷◌, ◌++◌, Some, true, false, IfOk, OnErr, IsErr, Contains, is_ok, is_err, ◌↔◌};
 ghost use Rattle.ts_io.specs.Causes.{HasCause};
 

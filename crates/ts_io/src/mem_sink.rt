@@ -1,3 +1,4 @@
+// A sink for tests, which keeps what it was given.
 ghost use Rattle.std.specs.Prelude.{◌≡◌, ◌<◌, ◌≤◌, [], length, min, IfOk, IsErr, Contains, is_err};
 ghost use Rattle.std.specs.Io.{WritesAtMost};
 ghost use Rattle.ts_io.specs.Causes.{HasCause};

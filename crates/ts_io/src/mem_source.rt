@@ -1,3 +1,4 @@
+// A source for tests and for workloads, which gives bytes that are in memory.
 ghost use Rattle.std.specs.Prelude.{◌≡◌, ◌≤◌, ◌↔◌, Some, length, min, take, IsErr, IfOk, Contains, is_err};
 ghost use Rattle.std.specs.Io.{ReadsAtMost};
 ghost use Rattle.std.specs.Io.KnownBytes.{ReadConsumes};

@@ -1,3 +1,4 @@
+// Which calls of the devices in memory fail.
 ghost use Rattle.std.specs.Prelude.{◌≡◌, ◌≤◌, ◌↔◌, IsErr, Contains, is_err};
 ghost use Rattle.ts_io.specs.Causes.{HasCause, counted};
 

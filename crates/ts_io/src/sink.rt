@@ -1,3 +1,4 @@
+// What replies are written to.
 ghost use Rattle.std.specs.Prelude.{ℕ, ◌<◌, List, length, IfOk, OnOk, OnErr};
 ghost use Rattle.std.specs.Io.{WritesAtMost};
 ghost use Rattle.ts_io.specs.Causes.{HasCause};

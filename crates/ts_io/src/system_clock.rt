@@ -1,3 +1,4 @@
+// The clock of the system.
 ghost use Rattle.std.specs.Prelude.{◌≡◌, ◌-◌, ◌/◌, ◌^◌, None, min};
 ghost use Rattle.std.specs.Time.{system_time_nanos};
 

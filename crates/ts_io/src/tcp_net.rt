@@ -1,3 +1,4 @@
+// Connections of TCP.
 ghost use Rattle.std.specs.Prelude.{◌≡◌, None, true, false, is_ok, OnOk, OnErr};
 ghost use Rattle.ts_io.specs.Adapters.{failed_listens_of, hands_out};
 ghost use Rattle.ts_io.specs.Causes.{HasCause, counted};

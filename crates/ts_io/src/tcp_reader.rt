@@ -1,3 +1,4 @@
+// When small replies over TCP are sent off: before the next read, and not one by one.
 use std::io;
 use std::io::Read;
 use std::net::TcpStream;

@@ -1,3 +1,4 @@
+// Devices in memory, and over readers and writers that fail now and then.
 use super::*;
 use std::io;
 use std::io::{Read, Write};

@@ -1,3 +1,4 @@
+// Which labels a question over many series wants shown.
 use ts_resp::Word;
 
 /// Which labels an answer over many series shows.

@@ -1,3 +1,4 @@
+// What a command says of the options and labels of a series.
 ghost use Rattle.std.specs.Prelude.{◌≤◌};
 ghost use Rattle.std.specs.Option.{ForSome};
 ghost use Rattle.ts_spec.specs.Sample.{MAX_TIME};

@@ -1,3 +1,4 @@
+// Where and why a stream of requests is broken, and what is answered then.
 ghost use Rattle.std.specs.Prelude.{◌≡◌};
 ghost use Rattle.ts_spec.specs.Text.{fault_words};
 

@@ -1,3 +1,4 @@
+// The value of a row, or that there is none.
 use crate::units::Units;
 
 /// What a reply shows for a value that may not exist.

@@ -1,3 +1,4 @@
+// What every kind of chunk can do, and what holds of it.
 ghost use Rattle.std.specs.Prelude.{◌≡◌, ℕ, ◌+◌, ◌*◌, ◌<◌, ◌≤◌, nat_le, if◌then◌else◌, List, [], ◌∷◌, ◌++◌, length, map, IfOk, IfSome, IfNone};
 ghost use Rattle.ts_spec.specs.Sample.{Point, between, outside, put, first_of, last_of};
 ghost use Rattle.ts_sample.specs.Chunk.{IsLimit, IsChunk, IsPast, IsCut, HaveLimit, least_limit};

@@ -1,3 +1,4 @@
+// A visitor that keeps what it is shown.
 ghost use Rattle.std.specs.Prelude.{◌≡◌, ◌≤◌, [], IfOk};
 ghost use Rattle.ts_sample.specs.Gathered.{with_one_more};
 

@@ -1,3 +1,4 @@
+// Places in an ascending list of samples.
 ghost use Rattle.std.specs.Prelude.{◌≡◌, ◌≤◌, nat_lt, nat_le, ◌∷◌, ◌++◌, length, take, drop, slice_get, slice_range, None, Some, IfOk, IfErr, IsSomeAnd};
 ghost use Rattle.ts_spec.specs.Sample.{Point, IsAscending, at, at_times, between, outside, put};
 

@@ -1,3 +1,4 @@
+// A sample, and the greatest time.
 use crate::units::Units;
 use std::marker::Model;
 

@@ -1,3 +1,4 @@
+// How much was decoded, counted for the proofs and free when the program runs.
 ghost use Rattle.std.specs.Prelude.{◌≡◌, ℕ, ◌+◌, ◌<◌};
 
 use std::marker::Model;

@@ -1,3 +1,4 @@
+// Bounds of values, and what the small types do.
 ghost use Rattle.std.specs.Prelude.{◌≡◌, ◌<◌};
 
 use super::*;

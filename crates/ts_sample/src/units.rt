@@ -1,3 +1,4 @@
+// Values in millionths, within their bound.
 ghost use Rattle.std.specs.Prelude.{◌≡◌, ℤ, pos, neg_ℤ, ◌≤◌, ◌↔◌, unsigned_abs, IsSome, IfSome};
 ghost use Rattle.ts_spec.specs.Value.{bound};
 

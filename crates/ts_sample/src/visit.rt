@@ -1,3 +1,4 @@
+// Whoever is shown samples, one after another.
 ghost use Rattle.std.specs.Prelude.{◌≡◌, ℕ, ◌+◌, ◌≤◌};
 ghost use Rattle.ts_spec.specs.Sample.{Point};
 

@@ -1,3 +1,4 @@
+// How much the database may hold.
 ghost use Rattle.std.specs.Prelude.{◌≡◌};
 
 use crate::wire::WireLimits;

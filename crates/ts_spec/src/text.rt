@@ -1,3 +1,4 @@
+// The law that a reply's text shows where it ends.
 ghost use Rattle.std.specs.Prelude.{◌≡◌, List, ℕ, [], ◌++◌, map};
 ghost use Rattle.ts_spec.specs.Replies.{array};
 ghost use Rattle.ts_spec.specs.Text.{Reply, IsPlain, text};

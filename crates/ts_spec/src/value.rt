@@ -1,3 +1,4 @@
+// Why a text is no value.
 use thiserror::Error;
 
 /// Why a text is no value.

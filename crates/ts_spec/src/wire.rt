@@ -1,3 +1,4 @@
+// How large a request may be, and how a stream of requests can be broken.
 ghost use Rattle.std.specs.Prelude.{◌≡◌, List, All};
 ghost use Rattle.ts_spec.specs.Wire.{Request, Ended, stream_at, requests_of, ending_of};
 ghost use Rattle.ts_spec.specs.Encoded.{encoded, Fits};

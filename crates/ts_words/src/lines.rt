@@ -1,3 +1,4 @@
+// The lines on standard error, one for each ending.
 ghost use Rattle.std.specs.Prelude.{◌≡◌, ◌+◌, ◌<◌, ◌≤◌, ◌++◌, length, take};
 ghost use Rattle.std.specs.Fmt.{decimal};
 ghost use Rattle.ts_words.specs.Endings.{ended, line_of};

@@ -1,3 +1,4 @@
+// The line that tells how a connection ended.
 ghost use Rattle.std.specs.Prelude.{◌≡◌, ◌≤◌, length};
 ghost use Rattle.ts_words.specs.Lines.{word_of, link_line_of};
 

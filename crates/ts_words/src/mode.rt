@@ -1,3 +1,4 @@
+// What the command line asks for.
 ghost use Rattle.std.specs.Prelude.{◌≡◌, map, IfSome};
 ghost use Rattle.std.specs.String.{string_bytes};
 ghost use Rattle.ts_words.specs.Modes as words;

@@ -1,3 +1,4 @@
+// Numbers on the command line.
 ghost use Rattle.std.specs.Prelude.{◌≡◌, ◌≤◌, if◌then◌else◌, None, Some, IfSome};
 ghost use Rattle.ts_words.specs.Modes.{number, is_digits, digits_number};
 

@@ -1,3 +1,4 @@
+// Lines are put together in a room of fixed size, so that telling an ending takes no memory.
 ghost use Rattle.std.specs.Prelude.{◌≡◌, ◌+◌, ◌≤◌, ◌++◌, length, take};
 ghost use Rattle.std.specs.Fmt.{decimal};
 

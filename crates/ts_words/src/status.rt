@@ -1,3 +1,4 @@
+// The exit statuses.
 ghost use Rattle.std.specs.Prelude.{◌≡◌};
 ghost use Rattle.ts_words.specs.Endings.{code_of};
 

@@ -1,3 +1,4 @@
+// The summary of a workload.
 ghost use Rattle.std.specs.Prelude.{◌≡◌, ◌+◌, ◌≤◌, ◌++◌, length, take};
 ghost use Rattle.ts_words.specs.Lines.{summary_line, summary_of};
 

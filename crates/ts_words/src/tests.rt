@@ -1,3 +1,4 @@
+// The words of the command line and the lines of the program, by tables.
 use super::*;
 use std::alloc::AllocError;
 use std::test::Fail;
