@@ -1,3 +1,4 @@
+// What the code of a sample depends on: the sample before it, and the step to that one.
 ghost use Rattle.std.specs.Prelude.{◌≡◌, ◌≤◌, ◌-◌, pos, unwrap_or, is_some, if◌then◌else◌, None, Some};
 ghost use Rattle.ts_spec.specs.Sample.{MAX_TIME};
 ghost use Rattle.ts_chunk_packed.specs.Laws.{IsKnown};

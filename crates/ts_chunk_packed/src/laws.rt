@@ -1,3 +1,4 @@
+// The law that what was packed is read back.
 ghost use Rattle.std.specs.Prelude.{◌≡◌, ℕ, List, ◌++◌, length};
 ghost use Rattle.ts_spec.specs.Sample.{Point};
 ghost use Rattle.ts_chunk_packed.specs.Packed.{packed, decoded};

@@ -10,8 +10,8 @@ use crate::mark::{Mark, Place};
 use std::alloc::{AllocError, Global};
 use std::marker::Model;
 
-/// How many bytes there are between two marks at least. The marks of a chunk of 4,096 bytes are four, and take 192.
-const SPACING: u32 = 832;
+/// How many bytes there are between two marks at least. The marks of a chunk of 4,096 bytes are sixteen, and take 768.
+const SPACING: u32 = 256;
 
 /// The marks of a chunk, in the order of their places, all with room reserved.
 #[derive(Drop)]

@@ -1,3 +1,4 @@
+// Why a change of a source can't be planned for a rule.
 use std::alloc::AllocError;
 use thiserror::Error;
 

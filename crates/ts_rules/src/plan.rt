@@ -1,3 +1,4 @@
+// What a change of a source comes to for one rule, ready to be done.
 use crate::rule::Rule;
 use ts_series::SeriesPlan;
 

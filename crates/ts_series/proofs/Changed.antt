@@ -5,7 +5,7 @@ use Rattle.std.proofs.lemmas.List.{map-append, take-map, drop-map, take_at, drop
 use Rattle.ts_spec.specs.Sample.{Point, IsAfter, IsAscending, MAX_TIME}
 use Rattle.ts_sample.specs.Chunk.{AreFine, joined}
 use Rattle.ts_series.specs.Held.{AreChunks, AreKept, replaced}
-use Rattle.ts_series.proofs.Joined.{chunks-take, chunks-drop, chunks-append}
+use Rattle.ts_series.proofs.Joined.{chunks-take, chunks-drop, chunks-append, ascending-left, ascending-right}
 use Rattle.ts_series.proofs.PieceCounts.{three-parts, joined-replaced}
 
 -- ---- how many samples there can be
@@ -105,4 +105,30 @@ new-in list start end new old =
       ap length (joined-replaced start end (map list new) (map list old)),
       length-append (joined (take start (map list old))) (joined (map list new) ++ joined (drop end (map list old))),
       length-append (joined (map list new)) (joined (drop end (map list old))),
+    )
+
+-- nor can they be too many to count
+pub few-new : (format : List Point → List ℕ) (start end : ℕ) (new old : List (List Point)) (ms : List ℕ) → AreChunks format new ms → IsAscending (joined (replaced start end new old)) → length (joined new) ≤ 2 ^ 63
+few-new format start end new old ms chunks up =
+    let rest = joined (drop end old) in
+    few (joined new) (fine-joined format new ms chunks)
+    (ascending-left (joined new) rest (ascending-right (joined (take start old)) (joined new ++ rest) (subst IsAscending (joined-replaced start end new old) up)))
+
+-- as many more come than go as there are more then
+pub count-changed : (start end : ℕ) (new old : List (List Point)) (gone come : ℕ) → start ≤ end → gone ≡ length (joined (slice_range old start end)) → come ≡ length (joined new)
+    → length (joined (replaced start end new old)) + gone ≡ length (joined old) + come
+count-changed start end new old gone come ordered went came =
+    let front = joined (take start old) in
+    let between = joined (slice_range old start end) in
+    let rest = joined (drop end old) in
+    omega (
+      arith,
+      went,
+      came,
+      ap length (three-parts start end old ordered),
+      length-append front (between ++ rest),
+      length-append between rest,
+      ap length (joined-replaced start end new old),
+      length-append front (joined new ++ rest),
+      length-append (joined new) rest,
     )

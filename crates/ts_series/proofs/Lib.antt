@@ -37,3 +37,7 @@ pub mod FilledChunks
 pub mod TimeFrom
 pub mod OneRow
 pub mod RowPast
+pub mod Seams
+pub mod ShareEnds
+pub mod SeamedWalks
+pub mod SeamsAround

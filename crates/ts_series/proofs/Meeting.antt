@@ -1,5 +1,5 @@
 -- Where the times of an interval stand among chunks.
-use Rattle.std.proofs.Common.{◌≡◌, ◌≢◌, ◌⊎◌, inl, inr, ℕ, zero, suc, ◌<◌, ◌≤◌, Bool, true, false, List, [], ◌∷◌, ◌++◌, length, get_or, take, drop, map, refl, sym, ◌∙◌, ap, arith, append-nil}
+use Rattle.std.proofs.Common.{◌≡◌, ◌≢◌, ◌⊎◌, inl, inr, ℕ, zero, suc, ◌<◌, ◌≤◌, Bool, true, false, List, [], ◌∷◌, ◌++◌, length, get_or, take, drop, map, refl, sym, ◌∙◌, ap, subst, arith, append-nil}
 use Rattle.std.specs.Prelude.{nat_le, not, max, Option, Some}
 use Rattle.std.specs.List.Sorted.{IsPartitionPoint, IsPartitionedBy}
 use Rattle.std.proofs.lemmas.Bool.Decides.{nat_tests}
@@ -7,8 +7,8 @@ use Rattle.std.proofs.lemmas.List.{length-map}
 use Rattle.ts_spec.specs.Sample.{Point, IsAfter, IsAscending, at_times, is_within, outside, first_of, last_of, later_or}
 use Rattle.ts_spec.proofs.Samples.{IsBefore}
 use Rattle.ts_sample.specs.Chunk.{joined}
-use Rattle.ts_series.specs.Held.{AreChunks, IsMeeting, IsTrimmed, HaveBegun}
-use Rattle.ts_series.proofs.EarlyLate.{is_before, is_upto, none-cons, none-left, none-right, none-both, last-before, before-last, before-first, before-none, some-before, late-some, first-some, first-none, before-some, after-some}
+use Rattle.ts_series.specs.Held.{AreChunks, IsMeeting, AllMeet, IsTrimmed, HaveBegun}
+use Rattle.ts_series.proofs.EarlyLate.{is_before, is_upto, none-cons, none-head, none-left, none-right, none-both, last-before, before-last, before-first, before-none, some-before, late-some, first-some, first-none, before-some, after-some}
 use Rattle.ts_series.proofs.Joined.{after-left, after-right, ascending-right, chunk-at, filled-at, map-at}
 
 some-joined : (test : ℕ → Bool) (k : ℕ) (pss : List (List Point)) → at_times test (get_or pss k []) ≢ [] → at_times test (joined pss) ≢ []
@@ -184,3 +184,28 @@ meets from to pss start upto end rises is low high early reach late begin = reco
       (after-earlier from start k pss rises past (trimmed-at from start pss reach (omega arith)))
       (before-later to k (suc k) pss rises (omega arith) (begun-at to (suc k) upto pss begin (omega arith) (omega arith)));
 }
+
+filled-after : (t : ℕ) (ps : List Point) → ps ≢ [] → IsAfter t ps → at_times (nat_le t) ps ≢ []
+filled-after t [] f h n = f refl
+filled-after t (p ∷ ps) f h n =
+    let more : t < p.time = h.0 in
+    let fails = none-head (nat_le t) p ps n in
+    absurd (grind (arith, nat_tests, fails))
+
+-- each piece between two places meets the interval
+pub all-meet : (from to : ℕ) (pss : List (List Point)) (start upto end : ℕ) → IsAscending (joined pss) → end ≡ max upto start → upto ≤ length pss
+    → IsTrimmed from (drop start pss) → HaveBegun to (take upto pss) → AllMeet from to pss start end
+all-meet from to pss start upto end rises is high reach begin k le less = (go (cases start k le), begun)
+  where
+    begun : at_times (λ t. nat_le t to) (get_or pss k []) ≢ []
+    begun = begun-at to k upto pss begin (omega arith) (omega arith)
+
+    cases : (i j : ℕ) → i ≤ j → (i ≡ j) ⊎ (i < j)
+    cases i j le = grind arith
+
+    filled : get_or pss k [] ≢ []
+    filled e = begun (ap (at_times (λ t. nat_le t to)) e)
+
+    go : (start ≡ k) ⊎ (start < k) → at_times (nat_le from) (get_or pss k []) ≢ []
+    go (inl same) = subst (λ i. at_times (nat_le from) (get_or pss i []) ≢ []) same (trimmed-at from start pss reach (omega arith))
+    go (inr past) = filled-after from (get_or pss k []) filled (after-earlier from start k pss rises past (trimmed-at from start pss reach (omega arith)))

@@ -1,11 +1,12 @@
 -- One row at its time.
-use Rattle.std.proofs.Common.{◌≡◌, ◌≢◌, ◌⊎◌, inl, inr, ℕ, ◌<◌, ◌≤◌, Bool, true, false, not, ◌&&◌, cond, List, [], ◌∷◌, ◌++◌, length, refl, sym, ◌∙◌, ap, subst, arith, eq-eqb, ne_eqb}
-use Rattle.std.specs.Prelude.{nat_lt, nat_le, if◌then◌else◌, Option, None, Some}
+use Rattle.std.proofs.Common.{◌≡◌, ◌≢◌, ◌⊎◌, inl, inr, ℕ, ◌+◌, ◌<◌, ◌≤◌, Bool, true, false, not, ◌&&◌, cond, List, [], ◌∷◌, ◌++◌, length, refl, sym, ◌∙◌, ap, subst, arith, eq-eqb, ne_eqb}
+use Rattle.std.specs.Prelude.{nat_lt, if◌then◌else◌, Option, None, Some}
 use Rattle.std.proofs.lemmas.Bool.Decides.{nat_tests}
 use Rattle.ts_spec.specs.Sample.{Point, IsAfter, IsAscending, at, at_times, is_within, between, outside, put, put_all}
 use Rattle.ts_sample.proofs.Between.{filter-filter}
 use Rattle.ts_sample.proofs.Parted.{filter_alike}
 use Rattle.ts_series.specs.Plan.{AreWithin}
+use Rattle.ts_series.proofs.Counting.{length-put, length-put_there, times-each}
 
 -- samples that pass a test are not taken out by another that lets them be
 times-left : (from to : ℕ) (test : ℕ → Bool) → ((t : ℕ) → (not (is_within from to t) && test t) ≡ test t) → (ps : List Point) → at_times test (outside from to ps) ≡ at_times test ps
@@ -52,3 +53,23 @@ count-at t (p ∷ ps) h = go (cases p.time t) (count-at t ps h.1)
         let gone : is_within t t p.time ≡ false = grind (arith, nat_tests) in
         ap (λ b. length (cond b (p ∷ between t t ps) (between t t ps))) gone
         ∙ rest ∙ sym (ap (λ b. found (if b then Some p else at t ps)) (ne_eqb p.time t other))
+
+-- a row at a time without a sample is one more
+put-new : (p : Point) (ps : List Point) → at p.time ps ≡ None → length (put p ps) ≡ length ps + 1
+put-new p ps none = omega (arith, length-put (λ t. true) p ps none, ap length (times-each (put p ps)), ap length (times-each ps))
+
+-- where there are as many samples as before, one had its time
+pub one-taken : (p : Point) (ps : List Point) → IsAscending ps → length (put p ps) ≡ length ps → 1 ≡ length (between p.time p.time ps)
+one-taken p ps h same = go (at p.time ps) refl
+  where
+    go : (o : Option Point) → at p.time ps ≡ o → 1 ≡ length (between p.time p.time ps)
+    go None is = absurd (omega (arith, same, put-new p ps is))
+    go (Some q) is = sym (count-at p.time ps h ∙ ap found is)
+
+-- and else none had
+pub none-taken : (p : Point) (ps : List Point) → IsAscending ps → length (put p ps) ≢ length ps → 0 ≡ length (between p.time p.time ps)
+none-taken p ps h other = go (at p.time ps) refl
+  where
+    go : (o : Option Point) → at p.time ps ≡ o → 0 ≡ length (between p.time p.time ps)
+    go None is = sym (count-at p.time ps h ∙ ap found is)
+    go (Some q) is = absurd (other (length-put_there p q ps h is))

@@ -1,5 +1,5 @@
 -- No chunk of a series has more samples than its reach.
-use Rattle.std.proofs.Common.{◌≡◌, ℕ, ◌*◌, ◌≤◌, List, [], ◌∷◌, length, subst, arith}
+use Rattle.std.proofs.Common.{◌≡◌, ℕ, ◌*◌, ◌/◌, ◌≤◌, List, [], ◌∷◌, length, subst, arith}
 use Rattle.ts_spec.specs.Sample.{Point}
 use Rattle.ts_series.specs.Held.{AreChunks, longest, greatest}
 use Rattle.ts_series.specs.History.{History, reach, limit_for, IsKeptIn}
@@ -14,3 +14,12 @@ thrice format at_least n (ps ∷ pss) (m ∷ ns) h = omega (arith, h.0.fits, at_
 pub within-reach : {format : List Point → List ℕ} → ((ps : List Point) → 3 * length ps ≤ length (format ps)) → {h k : History} → IsKeptIn format h → h ≡ k → longest h.held.pieces ≤ reach k
 within-reach {format} at_least {h} kept view =
     subst (λ (k : History). longest h.held.pieces ≤ reach k) view (omega (arith, thrice format at_least (limit_for h.options.chunk_size) h.held.pieces h.held.limits kept.chunks.chunks))
+
+least-greatest : (n : ℕ) (ns : List ℕ) → n ≤ greatest n ns
+least-greatest n [] = omega arith
+least-greatest n (m ∷ ns) = omega (arith, least-greatest n ns)
+
+-- nor has a new chunk
+pub new-within-reach : {h k : History} (limit size : ℕ) → h ≡ k → limit ≡ limit_for h.options.chunk_size → size ≡ limit / 3 → size ≤ reach k
+new-within-reach {h} limit size view is third =
+    subst (λ (k : History). size ≤ reach k) view (omega (arith, least-greatest (limit_for h.options.chunk_size) h.held.limits))

@@ -1,5 +1,5 @@
 -- The samples of pieces from a time up to the last one of a piece.
-use Rattle.std.proofs.Common.{◌≡◌, ◌⊎◌, inl, inr, ℕ, zero, suc, ◌-◌, ◌+◌, ◌<◌, ◌≤◌, subst, Bool, true, false, cond, List, [], ◌∷◌, ◌++◌, length, get_or, take, drop, refl, sym, ◌∙◌, ap, arith, length-append, ltb-false, lt-ltb}
+use Rattle.std.proofs.Common.{◌≡◌, ◌⊎◌, inl, inr, ℕ, zero, suc, ◌-◌, ◌+◌, ◌<◌, ◌≤◌, Bool, true, false, cond, List, [], ◌∷◌, ◌++◌, length, get_or, take, drop, refl, sym, ◌∙◌, ap, arith, length-append, ltb-false, lt-ltb}
 use Rattle.std.specs.Prelude.{nat_lt, nat_le, min, Some}
 use Rattle.std.proofs.lemmas.Bool.Decides.{nat_tests}
 use Rattle.ts_spec.specs.Sample.{Point, IsAscending, at_times, is_within, between, last_of}
@@ -42,10 +42,10 @@ module _ (from : ℕ) (p : Point) where
   front-between : (ps qs : List Point) → AreFrom from (ps ++ qs) → IsBefore (suc p.time) ps → length ps ≤ length (between from p.time (ps ++ qs))
   front-between ps qs n h = omega (arith, both-parts ps qs, all-between from p.time ps (none-left (λ t. nat_lt t from) ps qs n) h)
 
-  up-to-last : (ps : List Point) → IsAscending ps → last_of ps ≡ Some p → IsBefore (suc p.time) ps
+  pub up-to-last : (ps : List Point) → IsAscending ps → last_of ps ≡ Some p → IsBefore (suc p.time) ps
   up-to-last ps rises is = last-before (suc p.time) ps rises (ap (is_before (suc p.time)) is ∙ lt-ltb p.time (suc p.time) (omega arith))
 
-  up-to-later : (k : ℕ) (ps : List Point) (pss : List (List Point)) → IsAscending (ps ++ joined pss) → last_of (get_or pss k []) ≡ Some p → IsBefore (suc p.time) ps
+  pub up-to-later : (k : ℕ) (ps : List Point) (pss : List (List Point)) → IsAscending (ps ++ joined pss) → last_of (get_or pss k []) ≡ Some p → IsBefore (suc p.time) ps
   up-to-later k ps pss rises is = before-some (suc p.time) ps (joined pss) rises (λ n.
       let fails : nat_le p.time (suc p.time) ≡ false = piece-fails (λ t. nat_le t (suc p.time)) k pss p is n in
       absurd (grind (arith, nat_tests, fails)))
@@ -98,13 +98,25 @@ from-first time [] is = refl
 from-first time (p ∷ ps) is =
     none-cons (λ t. nat_lt t time) p ps (let fails : nat_lt p.time time ≡ false = grind (arith, nat_tests) in fails) (from-first time ps is)
 
--- the earlier of the last time and the end of the interval
-pub earlier-end : (from to last count end : ℕ) (ps : List Point) → end ≡ min last to → count ≤ length (between from last ps) → (end ≡ to) ⊎ (count ≤ length (between from end ps))
-earlier-end from to last count end ps is enough = go (cases to last)
+-- up to a later time there are no fewer
+between-longer : (from last end : ℕ) (ps : List Point) → last ≤ end → length (between from last ps) ≤ length (between from end ps)
+between-longer from last end [] le = omega arith
+between-longer from last end (p ∷ ps) le = go (between-longer from last end ps le) (is_within from last p.time) (is_within from end p.time) refl refl
+  where
+    go : length (between from last ps) ≤ length (between from end ps) → (b c : Bool) → is_within from last p.time ≡ b → is_within from end p.time ≡ c
+        → length (cond b (p ∷ between from last ps) (between from last ps)) ≤ length (cond c (p ∷ between from end ps) (between from end ps))
+    go rest false false x y = rest
+    go rest false true x y = omega (arith, rest)
+    go rest true true x y = omega (arith, rest)
+    go rest true false x y = absurd (grind (arith, nat_tests, x, y))
+
+-- the end of the interval, or a time from the last one on
+pub earlier-end : (from to last count end : ℕ) (ps : List Point) → min last to ≤ end → end ≤ to → count ≤ length (between from last ps) → (end ≡ to) ⊎ (count ≤ length (between from end ps))
+earlier-end from to last count end ps least within enough = go (cases to last)
   where
     cases : (i j : ℕ) → (i ≤ j) ⊎ (j ≤ i)
     cases i j = grind arith
 
     go : (to ≤ last) ⊎ (last ≤ to) → (end ≡ to) ⊎ (count ≤ length (between from end ps))
     go (inl le) = inl (omega arith)
-    go (inr le) = let same : last ≡ end = omega arith in inr (subst (λ t. count ≤ length (between from t ps)) same enough)
+    go (inr le) = inr (omega (arith, enough, between-longer from last end ps (omega arith)))

@@ -18,12 +18,12 @@ abbrev AreFrom : ℕ → List Point → Type 0
 AreFrom from ps = at_times (λ t. nat_lt t from) ps ≡ []
 
 -- where a test takes no sample, it does not take the first one
-first-fails : (test : ℕ → Bool) (ps : List Point) (p : Point) → first_of ps ≡ Some p → at_times test ps ≡ [] → test p.time ≡ false
+pub first-fails : (test : ℕ → Bool) (ps : List Point) (p : Point) → first_of ps ≡ Some p → at_times test ps ≡ [] → test p.time ≡ false
 first-fails test [] p is n = absurd (cc is)
 first-fails test (q ∷ ps) p is n = let same : q ≡ p = cc is in ap (λ (r : Point). test r.time) (sym same) ∙ none-head test q ps n
 
 -- samples from the first one on are from its time on
-from-first-on : (ps qs : List Point) (p : Point) → IsAscending (ps ++ qs) → first_of ps ≡ Some p → AreFrom p.time (ps ++ qs)
+pub from-first-on : (ps qs : List Point) (p : Point) → IsAscending (ps ++ qs) → first_of ps ≡ Some p → AreFrom p.time (ps ++ qs)
 from-first-on [] qs p rises is = absurd (cc is)
 from-first-on (q ∷ ps) qs p rises is =
     let same : q ≡ p = cc is in
@@ -39,7 +39,7 @@ all-between from to (p ∷ ps) n m =
     let yes : is_within from to p.time ≡ true = grind (arith, nat_tests) in
     ap (λ b. length (cond b (p ∷ between from to ps) (between from to ps))) yes ∙ ap suc (all-between from to ps (none-tail (λ t. nat_lt t from) p ps n) (none-tail (nat_lt to) p ps m))
 
-both-parts : (from to : ℕ) (ps qs : List Point) → length (between from to (ps ++ qs)) ≡ length (between from to ps) + length (between from to qs)
+pub both-parts : (from to : ℕ) (ps qs : List Point) → length (between from to (ps ++ qs)) ≡ length (between from to ps) + length (between from to qs)
 both-parts from to ps qs = ap length (times-append (is_within from to) ps qs) ∙ length-append (between from to ps) (between from to qs)
 
 -- a front of the samples that is in the interval

@@ -58,13 +58,13 @@ module _ (from to : ℕ) where
       let left : room v ≤ room w + length front = subst (λ y. room v ≤ room y + length front) (sym sofar) (room_left step room lowers v front) in
       omega (arith, ap length all, length-append front (piece ++ back), length-append piece back)
 
-  none-before-it : (ps : List Point) → at_times (nat_le from) ps ≡ [] → between from to ps ≡ []
+  pub none-before-it : (ps : List Point) → at_times (nat_le from) ps ≡ [] → between from to ps ≡ []
   none-before-it ps n = none-less (nat_le from) (is_within from to) (λ t e. fails t e) ps n
     where
       fails : (t : ℕ) → nat_le from t ≡ false → is_within from to t ≡ false
       fails t e = grind (arith, nat_tests)
 
-  none-past-it : (ps : List Point) → at_times (λ t. nat_le t to) ps ≡ [] → between from to ps ≡ []
+  pub none-past-it : (ps : List Point) → at_times (λ t. nat_le t to) ps ≡ [] → between from to ps ≡ []
   none-past-it ps n = none-less (λ t. nat_le t to) (is_within from to) (λ t e. fails t e) ps n
     where
       fails : (t : ℕ) → nat_le t to ≡ false → is_within from to t ≡ false

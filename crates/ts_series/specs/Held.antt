@@ -47,6 +47,11 @@ pub record IsMeeting (from to : ℕ) (pieces : List (List Point)) (start end : �
   pub past : at_times (λ t. nat_le t to) (joined (drop end pieces)) ≡ []
   pub inner : (k : ℕ) → start < k → suc k < end → outside from to (get_or pieces k []) ≡ []
 
+-- each piece from one place up to another has a sample from the interval's first time on, and one up to its last time
+abbrev pub AllMeet : (from to : ℕ) → List (List Point) → (start end : ℕ) → Type 0
+AllMeet from to pieces start end =
+    (k : ℕ) → start ≤ k → k < end → (at_times (nat_le from) (get_or pieces k []) ≢ []) × (at_times (λ t. nat_le t to) (get_or pieces k []) ≢ [])
+
 -- the first piece has a sample from the edge on, if there are pieces
 abbrev pub IsTrimmed : (edge : ℕ) → List (List Point) → Type 0
 IsTrimmed edge [] = ⊤

@@ -4,3 +4,4 @@ pub mod History
 pub mod Mend
 pub mod Plan
 pub mod Put
+pub mod Seams

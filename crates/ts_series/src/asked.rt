@@ -4,6 +4,7 @@ ghost use Rattle.ts_spec.specs.Sample.{at, at_times, between, first_of, last_of}
 ghost use Rattle.ts_sample.specs.Chunk.{joined};
 ghost use Rattle.ts_sample.specs.Visit.{visited};
 ghost use Rattle.ts_series.specs.Held.{points, longest};
+ghost use Rattle.ts_series.specs.Seams.{IsSeamed};
 
 use crate::chunks::Chunks;
 use crate::ends::Ends;
@@ -24,6 +25,7 @@ impl<C: Chunk> Chunks<C> {
         ensures visited { visit.new ≡ visited V.step visit.old (between from to (points self.now)) }
         ensures counted { steps.old + length (between from to (points self.now)) ≤ steps.new }
         ensures bounded { steps.new ≤ steps.old + length (between from to (points self.now)) + 2 * longest self.now.pieces }
+        ensures seams { IsSeamed self.now.pieces from to steps.old steps.new }
     {
         let Range { start, end } = self.meeting(from, to);
         for place in start..end {

@@ -1,3 +1,4 @@
+// The public plans of changes of a series, for either encoding.
 ghost use Rattle.std.specs.Prelude.{◌≡◌, ◌≤◌, ◌<◌, ◌+◌, ◌*◌, length, IfOk, IfSome, Ok};
 ghost use Rattle.ts_spec.specs.Sample.{MAX_TIME, IsAscending, between, last_of};
 ghost use Rattle.ts_spec.specs.declared.series.Merge.{Merge as TheMerge};

@@ -2,7 +2,7 @@
 ghost use Rattle.std.specs.Prelude.{◌≡◌, ◌≤◌, nat_le, [], length, take, drop};
 ghost use Rattle.ts_spec.specs.Sample.{IsAscending, last_of, at_times};
 ghost use Rattle.ts_sample.specs.Chunk.{joined};
-ghost use Rattle.ts_series.specs.Held.{points, IsMeeting, IsTrimmed, HaveBegun};
+ghost use Rattle.ts_series.specs.Held.{points, IsMeeting, AllMeet, IsTrimmed, HaveBegun};
 
 use std::alloc::Global;
 use std::collections::VecDeque;
@@ -84,7 +84,8 @@ impl<C: Chunk> Chunks<C> {
 
     // Where the chunks stand that may have samples of an interval.
     pub(crate) fn meeting(&self, from: u64, to: u64) -> Range<usize>
-        ensures { IsMeeting from to self.now.pieces result.start result.end }
+        ensures meeting { IsMeeting from to self.now.pieces result.start result.end }
+        ensures each { AllMeet from to self.now.pieces result.start result.end }
     {
         // Does nothing: where a field is read, the order of the chunks is known.
         let _ = &self.chunks;

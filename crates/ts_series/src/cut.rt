@@ -1,3 +1,4 @@
+// A deletion of an interval.
 ghost use Rattle.std.specs.Prelude.{◌≤◌, ◌+◌, ◌*◌, IfOk, length};
 ghost use Rattle.ts_spec.specs.Sample.{between};
 ghost use Rattle.ts_series.specs.History.{list_of, reach};

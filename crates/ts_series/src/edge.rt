@@ -1,3 +1,4 @@
+// From when on a series keeps samples, and its highest time.
 ghost use Rattle.std.specs.Prelude.{◌≡◌};
 ghost use Rattle.ts_spec.specs.Sample.{IsAscending};
 ghost use Rattle.ts_spec.specs.State.{edge_of};

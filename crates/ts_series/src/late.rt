@@ -10,7 +10,7 @@ ghost use Rattle.ts_series.specs.Put.{Answers};
 
 use crate::line::Line;
 use crate::line_plan::LinePlan;
-use crate::merged::merged;
+use crate::merged::{always_writes, merged};
 use crate::plan::PutFault;
 use std::sync::ledger::Ledger;
 use ts_sample::{Chunk, Sample, Steps, Units};
@@ -32,6 +32,9 @@ impl<C: Chunk> Line<C> {
         ensures counted { steps.old ≤ steps.new }
         ensures bounded { steps.new ≤ steps.old + 3 * longest self.now.held.pieces }
     {
+        if always_writes(how) && self.chunks.len() < limit as usize {
+            return self.written(sample, steps);
+        }
         match self.chunks.at(sample.time, steps) {
             None => self.added(sample, limit, steps),
             Some(there) => self.put_over(there.value, sample, how, steps),

@@ -1,3 +1,4 @@
+// A series of one kind of chunk.
 ghost use Rattle.std.specs.Prelude.{◌≡◌, ◌<◌, ◌+◌, ◌-◌, ◌^◌, [], None};
 ghost use Rattle.ts_spec.specs.Sample.{last_of};
 ghost use Rattle.ts_series.specs.History.{list_of, low, IsKeptIn, KeepsLimits, KeepsReach};

@@ -1,3 +1,4 @@
+// A planned change of a series of one kind of chunk.
 ghost use Rattle.std.specs.Prelude.{◌≡◌};
 ghost use Rattle.ts_spec.specs.Sample.{first_of};
 ghost use Rattle.ts_series.specs.Put.{nothing_in};

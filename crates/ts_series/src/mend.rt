@@ -1,3 +1,4 @@
+// Rows in the place of the samples of an interval, by which rules mend their destinations.
 ghost use Rattle.std.specs.Prelude.{◌≡◌, ℕ, ◌≤◌, ◌+◌, ◌*◌, nat_lt, nat_le, length, IfOk};
 ghost use Rattle.ts_spec.specs.Sample.{IsAscending, at_times, between, outside};
 ghost use Rattle.ts_spec.specs.Mending.{high_with};

@@ -1,11 +1,22 @@
-ghost use Rattle.std.specs.Prelude.{Some};
-ghost use Rattle.ts_spec.specs.Rules.{merge, merge_by, within_bound};
+// How a value meets the one at its time, by the policy.
+ghost use Rattle.std.specs.Prelude.{◌≡◌, ℤ, true, Option, Some};
+ghost use Rattle.ts_spec.specs.Rules.{To, merge, merge_by, within_bound};
 ghost use Rattle.ts_series.specs.Put.{IsMerged};
 ghost use Rattle.std.specs.Prelude.{◌+ℤ◌};
 
 use crate::plan::PutFault;
 use ts_sample::Units;
 use ts_spec::{Merge, Policy};
+
+// Whether a write comes to its own value, whatever its time has.
+pub(crate) fn always_writes(how: Merge) -> bool
+    ensures { result ≡ true → (old : Option ℤ) (new : ℤ) → merge how old new ≡ To new }
+{
+    match how {
+        Merge::Set | Merge::By(Policy::Last) => true,
+        _ => false,
+    }
+}
 
 // The value to write where the time has this one, if one is written.
 pub(crate) fn merged(how: Merge, old: Units, new: Units) -> Result<Option<Units>, PutFault>

@@ -1,3 +1,4 @@
+// A planned change of a series, and why there is none.
 ghost use Rattle.std.specs.Prelude.{◌≡◌};
 ghost use Rattle.ts_spec.specs.Sample.{first_of};
 ghost use Rattle.ts_spec.specs.declared.series.Encoding.TheVariants.{Compressed, Uncompressed};

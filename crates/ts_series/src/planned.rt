@@ -72,6 +72,7 @@ impl<C: Chunk> Chunks<C> {
     ) -> Result<Change<C>, AllocError>
         requires late { IsUpTo sample.now.time (last_of (points self.now)) }
         ensures ready { IfOk result (λ c. IsReady C.format self.now c) }
+        ensures nothing_appended { IfOk result (λ c. c.appended ≡ None) }
         ensures limits { (one : ℕ) → IfOk result (λ c. HasLimits one self.now.limits c) }
         ensures list { IfOk result (λ c. joined (pieces_after c self.now.pieces) ≡ put sample.now (points self.now)) }
         ensures counted { steps.old ≤ steps.new }

@@ -1,3 +1,4 @@
+// Whether an interval has a sample.
 ghost use Rattle.std.specs.Prelude.{◌≡◌, ◌≤◌, ◌+◌, nat_lt, length};
 ghost use Rattle.ts_spec.specs.Sample.{between};
 ghost use Rattle.ts_series.specs.History.{list_of, reach};

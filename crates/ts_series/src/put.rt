@@ -1,3 +1,4 @@
+// The plan of a write.
 ghost use Rattle.std.specs.Prelude.{◌≡◌, ℕ, ◌≤◌, ◌<◌, ◌+◌, ◌*◌, true, false, nat_lt, None, Some, IfOk, length};
 ghost use Rattle.ts_spec.specs.Sample.{MAX_TIME, at, last_of, put};
 ghost use Rattle.ts_sample.specs.Chunk.{IsPast, joined};

@@ -1,10 +1,13 @@
-ghost use Rattle.std.specs.Prelude.{◌≡◌, ◌≤◌, ◌+◌, ◌*◌, nat_lt, length};
+// Questions about a series of one kind of chunk.
+ghost use Rattle.std.specs.Prelude.{◌≡◌, ◌≤◌, ◌+◌, ◌*◌, ℕ, nat_lt, length};
 ghost use Rattle.ts_spec.specs.Sample.{MAX_TIME, at, at_times, between, first_of, last_of};
 ghost use Rattle.ts_sample.specs.Visit.{visited};
 ghost use Rattle.ts_spec.specs.Valid.{Every};
 ghost use Rattle.ts_series.specs.History.{list_of, reach, IsKeptIn};
+ghost use Rattle.ts_series.specs.Seams.{IsSeamed, Around};
 
 use crate::line::Line;
+use crate::room::new_limit;
 use std::sync::ledger::Ledger;
 use ts_sample::{Chunk, Sample, Steps, Visit};
 
@@ -17,6 +20,20 @@ impl<C: Chunk> Line<C> {
         if let Some(last) = self.chunks.last() {
             last.known();
         }
+    }
+
+    // Does nothing: it tells a caller that there are seams near each interval.
+    pub(crate) fn seams(&self)
+        ensures { (from to : ℕ) → Around from to (length (between from to (list_of self.now)) + 2 * reach self.now) self.now.held.pieces }
+    {
+        let _chunks = &self.chunks;
+    }
+
+    // How many samples a new chunk has room for at most.
+    pub(crate) fn chunk_reach(&self) -> u64
+        ensures { result ≤ reach self.now }
+    {
+        u64::from(new_limit(self.options.chunk_size) / 3)
     }
 
     // Its first sample.
@@ -86,6 +103,7 @@ impl<C: Chunk> Line<C> {
         ensures visited { visit.new ≡ visited V.step visit.old (between from to (list_of self.now)) }
         ensures counted { steps.old + length (between from to (list_of self.now)) ≤ steps.new }
         ensures bounded { steps.new ≤ steps.old + length (between from to (list_of self.now)) + 2 * reach self.now }
+        ensures seams { IsSeamed self.now.held.pieces from to steps.old steps.new }
     {
         self.chunks.scan(from.max(self.edge()), to, visit, steps);
     }

@@ -1,8 +1,10 @@
-ghost use Rattle.std.specs.Prelude.{◌≡◌, ◌≤◌, ◌+◌, ◌*◌, ◌⊎◌, nat_lt, length};
+// The public questions about a series, for either encoding.
+ghost use Rattle.std.specs.Prelude.{◌≡◌, ◌≤◌, ◌+◌, ◌*◌, ◌⊎◌, ℕ, nat_lt, length};
 ghost use Rattle.ts_spec.specs.Sample.{MAX_TIME, at, at_times, between, first_of, last_of};
 ghost use Rattle.ts_sample.specs.Visit.{visited};
 ghost use Rattle.ts_spec.specs.Valid.{Every};
 ghost use Rattle.ts_series.specs.History.{list_of, reach, IsKept};
+ghost use Rattle.ts_series.specs.Seams.{IsSeam, IsSeamed, EndsNear, Around};
 
 use crate::series::{Lines, Series};
 use std::sync::ledger::Ledger;
@@ -17,6 +19,26 @@ impl Series {
         match &self.lines {
             Lines::Plain(line) => line.known(),
             Lines::Packed(line) => line.known(),
+        }
+    }
+
+    /// Does nothing: it tells a caller that there are times near each interval that cut no chunk.
+    pub fn seams(&self)
+        ensures { (from to : ℕ) → Around from to (length (between from to (list_of self.now)) + 2 * reach self.now) self.now.held.pieces }
+    {
+        match &self.lines {
+            Lines::Plain(line) => line.seams(),
+            Lines::Packed(line) => line.seams(),
+        }
+    }
+
+    /// How many samples a new chunk has room for at most.
+    pub fn chunk_reach(&self) -> u64
+        ensures { result ≤ reach self.now }
+    {
+        match &self.lines {
+            Lines::Plain(line) => line.chunk_reach(),
+            Lines::Packed(line) => line.chunk_reach(),
         }
     }
 
@@ -87,6 +109,7 @@ impl Series {
         requires { from ≤ to }
         ensures within { (from ≤ result) × (result ≤ to) }
         ensures reach { (result ≡ to) ⊎ (count ≤ length (between from result (list_of self.now))) }
+        ensures seam { (result ≡ to) ⊎ IsSeam (result + 1) self.now.held.pieces }
     {
         match &self.lines {
             Lines::Plain(line) => line.time_for(from, to, count),
@@ -102,6 +125,8 @@ impl Series {
         requires { from ≤ to }
         ensures within { (from ≤ result) × (result ≤ to) }
         ensures reach { (result ≡ from) ⊎ (count ≤ length (between result to (list_of self.now))) }
+        ensures seam { (result ≡ from) ⊎ IsSeam result self.now.held.pieces }
+        ensures few { (result ≡ from) ⊎ EndsNear result to (count + 2 * reach self.now) self.now.held.pieces }
     {
         match &self.lines {
             Lines::Plain(line) => line.time_from(from, to, count),
@@ -116,6 +141,7 @@ impl Series {
         ensures visited { visit.new ≡ visited V.step visit.old (between from to (list_of self.now)) }
         ensures counted { steps.old + length (between from to (list_of self.now)) ≤ steps.new }
         ensures bounded { steps.new ≤ steps.old + length (between from to (list_of self.now)) + 2 * reach self.now }
+        ensures seams { IsSeamed self.now.held.pieces from to steps.old steps.new }
     {
         match &self.lines {
             Lines::Plain(line) => line.scan(from, to, visit, steps),

@@ -1,11 +1,12 @@
 // One row at its time, among chunks.
-ghost use Rattle.std.specs.Prelude.{◌≡◌, ◌≤◌, ◌+◌, ◌*◌, true, false, length, IfOk};
+ghost use Rattle.std.specs.Prelude.{◌≡◌, ◌≤◌, ◌+◌, ◌*◌, true, false, None, length, IfOk};
 ghost use Rattle.ts_spec.specs.Sample.{between, last_of, put};
 ghost use Rattle.ts_sample.specs.Chunk.{IsLimit, IsPast, joined};
 ghost use Rattle.ts_series.specs.Held.{points, longest, pieces_after, IsReady, HasLimits, IsUpTo};
 
 use crate::change::Change;
 use crate::chunks::Chunks;
+use crate::counts::count_in;
 use std::alloc::{AllocError, Global};
 use std::sync::ledger::Ledger;
 use ts_sample::{Chunk, Sample, Steps};
@@ -28,8 +29,14 @@ impl<C: Chunk> Chunks<C> {
         ensures bounded { steps.new ≤ steps.old + 2 * longest self.now.pieces }
         ensures easy { IsPast (last_of (points self.now)) row.now.time → steps.new ≡ steps.old }
     {
-        let removed = self.count_at(row.time, steps);
-        let change = self.with_sample(alloc, row, chunk_size, steps)?;
+        // Does nothing: where a field is read, the order of the chunks is known.
+        let _ = &self.chunks;
+        if !self.is_late(row.time) {
+            let change = self.appended(alloc, row, chunk_size)?;
+            return Ok((change, 0));
+        }
+        let change = self.inserted(alloc, row, steps)?;
+        let removed = self.replaced_by(row, &change);
         Ok((change, removed))
     }
 
@@ -66,21 +73,21 @@ impl<C: Chunk> Chunks<C> {
         }
     }
 
-    // How many samples have this time: one or none.
-    fn count_at<L: Ledger>(&self, time: u64, steps: &mut Steps<L>) -> usize
-        ensures count { result ≡ length (between time time (points self.now)) }
-        ensures counted { steps.old ≤ steps.new }
-        ensures bounded { steps.new ≤ steps.old + longest self.now.pieces }
-        ensures easy { IsPast (last_of (points self.now)) time → steps.new ≡ steps.old }
+    // How many samples a row takes the place of, by the change that puts it at its time: one where there are as many
+    // samples then. Nothing is decoded.
+    fn replaced_by(&self, row: &Sample, change: &Change<C>) -> usize
+        requires ready { IsReady C.format self.now change.now }
+        requires alone { change.now.appended ≡ None }
+        requires put { joined (pieces_after change.now self.now.pieces) ≡ put row.now (points self.now) }
+        ensures { result ≡ length (between row.now.time row.now.time (points self.now)) }
     {
         // Does nothing: where a field is read, the order of the chunks is known.
         let _ = &self.chunks;
-        if !self.is_late(time) {
-            return 0;
+        let gone = self.count_of(change.start, change.end);
+        let come = count_in(&change.chunks);
+        if come == gone {
+            return 1;
         }
-        match self.at(time, steps) {
-            None => 0,
-            Some(_) => 1,
-        }
+        0
     }
 }

@@ -1,3 +1,4 @@
+// A series as its callers see it.
 ghost use Rattle.std.specs.Prelude.{◌≡◌, ◌<◌, ◌+◌, ◌-◌, ◌^◌, [], None};
 ghost use Rattle.ts_spec.specs.Sample.{last_of};
 ghost use Rattle.ts_series.specs.History.{list_of, low, IsKept, KeepsLimits, KeepsReach};

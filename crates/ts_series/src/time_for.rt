@@ -1,9 +1,10 @@
 // A time up to which there are so many samples.
-ghost use Rattle.std.specs.Prelude.{◌≡◌, ◌≤◌, ◌⊎◌, nat_lt, [], length, drop};
+ghost use Rattle.std.specs.Prelude.{◌≡◌, ◌≤◌, ◌+◌, ◌⊎◌, nat_lt, [], length, drop};
 ghost use Rattle.ts_spec.specs.Sample.{at_times, between};
 ghost use Rattle.ts_sample.specs.Chunk.{joined};
 ghost use Rattle.ts_series.specs.Held.{points};
 ghost use Rattle.ts_series.specs.History.{list_of};
+ghost use Rattle.ts_series.specs.Seams.{IsSeam};
 
 use crate::chunks::Chunks;
 use crate::line::Line;
@@ -26,6 +27,7 @@ impl<C: Chunk> Chunks<C> {
         requires { from ≤ to }
         ensures within { (from ≤ result) × (result ≤ to) }
         ensures reach { (result ≡ to) ⊎ (count ≤ length (between from result (points self.now))) }
+        ensures seam { (result ≡ to) ⊎ IsSeam (result + 1) self.now.pieces }
     {
         // Does nothing: it tells that all samples together can be counted.
         let _all = self.len();
@@ -52,6 +54,7 @@ impl<C: Chunk> Line<C> {
         requires { from ≤ to }
         ensures within { (from ≤ result) × (result ≤ to) }
         ensures reach { (result ≡ to) ⊎ (count ≤ length (between from result (list_of self.now))) }
+        ensures seam { (result ≡ to) ⊎ IsSeam (result + 1) self.now.held.pieces }
     {
         let start = from.max(self.edge());
         if to < start {

@@ -5,9 +5,9 @@ use Rattle.ts_series.proofs.chunks.Chunks.count_near.Goals as goal
 pub returns-clause-least : goal.returns-clause-least
 returns-clause-least g c =
     let m = c.meeting-places in
-    omega (arith, c.count_of.ensures, near-least c.args.from c.args.to m.result.start m.result.end c.args.self.now.pieces m.ensures)
+    omega (arith, c.count_of.ensures, near-least c.args.from c.args.to m.result.start m.result.end c.args.self.now.pieces m.ensures.meeting)
 
 pub returns-clause-most : goal.returns-clause-most
 returns-clause-most g c =
     let m = c.meeting-places in
-    omega (arith, c.count_of.ensures, near-most c.args.from c.args.to m.result.start m.result.end c.args.self.now.pieces m.ensures)
+    omega (arith, c.count_of.ensures, near-most c.args.from c.args.to m.result.start m.result.end c.args.self.now.pieces m.ensures.meeting)

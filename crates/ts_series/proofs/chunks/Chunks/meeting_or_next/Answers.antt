@@ -9,4 +9,4 @@ returns-then-start-end g c =
     let m = c.meeting-start in
     let cs = c.self.inside.chunks in
     let size : c.len.result ≡ length c.args.self.now.pieces = omega (arith, c.len.ensures, cs.ok.0, length-map cs.items g.C.Chunk.list, ap (λ (h : Held). length h.pieces) c.self.view_is) in
-    meeting-wider c.args.from c.args.to m.result.start m.result.end c.args.self.now.pieces m.ensures c.if-start-end.true c.min.result (omega (arith, c.min.ensures, size))
+    meeting-wider c.args.from c.args.to m.result.start m.result.end c.args.self.now.pieces m.ensures.meeting c.if-start-end.true c.min.result (omega (arith, c.min.ensures, size))

@@ -4,12 +4,13 @@ use Rattle.ts_sample.specs.Chunk.{joined}
 use Rattle.ts_sample.specs.Visit.{visited}
 use Rattle.ts_series.proofs.Answering.{pieces-length, piece}
 use Rattle.ts_series.proofs.Walking.{none-first, all-taken, walked, room-next, visited-more, counted-more, length-more}
+use Rattle.ts_series.proofs.SeamedWalks.{seamed-walk}
 use Rattle.ts_series.proofs.chunks.Chunks.scan.Goals as goal
 
 pub loop-place-init : goal.loop-place-init
 loop-place-init g c =
     let m = c.meeting-start in
-    let none = none-first c.args.from c.args.to m.result.start m.result.end c.args.self.now.pieces m.ensures in
+    let none = none-first c.args.from c.args.to m.result.start m.result.end c.args.self.now.pieces m.ensures.meeting in
     record {
       visited = sym (ap (λ (ps : List Point). visited g.V.Visit.step c.args.visit.now ps) none);
       counted = omega (arith, ap length none);
@@ -21,7 +22,7 @@ scan-requires g c =
     let pss = c.args.self.now.pieces in
     let i = c.loop-place.place in
     let it = piece g.C.Chunk.format g.C.Chunk.list g.C.Chunk.most c.self.inside.chunks.items _ c.self.inside.count c.args.self.now c.self.view_is c.self.invariant
-    i c.index.result.now (omega (arith, pieces-length g.C.Chunk.list c.self.inside.chunks.items _ _ c.args.self.now c.self.view_is, c.loop-place-test.true, c.meeting-start.ensures.within)) c.index.ensures in
+    i c.index.result.now (omega (arith, pieces-length g.C.Chunk.list c.self.inside.chunks.items _ _ c.args.self.now c.self.view_is, c.loop-place-test.true, c.meeting-start.ensures.meeting.within)) c.index.ensures in
     record {
       room =
           subst (λ (ps : List Point). length (between c.args.from c.args.to ps) ≤ g.V.Visit.room c.loop-place.visit) (sym it.here)
@@ -33,7 +34,7 @@ loop-place-preserved g c =
     let pss = c.args.self.now.pieces in
     let i = c.loop-place.place in
     let it = piece g.C.Chunk.format g.C.Chunk.list g.C.Chunk.most c.self.inside.chunks.items _ c.self.inside.count c.args.self.now c.self.view_is c.self.invariant
-    i c.index.result.now (omega (arith, pieces-length g.C.Chunk.list c.self.inside.chunks.items _ _ c.args.self.now c.self.view_is, c.loop-place-test.true, c.meeting-start.ensures.within)) c.index.ensures in
+    i c.index.result.now (omega (arith, pieces-length g.C.Chunk.list c.self.inside.chunks.items _ _ c.args.self.now c.self.view_is, c.loop-place-test.true, c.meeting-start.ensures.meeting.within)) c.index.ensures in
     let next : i + 1 ≡ suc i = omega arith in
     record {
       visited = visited-more c.args.from c.args.to g.V.Visit.step c.args.visit.now c.loop-place.visit c.scan.new.visit i (i + 1) pss next c.loop-place.invariant.visited
@@ -52,25 +53,33 @@ pub returns-clause-visited : goal.returns-clause-visited
 returns-clause-visited g c =
     let m = c.meeting-start in
     let pss = c.args.self.now.pieces in
-    let at_end : c.loop-place.place ≡ m.result.end = omega (arith, m.ensures.ordered) in
+    let at_end : c.loop-place.place ≡ m.result.end = omega (arith, m.ensures.meeting.ordered) in
     c.loop-place.invariant.visited ∙ ap (λ i. visited g.V.Visit.step c.args.visit.now (between c.args.from c.args.to (joined (take i pss)))) at_end
-    ∙ ap (λ (ps : List Point). visited g.V.Visit.step c.args.visit.now ps) (all-taken c.args.from c.args.to m.result.start m.result.end pss m.ensures)
+    ∙ ap (λ (ps : List Point). visited g.V.Visit.step c.args.visit.now ps) (all-taken c.args.from c.args.to m.result.start m.result.end pss m.ensures.meeting)
 
 pub returns-clause-counted : goal.returns-clause-counted
 returns-clause-counted g c =
     let m = c.meeting-start in
     let pss = c.args.self.now.pieces in
-    let at_end : c.loop-place.place ≡ m.result.end = omega (arith, m.ensures.ordered) in
+    let at_end : c.loop-place.place ≡ m.result.end = omega (arith, m.ensures.meeting.ordered) in
     omega (
       arith,
       c.loop-place.invariant.counted,
       ap (λ i. length (between c.args.from c.args.to (joined (take i pss)))) at_end,
-      ap length (all-taken c.args.from c.args.to m.result.start m.result.end pss m.ensures),
+      ap length (all-taken c.args.from c.args.to m.result.start m.result.end pss m.ensures.meeting),
     )
 
 pub returns-clause-bounded : goal.returns-clause-bounded
 returns-clause-bounded g c =
     let m = c.meeting-start in
     let pss = c.args.self.now.pieces in
-    let at_end : c.loop-place.place ≡ m.result.end = omega (arith, m.ensures.ordered) in
-    omega (arith, c.loop-place.invariant.bounded, ap (λ i. length (joined (take i pss))) at_end, walked c.args.from c.args.to m.result.start m.result.end pss m.ensures)
+    let at_end : c.loop-place.place ≡ m.result.end = omega (arith, m.ensures.meeting.ordered) in
+    omega (arith, c.loop-place.invariant.bounded, ap (λ i. length (joined (take i pss))) at_end, walked c.args.from c.args.to m.result.start m.result.end pss m.ensures.meeting)
+
+pub returns-clause-seams : goal.returns-clause-seams
+returns-clause-seams g c =
+    let m = c.meeting-start in
+    let pss = c.args.self.now.pieces in
+    let at_end : c.loop-place.place ≡ m.result.end = omega (arith, m.ensures.meeting.ordered) in
+    seamed-walk c.args.from c.args.to m.result.start m.result.end c.args.steps.now c.loop-place.steps pss m.ensures.meeting.ordered m.ensures.each
+    (omega (arith, c.loop-place.invariant.bounded, ap (λ i. length (joined (take i pss))) at_end))

@@ -37,7 +37,7 @@ overflow_sub-removed g c =
 pub returns-clause-list : goal.returns-clause-list
 returns-clause-list g c =
     let m = c.meeting-places in
-    joined-without c.args.from c.args.to m.result.start m.result.end c.args.self.now.pieces m.ensures (map g.C.Chunk.list c.in_ok-chunks.chunks.items) c.in_ok-chunks.ensures.list
+    joined-without c.args.from c.args.to m.result.start m.result.end c.args.self.now.pieces m.ensures.meeting (map g.C.Chunk.list c.in_ok-chunks.chunks.items) c.in_ok-chunks.ensures.list
 
 pub returns-clause-ready : goal.returns-clause-ready
 returns-clause-ready g c =
@@ -45,7 +45,7 @@ returns-clause-ready g c =
     let now = c.args.self.now in
     let cs = c.in_ok-chunks.chunks.items in
     let kept = kept-view g.C.Chunk.format _ now c.self.inside.count c.self.view_is c.self.invariant in
-    ready-none g.C.Chunk.format now m.result.start m.result.end (map g.C.Chunk.list cs) (map g.C.Chunk.most cs) m.ensures.ordered m.ensures.within
+    ready-none g.C.Chunk.format now m.result.start m.result.end (map g.C.Chunk.list cs) (map g.C.Chunk.most cs) m.ensures.meeting.ordered m.ensures.meeting.within
     (subst IsAscending (sym (returns-clause-list g c)) (ascending-times (λ t. not (is_within c.args.from c.args.to t)) (points now) kept.ascending))
 
 pub returns-clause-removed : goal.returns-clause-removed
@@ -54,6 +54,6 @@ returns-clause-removed g c =
     let same = joined-same g.C.Chunk.list c.deref.result.now c.in_ok-chunks.chunks.items c.deref.ensures.value in
     omega (
       arith,
-      count-removed c.args.from c.args.to m.result.start m.result.end c.args.self.now.pieces m.ensures c.count_in.result (c.count_in.ensures ∙ ap length (same ∙ c.in_ok-chunks.ensures.list)),
+      count-removed c.args.from c.args.to m.result.start m.result.end c.args.self.now.pieces m.ensures.meeting c.count_in.result (c.count_in.ensures ∙ ap length (same ∙ c.in_ok-chunks.ensures.list)),
       c.count_of.ensures,
     )

@@ -1,12 +1,13 @@
-use Rattle.std.proofs.Common.{◌≡◌, refl, sym, ◌∙◌, ap, subst}
-use Rattle.std.specs.Prelude.{None, Some}
+use Rattle.std.proofs.Common.{◌≡◌, ◌<◌, refl, sym, ◌∙◌, length, ap, subst, arith, ltb-false}
+use Rattle.std.specs.Prelude.{None, Some, Ok}
 use Rattle.ts_spec.specs.Sample.{Point, at}
 use Rattle.ts_series.specs.Held.{points}
 use Rattle.ts_series.specs.History.{History, list_of}
-use Rattle.ts_spec.specs.Rules.{merge}
-use Rattle.ts_series.specs.Put.{Answers}
+use Rattle.ts_spec.specs.Rules.{Merged, merge}
+use Rattle.ts_spec.specs.Step.{value_at}
+use Rattle.ts_series.specs.Put.{Answers, Fits, IsMerged, IsWrite, list_after}
 use Rattle.ts_series.proofs.Ready.{Shows}
-use Rattle.ts_series.proofs.Putting.{at-shown, answers-new, answers-over}
+use Rattle.ts_series.proofs.Putting.{at-shown, full-early, answers-written, answers-new, answers-over}
 use Rattle.ts_series.proofs.line.Line.put_late.Goals as goal
 
 pub added-requires-clause-absent : goal.added-requires-clause-absent
@@ -41,3 +42,16 @@ returns-in-Some-clause-answer g c =
     answers-over c.args.how c.args.limit c.args.sample c.in-Some.there h c.put_over.result there
     (subst (λ (q : Point). Answers (merge c.args.how (Some q.value) c.args.sample.value) c.args.limit c.args.sample.time h c.put_over.result) c.there.view_is
     (c.put_over.ensures.answer c.args.limit))
+
+pub returns-then-len-limit-clause-answer : goal.returns-then-len-limit-clause-answer
+returns-then-len-limit-clause-answer g c =
+    let h = c.args.self.now in
+    let p = c.args.sample in
+    let limit = c.args.limit in
+    let merges = c.always_writes.ensures c.if-always_writes.true (value_at p.time (list_of h)) p.value in
+    let below : length (points h.held) < limit = omega (arith, c.if-len-limit.true, c.len.ensures, ap (λ (x : History). length (points x.held)) c.self.view_is) in
+    let fits : Fits limit p h = λ none. ltb-false limit (length (list_after p h)) (sym (full-early limit p h (subst Shows c.self.view_is refl) none below)) in
+    let same = ap (λ n. record { time = p.time; value = p.value; made = n }) c.requires.made in
+    answers-written (merge c.args.how (value_at p.time (list_of h)) p.value) limit p.time h p.value c.written.result
+    (subst (λ (m : Merged). IsMerged m (Ok (Some p.value))) (sym merges) refl)
+    (subst (λ (q : Point). IsWrite limit q h c.written.result) same (c.written.ensures.answer limit fits))
