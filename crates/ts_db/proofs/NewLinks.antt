@@ -19,11 +19,11 @@ use Rattle.ts_rules.specs.declared.rule.Rule.{Rule}
 use Rattle.ts_rules.specs.Rules.{kept_as}
 use Rattle.ts_db.specs.declared.node.Node.{Node}
 use Rattle.ts_db.specs.declared.store.Store.{Store}
-use Rattle.ts_db.specs.Store.{rules_by, key_at, key_in, kept_at, collected, reaches_of, number_of, stock_of, contents_of, Nodes, IsLive, AreLive, IsLiveSource, HasLiveLinks, HaveGrids, IsNode, IsStore, IsInOrder, Holds}
+use Rattle.ts_db.specs.Store.{rules_by, key_at, key_in, kept_at, collected, reaches_of, pieces_of, number_of, stock_of, contents_of, Nodes, IsLive, AreLive, IsLiveSource, HasLiveLinks, HaveGrids, IsNode, IsStore, IsInOrder, Holds}
 use Rattle.ts_db.specs.Linking.{IsKeptBy, IsUnspent, HasMore, HasRules}
 use Rattle.ts_db.proofs.Applying.{there, store-changed, keys-changed}
 use Rattle.ts_db.proofs.OneKey.{changed-alone, unchanged}
-use Rattle.ts_db.proofs.Reaches.{reaches-turned}
+use Rattle.ts_db.proofs.Reaches.{reaches-turned, pieces-turned}
 
 -- ---- a node that changes its links alone, under its number
 
@@ -52,7 +52,8 @@ module _ (s : Store) (store : IsInOrder s) (id : Id) (n changed : Node) (got : s
       keys-changed s store n.key id n changed holds name links
       ∙ ap (λ (d : Kept). with_key n.key d (stock_of s).keys) is
       ∙ unchanged (stock_of s).keys n.key (kept_at s.nodes n) (there s store n.key id n holds) in
-      λ i. record (stock_of s) { keys = kept i; reaches = far i }
+      let parts : pieces_of (slab.with_value s.nodes id.0 changed) s.keys.entries ≡ pieces_of s.nodes s.keys.entries = pieces-turned s.nodes s.keys.entries id.0 n changed got series in
+      λ i. record (stock_of s) { keys = kept i; reaches = far i; pieces = parts i }
 
 -- ---- a node with other rules
 

@@ -1,5 +1,6 @@
 -- The keys that filters select, walked in the order of their bytes.
-use Rattle.std.proofs.Common.{◌≡◌, ◌<◌, Bool, true, false, ◌⊎◌, inl, inr, List, [], ◌∷◌, ◌++◌, append_assoc, append-nil, refl, sym, ap, subst, ◌∙◌, arith, eq-eqb, le-ltb, lt-ltb, ne_eqb}
+use Rattle.std.proofs.Common.{◌≡◌, ℕ, suc, ◌+◌, ◌*◌, ◌≤◌, ◌<◌, length, Bool, true, false, ◌⊎◌, inl, inr, List, [], ◌∷◌, ◌++◌, append_assoc, append-nil, refl, sym, ap, subst, ◌∙◌, arith, eq-eqb, le-ltb, lt-ltb, ne_eqb}
+use Rattle.std.proofs.Math.Nat.{mul-suc}
 use Rattle.std.proofs.lemmas.Bool.{cases_order, false≢true, and_parts}
 use Rattle.std.specs.Cmp.Derive.{both_true}
 use Rattle.std.specs.Cmp.Lexicographic.{slice_cmp}
@@ -153,3 +154,23 @@ there-next nodes rest es k id split there = subst (HaveNodes nodes) split there
 -- at the end of the walk
 pub walk-ends : (nodes : Nodes) (fs : List Filter) (rest : Numbers) (so_far total : List Id) → rest ≡ [] → so_far ++ chosen nodes fs rest ≡ total → total ≡ so_far
 walk-ends nodes fs rest so_far total none goes = sym goes ∙ ap (λ (l : Numbers). so_far ++ chosen nodes fs l) none ∙ append-nil so_far
+
+-- a key fewer is left, and each filter took a step at most
+pub fewer-left : (fs : ℕ) (rest es : Numbers) (e : Key × Id) (a b most : ℕ) → rest ≡ e ∷ es → a + fs * length rest ≤ most → b ≤ a + fs → b + fs * length es ≤ most
+fewer-left fs rest es e a b most split all one =
+    let more : fs * length rest ≡ fs * length es + fs = ap (λ (l : Numbers). fs * length l) split ∙ mul-suc fs (length es) in
+    omega (arith, more, all, one)
+
+-- as many keys are kept as have numbers
+pub as-many : (nodes : Nodes) (es : Numbers) → HaveNodes nodes es → length (listing nodes es) ≡ length es
+as-many nodes [] there = refl
+as-many nodes (e ∷ es) there = go (kept_in nodes e.1) (ap (option_map (kept_at nodes)) there.0.1) (as-many nodes es there.1)
+  where
+    go : (o : Option Kept) → o ≡ Some (kept_at nodes there.0.0) → length (listing nodes es) ≡ length es → length (onto e.0 o (listing nodes es)) ≡ suc (length es)
+    go None is rest = absurd (cc is)
+    go (Some d) is rest = ap suc rest
+
+-- so many steps are those of a selection
+pub selection-all : (nodes : Nodes) (es : Numbers) (fs : List Filter) → IsStrictlySortedBy (slice_cmp nat_cmp) (keys_of es) → HaveNodes nodes es
+    → length fs * length (collected nodes es).entries ≡ length fs * length es
+selection-all nodes es fs sorted there = ap (λ (n : ℕ). length fs * n) (ap length (listing-entries nodes es sorted there) ∙ as-many nodes es there)

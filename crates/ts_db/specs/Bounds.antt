@@ -1,6 +1,7 @@
 -- How many samples a call may decode at most, by what contracts see of a database. Each sample that is decoded is a step.
 use Rattle.std.specs.Prelude.{ℕ, ◌+◌, ◌*◌, length, sum_by, ◌≡◌, ◌<◌, true, ⊤, List, [], ◌∷◌, Option, None, Some}
 use Rattle.ts_spec.specs.Sample.{between, last_of}
+use Rattle.ts_spec.specs.Filter.{Filter}
 use Rattle.ts_spec.specs.Key.{Key}
 use Rattle.ts_spec.specs.Keyed.{get}
 use Rattle.ts_spec.specs.KeptStep.{list_at, kept_rules_at}
@@ -18,6 +19,10 @@ reach_of_all stock = sum_by (λ e. reach_at stock e.key) stock.keys.entries
 -- on a walk from one time to another: the samples of the key between them, and twice its reach
 abbrev pub walk_steps : Stock → Key → (from to : ℕ) → ℕ
 walk_steps stock key from to = length (between from to (list_at (get key stock.keys))) + 2 * reach_at stock key
+
+-- on a selection: each filter once for each key
+abbrev pub selection_steps : Stock → List Filter → ℕ
+selection_steps stock filters = length filters * length stock.keys.entries
 
 -- ---- a write
 

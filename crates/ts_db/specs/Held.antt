@@ -22,16 +22,22 @@ pub record Held : Type 0 where
   pub limits : Limits
   pub state : State
 
--- what contracts see of a database: its limits, what it keeps of each key, the number of each key, and the reach of its series
+-- what contracts see of a database: its limits, what it keeps of each key, the number of each key, the reach of its series, and the
+-- samples of each of its chunks
 pub record Stock : Type 0 where
   pub limits : Limits
   pub keys : Keeping
   pub ids : Keyed Id
   pub reaches : Keyed ℕ
+  pub pieces : Keyed (List (List Point))
 
 -- the reach of the series of a key, 0 where the key is missing
 abbrev pub reach_at : Stock → Key → ℕ
 reach_at stock key = unwrap_or (get key stock.reaches) 0
+
+-- the samples of each chunk of a key, none where the key is missing
+abbrev pub pieces_at : Stock → Key → List (List Point)
+pieces_at stock key = unwrap_or (get key stock.pieces) []
 
 -- a state that it stands for, under its limits
 pub record Stands (stock : Stock) (held : Held) : Type 0 where

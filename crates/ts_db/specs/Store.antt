@@ -6,7 +6,7 @@ use Rattle.std.specs.BTreeMap.{is_at}
 use Rattle.std.specs.Map.{lookup}
 use Rattle.slab.specs.Slab as slab
 use Rattle.ts_spec.specs.declared.limits.Limits.{Limits}
-use Rattle.ts_spec.specs.Sample.{MAX_TIME}
+use Rattle.ts_spec.specs.Sample.{Point, MAX_TIME}
 use Rattle.ts_spec.specs.Key.{Key}
 use Rattle.ts_spec.specs.Keyed.{Keyed, none, with_key, without_key, each, count_keys}
 use Rattle.ts_spec.specs.State.{Label}
@@ -89,11 +89,29 @@ reach_in nodes id = node_reach (slab.get nodes id.0)
 abbrev pub reaches_of : Nodes → Numbers → Keyed ℕ
 reaches_of nodes es = each (λ key id. reach_in nodes id) (ids_of es)
 
+-- the samples of each chunk of the series of a number, none where there is none
+abbrev pub node_pieces : Option Node → List (List Point)
+node_pieces None = []
+node_pieces (Some n) = n.series.held.pieces
+
+abbrev pub pieces_in : Nodes → Id → List (List Point)
+pieces_in nodes id = node_pieces (slab.get nodes id.0)
+
+-- those of each key
+abbrev pub pieces_of : Nodes → Numbers → Keyed (List (List Point))
+pieces_of nodes es = each (λ key id. pieces_in nodes id) (ids_of es)
+
 -- what contracts see of a store
 abbrev pub stock_of : Store → Stock
-stock_of s = record { limits = s.limits; keys = collected s.nodes s.keys.entries; ids = ids_of s.keys.entries; reaches = reaches_of s.nodes s.keys.entries }
+stock_of s = record {
+  limits = s.limits;
+  keys = collected s.nodes s.keys.entries;
+  ids = ids_of s.keys.entries;
+  reaches = reaches_of s.nodes s.keys.entries;
+  pieces = pieces_of s.nodes s.keys.entries;
+}
 
--- what a store holds, but for the reach of its series
+-- what a store holds, but for the reach and the chunks of its series
 pub record Contents : Type 0 where
   pub limits : Limits
   pub keys : Keeping

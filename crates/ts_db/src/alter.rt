@@ -1,3 +1,4 @@
+// TS.ALTER on the store: new options and labels, and what a new retention comes to for rules and destinations.
 ghost use Rattle.std.specs.Prelude.{◌≡◌, ◌≤◌, IfErr, ◌+◌, ◌*◌};
 ghost use Rattle.ts_spec.specs.Keyed.{get};
 ghost use Rattle.ts_spec.specs.KeptStep.{kept_alter_at};

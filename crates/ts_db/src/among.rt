@@ -3,6 +3,7 @@ ghost use Rattle.std.specs.Prelude.{◌≡◌, ◌≤◌, ◌+◌, ◌*◌, nat_
 ghost use Rattle.ts_spec.specs.Sample.{Point, MAX_TIME, IsAscending, at_times, between, first_of, last_of, put, put_all};
 ghost use Rattle.ts_sample.specs.Visit.{visited};
 ghost use Rattle.ts_series.specs.History.{list_of, reach, IsKept};
+ghost use Rattle.ts_series.specs.Seams.{IsSeamed};
 ghost use Rattle.ts_rules.specs.Rules.{one_of};
 
 use crate::row_among::RowAmong;
@@ -117,6 +118,7 @@ pub(crate) fn scan_with<V: Visit, L: Ledger>(
     ensures visited { visit.new ≡ visited V.step visit.old (put row.now (between from to (list_of series.now))) }
     ensures counted { steps.old ≤ steps.new }
     ensures steps { steps.new ≤ steps.old + length (between from to (list_of series.now)) + 2 * reach series.now }
+    ensures seams { IsSeamed series.now.held.pieces from to steps.old steps.new }
 {
     let mut among = RowAmong {
         visit,
@@ -140,6 +142,7 @@ fn walk_among<V: Visit, L: Ledger>(
         → among.new.visit.now ≡ visited V.step among.old.visit.now (put row (between from to (list_of series.now))) }
     ensures counted { steps.old ≤ steps.new }
     ensures steps { steps.new ≤ steps.old + length (between from to (list_of series.now)) + 2 * reach series.now }
+    ensures seams { IsSeamed series.now.held.pieces from to steps.old steps.new }
 {
     series.known();
     series.scan(from, to, among, steps);

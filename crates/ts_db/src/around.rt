@@ -1,3 +1,4 @@
+// What stands around an interval: the sample before it, and both ends of a series.
 ghost use Rattle.std.specs.Prelude.{◌≡◌, ◌≤◌, nat_lt, Some, IfOk, IfErr, ◌+◌};
 ghost use Rattle.std.specs.Option.{ForSome};
 ghost use Rattle.ts_spec.specs.Keyed.{get};

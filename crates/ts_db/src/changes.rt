@@ -1,3 +1,4 @@
+// The public changes of a database's samples and options, each with the clauses that its callers see.
 ghost use Rattle.std.specs.Prelude.{◌≡◌, ◌≤◌, is_some, IfOk, IfErr, ◌+◌, ◌*◌};
 ghost use Rattle.ts_spec.specs.Sample.{MAX_TIME};
 ghost use Rattle.ts_spec.specs.Keyed.{get};

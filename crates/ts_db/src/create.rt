@@ -1,3 +1,4 @@
+// New keys, without samples or with their first one.
 ghost use Rattle.std.specs.Prelude.{◌≡◌, ◌≤◌, ◌<◌, [], ◌∷◌, length, None, Some, IfOk, IfErr};
 ghost use Rattle.ts_spec.specs.Sample.{MAX_TIME};
 ghost use Rattle.ts_spec.specs.Keyed.{get, with_key, count_keys};

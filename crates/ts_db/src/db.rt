@@ -1,8 +1,10 @@
+// The database as its callers see it.
 ghost use Rattle.std.specs.Prelude.{◌≡◌, ◌≤◌, ⊤, is_some};
 ghost use Rattle.ts_spec.specs.Keyed.{none, get, count_keys};
 ghost use Rattle.ts_spec.specs.State.{empty};
 ghost use Rattle.ts_db.specs.Held.{Held, Stands, Leads};
 
+use crate::hints::Hints;
 use crate::store::Store;
 use slab::Slab;
 use std::alloc::Global;
@@ -43,6 +45,7 @@ impl Db {
                 limits,
                 nodes: Slab::new(alloc),
                 keys: BTreeMap::new(alloc),
+                hints: Hints::new(alloc),
             },
         }
     }

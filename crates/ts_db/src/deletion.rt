@@ -1,3 +1,4 @@
+// TS.DEL on the store: samples are taken out, and the destinations of rules are mended.
 ghost use Rattle.std.specs.Prelude.{◌≡◌, ◌≤◌, [], length, Some, IfOk, IfErr, ◌+◌};
 ghost use Rattle.ts_spec.specs.Key.{Key};
 ghost use Rattle.ts_spec.specs.Keyed.{get};

@@ -1,3 +1,4 @@
+// Why a call of the database is refused.
 ghost use Rattle.std.specs.Prelude.{◌≡◌};
 ghost use Rattle.ts_spec.specs.Keyed.{Keyed};
 ghost use Rattle.ts_sample.specs.declared.id.Id.{Id as TheId};

@@ -1,3 +1,4 @@
+// What was planned for destinations is done here, where nothing can fail any more.
 ghost use Rattle.std.specs.Prelude.{List};
 ghost use Rattle.ts_rules.specs.declared.rule.Rule.{Rule as TheRule};
 ghost use Rattle.ts_db.specs.Feeding.{Rows, Gone};

@@ -1,3 +1,4 @@
+// TS.INCRBY and TS.DECRBY on the store: a write of the last value and a change.
 ghost use Rattle.std.specs.Prelude.{◌≡◌, ◌≤◌, IfOk, IfErr, ◌+◌};
 ghost use Rattle.ts_spec.specs.Sample.{MAX_TIME, last_of};
 ghost use Rattle.ts_spec.specs.Keyed.{get};

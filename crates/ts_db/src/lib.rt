@@ -13,6 +13,7 @@ mod dropping;
 mod fault;
 mod feeding;
 mod growing;
+mod hints;
 mod increase;
 mod info;
 mod information;
@@ -40,6 +41,3 @@ pub use info::{Info, RuleInfo};
 pub use ts_labels::{Change, Spec};
 pub use ts_sample::Id;
 pub use ts_spec::Limits;
-
-#[cfg(test)]
-mod tests;

@@ -1,13 +1,15 @@
-ghost use Rattle.std.specs.Prelude.{◌≡◌, ◌≤◌, ◌^◌, ◌⊎◌, false, nat_lt, length, is_some, Some, IfOk, ◌+◌};
+// Keys by their numbers, for questions over many series.
+ghost use Rattle.std.specs.Prelude.{◌≡◌, ◌≤◌, ◌^◌, ◌⊎◌, ℕ, false, nat_lt, length, is_some, Some, IfOk, ◌+◌, ◌*◌};
 ghost use Rattle.ts_sample.specs.Visit.{visited};
 ghost use Rattle.std.specs.Option.{ForSome};
 ghost use Rattle.ts_spec.specs.Key.{Key};
 ghost use Rattle.ts_spec.specs.Keyed.{get};
 ghost use Rattle.ts_spec.specs.KeptQuestions.{kept_asked, kept_labels_at, kept_selection};
 ghost use Rattle.ts_spec.specs.Sample.{IsAscending, at_times, between, last_of};
-ghost use Rattle.ts_db.specs.Held.{IsLive, AreNumbersOf, AreTimes, ends_of, reach_at};
+ghost use Rattle.ts_series.specs.Seams.{IsSeam, IsSeamed, EndsNear, Around};
+ghost use Rattle.ts_db.specs.Held.{IsLive, AreNumbersOf, AreTimes, ends_of, reach_at, pieces_at};
 ghost use Rattle.ts_db.specs.Totals.{total_of};
-ghost use Rattle.ts_db.specs.Bounds.{reach_of_all, walk_steps};
+ghost use Rattle.ts_db.specs.Bounds.{reach_of_all, walk_steps, selection_steps};
 
 use crate::db::Db;
 use std::alloc::AllocError;
@@ -23,7 +25,8 @@ impl Db {
         filters: &[Filter],
         steps: &mut Steps<L>,
     ) -> Result<Vec<Id>, AllocError>
-        ensures { IfOk result (λ ids. AreNumbersOf self.now.ids (kept_selection self.now.keys filters.now) ids.items) }
+        ensures numbers { IfOk result (λ ids. AreNumbersOf self.now.ids (kept_selection self.now.keys filters.now) ids.items) }
+        ensures steps { steps.new ≤ steps.old + selection_steps self.now filters.now }
     {
         self.store.select(filters, steps)
     }
@@ -110,6 +113,7 @@ impl Db {
             → visit.new ≡ visited V.step visit.old (between from to (kept_asked self.now.keys latest key)) }
         ensures counted { steps.old ≤ steps.new }
         ensures steps { (key : Key) → get key self.now.ids ≡ Some id → steps.new ≤ steps.old + walk_steps self.now key from to }
+        ensures seams { (key : Key) → get key self.now.ids ≡ Some id → IsSeamed (pieces_at self.now key) from to steps.old steps.new }
     {
         self.store.visit_of(id, from, to, latest, visit, steps);
     }
@@ -122,6 +126,7 @@ impl Db {
         ensures within { (from ≤ result) × (result ≤ to) }
         ensures reach { (key : Key) → get key self.now.ids ≡ Some id
             → (result ≡ to) ⊎ (count ≤ length (between from result (kept_asked self.now.keys false key))) }
+        ensures seam { (key : Key) → get key self.now.ids ≡ Some id → (result ≡ to) ⊎ IsSeam (result + 1) (pieces_at self.now key) }
     {
         self.store.reach_of(id, from, to, count)
     }
@@ -135,8 +140,28 @@ impl Db {
         ensures within { (from ≤ result) × (result ≤ to) }
         ensures reach { (key : Key) → get key self.now.ids ≡ Some id
             → (result ≡ from) ⊎ (count ≤ length (between result to (kept_asked self.now.keys false key))) }
+        ensures seam { (key : Key) → get key self.now.ids ≡ Some id → (result ≡ from) ⊎ IsSeam result (pieces_at self.now key) }
+        ensures few { (key : Key) → get key self.now.ids ≡ Some id
+            → (result ≡ from) ⊎ EndsNear result to (count + 2 * reach_at self.now key) (pieces_at self.now key) }
     {
         self.store.reach_back_of(id, from, to, count)
+    }
+
+    /// How many samples a new chunk of the key of a number has room for at most.
+    pub fn chunk_reach_of(&self, id: Id) -> u64
+        requires live { IsLive self.now.ids id }
+        ensures { (key : Key) → get key self.now.ids ≡ Some id → result ≤ reach_at self.now key }
+    {
+        self.store.chunk_reach_of(id)
+    }
+
+    /// Does nothing: it tells a caller that there are times near each interval that cut no chunk of the key of a number.
+    pub fn seams_of(&self, id: Id)
+        requires live { IsLive self.now.ids id }
+        ensures { (key : Key) → get key self.now.ids ≡ Some id
+            → (from to : ℕ) → Around from to (walk_steps self.now key from to) (pieces_at self.now key) }
+    {
+        self.store.seams_of(id);
     }
 
     /// The last sample of the key of a number before a time, in milliseconds, if it has one; with `latest` that of

@@ -1,3 +1,4 @@
+// What is kept under a key.
 ghost use Rattle.std.specs.Prelude.{◌≡◌};
 ghost use Rattle.std.specs.Option.{unwrap_or};
 ghost use Rattle.ts_spec.specs.Step.{is_longer};

@@ -9,7 +9,8 @@ ghost use Rattle.ts_spec.specs.Sample.{MAX_TIME, IsAscending, at_times, between,
 ghost use Rattle.ts_series.specs.History.{list_of, IsKept, reach};
 ghost use Rattle.ts_rules.specs.Rules.{one_of};
 ghost use Rattle.ts_db.specs.Store.{stock_of, IsInOrder, Holds};
-ghost use Rattle.ts_db.specs.Held.{IsLive, AreTimes, ends_of, reach_at};
+ghost use Rattle.ts_series.specs.Seams.{IsSeamed};
+ghost use Rattle.ts_db.specs.Held.{IsLive, AreTimes, ends_of, reach_at, pieces_at};
 ghost use Rattle.ts_db.specs.Bounds.{walk_steps};
 
 use crate::among::{first_with, gather, gather_with, last_with, row_before, row_within, scan_with};
@@ -124,6 +125,7 @@ impl Store {
             → visit.new ≡ visited V.step visit.old (between from to (kept_asked (stock_of self.now).keys latest key)) }
         ensures counted { steps.old ≤ steps.new }
         ensures steps { (key : Key) → get key (stock_of self.now).ids ≡ Some id → steps.new ≤ steps.old + walk_steps (stock_of self.now) key from to }
+        ensures seams { (key : Key) → get key (stock_of self.now).ids ≡ Some id → IsSeamed (pieces_at (stock_of self.now) key) from to steps.old steps.new }
     {
         self.known();
         let node = self.node(id);

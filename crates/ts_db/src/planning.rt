@@ -1,3 +1,4 @@
+// The plans for all rules of a source, which are made before anything is changed.
 ghost use Rattle.std.specs.Prelude.{◌≡◌, ◌≤◌, [], ◌∷◌, None, length, IfOk, IfErr, ◌+◌};
 ghost use Rattle.slab.specs.Slab as slab;
 ghost use Rattle.ts_series.specs.History.{list_of};

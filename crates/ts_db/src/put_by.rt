@@ -3,16 +3,17 @@ ghost use Rattle.std.specs.Prelude.{◌≡◌, ◌≤◌, ◌+◌, IfOk, IfErr};
 ghost use Rattle.ts_spec.specs.Sample.{MAX_TIME};
 ghost use Rattle.ts_spec.specs.Keyed.{get};
 ghost use Rattle.ts_db.specs.Held.{IsOwn};
-ghost use Rattle.ts_db.specs.Store.{stock_of, IsInOrder, IsDb};
+ghost use Rattle.ts_db.specs.Store.{stock_of, number_of, IsInOrder, IsDb};
 ghost use Rattle.ts_db.specs.Answering.{KeptNumber};
 ghost use Rattle.ts_db.specs.PutBy.{kept_put_by};
 ghost use Rattle.ts_db.specs.Bounds.{write_steps, IsEasyAppend};
 
 use crate::fault::DbFault;
+use crate::hints::place_of;
 use crate::store::Store;
 use std::sync::ledger::Ledger;
 use ts_resp::Word;
-use ts_sample::{Steps, Units};
+use ts_sample::{Id, Steps, Units};
 use ts_spec::{Merge, Policy};
 
 impl Store {
@@ -35,13 +36,30 @@ impl Store {
         ensures steps { steps.new ≤ steps.old + write_steps (stock_of self.old) key.now time }
         ensures easy { IsEasyAppend (stock_of self.old) key.now time → steps.new ≡ steps.old }
     {
-        let Some(id) = self.keys.get(key).copied() else {
+        let place = place_of(key);
+        let Some(id) = self.number_near(key, place) else {
             return Err(DbFault::NoKey);
         };
         let Some(node) = self.nodes.get(id.0) else {
             unreachable!();
         };
         let how = Merge::By(on.unwrap_or(node.series.options().policy));
-        self.write(id, how, time, value, steps)
+        let answer = self.write(id, how, time, value, steps);
+        self.hints.keep(place, id);
+        answer
+    }
+
+    // The number of a key, if there is one: that at a place of the hints, where its node has the key.
+    fn number_near(&self, key: &Word, place: usize) -> Option<Id>
+        requires { IsInOrder self.now }
+        ensures { result ≡ number_of key.now self.now.keys.entries }
+    {
+        if let Some(id) = self.hints.at(place)
+            && let Some(node) = self.nodes.get(id.0)
+            && node.key == *key
+        {
+            return Some(id);
+        }
+        self.keys.get(key).copied()
     }
 }

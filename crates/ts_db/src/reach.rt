@@ -1,11 +1,13 @@
 // A time up to which, or from which on, what is kept under a number has so many samples.
-ghost use Rattle.std.specs.Prelude.{◌≡◌, ◌≤◌, ◌⊎◌, false, length, Some};
+ghost use Rattle.std.specs.Prelude.{◌≡◌, ◌≤◌, ◌+◌, ◌*◌, ◌⊎◌, ℕ, false, length, Some};
 ghost use Rattle.ts_spec.specs.Key.{Key};
 ghost use Rattle.ts_spec.specs.Keyed.{get};
 ghost use Rattle.ts_spec.specs.KeptQuestions.{kept_asked};
 ghost use Rattle.ts_spec.specs.Sample.{between};
 ghost use Rattle.ts_db.specs.Store.{stock_of, IsInOrder};
-ghost use Rattle.ts_db.specs.Held.{IsLive};
+ghost use Rattle.ts_series.specs.Seams.{IsSeam, EndsNear, Around};
+ghost use Rattle.ts_db.specs.Held.{IsLive, reach_at, pieces_at};
+ghost use Rattle.ts_db.specs.Bounds.{walk_steps};
 
 use crate::store::Store;
 use ts_sample::Id;
@@ -20,6 +22,7 @@ impl Store {
         ensures within { (from ≤ result) × (result ≤ to) }
         ensures reach { (key : Key) → get key (stock_of self.now).ids ≡ Some id
             → (result ≡ to) ⊎ (count ≤ length (between from result (kept_asked (stock_of self.now).keys false key))) }
+        ensures seam { (key : Key) → get key (stock_of self.now).ids ≡ Some id → (result ≡ to) ⊎ IsSeam (result + 1) (pieces_at (stock_of self.now) key) }
     {
         let node = self.node(id);
         node.series.time_for(from, to, count)
@@ -34,8 +37,30 @@ impl Store {
         ensures within { (from ≤ result) × (result ≤ to) }
         ensures reach { (key : Key) → get key (stock_of self.now).ids ≡ Some id
             → (result ≡ from) ⊎ (count ≤ length (between result to (kept_asked (stock_of self.now).keys false key))) }
+        ensures seam { (key : Key) → get key (stock_of self.now).ids ≡ Some id → (result ≡ from) ⊎ IsSeam result (pieces_at (stock_of self.now) key) }
+        ensures few { (key : Key) → get key (stock_of self.now).ids ≡ Some id
+            → (result ≡ from) ⊎ EndsNear result to (count + 2 * reach_at (stock_of self.now) key) (pieces_at (stock_of self.now) key) }
     {
         let node = self.node(id);
         node.series.time_from(from, to, count)
+    }
+
+    // How many samples a new chunk has room for at most.
+    pub(crate) fn chunk_reach_of(&self, id: Id) -> u64
+        requires store { IsInOrder self.now }
+        requires live { IsLive (stock_of self.now).ids id }
+        ensures { (key : Key) → get key (stock_of self.now).ids ≡ Some id → result ≤ reach_at (stock_of self.now) key }
+    {
+        self.node(id).series.chunk_reach()
+    }
+
+    // Does nothing: it tells a caller that there are seams near each interval.
+    pub(crate) fn seams_of(&self, id: Id)
+        requires store { IsInOrder self.now }
+        requires live { IsLive (stock_of self.now).ids id }
+        ensures { (key : Key) → get key (stock_of self.now).ids ≡ Some id
+            → (from to : ℕ) → Around from to (walk_steps (stock_of self.now) key from to) (pieces_at (stock_of self.now) key) }
+    {
+        self.node(id).series.seams();
     }
 }

@@ -1,9 +1,10 @@
 // The keys whose labels pass filters.
-ghost use Rattle.std.specs.Prelude.{◌≡◌, IfOk};
+ghost use Rattle.std.specs.Prelude.{◌≡◌, ◌≤◌, ◌+◌, length, IfOk};
 ghost use Rattle.ts_spec.specs.Filter.{all_hold};
 ghost use Rattle.ts_spec.specs.KeptQuestions.{kept_selection};
 ghost use Rattle.ts_db.specs.Store.{stock_of, IsInOrder};
 ghost use Rattle.ts_db.specs.Held.{AreNumbersOf};
+ghost use Rattle.ts_db.specs.Bounds.{selection_steps};
 
 use crate::store::Store;
 use std::alloc::AllocError;
@@ -19,7 +20,8 @@ impl Store {
         steps: &mut Steps<L>,
     ) -> Result<Vec<Id>, AllocError>
         requires { IsInOrder self.now }
-        ensures { IfOk result (λ ids. AreNumbersOf (stock_of self.now).ids (kept_selection (stock_of self.now).keys filters.now) ids.items) }
+        ensures numbers { IfOk result (λ ids. AreNumbersOf (stock_of self.now).ids (kept_selection (stock_of self.now).keys filters.now) ids.items) }
+        ensures steps { steps.new ≤ steps.old + selection_steps (stock_of self.now) filters.now }
     {
         let mut ids = Vec::new(self.alloc);
         for (_key, id) in self.keys.iter() {
@@ -36,7 +38,8 @@ impl Store {
 
 // Whether labels pass all filters.
 fn pass<L: Ledger>(labels: &Labels, filters: &[Filter], steps: &mut Steps<L>) -> bool
-    ensures { result ≡ all_hold filters.now labels.now }
+    ensures pass { result ≡ all_hold filters.now labels.now }
+    ensures steps { steps.new ≤ steps.old + length filters.now }
 {
     for filter in filters {
         if !filter.holds(labels, steps) {

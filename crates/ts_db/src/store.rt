@@ -1,8 +1,10 @@
+// Where series and keys are kept, and how a plan for one of them is done.
 ghost use Rattle.std.specs.Prelude.{◌≡◌, nat_lt, nat_le, length, is_some};
 ghost use Rattle.ts_spec.specs.Keyed.{get, count_keys};
 ghost use Rattle.ts_db.specs.Store.{stock_of, IsInOrder};
 ghost use Rattle.ts_db.specs.Answering.{IsReady, IsApplied, IsElsewhere};
 
+use crate::hints::Hints;
 use crate::node::Node;
 use slab::Slab;
 use std::alloc::Global;
@@ -21,6 +23,7 @@ pub(crate) struct Store {
     pub(crate) limits: Limits,
     pub(crate) nodes: Slab<Node>,
     pub(crate) keys: BTreeMap<Word, Id>,
+    pub(crate) hints: Hints,
 }
 
 impl Store {

@@ -1,3 +1,4 @@
+// Writes of one sample on the store, by which destinations are mended too.
 ghost use Rattle.std.specs.Prelude.{◌≡◌, ◌≤◌, Some, IfOk, IfErr, ◌+◌};
 ghost use Rattle.ts_spec.specs.Sample.{MAX_TIME};
 ghost use Rattle.ts_spec.specs.Key.{Key};

@@ -5,7 +5,7 @@ use Rattle.ts_spec.specs.Keyed.{with_key}
 use Rattle.ts_spec.specs.Kept.{Kept}
 use Rattle.ts_sample.specs.declared.id.Id.{Id}
 use Rattle.ts_db.specs.declared.node.Node.{Node}
-use Rattle.ts_db.specs.Store.{Numbers, kept_of, collected, ids_of, reaches_of, HaveGrids, IsStore, number_of}
+use Rattle.ts_db.specs.Store.{Numbers, kept_of, collected, ids_of, reaches_of, pieces_of, HaveGrids, IsStore, number_of}
 use Rattle.ts_db.proofs.Storing.{store-slots, store-added, others-added, number-none}
 use Rattle.ts_db.proofs.Collecting.{collected-added, collected-slots, bare-kept}
 use Rattle.ts_db.proofs.Reaches.{stock-slots}
@@ -24,7 +24,7 @@ returns-in-Err-insert-clause-store c =
 
 pub returns-in-Err-insert-clause-unchanged : goal.returns-in-Err-insert-clause-unchanged
 returns-in-Err-insert-clause-unchanged c =
-    ap (λ (es : Numbers). record { limits = c.args.self.now.limits; keys = collected c.reserve.new.self es; ids = ids_of es; reaches = reaches_of c.reserve.new.self es }) c.in-Err-insert.ensures.err
+    ap (λ (es : Numbers). record { limits = c.args.self.now.limits; keys = collected c.reserve.new.self es; ids = ids_of es; reaches = reaches_of c.reserve.new.self es; pieces = pieces_of c.reserve.new.self es }) c.in-Err-insert.ensures.err
     ∙ stock-slots c.args.self.now c.reserve.new.self (ap (λ (s : slab.Slab Node). s.slots) c.reserve.ensures.rest_kept)
 
 pub returns-clause-store : goal.returns-clause-store

@@ -16,27 +16,27 @@ use Rattle.ts_db.proofs.store.Store.put_by.Goals as goal
 
 pub returns-in_default-clause-put : goal.returns-in_default-clause-put
 returns-in_default-clause-put g c = (
-  ap (kept_put_by c.args.self.now.limits (stock_of c.args.self.now).keys c.args.key.now c.args.time c.args.value c.args.on) (missing c.args.self.now.limits c.args.self.now.nodes c.args.self.now.keys.entries c.requires.db.store c.args.key.now (sym (c.in_default.ensures ∙ c.get.ensures.value))),
+  ap (kept_put_by c.args.self.now.limits (stock_of c.args.self.now).keys c.args.key.now c.args.time c.args.value c.args.on) (missing c.args.self.now.limits c.args.self.now.nodes c.args.self.now.keys.entries c.requires.db.store c.args.key.now (sym c.in_default.ensures)),
   refl,
 )
 
 pub returns-clause-put : goal.returns-clause-put
 returns-clause-put g c =
-    let holds : Holds c.args.self.now c.args.key.now c.in-Some.id c.in-Some-get.node.now = record { number = sym (c.in-Some.ensures ∙ c.get.ensures.value); node = sym c.in-Some-get.ensures } in
-    subst (λ (o : Option Kept). KeptNumber (stock_of c.args.self.now) (kept_put_by c.args.self.now.limits (stock_of c.args.self.now).keys c.args.key.now c.args.time c.args.value c.args.on o) c.write.result (stock_of c.write.new.self))
+    let holds : Holds c.args.self.now c.args.key.now c.in-Some.id c.in-Some-get.node.now = record { number = sym c.in-Some.ensures; node = sym c.in-Some-get.ensures } in
+    subst (λ (o : Option Kept). KeptNumber (stock_of c.args.self.now) (kept_put_by c.args.self.now.limits (stock_of c.args.self.now).keys c.args.key.now c.args.time c.args.value c.args.on o) c.write-answer.result (stock_of c.write-answer.new.self))
     (sym (there c.args.self.now c.requires.db.store c.args.key.now c.in-Some.id c.in-Some-get.node.now holds))
-    (subst (λ (p : Policy). KeptNumber (stock_of c.args.self.now) (kept_write c.args.self.now.limits (stock_of c.args.self.now).keys c.args.key.now (kept_at c.args.self.now.nodes c.in-Some-get.node.now) (By p) c.args.time c.args.value) c.write.result (stock_of c.write.new.self))
+    (subst (λ (p : Policy). KeptNumber (stock_of c.args.self.now) (kept_write c.args.self.now.limits (stock_of c.args.self.now).keys c.args.key.now (kept_at c.args.self.now.nodes c.in-Some-get.node.now) (By p) c.args.time c.args.value) c.write-answer.result (stock_of c.write-answer.new.self))
     (c.unwrap_or.ensures ∙ ap (λ (o : Options). unwrap_or c.args.on o.policy) c.options.ensures)
-    (subst (λ (step : KeptOutcome). KeptNumber (stock_of c.args.self.now) step c.write.result (stock_of c.write.new.self))
+    (subst (λ (step : KeptOutcome). KeptNumber (stock_of c.args.self.now) step c.write-answer.result (stock_of c.write-answer.new.self))
     (sym (write-met (stock_of c.args.self.now).keys c.args.self.now c.args.key.now c.in-Some-get.node.now (By c.unwrap_or.result) c.args.time c.args.value))
-    (c.write.ensures.written c.args.key.now c.in-Some-get.node.now holds)))
+    (c.write-answer.ensures.written c.args.key.now c.in-Some-get.node.now holds)))
 
-pub write-requires-clause-there : goal.write-requires-clause-there
-write-requires-clause-there g c =
-    record { key = c.args.key.now; node = c.in-Some-get.node.now; holds = record { number = sym (c.in-Some.ensures ∙ c.get.ensures.value); node = sym c.in-Some-get.ensures } }
+pub write-answer-requires-clause-there : goal.write-answer-requires-clause-there
+write-answer-requires-clause-there g c =
+    record { key = c.args.key.now; node = c.in-Some-get.node.now; holds = record { number = sym c.in-Some.ensures; node = sym c.in-Some-get.ensures } }
 
 pub returns-clause-steps : goal.returns-clause-steps
-returns-clause-steps g c = c.write.ensures.steps c.args.key.now (sym (c.in-Some.ensures ∙ c.get.ensures.value))
+returns-clause-steps g c = c.write-answer.ensures.steps c.args.key.now (sym c.in-Some.ensures)
 
 pub returns-clause-easy : goal.returns-clause-easy
-returns-clause-easy g c = c.write.ensures.easy c.args.key.now (sym (c.in-Some.ensures ∙ c.get.ensures.value))
+returns-clause-easy g c = c.write-answer.ensures.easy c.args.key.now (sym c.in-Some.ensures)

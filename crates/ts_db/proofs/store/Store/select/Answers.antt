@@ -1,10 +1,10 @@
-use Rattle.std.proofs.Common.{◌≡◌, ◌++◌, List, refl, sym, ap, subst, ◌∙◌}
+use Rattle.std.proofs.Common.{◌≡◌, ◌+◌, ◌*◌, ◌++◌, List, length, refl, sym, ap, subst, ◌∙◌, arith}
 use Rattle.ts_spec.specs.KeptQuestions.{kept_selection}
 use Rattle.ts_sample.specs.declared.id.Id.{Id}
 use Rattle.ts_db.specs.Held.{AreNumbersOf}
-use Rattle.ts_db.specs.Store.{stock_of, ids_of}
+use Rattle.ts_db.specs.Store.{Numbers, stock_of, ids_of}
 use Rattle.ts_db.proofs.Collecting.{get-ids}
-use Rattle.ts_db.proofs.Selecting.{chosen, HaveNodes, chosen-selected, all-found, all-there, walk-takes, walk-skips, walk-ends, there-next}
+use Rattle.ts_db.proofs.Selecting.{chosen, HaveNodes, chosen-selected, all-found, all-there, walk-takes, walk-skips, walk-ends, there-next, fewer-left, selection-all}
 use Rattle.ts_db.proofs.store.Store.select.Goals as goal
 
 pub loop-key-init : goal.loop-key-init
@@ -15,6 +15,7 @@ loop-key-init g c =
           ∙ ap (chosen c.args.self.now.nodes c.args.filters.now) all;
       there = subst (HaveNodes c.args.self.now.nodes) (sym all)
           (all-there c.args.self.now.nodes c.args.self.now.keys.entries c.args.self.now.keys.entries c.requires.stored c.iter-key-items.ensures.found);
+      steps = let same : length c.args.filters.now * length c.into_iter-key-iterator.result ≡ length c.args.filters.now * length c.args.self.now.keys.entries = ap (λ (l : Numbers). length c.args.filters.now * length l) all in omega (arith, same);
     }
 
 pub unreachable-requires : goal.unreachable-requires
@@ -28,8 +29,10 @@ loop-key-preserved-in-Continue-1 g c =
     record {
       chosen = walk-takes c.args.self.now.nodes c.args.filters.now c.in-Some._key.now c.in-Some.id.now c.in-Some-get.node.now c.loop-key._key-iterator c.next.new.self
           c.loop-key.ids.items c.push.new.self.items (chosen c.args.self.now.nodes c.args.filters.now c.args.self.now.keys.entries)
-          c.in-Some.ensures.steps (sym c.in-Some-get.ensures) c.loop-key.invariant.chosen (sym c.pass.ensures ∙ c.if-pass.true) c.in_ok-push.ensures.items;
+          c.in-Some.ensures.steps (sym c.in-Some-get.ensures) c.loop-key.invariant.chosen (sym c.pass.ensures.pass ∙ c.if-pass.true) c.in_ok-push.ensures.items;
       there = here.1;
+      steps = fewer-left (length c.args.filters.now) c.loop-key._key-iterator c.next.new.self (c.in-Some._key.now, c.in-Some.id.now) c.loop-key.steps c.pass.new.steps
+          (c.args.steps.now + length c.args.filters.now * length c.args.self.now.keys.entries) c.in-Some.ensures.steps c.loop-key.invariant.steps c.pass.ensures.steps;
     }
 
 pub loop-key-preserved : goal.loop-key-preserved
@@ -38,12 +41,31 @@ loop-key-preserved g c =
     record {
       chosen = walk-skips c.args.self.now.nodes c.args.filters.now c.in-Some._key.now c.in-Some.id.now c.in-Some-get.node.now c.loop-key._key-iterator c.next.new.self
           c.loop-key.ids.items c.loop-key.ids.items (chosen c.args.self.now.nodes c.args.filters.now c.args.self.now.keys.entries)
-          c.in-Some.ensures.steps (sym c.in-Some-get.ensures) c.loop-key.invariant.chosen (sym c.pass.ensures ∙ c.if-pass.false) refl;
+          c.in-Some.ensures.steps (sym c.in-Some-get.ensures) c.loop-key.invariant.chosen (sym c.pass.ensures.pass ∙ c.if-pass.false) refl;
       there = here.1;
+      steps = fewer-left (length c.args.filters.now) c.loop-key._key-iterator c.next.new.self (c.in-Some._key.now, c.in-Some.id.now) c.loop-key.steps c.pass.new.steps
+          (c.args.steps.now + length c.args.filters.now * length c.args.self.now.keys.entries) c.in-Some.ensures.steps c.loop-key.invariant.steps c.pass.ensures.steps;
     }
 
-pub returns : goal.returns
-returns g c =
+-- no memory for one more number
+pub returns-in_err-push-clause-steps : goal.returns-in_err-push-clause-steps
+returns-in_err-push-clause-steps g c =
+    let nodes = c.args.self.now.nodes in
+    let es = c.args.self.now.keys.entries in
+    let all = selection-all nodes es c.args.filters.now c.iter-key-items.ensures.ordered (all-there nodes es es c.requires.stored c.iter-key-items.ensures.found) in
+    let left = fewer-left (length c.args.filters.now) c.loop-key._key-iterator c.next.new.self (c.in-Some._key.now, c.in-Some.id.now) c.loop-key.steps c.pass.new.steps
+    (c.args.steps.now + length c.args.filters.now * length es) c.in-Some.ensures.steps c.loop-key.invariant.steps c.pass.ensures.steps in
+    omega (arith, all, left)
+
+pub returns-clause-steps : goal.returns-clause-steps
+returns-clause-steps g c =
+    let nodes = c.args.self.now.nodes in
+    let es = c.args.self.now.keys.entries in
+    let all = selection-all nodes es c.args.filters.now c.iter-key-items.ensures.ordered (all-there nodes es es c.requires.stored c.iter-key-items.ensures.found) in
+    omega (arith, all, c.loop-key.invariant.steps)
+
+pub returns-clause-numbers : goal.returns-clause-numbers
+returns-clause-numbers g c =
     let nodes = c.args.self.now.nodes in
     let es = c.args.self.now.keys.entries in
     let fs = c.args.filters.now in

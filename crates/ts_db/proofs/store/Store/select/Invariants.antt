@@ -1,10 +1,11 @@
-use Rattle.std.proofs.Common.{◌≡◌, ◌++◌}
+use Rattle.std.proofs.Common.{◌≡◌, ◌≤◌, ◌+◌, ◌*◌, ◌++◌, length}
 use Rattle.ts_db.proofs.Selecting.{chosen, HaveNodes}
 use Rattle.ts_db.proofs.store.Store.select.Given as goal
 
--- the numbers so far, and those that are chosen of what is left, are all that are chosen
+-- the numbers so far, and those that are chosen of what is left, are all that are chosen; and so it is with the steps
 abbrev pub invariant-loop-key : goal.invariant-loop-key
 invariant-loop-key g l = record {
   chosen : l.ids.items ++ chosen l.self.nodes l.filters l._key-iterator ≡ chosen l.self.nodes l.filters l.self.keys.entries;
   there : HaveNodes l.self.nodes l._key-iterator;
+  steps : l.steps + length l.filters * length l._key-iterator ≤ l.fn.steps + length l.filters * length l.self.keys.entries;
 }

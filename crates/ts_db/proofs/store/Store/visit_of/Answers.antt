@@ -1,10 +1,12 @@
-use Rattle.std.proofs.Common.{List, sym, ap, ◌∙◌, arith}
+use Rattle.std.proofs.Common.{List, sym, ap, subst, ◌∙◌, arith}
 use Rattle.std.specs.Prelude.{Option}
 use Rattle.ts_sample.specs.Visit.{visited}
 use Rattle.ts_spec.specs.Sample.{Point, between, is_within, put_all}
 use Rattle.ts_series.specs.History.{list_of}
+use Rattle.ts_series.specs.Seams.{IsSeamed}
 use Rattle.ts_series.proofs.Counting.{times-length}
 use Rattle.ts_rules.specs.Rules.{one_of}
+use Rattle.ts_db.proofs.Reaches.{pieces-held}
 use Rattle.ts_db.proofs.Rows.{within-put, put-within}
 use Rattle.ts_db.proofs.StepBounds.{walk-held}
 use Rattle.ts_db.proofs.store.Store.visit_of.Goals as goal
@@ -43,3 +45,11 @@ returns-in-None-clause-steps g c = λ key at.
 pub returns-in-Some-clause-steps : goal.returns-in-Some-clause-steps
 returns-in-Some-clause-steps g c = λ key at.
     omega (arith, c.scan_with.ensures.steps, walk-held c.args.self.now c.requires.store key c.args.id c.node-node.result.now (c.node-node.ensures.holds key at) c.args.from c.args.to)
+
+pub returns-in-None-clause-seams : goal.returns-in-None-clause-seams
+returns-in-None-clause-seams g c = λ key at.
+    subst (λ (pss : List (List Point)). IsSeamed pss c.args.from c.args.to c.args.steps.now c.scan.new.steps) (sym (pieces-held c.args.self.now key c.args.id c.node-node.result.now (c.node-node.ensures.holds key at))) c.scan.ensures.seams
+
+pub returns-in-Some-clause-seams : goal.returns-in-Some-clause-seams
+returns-in-Some-clause-seams g c = λ key at.
+    subst (λ (pss : List (List Point)). IsSeamed pss c.args.from c.args.to c.args.steps.now c.scan_with.new.steps) (sym (pieces-held c.args.self.now key c.args.id c.node-node.result.now (c.node-node.ensures.holds key at))) c.scan_with.ensures.seams

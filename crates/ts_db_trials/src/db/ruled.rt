@@ -1,9 +1,9 @@
 // Calls that make and end rules, of the last value of each ten milliseconds.
-use crate::db::Db;
-use crate::tests::call::word;
-use crate::tests::came::{Came, done};
+use crate::db::call::word;
+use crate::db::came::{Came, done};
 use std::alloc::{AllocError, Global};
 use ts_bucket::Grid;
+use ts_db::Db;
 use ts_spec::Aggregator;
 
 // A call on a source and a destination, both keys of one byte.

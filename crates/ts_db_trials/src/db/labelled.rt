@@ -1,9 +1,9 @@
 // Calls that give labels, named from 0 on, each with the same value, both of one byte.
-use crate::db::Db;
-use crate::tests::call::{spec, word};
-use crate::tests::came::{Came, done, number};
+use crate::db::call::{spec, word};
+use crate::db::came::{Came, done, fault, number};
 use std::alloc::{AllocError, Global};
 use std::sync::ledger::Ledger;
+use ts_db::{Db, DbFault, Info};
 use ts_labels::{Change, Labels};
 use ts_sample::{Steps, Units};
 
@@ -57,16 +57,13 @@ pub(crate) fn run_labelled<L: Ledger>(
 }
 
 // How many labels a key has, and the value of the first.
-pub(crate) fn labels_of(alloc: Global, db: &Db, key: u8) -> Result<Came, AllocError> {
-    let Some(id) = db.store.keys.get(&word(alloc, key)?).copied() else {
-        return Ok(Came::NoKey);
+pub(crate) fn labels_of(answer: Result<Info, DbFault>) -> Came {
+    let labels = match answer {
+        Ok(info) => info.labels,
+        Err(why) => return fault(why),
     };
-    let Some(node) = db.store.nodes.get(id.0) else {
-        return Ok(Came::NoKey);
-    };
-    if node.labels.len() == 0 {
-        return Ok(Came::Labels(0, None));
+    if labels.len() == 0 {
+        return Came::Labels(0, None);
     }
-    let value = node.labels.value_at(0).bytes().first().copied();
-    Ok(Came::Labels(node.labels.len(), value))
+    Came::Labels(labels.len(), labels.value_at(0).bytes().first().copied())
 }

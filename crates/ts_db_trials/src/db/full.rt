@@ -1,8 +1,8 @@
 // Series that have as many samples as they may: which one it is that a refusal names, by the number of its key.
-use crate::tests::call::Call;
-use crate::tests::came::Came;
-use crate::tests::ruled::Ruled;
-use crate::tests::wrong;
+use crate::db::call::Call;
+use crate::db::came::Came;
+use crate::db::ruled::Ruled;
+use crate::db::wrong;
 use std::marker::Brand;
 use std::sync::ledger::Blank;
 use std::test::Fail;

@@ -2,12 +2,12 @@
 ghost use Rattle.std.specs.Prelude.{◌≤◌};
 ghost use Rattle.ts_spec.specs.Sample.{MAX_TIME};
 
-use crate::db::Db;
-use crate::tests::came::{Came, done, information, last, number, samples};
-use crate::tests::labelled::{Labelled, labels_of, run_labelled};
-use crate::tests::ruled::{Ruled, run_ruled};
+use crate::db::came::{Came, done, information, last, number, samples};
+use crate::db::labelled::{Labelled, labels_of, run_labelled};
+use crate::db::ruled::{Ruled, run_ruled};
 use std::alloc::{AllocError, Global};
 use std::sync::ledger::Ledger;
+use ts_db::Db;
 use ts_labels::{Change, Labels, Spec};
 use ts_resp::Word;
 use ts_sample::{Steps, Units};
@@ -108,7 +108,7 @@ fn ask<L: Ledger>(
             let key = word(alloc, key)?;
             Ok(samples(db.samples(&key, from, to, latest, steps)))
         }
-        Call::LabelsOf(key) => labels_of(alloc, db, key),
+        Call::LabelsOf(key) => Ok(labels_of(db.info(&word(alloc, key)?, steps))),
         Call::Info(key) => Ok(information(db.info(&word(alloc, key)?, steps))),
         _ => Ok(Came::Memory),
     }

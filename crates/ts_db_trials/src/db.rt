@@ -7,15 +7,15 @@ mod ruled;
 
 ghost use Rattle.std.specs.Prelude.{◌≡◌, ◌<◌};
 
-use crate::db::Db;
-use crate::tests::call::{Call, run, word};
-use crate::tests::came::Came;
-use crate::tests::labelled::Labelled;
-use crate::tests::ruled::Ruled;
+use crate::db::call::{Call, run, word};
+use crate::db::came::Came;
+use crate::db::labelled::Labelled;
+use crate::db::ruled::Ruled;
 use std::alloc::{AllocError, Global};
 use std::marker::Brand;
 use std::sync::ledger::{Blank, Ledger};
 use std::test::Fail;
+use ts_db::Db;
 use ts_sample::{MAX_TIME, Steps};
 use ts_spec::{Limits, Policy};
 

@@ -1,6 +1,5 @@
 // What the calls of a database come to.
-use crate::fault::DbFault;
-use crate::info::Info;
+use ts_db::{DbFault, Info};
 use ts_sample::Sample;
 
 // What a call came to.
