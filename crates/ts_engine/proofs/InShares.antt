@@ -1,5 +1,5 @@
 -- A walk that is given the samples of an interval share by share.
-use Rattle.std.proofs.Common.{◌≡◌, ℕ, ◌+◌, ◌-◌, ◌^◌, ◌≤◌, Bool, true, false, not, ◌&&◌, cond, List, [], ◌∷◌, ◌++◌, length, sym, ◌∙◌, ap, subst, append-nil, append_assoc, arith}
+use Rattle.std.proofs.Common.{◌≡◌, ℕ, ◌+◌, ◌-◌, ◌^◌, ◌≤◌, Bool, true, false, not, ◌&&◌, ◌||◌, cond, List, [], ◌∷◌, ◌++◌, length, sym, ◌∙◌, ap, subst, append-nil, append_assoc, arith}
 use Rattle.std.specs.Prelude.{nat_le, filter}
 use Rattle.std.proofs.lemmas.Bool.Decides.{nat_tests}
 use Rattle.std.proofs.lemmas.List.{length-append}
@@ -68,6 +68,26 @@ split from to t l rises le upto =
     (filter-filter (λ (p : Point). not (nat_le p.time t)) (λ (p : Point). is_within from to p.time) l
     ∙ filter_alike (λ (p : Point). is_within from to p.time && not (nat_le p.time t)) (λ (p : Point). is_within (t + 1) to p.time) (λ p. past from to t p.time le) l)
 
+-- of a share a part is kept, and so is what comes after it
+abbrev is_kept : (a z end t : ℕ) → Bool
+is_kept a z end t = is_within a z t || not (nat_le t end)
+
+is_kept-before : (a z end first t : ℕ) → first ≤ a → z ≤ end → (is_within first end t && is_kept a z end t) ≡ is_within a z t
+is_kept-before a z end first t low high = grind (arith, nat_tests)
+
+is_kept-after : (a z end last t : ℕ) → (is_within (end + 1) last t && is_kept a z end t) ≡ is_within (end + 1) last t
+is_kept-after a z end last t = grind (arith, nat_tests)
+
+kept-before : (a z end first : ℕ) (l : List Point) → first ≤ a → z ≤ end → filter (λ p. is_kept a z end p.time) (between first end l) ≡ between a z l
+kept-before a z end first l low high =
+    filter-filter (λ (p : Point). is_kept a z end p.time) (λ (p : Point). is_within first end p.time) l
+    ∙ filter_alike (λ (p : Point). is_within first end p.time && is_kept a z end p.time) (λ (p : Point). is_within a z p.time) (λ p. is_kept-before a z end first p.time low high) l
+
+kept-after : (a z end last : ℕ) (l : List Point) → filter (λ p. is_kept a z end p.time) (between (end + 1) last l) ≡ between (end + 1) last l
+kept-after a z end last l =
+    filter-filter (λ (p : Point). is_kept a z end p.time) (λ (p : Point). is_within (end + 1) last p.time) l
+    ∙ filter_alike (λ (p : Point). is_within (end + 1) last p.time && is_kept a z end p.time) (λ (p : Point). is_within (end + 1) last p.time) (λ p. is_kept-after a z end last p.time) l
+
 module _ (lets : Point → Bool) (seen l whole : List Point) where
   -- a part of the interval that is left is enough, where all that is let through is in it
   pub in-part : (from to first last : ℕ) → from ≤ first → last ≤ to → filter lets (between first last l) ≡ filter lets (between from to l)
@@ -77,20 +97,34 @@ module _ (lets : Point → Bool) (seen l whole : List Point) where
       subst (λ (ps : List Point). IsSoFar lets seen ps whole) part
       (fewer-left lets (λ (p : Point). is_within first last p.time) seen (between from to l) whole (ap (filter lets) part ∙ same) is)
 
-  -- one share more was seen
-  pub share-more : (first last end : ℕ) → IsAscending l → first ≤ end → end ≤ last → IsSoFar lets seen (between first last l) whole
-      → IsSoFar lets (seen ++ between first end l) (between (end + 1) last l) whole
-  share-more first last end rises le upto is =
-      let all : seen ++ between first last l ≡ (seen ++ between first end l) ++ between (end + 1) last l =
-      ap (λ (ps : List Point). seen ++ ps) (split first last end l rises le upto) ∙ sym (append_assoc seen (between first end l) (between (end + 1) last l)) in
-      record { rises = subst IsAscending all is.rises; few = subst (λ (ps : List Point). length ps ≤ 2 ^ 32) all is.few; same = ap (filter lets) (sym all) ∙ is.same }
+  -- one share more was seen, of which a part has all that is let through
+  pub share-more : (first last a z end : ℕ) → IsAscending l → first ≤ a → z ≤ end → first ≤ end → end ≤ last → filter lets (between a z l) ≡ filter lets (between first end l)
+      → IsSoFar lets seen (between first last l) whole → IsSoFar lets (seen ++ between a z l) (between (end + 1) last l) whole
+  share-more first last a z end rises low high le upto same is =
+      let rest = between first last l in
+      let share = between first end l in
+      let part = between a z l in
+      let after = between (end + 1) last l in
+      let test : Point → Bool = λ p. is_kept a z end p.time in
+      let both : rest ≡ share ++ after = split first last end l rises le upto in
+      let left : filter test rest ≡ part ++ after =
+      ap (filter test) both ∙ filter-append test share after
+      ∙ ap (λ (ps : List Point). ps ++ filter test after) (kept-before a z end first l low high)
+      ∙ ap (λ (ps : List Point). part ++ ps) (kept-after a z end last l) in
+      let let_through : filter lets (filter test rest) ≡ filter lets rest =
+      ap (filter lets) left ∙ filter-append lets part after ∙ ap (λ (ps : List Point). ps ++ filter lets after) same
+      ∙ sym (filter-append lets share after) ∙ ap (filter lets) (sym both) in
+      let fewer : IsSoFar lets seen (part ++ after) whole = subst (λ (ps : List Point). IsSoFar lets seen ps whole) left (fewer-left lets test seen rest whole let_through is) in
+      let all : seen ++ (part ++ after) ≡ (seen ++ part) ++ after = sym (append_assoc seen part after) in
+      record { rises = subst IsAscending all fewer.rises; few = subst (λ (ps : List Point). length ps ≤ 2 ^ 32) all fewer.few; same = ap (filter lets) (sym all) ∙ fewer.same }
 
   -- the last share was seen
-  pub share-last : (first last end : ℕ) → end ≡ last → IsSoFar lets seen (between first last l) whole → IsSoFar lets (seen ++ between first end l) [] whole
-  share-last first last end at_end is =
-      let all : seen ++ between first last l ≡ (seen ++ between first end l) ++ [] =
-      ap (λ (t : ℕ). seen ++ between first t l) (sym at_end) ∙ sym (append-nil (seen ++ between first end l)) in
-      record { rises = subst IsAscending all is.rises; few = subst (λ (ps : List Point). length ps ≤ 2 ^ 32) all is.few; same = ap (filter lets) (sym all) ∙ is.same }
+  pub share-last : (first last a z : ℕ) → first ≤ a → z ≤ last → filter lets (between a z l) ≡ filter lets (between first last l) → IsSoFar lets seen (between first last l) whole
+      → IsSoFar lets (seen ++ between a z l) [] whole
+  share-last first last a z low high same is =
+      let part = in-part first last a z low high same is in
+      let all : seen ++ between a z l ≡ (seen ++ between a z l) ++ [] = sym (append-nil (seen ++ between a z l)) in
+      record { rises = subst IsAscending all part.rises; few = subst (λ (ps : List Point). length ps ≤ 2 ^ 32) all part.few; same = ap (filter lets) (sym all) ∙ part.same }
 
 -- nothing of the rest is let through
 pub none-left : (lets : Point → Bool) (seen rest whole : List Point) → filter lets rest ≡ [] → IsSoFar lets seen rest whole → IsSoFar lets seen [] whole
@@ -115,19 +149,25 @@ pub seen-alone : (walk new : Walking) (seen : List Point) → new ≡ record wal
 seen-alone walk new seen is = is ∙ ap (λ (ps : List Point). record walk { seen = ps }) (sym (ap (λ (w : Walking). w.seen) is))
 
 -- one share more of the part that is wanted
-module _ (walk old : Walking) (l whole : List Point) (from to first last end : ℕ) (same : old ≡ record walk { seen = old.seen })
+module _ (walk old : Walking) (l whole : List Point) (from to first last a z end : ℕ) (same : old ≡ record walk { seen = old.seen })
     (so_far : IsSoFar (lets walk) old.seen (between from to l) whole)
-    (all : filter (lets old) (between first last l) ≡ filter (lets old) (between from to l)) (low : from ≤ first) (high : last ≤ to) where
-  share-part : IsSoFar (lets walk) old.seen (between first last l) whole
-  share-part =
+    (all : filter (lets old) (between first last l) ≡ filter (lets old) (between from to l)) (low : from ≤ first) (high : last ≤ to)
+    (share : filter (lets old) (between a z l) ≡ filter (lets old) (between first end l)) (begins : first ≤ a) (ends : z ≤ end) where
+  rest-wanted : IsSoFar (lets walk) old.seen (between first last l) whole
+  rest-wanted =
       in-part (lets walk) old.seen l whole from to first last low high
       (subst (λ (w : Walking). filter (lets w) (between first last l) ≡ filter (lets w) (between from to l)) same all) so_far
 
-  pub with-share : IsAscending l → first ≤ end → end ≤ last → IsSoFar (lets walk) (old.seen ++ between first end l) (between (end + 1) last l) whole
-  with-share rises le upto = share-more (lets walk) old.seen l whole first last end rises le upto share-part
+  share-wanted : filter (lets walk) (between a z l) ≡ filter (lets walk) (between first end l)
+  share-wanted = subst (λ (w : Walking). filter (lets w) (between a z l) ≡ filter (lets w) (between first end l)) same share
 
-  pub with-last : end ≡ last → IsSoFar (lets walk) (old.seen ++ between first end l) [] whole
-  with-last at_end = share-last (lets walk) old.seen l whole first last end at_end share-part
+  pub with-share : IsAscending l → first ≤ end → end ≤ last → IsSoFar (lets walk) (old.seen ++ between a z l) (between (end + 1) last l) whole
+  with-share rises le upto = share-more (lets walk) old.seen l whole first last a z end rises begins ends le upto share-wanted rest-wanted
+
+  pub with-last : end ≡ last → IsSoFar (lets walk) (old.seen ++ between a z l) [] whole
+  with-last at_end =
+      share-last (lets walk) old.seen l whole first last a z begins (omega (arith, at_end, ends))
+      (subst (λ (t : ℕ). filter (lets walk) (between a z l) ≡ filter (lets walk) (between first t l)) at_end share-wanted) rest-wanted
 
 module _ (has : List Row → Type 0) (walk end : Walking) (seen whole asked : List Point) (is : end ≡ record walk { seen = seen }) where
   seen-is : end.seen ≡ seen

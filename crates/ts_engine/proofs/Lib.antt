@@ -5,6 +5,7 @@ pub mod Dropping
 pub mod Executed
 pub mod Faulted
 pub mod Few
+pub mod FillingIn
 pub mod Finding
 pub mod Handing
 pub mod Headlines
@@ -33,3 +34,5 @@ pub mod Taking
 pub mod TripleItems
 pub mod Tops
 pub mod Turned
+pub mod WalkBounds
+pub mod MemberBounds

@@ -1,5 +1,6 @@
 pub mod Answering
 pub mod Asked
+pub mod Bounds
 pub mod Ending
 pub mod Generated
 pub mod Going

@@ -3,6 +3,7 @@ ghost use Rattle.std.specs.Prelude.{◌≡◌, ◌+◌, ◌≤◌, length};
 ghost use Rattle.ts_command.specs.Answers.{HasTime};
 ghost use Rattle.ts_command.specs.Reading.{command_of};
 ghost use Rattle.ts_db.specs.Held.{Carries};
+ghost use Rattle.ts_engine.specs.Bounds.{IsBounded};
 ghost use Rattle.ts_engine.specs.Turn.{Executes};
 
 use crate::additions::put_items;
@@ -36,6 +37,7 @@ pub fn execute<L: Ledger>(
     requires time { HasTime command }
     ensures executes { Carries db.old db.new (λ from to. Executes reading (command_of command) from out.new.bytes to) }
     ensures room { 128 ≤ length out.new.bytes + out.new.spare }
+    ensures steps { IsBounded db.old (command_of command) steps.old steps.new }
 {
     out.clear();
     match command {

@@ -1,16 +1,19 @@
 // A question that tells of empty buckets, answered by one walk over the samples.
-ghost use Rattle.std.specs.Prelude.{◌≡◌, ◌+◌, ◌≤◌, List, [], length, map, false, None, Some, IfErr, IfNone, IfOk, IfSome};
-ghost use Rattle.ts_spec.specs.Sample.{Point};
+ghost use Rattle.std.specs.Prelude.{◌≡◌, ◌+◌, ◌*◌, ◌≤◌, ℕ, List, [], length, map, false, None, Some, IfErr, IfNone, IfOk, IfSome};
+ghost use Rattle.ts_spec.specs.declared.bucket.Aggregator.TheVariants.{Last};
+ghost use Rattle.ts_spec.specs.Sample.{Point, between};
 ghost use Rattle.ts_spec.specs.Answer.{Row as TheRow, is_let_through, answer as spec_answer, rows, turned as spec_turned};
 ghost use Rattle.ts_spec.specs.Key.{Key};
 ghost use Rattle.ts_spec.specs.Keyed.{get};
 ghost use Rattle.ts_spec.specs.KeptQuestions.{kept_asked};
 ghost use Rattle.ts_spec.specs.Response.{Rows};
 ghost use Rattle.ts_range.specs.Filters.{passes};
+ghost use Rattle.ts_range.specs.LastValues.{last_rows, IsLine};
 ghost use Rattle.ts_range.specs.Query.{query_of, row_of};
-ghost use Rattle.ts_range.specs.Stretches.{IsFilledIn, IsStretchIn};
+ghost use Rattle.ts_range.specs.Stretches.{IsFilledIn, IsKnownBefore, IsStretchIn};
 ghost use Rattle.ts_range.specs.declared.fault.RangeFault.TheVariants.{EmptyRows};
-ghost use Rattle.ts_db.specs.Held.{IsLive};
+ghost use Rattle.ts_series.specs.Seams.{IsSeamed};
+ghost use Rattle.ts_db.specs.Held.{IsLive, pieces_at, reach_at};
 ghost use Rattle.ts_engine.specs.Answering.{IsReplyText};
 
 use crate::room::put_no_memory;
@@ -20,10 +23,11 @@ use std::alloc::AllocError;
 use std::sync::ledger::Ledger;
 use ts_db::{Db, Id};
 use ts_range::{
-    Buckets, Filters, Query, RangeFault, Row, RowList, Stretch, Take, are_too_many, turned,
+    Buckets, Filters, LastValues, Query, RangeFault, Row, RowList, Stretch, Take, are_too_many,
+    turned,
 };
 use ts_resp::Out;
-use ts_sample::Steps;
+use ts_sample::{Sample, Steps};
 
 /// The stretch of buckets that is told of the key of a number, if a row is wanted, unless the rows are too many.
 pub(crate) fn stretch_of<L: Ledger>(
@@ -43,6 +47,7 @@ pub(crate) fn stretch_of<L: Ledger>(
     ensures refused { IfErr result (λ fault. (key : Key) → get key db.now.ids ≡ Some id
         → spec_answer db.now.limits.empty_rows (query_of query.now) (kept_asked db.now.keys latest key) ≡ None) }
     ensures fault { IfErr result (λ fault. fault ≡ EmptyRows) }
+    ensures steps { (key : Key) → get key db.now.ids ≡ Some id → steps.new ≤ steps.old + reach_at db.now key }
 {
     let ends = db.ends_of(id, latest, steps);
     if are_too_many(query, ends, db.limits().empty_rows) {
@@ -66,6 +71,8 @@ pub(crate) fn rows_filled<L: Ledger>(
         → spec_answer db.now.limits.empty_rows (query_of query.now) (kept_asked db.now.keys latest key) ≡ Some (map row_of found.items)) }
     ensures refused { IfErr result (λ fault. fault ≡ EmptyRows → (key : Key) → get key db.now.ids ≡ Some id
         → spec_answer db.now.limits.empty_rows (query_of query.now) (kept_asked db.now.keys latest key) ≡ None) }
+    ensures seams { (key : Key) → get key db.now.ids ≡ Some id
+        → IsSeamed (pieces_at db.now key) query.now.from query.now.to (steps.old + 3 * reach_at db.now key) steps.new }
 {
     let Some(stretch) = stretch_of(db, id, latest, query, buckets, steps)? else {
         return Ok(Vec::new(db.alloc()));
@@ -87,8 +94,10 @@ fn stretch_rows<L: Ledger>(
 ) -> Result<Vec<Row>, AllocError>
     requires live { IsLive db.now.ids id }
     requires stretch { (key : Key) → get key db.now.ids ≡ Some id → IsStretchIn query.now (kept_asked db.now.keys latest key) stretch.now }
-    ensures { IfOk result (λ found. (key : Key) → get key db.now.ids ≡ Some id
+    ensures rows { IfOk result (λ found. (key : Key) → get key db.now.ids ≡ Some id
         → map row_of found.items ≡ rows (query_of query.now) (kept_asked db.now.keys latest key)) }
+    ensures seams { (key : Key) → get key db.now.ids ≡ Some id
+        → IsSeamed (pieces_at db.now key) query.now.from query.now.to (steps.old + 2 * reach_at db.now key) steps.new }
 {
     let filters = Filters::of(query)?;
     let taker = RowList::with_room(db.alloc(), 0)?;
@@ -117,6 +126,8 @@ pub(crate) fn put_stretch<L: Ledger>(
     ensures reply { (key : Key) → get key db.now.ids ≡ Some id
         → IsReplyText (Rows (rows (query_of query.now) (kept_asked db.now.keys latest key))) out.new.bytes }
     ensures room { 128 ≤ length out.new.bytes + out.new.spare }
+    ensures seams { (key : Key) → get key db.now.ids ≡ Some id
+        → IsSeamed (pieces_at db.now key) query.now.from query.now.to (steps.old + 2 * reach_at db.now key) steps.new }
 {
     match out.reserve(FIRST_ROOM) {
         Ok(()) => {}
@@ -148,12 +159,59 @@ fn stretch_handed<T: Take, L: Ledger>(
     requires stretch { (key : Key) → get key db.now.ids ≡ Some id → IsStretchIn query.now (kept_asked db.now.keys latest key) stretch.now }
     requires lets { (p : Point) → passes filters p ≡ is_let_through (query_of query.now) p }
     requires none { T.has taker [] }
-    ensures { (key : Key) → get key db.now.ids ≡ Some id
+    ensures rows { (key : Key) → get key db.now.ids ≡ Some id
         → (handed : List TheRow) × T.has result handed × (spec_turned query.now.reverse handed ≡ rows (query_of query.now) (kept_asked db.now.keys latest key)) }
+    ensures seams { (key : Key) → get key db.now.ids ≡ Some id
+        → IsSeamed (pieces_at db.now key) query.now.from query.now.to (steps.old + 2 * reach_at db.now key) steps.new }
 {
     db.known();
-    let ahead = db.before_of(id, stretch.first(), latest, steps);
-    let prior = db.before_of(id, stretch.from, latest, steps);
+    let (ahead, prior) = known_before(db, id, latest, stretch, steps);
+    if stretch.says_hidden(&filters) {
+        let line = stretch.last_values(filters, ahead, prior, taker);
+        return shown(db, id, latest, stretch.from, stretch.to, line, steps);
+    }
     let walk = stretch.walk(filters, ahead, prior, taker);
     walked(db, id, latest, stretch.from, stretch.to, walk, steps).into_taker()
+}
+
+// The last samples before the first bucket of a stretch and before its first time, where an empty bucket says them.
+fn known_before<L: Ledger>(
+    db: &Db,
+    id: Id,
+    latest: bool,
+    stretch: &Stretch,
+    steps: &mut Steps<L>,
+) -> (Option<Sample>, Option<Sample>)
+    requires { IsLive db.now.ids id }
+    ensures known { stretch.now.buckets.agg ≡ Last → (key : Key) → get key db.now.ids ≡ Some id
+        → IsKnownBefore stretch.now (kept_asked db.now.keys latest key) result.0 result.1 }
+    ensures steps { (key : Key) → get key db.now.ids ≡ Some id → steps.new ≤ steps.old + 2 * reach_at db.now key }
+{
+    if !stretch.says_last() {
+        return (None, None);
+    }
+    let ahead = db.before_of(id, stretch.first(), latest, steps);
+    let prior = db.before_of(id, stretch.from, latest, steps);
+    (ahead, prior)
+}
+
+// The taker of a line that has not begun, after the samples of the key of a number.
+fn shown<T: Take, L: Ledger>(
+    db: &Db,
+    id: Id,
+    latest: bool,
+    from: u64,
+    to: u64,
+    mut line: LastValues<T>,
+    steps: &mut Steps<L>,
+) -> T
+    requires live { IsLive db.now.ids id }
+    requires none { line.seen ≡ [] }
+    ensures rows { (key : Key) → get key db.now.ids ≡ Some id
+        → (lo hi : ℕ) → IsLine lo hi (record line { seen = between from to (kept_asked db.now.keys latest key) })
+        → T.has result (last_rows (record line { seen = between from to (kept_asked db.now.keys latest key) })) }
+    ensures seams { (key : Key) → get key db.now.ids ≡ Some id → IsSeamed (pieces_at db.now key) from to steps.old steps.new }
+{
+    db.visit_of(id, from, to, latest, &mut line, steps);
+    line.finish()
 }

@@ -11,7 +11,6 @@ mod echoes;
 mod execution;
 mod filled;
 mod filled_reply;
-mod found;
 mod generated;
 mod go;
 mod info;

@@ -10,6 +10,7 @@ ghost use Rattle.ts_labels.specs.Show.{show_of};
 ghost use Rattle.ts_range.specs.Query.{row_of, query_of};
 ghost use Rattle.ts_range.specs.declared.fault.RangeFault.TheVariants.{EmptyRows};
 ghost use Rattle.ts_db.specs.Held.{IsLive};
+ghost use Rattle.ts_engine.specs.Bounds.{question_steps, wanted_steps};
 ghost use Rattle.ts_engine.specs.Members.{reply_at, rows_at, IsAdded, in_memory};
 
 use crate::row_lists::rows_of;
@@ -35,6 +36,7 @@ pub(crate) fn add_member<L: Ledger>(
     ensures added { OnOk result ((key : Key) → get key db.now.ids ≡ Some id → IsAdded (reply_at db.now.limits db.now.keys wanted.now key) out.old.bytes out.new.bytes) }
     ensures refused { IfErr result (λ fault. fault ≡ EmptyRows → (key : Key) → get key db.now.ids ≡ Some id → reply_at db.now.limits db.now.keys wanted.now key ≡ None) }
     ensures room { length out.old.bytes + out.old.spare ≤ length out.new.bytes + out.new.spare }
+    ensures steps { (key : Key) → get key db.now.ids ≡ Some id → steps.new ≤ steps.old + wanted_steps db.now wanted.now key }
 {
     match wanted {
         Wanted::Key => in_memory(encode_bulk(db.key_of(id).bytes(), out)),
@@ -70,6 +72,7 @@ fn add_last<L: Ledger>(
     ensures added { OnOk result ((key : Key) → get key db.now.ids ≡ Some id
         → out.new.bytes ≡ out.old.bytes ++ text (last_member_reply (kept_last_member db.now.keys latest (show_of show.now) key))) }
     ensures room { length out.old.bytes + out.old.spare ≤ length out.new.bytes + out.new.spare }
+    ensures steps { steps.new ≡ steps.old }
 {
     let last = row_of(db.last_of(id, latest, steps));
     encode_last_member(db.key_of(id), db.labels_of(id), show, last, out)
@@ -102,6 +105,7 @@ fn add_rows<L: Ledger>(
     ensures refused { IfErr result (λ fault. fault ≡ EmptyRows → (key : Key) → get key db.now.ids ≡ Some id
         → rows_at db.now.limits db.now.keys latest (show_of show.now) (query_of query.now) key ≡ None) }
     ensures room { length out.old.bytes + out.old.spare ≤ length out.new.bytes + out.new.spare }
+    ensures steps { (key : Key) → get key db.now.ids ≡ Some id → steps.new ≤ steps.old + question_steps db.now key query.now.from query.now.to }
 {
     let rows = rows_of(db, id, latest, query, steps)?;
     in_memory(encode_member(db.key_of(id), db.labels_of(id), show, &rows, out))

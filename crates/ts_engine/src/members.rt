@@ -1,9 +1,12 @@
 // The answers over many series.
-ghost use Rattle.std.specs.Prelude.{◌≡◌, ◌+◌, ◌≤◌, ◌++◌, All, List, [], length, None, OnOk, IfErr};
+ghost use Rattle.std.specs.Prelude.{◌≡◌, ◌+◌, ◌≤◌, ◌++◌, All, List, [], length, sum_by, None, OnOk, IfErr};
 ghost use Rattle.ts_spec.specs.Key.{Key};
 ghost use Rattle.ts_range.specs.declared.fault.RangeFault.TheVariants.{EmptyRows};
+ghost use Rattle.ts_spec.specs.KeptQuestions.{kept_selection};
+ghost use Rattle.ts_db.specs.Bounds.{selection_steps};
 ghost use Rattle.ts_db.specs.Held.{Held, Stands, IsLive, AreNumbersOf};
 ghost use Rattle.ts_engine.specs.Answering.{IsReplyText};
+ghost use Rattle.ts_engine.specs.Bounds.{wanted_steps};
 ghost use Rattle.ts_engine.specs.Members.{reply_at, replies_of, AreAdded, many_response};
 
 use crate::answers::too_many_rows;
@@ -30,6 +33,7 @@ pub(crate) fn put_members<L: Ledger>(
     requires room { 128 ≤ out.old.spare }
     ensures reply { (from : Held) → Stands db.now from → IsReplyText (many_response from wanted.now filters.now) out.new.bytes }
     ensures room { 128 ≤ length out.new.bytes + out.new.spare }
+    ensures steps { steps.new ≤ steps.old + (selection_steps db.now filters.now + sum_by (wanted_steps db.now wanted.now) (kept_selection db.now.keys filters.now)) }
 {
     let Ok(ids) = db.select(filters, steps) else {
         put_no_memory(out);
@@ -62,6 +66,7 @@ fn add_members<L: Ledger>(
     ensures refused { IfErr result (λ fault. fault ≡ EmptyRows → (keys : List Key) → AreNumbersOf db.now.ids keys ids.now
         → replies_of (reply_at db.now.limits db.now.keys wanted.now) keys ≡ None) }
     ensures room { length out.old.bytes + out.old.spare ≤ length out.new.bytes + out.new.spare }
+    ensures steps { (keys : List Key) → AreNumbersOf db.now.ids keys ids.now → steps.new ≤ steps.old + sum_by (wanted_steps db.now wanted.now) keys }
 {
     match encode_count(ids.len(), out) {
         Ok(()) => {}

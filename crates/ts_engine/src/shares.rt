@@ -1,11 +1,12 @@
 // A walk over the samples of a key that leaves out those that it has no use for.
-ghost use Rattle.std.specs.Prelude.{◌≡◌, ◌≤◌, ◌<◌, ◌^◌, Bool, [], filter, length, Some};
+ghost use Rattle.std.specs.Prelude.{◌≡◌, ◌+◌, ◌≤◌, ◌<◌, ◌^◌, ◌⊎◌, Bool, List, [], filter, length, Some};
 ghost use Rattle.ts_spec.specs.Key.{Key};
 ghost use Rattle.ts_spec.specs.Keyed.{get};
 ghost use Rattle.ts_spec.specs.KeptQuestions.{kept_asked};
-ghost use Rattle.ts_spec.specs.Sample.{between};
+ghost use Rattle.ts_spec.specs.Sample.{Point, between};
 ghost use Rattle.ts_range.specs.Walking.{lets, rows_chosen};
-ghost use Rattle.ts_db.specs.Held.{IsLive};
+ghost use Rattle.ts_series.specs.Seams.{IsSeam, IsSeamed};
+ghost use Rattle.ts_db.specs.Held.{IsLive, pieces_at};
 
 use crate::walked::walked;
 use std::sync::ledger::Ledger;
@@ -34,6 +35,7 @@ pub(crate) fn walked_as_asked<T: Take, L: Ledger>(
         → T.has result (rows_chosen walk.buckets (kept_asked db.now.keys latest key)
         (filter (lets walk) (between from to (kept_asked db.now.keys latest key)))) }
     ensures limit { T.limit result ≡ walk.limit }
+    ensures seams { (key : Key) → get key db.now.ids ≡ Some id → IsSeamed (pieces_at db.now key) from to steps.old steps.new }
 {
     if query.times.is_none() && (query.reverse || query.count.is_none()) {
         return walked(db, id, latest, from, to, walk, steps);
@@ -57,36 +59,51 @@ fn walked_in_shares<T: Take, L: Ledger>(
         → T.has result (rows_chosen walk.buckets (kept_asked db.now.keys latest key)
         (filter (lets walk) (between from to (kept_asked db.now.keys latest key)))) }
     ensures limit { T.limit result ≡ walk.limit }
+    ensures seams { (key : Key) → get key db.now.ids ≡ Some id → IsSeamed (pieces_at db.now key) from to steps.old steps.new }
 {
     few(db);
     db.known();
     while let Some((start, last)) = walk.wanted_part(from, to) {
-        let end = end_of_share(db, id, &walk, start, last);
-        db.visit_of(id, start, end, latest, &mut walk, steps);
-        if end == last {
+        let share = share_of(db, id, &walk, start, last);
+        db.visit_of(id, share.first, share.last, latest, &mut walk, steps);
+        if share.end == last {
             return walk.finish();
         }
         walk = match walk.finish_if_full() {
             Ok(taker) => return taker,
             Err(walk) => walk,
         };
-        from = end + 1;
+        from = share.end + 1;
         to = last;
     }
     walk.finish()
 }
 
-// The last time of the share that begins at a time and ends no later than another: of so many samples, and no later
-// than the last time among them that the walk lets through.
-fn end_of_share<T: Take>(db: &Db, id: Id, walk: &Walk<T>, start: u64, last: u64) -> u64
+// A share of samples: the first and the last time in it that are wanted, and the time at which it ends. It ends where
+// a chunk does, so that no chunk is decoded for two shares.
+#[derive(Clone, Copy)]
+struct Share {
+    first: u64,
+    last: u64,
+    end: u64,
+}
+
+// The share that begins at a time and ends no later than another, of so many samples.
+fn share_of<T: Take>(db: &Db, id: Id, walk: &Walk<T>, start: u64, last: u64) -> Share
     requires live { IsLive db.now.ids id }
     requires ordered { start ≤ last }
-    ensures { (start ≤ result) × (result ≤ last) }
+    ensures within { (start ≤ result.first) × (result.first ≤ result.last) × (result.last ≤ result.end) × (result.end ≤ last) }
+    ensures all { (ps : List Point) → filter (lets walk.now) (between result.first result.last ps) ≡ filter (lets walk.now) (between start result.end ps) }
+    ensures seam { (key : Key) → get key db.now.ids ≡ Some id → (result.end ≡ last) ⊎ IsSeam (result.end + 1) (pieces_at db.now key) }
 {
     let end = db.reach_of(id, start, last, SHARE);
     match walk.wanted_part(start, end) {
-        None => end,
-        Some((_, wanted)) => wanted,
+        None => Share {
+            first: start,
+            last: end,
+            end,
+        },
+        Some((first, last)) => Share { first, last, end },
     }
 }
 

@@ -1,5 +1,5 @@
 // A question that one walk over the samples answers.
-ghost use Rattle.std.specs.Prelude.{◌≡◌, ◌+◌, ◌≤◌, true, false, List, [], filter, length, None, Some, option_map};
+ghost use Rattle.std.specs.Prelude.{◌≡◌, ◌+◌, ◌*◌, ◌≤◌, true, false, List, [], filter, length, None, Some, option_map};
 ghost use Rattle.ts_spec.specs.Answer.{tells_empty, rows};
 ghost use Rattle.ts_spec.specs.Key.{Key};
 ghost use Rattle.ts_spec.specs.Keyed.{get};
@@ -10,7 +10,9 @@ ghost use Rattle.ts_spec.specs.Sample.{Point, between};
 ghost use Rattle.ts_range.specs.Filters.{passes};
 ghost use Rattle.ts_range.specs.Query.{buckets_of, query_of};
 ghost use Rattle.ts_range.specs.Walking.{lets, rows_chosen};
-ghost use Rattle.ts_db.specs.Held.{Held, Stands, IsLive};
+ghost use Rattle.ts_series.specs.Seams.{IsSeamed};
+ghost use Rattle.ts_db.specs.Held.{Held, Stands, IsLive, pieces_at};
+ghost use Rattle.ts_engine.specs.Bounds.{question_steps};
 ghost use Rattle.ts_engine.specs.Answering.{IsReplyText};
 
 use crate::answers::refusal_reply;
@@ -39,6 +41,7 @@ pub(crate) fn put_walked<L: Ledger>(
     ensures reply { (from : Held) → Stands db.now from
         → IsReplyText (range_response from.limits from.state key.now latest (query_of query.now) (get key.now from.state)) out.new.bytes }
     ensures room { 128 ≤ length out.new.bytes + out.new.spare }
+    ensures steps { steps.new ≤ steps.old + question_steps db.now key.now query.now.from query.now.to }
 {
     match db.id_of(key) {
         None => put(&refusal_reply(DbFault::NoKey), out),
@@ -62,12 +65,14 @@ fn put_rows_of<L: Ledger>(
     ensures reply { (key : Key) → get key db.now.ids ≡ Some id
         → IsReplyText (Rows (rows (query_of query.now) (kept_asked db.now.keys latest key))) out.new.bytes }
     ensures room { 128 ≤ length out.new.bytes + out.new.spare }
+    ensures steps { (key : Key) → get key db.now.ids ≡ Some id → steps.new ≤ steps.old + question_steps db.now key query.now.from query.now.to }
 {
+    db.seams_of(id);
     if query.reverse {
         put_rows_back(db, id, latest, query, out, steps);
-    } else {
-        put_rows_on(db, id, latest, query, out, steps);
+        return;
     }
+    put_rows_on(db, id, latest, query, out, steps);
 }
 
 // Writes the rows, the first one first, while the samples are scanned.
@@ -87,6 +92,7 @@ fn put_rows_on<L: Ledger>(
     ensures reply { (key : Key) → get key db.now.ids ≡ Some id
         → IsReplyText (Rows (rows (query_of query.now) (kept_asked db.now.keys latest key))) out.new.bytes }
     ensures room { 128 ≤ length out.new.bytes + out.new.spare }
+    ensures seams { (key : Key) → get key db.now.ids ≡ Some id → IsSeamed (pieces_at db.now key) query.now.from query.now.to steps.old steps.new }
 {
     match out.reserve(FIRST_ROOM) {
         Ok(()) => {}
@@ -110,7 +116,8 @@ fn put_rows_on<L: Ledger>(
 pub(crate) fn last_wanted(db: &Db, id: Id, latest: bool, query: &Query) -> u64
     requires live { IsLive db.now.ids id }
     requires forward { query.now.reverse ≡ false }
-    ensures { (key : Key) → get key db.now.ids ≡ Some id
+    ensures within { result ≤ query.now.to }
+    ensures rows { (key : Key) → get key db.now.ids ≡ Some id
         → rows (record (query_of query.now) { to = result }) (kept_asked db.now.keys latest key) ≡ rows (query_of query.now) (kept_asked db.now.keys latest key) }
 {
     db.known();
@@ -159,6 +166,7 @@ pub(crate) fn handed<T: Take, L: Ledger>(
         → T.has result (rows_chosen (option_map buckets_of query.now.buckets) (kept_asked db.now.keys latest key)
         (filter (passes filters) (between query.now.from to (kept_asked db.now.keys latest key)))) }
     ensures limit { T.limit result ≡ T.limit taker }
+    ensures seams { (key : Key) → get key db.now.ids ≡ Some id → IsSeamed (pieces_at db.now key) query.now.from to steps.old steps.new }
 {
     let walk = Walk::new(filters, query.buckets, taker);
     walked_as_asked(db, id, latest, query, query.from, to, walk, steps)
@@ -180,6 +188,7 @@ pub(crate) fn walked<T: Take, L: Ledger>(
         → T.has result (rows_chosen walk.buckets (kept_asked db.now.keys latest key)
         (filter (lets walk) (between from to (kept_asked db.now.keys latest key)))) }
     ensures limit { T.limit result ≡ walk.limit }
+    ensures seams { (key : Key) → get key db.now.ids ≡ Some id → IsSeamed (pieces_at db.now key) from to steps.old steps.new }
 {
     db.known();
     db.visit_of(id, from, to, latest, &mut walk, steps);

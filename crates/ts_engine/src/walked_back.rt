@@ -1,5 +1,5 @@
 // A question that tells the last row first, answered by one walk over the samples.
-ghost use Rattle.std.specs.Prelude.{◌≡◌, ◌+◌, ◌≤◌, true, false, [], length, map, filter, reverse, Some, option_map, IfOk};
+ghost use Rattle.std.specs.Prelude.{◌≡◌, ◌+◌, ◌*◌, ◌≤◌, true, false, [], length, map, filter, reverse, Some, option_map, IfOk};
 ghost use Rattle.ts_spec.specs.Answer.{tells_empty, rows, first_ones, is_let_through};
 ghost use Rattle.ts_spec.specs.Key.{Key};
 ghost use Rattle.ts_spec.specs.Keyed.{get};
@@ -8,7 +8,8 @@ ghost use Rattle.ts_spec.specs.Response.{Rows};
 ghost use Rattle.ts_spec.specs.Sample.{between};
 ghost use Rattle.ts_range.specs.Query.{buckets_of, query_of, row_of};
 ghost use Rattle.ts_range.specs.Walking.{rows_chosen};
-ghost use Rattle.ts_db.specs.Held.{IsLive};
+ghost use Rattle.ts_series.specs.Seams.{IsSeamed};
+ghost use Rattle.ts_db.specs.Held.{IsLive, pieces_at, reach_at};
 ghost use Rattle.ts_engine.specs.Answering.{IsReplyText};
 
 use crate::room::put_no_memory;
@@ -39,6 +40,8 @@ pub(crate) fn put_rows_back<L: Ledger>(
     ensures reply { (key : Key) → get key db.now.ids ≡ Some id
         → IsReplyText (Rows (rows (query_of query.now) (kept_asked db.now.keys latest key))) out.new.bytes }
     ensures room { 128 ≤ length out.new.bytes + out.new.spare }
+    ensures seams { (key : Key) → get key db.now.ids ≡ Some id
+        → IsSeamed (pieces_at db.now key) query.now.from query.now.to (steps.old + 3 * reach_at db.now key) steps.new }
 {
     match rows_back(db, id, latest, query, steps) {
         Ok(rows) => put_rows(&rows, out),
@@ -57,8 +60,10 @@ pub(crate) fn rows_back<L: Ledger>(
     requires live { IsLive db.now.ids id }
     requires backward { query.now.reverse ≡ true }
     requires full { tells_empty (query_of query.now).buckets ≡ false }
-    ensures { IfOk result (λ found. (key : Key) → get key db.now.ids ≡ Some id
+    ensures rows { IfOk result (λ found. (key : Key) → get key db.now.ids ≡ Some id
         → map row_of found.items ≡ rows (query_of query.now) (kept_asked db.now.keys latest key)) }
+    ensures seams { (key : Key) → get key db.now.ids ≡ Some id
+        → IsSeamed (pieces_at db.now key) query.now.from query.now.to (steps.old + 3 * reach_at db.now key) steps.new }
 {
     let from = first_wanted(db, id, latest, query);
     let rows = last_rows(db, id, latest, query, from, steps)?;
@@ -70,7 +75,8 @@ pub(crate) fn rows_back<L: Ledger>(
 fn first_wanted(db: &Db, id: Id, latest: bool, query: &Query) -> u64
     requires live { IsLive db.now.ids id }
     requires backward { query.now.reverse ≡ true }
-    ensures { (key : Key) → get key db.now.ids ≡ Some id
+    ensures within { query.now.from ≤ result }
+    ensures rows { (key : Key) → get key db.now.ids ≡ Some id
         → rows (record (query_of query.now) { from = result }) (kept_asked db.now.keys latest key) ≡ rows (query_of query.now) (kept_asked db.now.keys latest key) }
 {
     db.known();
@@ -89,13 +95,8 @@ fn first_wanted(db: &Db, id: Id, latest: bool, query: &Query) -> u64
     db.reach_back_of(id, query.from, query.to, count)
 }
 
-// How many samples more than rows are wanted are tried at first, and how many times as many are tried then.
-const SHARE: u64 = 1024;
-
-const TRIES: [u64; 4] = [1, 8, 64, 512];
-
 // Rows, the last of which are the last ones of the samples from a time on, so many as are wanted. Where few are wanted,
-// the last samples are tried first.
+// the last samples are tried first, as many as a chunk may hold.
 fn last_rows<L: Ledger>(
     db: &Db,
     id: Id,
@@ -105,10 +106,12 @@ fn last_rows<L: Ledger>(
     steps: &mut Steps<L>,
 ) -> Result<Vec<Row>, AllocError>
     requires live { IsLive db.now.ids id }
-    ensures { IfOk result (λ found. (key : Key) → get key db.now.ids ≡ Some id
+    ensures rows { IfOk result (λ found. (key : Key) → get key db.now.ids ≡ Some id
         → first_ones query.now.count (reverse (map row_of found.items))
         ≡ first_ones query.now.count (reverse (rows_chosen (option_map buckets_of query.now.buckets) (kept_asked db.now.keys latest key)
         (filter (is_let_through (query_of query.now)) (between from query.now.to (kept_asked db.now.keys latest key)))))) }
+    ensures seams { (key : Key) → get key db.now.ids ≡ Some id
+        → IsSeamed (pieces_at db.now key) from query.now.to (steps.old + 3 * reach_at db.now key) steps.new }
 {
     let Some(count) = query.count else {
         return rows_from(db, id, latest, query, from, steps);
@@ -117,16 +120,13 @@ fn last_rows<L: Ledger>(
         return rows_from(db, id, latest, query, from, steps);
     }
     db.known();
-    for times in TRIES {
-        let share = count.saturating_add(SHARE).saturating_mul(times);
-        let near = db.reach_back_of(id, from, query.to, share);
-        let rows = rows_from(db, id, latest, query, near, steps)?;
-        if near == from {
-            return Ok(rows);
-        }
-        if count < rows.len() as u64 {
-            return Ok(rows);
-        }
+    let near = db.reach_back_of(id, from, query.to, db.chunk_reach_of(id));
+    let rows = rows_from(db, id, latest, query, near, steps)?;
+    if near == from {
+        return Ok(rows);
+    }
+    if count < rows.len() as u64 {
+        return Ok(rows);
     }
     rows_from(db, id, latest, query, from, steps)
 }
@@ -141,9 +141,10 @@ fn rows_from<L: Ledger>(
     steps: &mut Steps<L>,
 ) -> Result<Vec<Row>, AllocError>
     requires live { IsLive db.now.ids id }
-    ensures { IfOk result (λ found. (key : Key) → get key db.now.ids ≡ Some id
+    ensures rows { IfOk result (λ found. (key : Key) → get key db.now.ids ≡ Some id
         → map row_of found.items ≡ rows_chosen (option_map buckets_of query.now.buckets) (kept_asked db.now.keys latest key)
         (filter (is_let_through (query_of query.now)) (between from query.now.to (kept_asked db.now.keys latest key)))) }
+    ensures seams { (key : Key) → get key db.now.ids ≡ Some id → IsSeamed (pieces_at db.now key) from query.now.to steps.old steps.new }
 {
     let taker = RowList::with_room(db.alloc(), 0)?;
     let walk = Walk::new(Filters::of(query)?, query.buckets, taker);

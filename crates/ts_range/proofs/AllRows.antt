@@ -8,8 +8,7 @@ use Rattle.std.proofs.lemmas.List.Elements.{All-nil, All-cons, All-head, All-tai
 use Rattle.ts_spec.specs.declared.bucket.Aggregator.TheVariants.{Last}
 use Rattle.ts_spec.specs.Sample.{Point, MAX_TIME, IsAscending, is_within, between, first_of, last_of}
 use Rattle.ts_spec.specs.Bucket.{Grid, start, members}
-use Rattle.ts_spec.specs.Command.{Span}
-use Rattle.ts_spec.specs.Answer.{Cell, Row, first_ones, bucket_row, cell_of, lets_time, lets_value, is_let_through, selected, rows, starts_between, turned}
+use Rattle.ts_spec.specs.Answer.{Cell, Row, first_ones, bucket_row, cell_of, is_let_through, selected, rows, starts_between, turned}
 use Rattle.ts_spec.proofs.Buckets.{start-le}
 use Rattle.ts_spec.proofs.Samples.{ascending-times, ascending-filter}
 use Rattle.ts_sample.proofs.Between.{filter-filter}
@@ -19,16 +18,16 @@ use Rattle.ts_range.specs.declared.query.Query.{Query}
 use Rattle.ts_range.specs.declared.stretch.Stretch.{Stretch}
 use Rattle.ts_range.specs.Empty.{empty_cell_of}
 use Rattle.ts_range.specs.Filling.{begun, filled, filled_line, row_at}
-use Rattle.ts_range.specs.Query.{buckets_of, query_of, span_of}
+use Rattle.ts_range.specs.Query.{buckets_of, query_of}
 use Rattle.ts_range.specs.Starts.{starts_of, starts_within}
-use Rattle.ts_range.specs.Stretches.{IsPart, IsStretchOf, IsStretchIn, IsFilledIn, filling_with}
+use Rattle.ts_range.specs.Stretches.{IsPart, IsKnownBefore, IsStretchOf, IsStretchIn, IsFilledIn, filling_with}
 use Rattle.ts_range.specs.BucketRows.{bucket_rows}
 use Rattle.ts_range.specs.Walk.{times_of, last_before}
 use Rattle.ts_range.proofs.Filtered.{filter-same, filter-swap, filter-all, map-same, after-all}
 use Rattle.ts_range.proofs.Gaps.{begin-mono, IsOnLine}
 use Rattle.ts_range.proofs.Later.{begin-past}
 use Rattle.ts_range.proofs.Line.{begin, between-is, number-mono}
-use Rattle.ts_range.proofs.Saying.{IsSaying, line-filled}
+use Rattle.ts_range.proofs.Saying.{IsSaying, said-known, line-filled}
 use Rattle.ts_range.proofs.Whole.{rows-all}
 
 -- ---- the ends of a list
@@ -83,7 +82,7 @@ where-both a b false same = none a ∙ sym (none b)
     none true = refl
     none false = refl
 
-all-within : (g : Grid) (P : ℕ → Type 0) (n k : ℕ) → ((m : ℕ) → k ≤ m → m < k + n → P (begin g m)) → All P (map (begin g) (range_with_len k n))
+pub all-within : (g : Grid) (P : ℕ → Type 0) (n k : ℕ) → ((m : ℕ) → k ≤ m → m < k + n → P (begin g m)) → All P (map (begin g) (range_with_len k n))
 all-within g P zero k h = All-nil P
 all-within g P (suc n) k h = All-cons P (begin g k) (map (begin g) (range_with_len (k + 1) n)) (h k (omega arith) (omega arith)) (all-within g P n (k + 1) (λ m low high. h m (omega arith) (omega arith)))
 
@@ -147,51 +146,18 @@ module _ (g : Grid) (some : 1 ≤ g.duration) where
 
 -- ---- the rows
 
+lets-all : (lets : Point → Bool) → ((p : Point) → lets p ≡ true) → (ps : List Point) → filter lets ps ≡ ps
+lets-all lets each ps = filter-all lets ps (all ps)
+  where
+    all : (ps : List Point) → All (λ p. lets p ≡ true) ps
+    all [] = All-nil (λ p. lets p ≡ true)
+    all (p ∷ ps) = All-cons (λ p. lets p ≡ true) p ps (each p) (all ps)
+
 module _ (q : Query) (bs : Buckets) (is : q.buckets ≡ Some bs) (empty : bs.empty ≡ true) (some : 1 ≤ bs.grid.duration) (l : List Point) (rises : IsAscending l)
     (ends : Option (ℕ × ℕ)) (around : ends ≡ times_of (first_of l) (last_of l)) (stretch : Stretch) (told : IsStretchOf q bs ends stretch)
-    (lets : Point → Bool) (agree : (p : Point) → lets p ≡ is_let_through (query_of q) p) (plain : bs.agg ≡ Last → (q.times ≡ None) × (q.values ≡ None))
-    (first others : Cell) (says : first ≡ empty_cell_of bs.agg (last_before (start bs.grid stretch.from) l)) (say : others ≡ empty_cell_of bs.agg (last_before stretch.from l)) where
+    (lets : Point → Bool) (agree : (p : Point) → lets p ≡ is_let_through (query_of q) p) where
   in-ends : All (IsInside told.times) l
   in-ends = all-inside l told.times rises (sym told.are ∙ around)
-
-  lets-all : bs.agg ≡ Last → (ps : List Point) → filter lets ps ≡ ps
-  lets-all last ps =
-      let none = plain last in
-      filter-all lets ps (all ps (λ p. agree p ∙ ap (λ (o : Option (List ℕ)). lets_time o p.time && lets_value (option_map span_of q.values) p.value) (ap (option_map (λ times. times.items)) none.0) ∙ ap (λ (o : Option Span). lets_value o p.value) (ap (option_map span_of) none.1)))
-    where
-      all : (ps : List Point) → ((p : Point) → lets p ≡ true) → All (λ p. lets p ≡ true) ps
-      all [] h = All-nil (λ p. lets p ≡ true)
-      all (p ∷ ps) h = All-cons (λ p. lets p ≡ true) p ps (h p) (all ps h)
-
-  begins : begin bs.grid (number bs.grid stretch.from) ≡ start bs.grid stretch.from
-  begins = sym (start_number bs.grid some stretch.from)
-
-  from-is : max stretch.from (begin bs.grid (number bs.grid stretch.from)) ≡ stretch.from
-  from-is = let e = start-le bs.grid stretch.from some in let f = begins in omega arith
-
-  saying : IsSaying (buckets_of bs) l stretch.from stretch.to (number bs.grid stretch.from) first others (filter lets (between stretch.from stretch.to l))
-  saying = record {
-    first = says ∙ ap (λ (t : ℕ). empty_cell_of bs.agg (last_before t l)) (sym begins);
-    others = say ∙ ap (λ (t : ℕ). empty_cell_of bs.agg (last_before t l)) (sym from-is);
-    all = λ last. lets-all last (between stretch.from stretch.to l) ∙ ap (λ (t : ℕ). between t stretch.to l) (sym from-is);
-  }
-
-  filled-part : filled (buckets_of bs) first others (starts_between bs.grid stretch.from told.upto) (bucket_rows (begun (buckets_of bs)) l (filter lets (between stretch.from stretch.to l)))
-      ≡ map (bucket_row (buckets_of bs) l (filter lets (between stretch.from stretch.to l))) (starts_between bs.grid stretch.from told.upto)
-  filled-part =
-      let g = bs.grid in
-      let k = number g stretch.from in
-      let n = suc (number g told.upto - k) in
-      let ps = filter lets (between stretch.from stretch.to l) in
-      let ordered = told.part.ordered in
-      let mono = number-mono g some stretch.from told.upto ordered in
-      let line : starts_between g stretch.from told.upto ≡ map (begin g) (range_with_len k n) = between-is g some stretch.from told.upto ordered in
-      let upto : begin g (number g told.upto) ≤ stretch.to = (let e = start_number g some told.upto in let f = start-le g told.upto some in let r = told.part.reached in omega arith) in
-      ap (λ (xs : List ℕ). filled (buckets_of bs) first others xs (bucket_rows (begun (buckets_of bs)) l ps)) line
-      ∙ line-filled (buckets_of bs) some l rises stretch.from stretch.to stretch.from k (number g told.upto) (omega arith) (begin-past g some stretch.from (suc k) (omega arith)) upto n first others ps (omega arith)
-      (ascending-filter lets (between stretch.from stretch.to l) (ascending-times (is_within stretch.from stretch.to) l rises))
-      (part-on g some q.from q.to told.times stretch.from told.upto stretch.to told.part l in-ends lets q.to_fits) saying
-      ∙ ap (map (bucket_row (buckets_of bs) l ps)) (sym line)
 
   same-rows : map (bucket_row (buckets_of bs) l (filter lets (between stretch.from stretch.to l))) (starts_between bs.grid stretch.from told.upto)
       ≡ map (bucket_row (buckets_of bs) l (selected (query_of q) l)) (starts_between bs.grid stretch.from told.upto)
@@ -210,22 +176,67 @@ module _ (q : Query) (bs : Buckets) (is : q.buckets ≡ Some bs) (empty : bs.emp
       (λ m low high. ap (λ (ms : List Point). row_at (buckets_of bs) (begin g m) (cell_of bs.agg (begin g m) l ms))
       (part-members g some q.from q.to told.times stretch.from told.upto stretch.to told.part l in-ends lets m low (omega arith) ∙ ap (members g (begin g m)) all))))
 
-  -- those that are wanted
-  pub all-rows : turned q.reverse (filled (buckets_of bs) first others (starts_of stretch.starts) (bucket_rows (begun (buckets_of bs)) l (filter lets (between stretch.from stretch.to l)))) ≡ rows (query_of q) l
-  all-rows =
-      ap (λ (xs : List ℕ). turned q.reverse (filled (buckets_of bs) first others xs (bucket_rows (begun (buckets_of bs)) l (filter lets (between stretch.from stretch.to l))))) told.starts
-      ∙ ap (turned q.reverse) (filled-part ∙ same-rows ∙ ap (map (bucket_row (buckets_of bs) l (selected (query_of q) l))) (sym told.starts))
+  -- those that are wanted, of the samples of the stretch
+  pub stretch-told : turned q.reverse (map (bucket_row (buckets_of bs) l (filter lets (between stretch.from stretch.to l))) (starts_of stretch.starts)) ≡ rows (query_of q) l
+  stretch-told =
+      ap (λ (xs : List ℕ). turned q.reverse (map (bucket_row (buckets_of bs) l (filter lets (between stretch.from stretch.to l))) xs)) told.starts
+      ∙ ap (turned q.reverse) (same-rows ∙ ap (map (bucket_row (buckets_of bs) l (selected (query_of q) l))) (sym told.starts))
       ∙ sym (told.rows (bucket_row (buckets_of bs) l (selected (query_of q) l)))
       ∙ sym (rows-all (query_of q) l (buckets_of bs) (ap (option_map buckets_of) is) empty ends around)
 
+  module _ (shows : bs.agg ≡ Last → (p : Point) → lets p ≡ true)
+      (first others : Cell) (says : first ≡ empty_cell_of bs.agg (last_before (start bs.grid stretch.from) l)) (say : others ≡ empty_cell_of bs.agg (last_before stretch.from l)) where
+    begins : begin bs.grid (number bs.grid stretch.from) ≡ start bs.grid stretch.from
+    begins = sym (start_number bs.grid some stretch.from)
+
+    from-is : max stretch.from (begin bs.grid (number bs.grid stretch.from)) ≡ stretch.from
+    from-is = let e = start-le bs.grid stretch.from some in let f = begins in omega arith
+
+    saying : IsSaying (buckets_of bs) l stretch.from stretch.to (number bs.grid stretch.from) first others (filter lets (between stretch.from stretch.to l))
+    saying = record {
+      first = says ∙ ap (λ (t : ℕ). empty_cell_of bs.agg (last_before t l)) (sym begins);
+      others = say ∙ ap (λ (t : ℕ). empty_cell_of bs.agg (last_before t l)) (sym from-is);
+      all = λ last. lets-all lets (shows last) (between stretch.from stretch.to l) ∙ ap (λ (t : ℕ). between t stretch.to l) (sym from-is);
+    }
+
+    filled-part : filled (buckets_of bs) first others (starts_between bs.grid stretch.from told.upto) (bucket_rows (begun (buckets_of bs)) l (filter lets (between stretch.from stretch.to l)))
+        ≡ map (bucket_row (buckets_of bs) l (filter lets (between stretch.from stretch.to l))) (starts_between bs.grid stretch.from told.upto)
+    filled-part =
+        let g = bs.grid in
+        let k = number g stretch.from in
+        let n = suc (number g told.upto - k) in
+        let ps = filter lets (between stretch.from stretch.to l) in
+        let ordered = told.part.ordered in
+        let mono = number-mono g some stretch.from told.upto ordered in
+        let line : starts_between g stretch.from told.upto ≡ map (begin g) (range_with_len k n) = between-is g some stretch.from told.upto ordered in
+        let upto : begin g (number g told.upto) ≤ stretch.to = (let e = start_number g some told.upto in let f = start-le g told.upto some in let r = told.part.reached in omega arith) in
+        ap (λ (xs : List ℕ). filled (buckets_of bs) first others xs (bucket_rows (begun (buckets_of bs)) l ps)) line
+        ∙ line-filled (buckets_of bs) some l rises stretch.from stretch.to stretch.from k (number g told.upto) (omega arith) (begin-past g some stretch.from (suc k) (omega arith)) upto n first others ps (omega arith)
+        (ascending-filter lets (between stretch.from stretch.to l) (ascending-times (is_within stretch.from stretch.to) l rises))
+        (part-on g some q.from q.to told.times stretch.from told.upto stretch.to told.part l in-ends lets q.to_fits) saying
+        ∙ ap (map (bucket_row (buckets_of bs) l ps)) (sym line)
+
+    -- those of the buckets with samples, filled in
+    pub all-rows : turned q.reverse (filled (buckets_of bs) first others (starts_of stretch.starts) (bucket_rows (begun (buckets_of bs)) l (filter lets (between stretch.from stretch.to l)))) ≡ rows (query_of q) l
+    all-rows =
+        ap (λ (xs : List ℕ). turned q.reverse (filled (buckets_of bs) first others xs (bucket_rows (begun (buckets_of bs)) l (filter lets (between stretch.from stretch.to l))))) told.starts
+        ∙ ap (turned q.reverse) (filled-part ∙ ap (map (bucket_row (buckets_of bs) l (filter lets (between stretch.from stretch.to l)))) (sym told.starts))
+        ∙ stretch-told
+
 -- the same by the taker that is made for the stretch
 pub stretch-rows : (q : Query) (bs : Buckets) → IsFilledIn q bs → (l : List Point) → IsAscending l → (ends : Option (ℕ × ℕ)) → ends ≡ times_of (first_of l) (last_of l) → (stretch : Stretch) → IsStretchOf q bs ends stretch
-    → (lets : Point → Bool) → ((p : Point) → lets p ≡ is_let_through (query_of q) p) → (ahead prior : Option Point) → ahead ≡ last_before (start stretch.buckets.grid stretch.from) l → prior ≡ last_before stretch.from l
+    → (lets : Point → Bool) → ((p : Point) → lets p ≡ is_let_through (query_of q) p) → (stretch.buckets.agg ≡ Last → (p : Point) → lets p ≡ true)
+    → (ahead prior : Option Point) → (stretch.buckets.agg ≡ Last → IsKnownBefore stretch l ahead prior)
     → turned q.reverse (filled_line (filling_with stretch ahead prior) (bucket_rows (begun (buckets_of stretch.buckets)) l (filter lets (between stretch.from stretch.to l)))) ≡ rows (query_of q) l
-stretch-rows q bs fills l rises ends around stretch told lets agree ahead prior is-ahead is-prior =
-    let before : ahead ≡ last_before (start bs.grid stretch.from) l = is-ahead ∙ ap (λ (b : Buckets). last_before (start b.grid stretch.from) l) told.buckets in
+stretch-rows q bs fills l rises ends around stretch told lets agree shows ahead prior known =
+    let shows-all : bs.agg ≡ Last → (p : Point) → lets p ≡ true = λ last. shows (ap (λ (b : Buckets). b.agg) told.buckets ∙ last) in
+    let first : empty_cell_of bs.agg ahead ≡ empty_cell_of bs.agg (last_before (start bs.grid stretch.from) l) =
+    said-known bs.agg ahead (last_before (start bs.grid stretch.from) l)
+    (λ last. (known (ap (λ (b : Buckets). b.agg) told.buckets ∙ last)).first ∙ ap (λ (b : Buckets). last_before (start b.grid stretch.from) l) told.buckets) in
+    let others : empty_cell_of bs.agg prior ≡ empty_cell_of bs.agg (last_before stretch.from l) =
+    said-known bs.agg prior (last_before stretch.from l) (λ last. (known (ap (λ (b : Buckets). b.agg) told.buckets ∙ last)).others) in
     ap (λ (b : Buckets). turned q.reverse (filled (buckets_of b) (empty_cell_of b.agg ahead) (empty_cell_of b.agg prior) (starts_of stretch.starts) (bucket_rows (begun (buckets_of b)) l (filter lets (between stretch.from stretch.to l))))) told.buckets
-    ∙ all-rows q bs fills.told fills.empty told.some l rises ends around stretch told lets agree fills.known (empty_cell_of bs.agg ahead) (empty_cell_of bs.agg prior) (ap (empty_cell_of bs.agg) before) (ap (empty_cell_of bs.agg) is-prior)
+    ∙ all-rows q bs fills.told fills.empty told.some l rises ends around stretch told lets agree shows-all (empty_cell_of bs.agg ahead) (empty_cell_of bs.agg prior) first others
 
 -- no row is wanted
 pub no-rows : (q : Query) (bs : Buckets) → IsFilledIn q bs → (l : List Point) (ends : Option (ℕ × ℕ)) → ends ≡ times_of (first_of l) (last_of l)
@@ -235,7 +246,8 @@ no-rows q bs fills l ends around none =
 
 -- what a walk hands on to that taker
 pub walked-rows : (q : Query) (l : List Point) (stretch : Stretch) → IsAscending l → IsStretchIn q l stretch
-    → (lets : Point → Bool) → ((p : Point) → lets p ≡ is_let_through (query_of q) p) → (ahead prior : Option Point) → ahead ≡ last_before (start stretch.buckets.grid stretch.from) l → prior ≡ last_before stretch.from l
+    → (lets : Point → Bool) → ((p : Point) → lets p ≡ is_let_through (query_of q) p) → (stretch.buckets.agg ≡ Last → (p : Point) → lets p ≡ true)
+    → (ahead prior : Option Point) → (stretch.buckets.agg ≡ Last → IsKnownBefore stretch l ahead prior)
     → turned q.reverse (filled_line (filling_with stretch ahead prior) (bucket_rows (begun (buckets_of stretch.buckets)) l (filter lets (between stretch.from stretch.to l)))) ≡ rows (query_of q) l
-walked-rows q l stretch rises is lets agree ahead prior is-ahead is-prior =
-    stretch-rows q is.buckets is.filled l rises (times_of (first_of l) (last_of l)) refl stretch is.is lets agree ahead prior is-ahead is-prior
+walked-rows q l stretch rises is lets agree shows ahead prior known =
+    stretch-rows q is.buckets is.filled l rises (times_of (first_of l) (last_of l)) refl stretch is.is lets agree shows ahead prior known

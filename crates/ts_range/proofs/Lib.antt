@@ -9,6 +9,8 @@ pub mod Following
 pub mod Full
 pub mod Groups
 pub mod Known
+pub mod LastLines
+pub mod LastRow
 pub mod Later
 pub mod Line
 pub mod Lines

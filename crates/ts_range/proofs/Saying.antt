@@ -1,5 +1,5 @@
 -- What the empty buckets of a line say.
-use Rattle.std.proofs.Common.{◌≡◌, ℕ, suc, ◌+◌, ◌-◌, ◌<◌, ◌≤◌, ◌⊎◌, max, Bool, not, ◌&&◌, nat_lt, List, [], ◌∷◌, map, refl, sym, ◌∙◌, ap, arith, inl, inr, lt-ltb, mul-le-mul_left, mul-suc}
+use Rattle.std.proofs.Common.{◌≡◌, ℕ, suc, ◌+◌, ◌<◌, ◌≤◌, ◌⊎◌, max, Bool, not, ◌&&◌, nat_lt, List, [], ◌∷◌, map, refl, sym, ◌∙◌, ap, arith, inl, inr, lt-ltb, mul-le-mul_left, mul-suc}
 use Rattle.std.specs.Prelude.{ℤ, fold, Option}
 use Rattle.std.specs.Option.{option_or}
 use Rattle.std.specs.List.{All, range_with_len}
@@ -42,8 +42,15 @@ last-or-alone Count = inr (record { same = λ x v. refl; alike = λ o u. refl })
 last-or-alone First = inr (record { same = λ x v. refl; alike = λ o u. refl })
 last-or-alone Last = inl refl
 
+-- what an empty bucket says is known, where the last sample before it is, if that is told
+pub said-known : (a : Aggregator) (o u : Option Point) → (a ≡ Last → o ≡ u) → empty_cell_of a o ≡ empty_cell_of a u
+said-known a o u known = elim (last-or-alone a) [
+  | inl last ↦ ap (empty_cell_of a) (known last)
+  | inr alone ↦ alone.alike o u
+]
+
 -- the last value of a list
-last-pushed : (s : Summary) (p : Point) (ps : List Point) → (fold push s (p ∷ ps)).last ≡ (later_or p (last_of ps)).value
+pub last-pushed : (s : Summary) (p : Point) (ps : List Point) → (fold push s (p ∷ ps)).last ≡ (later_or p (last_of ps)).value
 last-pushed s p [] = refl
 last-pushed s p (q ∷ ps) = last-pushed (push s p) q ps
 

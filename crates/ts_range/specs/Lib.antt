@@ -3,6 +3,7 @@ pub mod Cutting
 pub mod Empty
 pub mod Filling
 pub mod Filters
+pub mod LastValues
 pub mod Order
 pub mod Query
 pub mod Spans

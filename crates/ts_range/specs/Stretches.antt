@@ -1,6 +1,5 @@
 -- The stretch of buckets that an answer with empty ones tells of.
-use Rattle.std.specs.Prelude.{◌≡◌, ◌≤◌, ℕ, max, min, true, List, map, Option, None, Some}
-use Rattle.ts_spec.specs.declared.bucket.Aggregator.TheVariants.{Last}
+use Rattle.std.specs.Prelude.{◌≡◌, ◌≤◌, ℕ, max, min, true, List, map, Option, Some}
 use Rattle.ts_spec.specs.Sample.{Point, first_of, last_of}
 use Rattle.ts_spec.specs.Bucket.{Grid, start}
 use Rattle.ts_spec.specs.Answer.{Row, starts_between, first_ones, turned}
@@ -11,7 +10,7 @@ use Rattle.ts_range.specs.Empty.{empty_cell_of}
 use Rattle.ts_range.specs.Filling.{Filling}
 use Rattle.ts_range.specs.Query.{buckets_of}
 use Rattle.ts_range.specs.Starts.{starts_of, starts_within}
-use Rattle.ts_range.specs.Walk.{times_of}
+use Rattle.ts_range.specs.Walk.{times_of, last_before}
 
 -- of the times from one to another, those from `from` to `to` are those of the buckets from that of `from` to that of `upto`
 pub record IsPart (g : Grid) (first last from upto to : ℕ) : Type 0 where
@@ -43,11 +42,15 @@ filling_with stretch ahead prior = record {
   others = empty_cell_of stretch.buckets.agg prior;
 }
 
--- these buckets are told, empty ones too, and what those say is known from the samples that are let through
+-- these are the last samples of the list before the first bucket, and before the first time
+pub record IsKnownBefore (stretch : Stretch) (ps : List Point) (ahead prior : Option Point) : Type 0 where
+  pub first : ahead ≡ last_before (start stretch.buckets.grid stretch.from) ps
+  pub others : prior ≡ last_before stretch.from ps
+
+-- these buckets are told, empty ones too
 pub record IsFilledIn (q : Query) (bs : Buckets) : Type 0 where
   pub told : q.buckets ≡ Some bs
   pub empty : bs.empty ≡ true
-  pub known : bs.agg ≡ Last → (q.times ≡ None) × (q.values ≡ None)
 
 -- what is wanted of this list is a stretch of buckets that are filled in
 pub record IsStretchIn (q : Query) (ps : List Point) (stretch : Stretch) : Type 0 where

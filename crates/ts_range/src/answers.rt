@@ -1,10 +1,11 @@
+// The answer to a question whose samples were gathered.
 ghost use Rattle.std.specs.Prelude.{◌≡◌, ◌≢◌, List, map, Some, None, IfOk, IfErr};
 ghost use Rattle.ts_spec.specs.Sample.{Point, IsAscending, between};
 ghost use Rattle.ts_spec.specs.Answer as spec;
 ghost use Rattle.ts_range.specs.Query.{query_of, row_of};
 ghost use Rattle.ts_range.specs.Walk.{IsAskedOf};
 
-use crate::empty::{all_rows, are_too_many};
+use crate::empty::are_too_many;
 use crate::fault::RangeFault;
 use crate::fillable::filled_buckets;
 use crate::filled_rows::filled_rows;
@@ -56,12 +57,5 @@ fn rows(alloc: Global, query: &Query, asked: &Asked) -> Result<Vec<Row>, AllocEr
     if let Some(buckets) = filled_buckets(query) {
         return filled_rows(alloc, query, &buckets, filters, asked);
     }
-    let Some(buckets) = &query.buckets else {
-        return walked_rows(alloc, query, filters, &asked.rows);
-    };
-    if buckets.empty {
-        all_rows(alloc, query, buckets, &filters, asked)
-    } else {
-        walked_rows(alloc, query, filters, &asked.rows)
-    }
+    walked_rows(alloc, query, filters, &asked.rows)
 }

@@ -1,3 +1,4 @@
+// Why a question is not answered.
 use std::alloc::AllocError;
 use thiserror::Error;
 

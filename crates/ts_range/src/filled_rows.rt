@@ -1,21 +1,24 @@
 // The rows of all buckets of a question, those without samples too, by one walk over the samples.
-ghost use Rattle.std.specs.Prelude.{◌≡◌, List, map, IfOk};
+ghost use Rattle.std.specs.Prelude.{◌≡◌, ◌++◌, ℕ, List, [], map, IfOk};
 ghost use Rattle.ts_spec.specs.Sample.{Point, IsAscending};
 ghost use Rattle.ts_spec.specs.Answer as spec;
 ghost use Rattle.ts_range.specs.Filters.{passes};
+ghost use Rattle.ts_range.specs.LastValues.{last_rows, IsLine};
 ghost use Rattle.ts_range.specs.Query.{query_of, row_of};
 ghost use Rattle.ts_range.specs.Stretches.{IsFilledIn, IsStretchOf};
 ghost use Rattle.ts_range.specs.Walk.{IsAskedOf};
 
 use crate::empty::before;
 use crate::filters::Filters;
+use crate::last_values::LastValues;
 use crate::list::RowList;
 use crate::query::{Buckets, Query};
 use crate::row::{Asked, Row};
 use crate::stretch::Stretch;
+use crate::take::Take;
 use crate::walked::{MOST, turned, walked};
 use std::alloc::{AllocError, Global};
-use ts_sample::places_between;
+use ts_sample::{Sample, Visit, places_between};
 
 // The rows that are wanted of these buckets, in the order asked.
 pub(crate) fn filled_rows(
@@ -64,7 +67,29 @@ fn stretch_rows(
         return Err(AllocError);
     }
     let taker = RowList::with_room(alloc, 0)?;
+    if stretch.says_hidden(&filters) {
+        let line = stretch.last_values(filters, ahead, prior, taker);
+        return seen_by(samples, line).into_rows();
+    }
     walked(samples, stretch.walk(filters, ahead, prior, taker))
         .into_taker()
         .into_rows()
+}
+
+// The taker of a line that has not begun, after all samples.
+fn seen_by<T: Take>(samples: &[Sample], mut line: LastValues<T>) -> T
+    requires { line.seen ≡ [] }
+    ensures { (lo hi : ℕ) → IsLine lo hi (record line { seen = samples.now }) → T.has result (last_rows (record line { seen = samples.now })) }
+{
+    show_all(samples, &mut line);
+    line.finish()
+}
+
+// Gives all samples to a line.
+fn show_all<T: Take>(samples: &[Sample], line: &mut LastValues<T>)
+    ensures { line.new ≡ record line.old { seen = line.old.seen ++ samples.now } }
+{
+    for sample in samples {
+        line.sample(sample);
+    }
 }

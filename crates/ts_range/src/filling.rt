@@ -1,5 +1,5 @@
 // What is told of the buckets of a line, those without samples too.
-ghost use Rattle.std.specs.Prelude.{◌≡◌, ◌≤◌, ◌<◌, ◌^◌, IfNone, IfSome, Some, Option, length, option_map, slice_get};
+ghost use Rattle.std.specs.Prelude.{◌≡◌, ◌≤◌, ◌<◌, ◌+◌, ◌^◌, IfNone, IfSome, Some, Option, length, option_map, slice_get};
 ghost use Rattle.ts_spec.specs.Sample.{MAX_TIME};
 ghost use Rattle.ts_spec.specs.Answer.{Cell as TheCell};
 ghost use Rattle.ts_spec.specs.Bucket.{stamp};
@@ -43,6 +43,23 @@ impl Filling {
     {
         if place.told < self.starts.wanted(None) {
             Some(self.starts.at(false, place.told))
+        } else {
+            None
+        }
+    }
+
+    // The start of the bucket past that one, if one is left.
+    pub(crate) fn after(&self, place: &Place) -> Option<u64>
+        requires { place.now.told < length (starts_of self.now.starts) }
+        ensures some { IfSome result (λ start. slice_get (starts_of self.now.starts) (place.now.told + 1) ≡ Some start) }
+        ensures within { IfSome result (λ start. place.now.told + 1 < length (starts_of self.now.starts)) }
+        ensures few { length (starts_of self.now.starts) < 2 ^ 64 }
+        ensures none { IfNone result (length (starts_of self.now.starts) ≤ place.now.told + 1) }
+    {
+        let count = self.starts.wanted(None);
+        let next = place.told + 1;
+        if next < count {
+            Some(self.starts.at(false, next))
         } else {
             None
         }

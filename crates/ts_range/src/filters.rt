@@ -1,4 +1,5 @@
-ghost use Rattle.std.specs.Prelude.{◌≡◌, ◌≤◌, ◌<◌, ℕ, false, ◌&&◌, None, IfOk, IfSome, IfNone, IsTrue, option_map};
+// Filters by time and by value, ready to be asked of each sample.
+ghost use Rattle.std.specs.Prelude.{◌≡◌, ◌≤◌, ◌<◌, ℕ, true, false, ◌&&◌, None, IfOk, IfSome, IfNone, IsTrue, option_map};
 ghost use Rattle.std.specs.Option.{ForSome};
 ghost use Rattle.std.specs.List.Sorted.{IsNonDecreasing};
 ghost use Rattle.ts_spec.specs.Answer.{is_listed};
@@ -44,6 +45,13 @@ impl Filters {
             values,
             lets_all: false,
         })
+    }
+
+    // Whether there is no filter, so that they let every sample through.
+    pub(crate) fn let_all(&self) -> bool
+        ensures { result ≡ true → (p : Point) → passes self.now p ≡ true }
+    {
+        self.lets_all
     }
 
     // Whether both filters let a sample through.

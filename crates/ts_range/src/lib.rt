@@ -3,8 +3,6 @@
 
 mod answers;
 mod bucket;
-mod cells;
-mod cut;
 mod cutter;
 mod empty;
 mod fault;
@@ -13,6 +11,7 @@ mod filled;
 mod filled_rows;
 mod filling;
 mod filters;
+mod last_values;
 mod limited;
 mod list;
 mod place;
@@ -31,6 +30,7 @@ pub use fault::RangeFault;
 pub use fillable::filled_buckets;
 pub use filled::Filled;
 pub use filters::Filters;
+pub use last_values::LastValues;
 pub use limited::Limited;
 pub use list::RowList;
 pub use query::{Buckets, Query};

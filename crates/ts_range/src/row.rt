@@ -1,3 +1,4 @@
+// Rows, and what is needed of a series to tell them.
 ghost use Rattle.std.specs.Prelude.{◌≤◌};
 ghost use Rattle.ts_spec.specs.Sample.{MAX_TIME};
 

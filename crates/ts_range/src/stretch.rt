@@ -8,10 +8,12 @@ ghost use Rattle.ts_range.specs.Starts.{starts_within};
 use crate::filled::Filled;
 use crate::filling::{Filling, empty_cell};
 use crate::filters::Filters;
+use crate::last_values::LastValues;
 use crate::query::{Buckets, Query};
 use crate::starts::Starts;
 use crate::take::Take;
 use crate::walk::Walk;
+use ts_agg::Aggregator;
 use ts_bucket::{Grid, Stamp};
 use ts_sample::Sample;
 
@@ -31,10 +33,12 @@ pub struct Stretch {
 }
 
 impl Stretch {
-    ghost use Rattle.std.specs.Prelude.{None, Some};
+    ghost use Rattle.std.specs.Prelude.{◌↔◌, true, false, None, Some, IsTrue};
+    ghost use Rattle.ts_spec.specs.declared.bucket.Aggregator.TheVariants.{Last};
     ghost use Rattle.ts_spec.specs.Sample.{Point};
     ghost use Rattle.ts_range.specs.Filling.{begun, filling_of};
     ghost use Rattle.ts_range.specs.Filters.{passes};
+    ghost use Rattle.ts_range.specs.LastValues.{counts};
     ghost use Rattle.ts_range.specs.Query.{buckets_of};
     ghost use Rattle.ts_range.specs.Stretches.{IsStretchOf, filling_with};
     ghost use Rattle.ts_range.specs.Walking.{lets};
@@ -92,6 +96,41 @@ impl Stretch {
             ..self.buckets
         };
         Walk::new(filters, Some(begun), filled)
+    }
+
+    /// The same, where an empty bucket says a value that the filters may hide: a visitor of all samples from the first
+    /// time to the last one.
+    pub fn last_values<T: Take>(
+        &self,
+        filters: Filters,
+        ahead: Option<Sample>,
+        prior: Option<Sample>,
+        taker: T,
+    ) -> LastValues<T>
+        requires { T.has taker [] }
+        ensures filling { result.filling ≡ filling_with self.now ahead prior }
+        ensures counts { (p : Point) → counts result p ≡ passes filters p }
+        ensures seen { result.seen ≡ [] }
+    {
+        LastValues::new(filters, self.filling(ahead, prior), taker)
+    }
+
+    /// Whether an empty bucket says the last value before it.
+    pub fn says_last(&self) -> bool
+        ensures { IsTrue result ↔ (self.now.buckets.agg ≡ Last) }
+    {
+        match self.buckets.agg {
+            Aggregator::Last => true,
+            _ => false,
+        }
+    }
+
+    /// Whether an empty bucket may say a value that these filters hide.
+    pub fn says_hidden(&self, filters: &Filters) -> bool
+        ensures last { result ≡ true → self.now.buckets.agg ≡ Last }
+        ensures shown { result ≡ false → self.now.buckets.agg ≡ Last → (p : Point) → passes filters.now p ≡ true }
+    {
+        self.says_last() && !filters.let_all()
     }
 
     // What is told of its buckets, of which the empty ones say what is known before them.

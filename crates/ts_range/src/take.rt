@@ -1,3 +1,4 @@
+// Whoever takes the rows of an answer, one after another.
 ghost use Rattle.std.specs.Prelude.{◌≡◌, true, List, [], ◌∷◌, ◌++◌};
 ghost use Rattle.ts_spec.specs.Answer.{Row as TheRow};
 ghost use Rattle.ts_range.specs.Query.{row_of};

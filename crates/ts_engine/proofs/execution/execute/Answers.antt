@@ -1,4 +1,4 @@
-use Rattle.std.proofs.Common.{ℕ, List, refl, ◌∙◌, ap, subst}
+use Rattle.std.proofs.Common.{ℕ, ◌+◌, ◌≤◌, List, refl, ◌∙◌, ap, subst}
 use Rattle.ts_labels.specs.Spec.{spec_of, change_of}
 use Rattle.ts_labels.specs.Show.{show_of}
 use Rattle.ts_spec.specs.Filter.{Filter}
@@ -18,6 +18,10 @@ use Rattle.ts_spec.specs.Step.{time_of, create, alter_at, add_at, incr_at, delet
 use Rattle.ts_db.specs.Held.{Held, Stands, Carries}
 use Rattle.ts_engine.specs.Turn.{IsStep, StepOrMemory}
 use Rattle.ts_engine.proofs.Executed.{alone, step_executes, sure_executes, executes_with, asks_execute, pings_execute}
+use Rattle.std.specs.Prelude.{sum_by}
+use Rattle.ts_spec.specs.KeptQuestions.{kept_selection}
+use Rattle.ts_db.specs.Bounds.{selection_steps}
+use Rattle.ts_engine.specs.Bounds.{wanted_steps}
 use Rattle.ts_engine.proofs.execution.execute.Goals as goal
 
 pub returns-in-Create-clause-executes : goal.returns-in-Create-clause-executes
@@ -129,3 +133,16 @@ returns-in-Exists-clause-executes g c =
       limits = refl;
     })
     (alone (reply_of c.count_keys.result) c.clear.new.self.bytes c.put-in-Exists.new.out.bytes c.put-in-Exists.ensures.bytes c.clear.ensures.empty))
+
+-- the questions over an interval
+
+pub returns-in-Range-clause-steps : goal.returns-in-Range-clause-steps
+returns-in-Range-clause-steps g c = rw c.in-Range.is c.put_range.ensures.steps
+
+pub returns-in-MRange-clause-steps : goal.returns-in-MRange-clause-steps
+returns-in-MRange-clause-steps g c =
+    let stock = c.args.db.now in
+    let wanted = Rows c.in-MRange.latest c.in-MRange.show c.in-MRange.query in
+    rw c.in-MRange.is
+    (subst (λ (fs : List Filter). c.put_members.new.steps ≤ c.args.steps.now + (selection_steps stock fs + sum_by (wanted_steps stock wanted) (kept_selection stock.keys fs)))
+    c.deref.ensures.value c.put_members.ensures.steps)

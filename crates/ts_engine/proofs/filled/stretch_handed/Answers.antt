@@ -1,20 +1,45 @@
-use Rattle.std.proofs.Common.{◌≡◌, ℕ, List, ◌∙◌, ap}
+use Rattle.std.proofs.Common.{◌≡◌, ℕ, List, refl, ◌∙◌, ap, ◌+◌, ◌*◌, arith}
 use Rattle.std.specs.Prelude.{filter, Option, Some}
 use Rattle.ts_spec.specs.Answer.{Row, turned}
 use Rattle.ts_spec.specs.Command as spec
 use Rattle.ts_spec.specs.KeptQuestions.{kept_asked}
-use Rattle.ts_spec.specs.Sample.{Point, between}
+use Rattle.ts_spec.specs.Sample.{Point, between, first_of, last_of}
 use Rattle.ts_range.specs.Filling.{Filling, filling_of, filled_line}
+use Rattle.ts_range.specs.LastValues.{LastValues, last_rows}
 use Rattle.ts_range.specs.Stretches.{filling_with}
 use Rattle.ts_range.specs.Taking.{Limit}
-use Rattle.ts_range.specs.Walk.{last_before}
+use Rattle.ts_range.specs.Walk.{times_of}
 use Rattle.ts_range.specs.Walking.{lets, rows_chosen}
 use Rattle.ts_range.proofs.AllRows.{walked-rows}
+use Rattle.ts_range.proofs.LastLines.{told-by}
 use Rattle.ts_engine.proofs.Finding.{kept_ascending}
+use Rattle.ts_db.specs.Held.{pieces_at, reach_at}
+use Rattle.ts_engine.proofs.WalkBounds.{seamed-part, stretch-inside}
 use Rattle.ts_engine.proofs.filled.stretch_handed.Goals as goal
 
-pub returns : goal.returns
-returns g c = λ key at.
+pub returns-then-says_hidden-clause-rows : goal.returns-then-says_hidden-clause-rows
+returns-then-says_hidden-clause-rows g c = λ key at.
+    let q = c.args.query.now in
+    let stretch = c.args.stretch.now in
+    let all : List Point = kept_asked c.args.db.now.keys c.args.latest key in
+    let is = c.requires.stretch key at in
+    let last = c.says_hidden.ensures.last c.if-says_hidden.true in
+    let seen : LastValues = record c.last_values-line.result { seen = between stretch.from stretch.to all } in
+    let told = told-by q all stretch is.buckets (times_of (first_of all) (last_of all)) (kept_ascending c.args.db.now c.known.ensures.stands c.args.latest key) is.filled is.is refl last
+    c.known_before-ahead.result.0 c.known_before-ahead.result.1 (c.known_before-ahead.ensures.known last key at)
+    seen c.last_values-line.ensures.filling refl (λ p. c.last_values-line.ensures.counts p ∙ c.requires.lets p) in
+    (last_rows seen, c.shown.ensures.rows key at told.lo told.hi told.line, told.rows)
+
+pub returns-then-says_hidden-clause-seams : goal.returns-then-says_hidden-clause-seams
+returns-then-says_hidden-clause-seams g c = λ key at.
+    let q = c.args.query.now in
+    let stretch = c.args.stretch.now in
+    let inside = stretch-inside q (kept_asked c.args.db.now.keys c.args.latest key) stretch (c.requires.stretch key at) in
+    seamed-part (pieces_at c.args.db.now key) q.from q.to stretch.from stretch.to c.known_before-ahead.new.steps (c.args.steps.now + 2 * reach_at c.args.db.now key) c.shown.new.steps inside.0 inside.1
+    (c.known_before-ahead.ensures.steps key at) (c.shown.ensures.seams key at)
+
+pub returns-clause-rows : goal.returns-clause-rows
+returns-clause-rows g c = λ key at.
     let q = c.args.query.now in
     let stretch = c.args.stretch.now in
     let walk = c.walk-walk.result in
@@ -22,7 +47,7 @@ returns g c = λ key at.
     let chosen : List Point = filter (lets walk) (between stretch.from stretch.to all) in
     let handed : List Row = rows_chosen walk.buckets all chosen in
     let line : Filling = filling_of c.walked.result.filling in
-    let known : Filling = filling_with stretch c.before_of-ahead.result c.before_of-prior.result in
+    let known : Filling = filling_with stretch c.known_before-ahead.result.0 c.known_before-ahead.result.1 in
     let kept : Some line ≡ Some known = ap (λ (k : Limit). k.filling) (c.walked.ensures.limit ∙ c.walk-walk.ensures.limit) in
     let same : line ≡ known = cc kept in (
       filled_line line handed,
@@ -30,7 +55,14 @@ returns g c = λ key at.
       ap (λ (f : Filling). turned q.reverse (filled_line f handed)) same
           ∙ ap (λ (o : Option spec.Buckets). turned q.reverse (filled_line known (rows_chosen o all chosen))) c.walk-walk.ensures.buckets
           ∙ walked-rows q all stretch (kept_ascending c.args.db.now c.known.ensures.stands c.args.latest key) (c.requires.stretch key at)
-          (lets walk) (λ p. c.walk-walk.ensures.lets p ∙ c.requires.lets p) c.before_of-ahead.result c.before_of-prior.result
-          (c.before_of-ahead.ensures.before key at ∙ ap (λ (t : ℕ). last_before t all) c.first.ensures.start)
-          (c.before_of-prior.ensures.before key at),
+          (lets walk) (λ p. c.walk-walk.ensures.lets p ∙ c.requires.lets p) (λ last p. c.walk-walk.ensures.lets p ∙ c.says_hidden.ensures.shown c.if-says_hidden.false last p)
+          c.known_before-ahead.result.0 c.known_before-ahead.result.1 (λ last. c.known_before-ahead.ensures.known last key at),
     )
+
+pub returns-clause-seams : goal.returns-clause-seams
+returns-clause-seams g c = λ key at.
+    let q = c.args.query.now in
+    let stretch = c.args.stretch.now in
+    let inside = stretch-inside q (kept_asked c.args.db.now.keys c.args.latest key) stretch (c.requires.stretch key at) in
+    seamed-part (pieces_at c.args.db.now key) q.from q.to stretch.from stretch.to c.known_before-ahead.new.steps (c.args.steps.now + 2 * reach_at c.args.db.now key) c.walked.new.steps inside.0 inside.1
+    (c.known_before-ahead.ensures.steps key at) (c.walked.ensures.seams key at)

@@ -41,3 +41,6 @@ returns-in-Some-clause-reply g c = λ from stands.
     (subst (λ (ps : List Point). IsReplyText (rows_response (answer c.args.db.now.limits.empty_rows q ps)) written)
     (asked_stands c.args.db.now c.args.latest key from stands)
     (c.put_of.ensures.reply key (sym c.id_of.ensures.id ∙ c.in-Some.is))))
+
+pub returns-in-Some-clause-steps : goal.returns-in-Some-clause-steps
+returns-in-Some-clause-steps g c = c.put_of.ensures.steps c.args.key.now (sym c.id_of.ensures.id ∙ c.in-Some.is)

@@ -4,13 +4,24 @@ use Rattle.std.proofs.lemmas.List.{drop_more}
 use Rattle.std.proofs.lemmas.Result.{err_from_is_err_and}
 use Rattle.ts_engine.specs.Members.{reply_at}
 use Rattle.ts_engine.proofs.ManyTexts.{so-far-none, so-far-more, none-told, all-told}
+use Rattle.ts_engine.specs.Bounds.{wanted_steps}
+use Rattle.ts_engine.proofs.MemberBounds.{left-all, left-less, left-few}
 use Rattle.ts_engine.proofs.members.add_members.Goals as goal
 
 pub loop-id-init : goal.loop-id-init
 loop-id-init g c = record {
   told = λ keys are. so-far-none (reply_at c.args.db.now.limits c.args.db.now.keys c.args.wanted.now) c.args.db.now.ids keys c.args.ids.now c.encode_count.new.out.bytes are;
+  steps = λ keys are. left-all (wanted_steps c.args.db.now c.args.wanted.now) c.args.db.now.ids keys c.args.ids.now c.args.steps.now are;
   room = omega arith;
 }
+
+pub returns-in_err-add_member-clause-steps : goal.returns-in_err-add_member-clause-steps
+returns-in_err-add_member-clause-steps g c = λ keys are.
+    let most = wanted_steps c.args.db.now c.args.wanted.now in
+    let ids = c.args.db.now.ids in
+    left-few most ids keys (drop (c.loop-id.id-index + 1) c.args.ids.now) c.args.steps.now c.add_member.new.steps
+    (left-less most ids keys _ (drop c.loop-id.id-index c.args.ids.now) (drop (c.loop-id.id-index + 1) c.args.ids.now) c.args.steps.now c.loop-id.steps c.add_member.new.steps
+    (drop_more c.args.ids.now c.loop-id.id-index _ c.loop-id-test.true) (c.loop-id.invariant.steps keys are) c.add_member.ensures.steps)
 
 pub returns-in_err-add_member-clause-refused : goal.returns-in_err-add_member-clause-refused
 returns-in_err-add_member-clause-refused g c =
@@ -30,6 +41,12 @@ loop-id-preserved g c = record {
       (drop_more c.args.ids.now c.loop-id.id-index _ c.loop-id-test.true)
       (c.loop-id.invariant.told keys are)
       c.in_ok-add_member.ensures.added;
+  steps = λ keys are. left-less (wanted_steps c.args.db.now c.args.wanted.now) c.args.db.now.ids keys _
+      (drop c.loop-id.id-index c.args.ids.now) (drop (c.loop-id.id-index + 1) c.args.ids.now)
+      c.args.steps.now c.loop-id.steps c.add_member.new.steps
+      (drop_more c.args.ids.now c.loop-id.id-index _ c.loop-id-test.true)
+      (c.loop-id.invariant.steps keys are)
+      c.add_member.ensures.steps;
   room = omega (arith, c.loop-id.invariant.room, c.add_member.ensures.room);
 }
 
@@ -40,3 +57,7 @@ returns-clause-added g c = λ keys are.
     (drop_of_length-le c.args.ids.now c.loop-id-test.false)
     c.in-Ok.ensures.ok
     (c.loop-id.invariant.told keys are)
+
+pub returns-clause-steps : goal.returns-clause-steps
+returns-clause-steps g c = λ keys are.
+    left-few (wanted_steps c.args.db.now c.args.wanted.now) c.args.db.now.ids keys (drop c.loop-id.id-index c.args.ids.now) c.args.steps.now c.loop-id.steps (c.loop-id.invariant.steps keys are)

@@ -2,12 +2,15 @@ use Rattle.std.proofs.Common.{◌+◌, ◌≤◌, List, drop, length}
 use Rattle.ts_spec.specs.Key.{Key}
 use Rattle.ts_db.specs.Held.{AreNumbersOf}
 use Rattle.ts_engine.specs.Members.{reply_at}
+use Rattle.ts_engine.specs.Bounds.{wanted_steps}
 use Rattle.ts_engine.proofs.ManyTexts.{SoFar}
+use Rattle.ts_engine.proofs.MemberBounds.{Left}
 use Rattle.ts_engine.proofs.members.add_members.Given as goal
 
 -- the members so far are those of the first keys
 abbrev pub invariant-loop-id : goal.invariant-loop-id
 invariant-loop-id g l = record {
   told : (keys : List Key) → AreNumbersOf l.db.ids keys l.ids → SoFar (reply_at l.db.limits l.db.keys l.wanted) l.db.ids keys (drop l.id-index l.ids) l.initial.out.bytes l.out.bytes;
+  steps : (keys : List Key) → AreNumbersOf l.db.ids keys l.ids → Left (wanted_steps l.db l.wanted) l.db.ids keys (drop l.id-index l.ids) l.initial.steps l.steps;
   room : length l.initial.out.bytes + l.initial.out.spare ≤ length l.out.bytes + l.out.spare;
 }

@@ -1,19 +1,45 @@
-use Rattle.std.proofs.Common.{◌≡◌, ◌∙◌, Bool, true, false, refl, sym, ap}
-use Rattle.std.specs.Prelude.{not, Some}
-use Rattle.std.proofs.lemmas.Bool.{false≢true}
-use Rattle.ts_spec.specs.Answer.{tells_empty}
+use Rattle.std.proofs.Common.{◌≡◌, ℕ, ◌+◌, ◌*◌, ◌≤◌, ◌∙◌, refl, sym, ap, arith}
+use Rattle.std.specs.Prelude.{Some}
 use Rattle.ts_spec.specs.KeptQuestions.{kept_asked}
 use Rattle.ts_range.specs.Query.{query_of}
 use Rattle.ts_range.proofs.Whole.{no-limit}
+use Rattle.ts_spec.specs.Key.{Key}
+use Rattle.ts_series.specs.Seams.{IsSeamed, Around}
+use Rattle.ts_db.specs.Bounds.{walk_steps}
+use Rattle.ts_db.specs.Held.{Stock, pieces_at, reach_at}
+use Rattle.ts_engine.specs.Bounds.{question_steps}
+use Rattle.ts_engine.proofs.WalkBounds.{few-around}
+use Rattle.ts_engine.proofs.FillingIn.{none-filled}
 use Rattle.ts_engine.proofs.row_lists.rows_of.Goals as goal
 
-no-test : (b : Bool) → not b ≡ true → b ≡ false
-no-test true e = absurd (false≢true e)
-no-test false e = refl
+pub rows_walked-requires-clause-full : goal.rows_walked-requires-clause-full
+rows_walked-requires-clause-full g c = none-filled c.args.query.now c.in_default.ensures.none c.args.query.now.buckets refl
 
 pub returns-in-Ok-clause-rows : goal.returns-in-Ok-clause-rows
 returns-in-Ok-clause-rows g c = λ key at.
     let q = query_of c.args.query.now in
     no-limit q (kept_asked c.args.db.now.keys c.args.latest key) c.args.db.now.limits.empty_rows
-    (no-test (tells_empty q.buckets) (sym c.is_walked.ensures ∙ c.if-not-is_walked.false))
-    ∙ ap Some (sym (c.in-Ok.ensures key at))
+    (none-filled c.args.query.now c.in_default.ensures.none c.args.query.now.buckets refl)
+    ∙ ap Some (sym (c.in-Ok.ensures.rows key at))
+
+-- a walk takes no more than is allowed
+module _ (stock : Stock) (key : Key) (from to old new : ℕ) where
+  walked : Around from to (walk_steps stock key from to) (pieces_at stock key) → IsSeamed (pieces_at stock key) from to (old + 3 * reach_at stock key) new → new ≤ old + question_steps stock key from to
+  walked around is =
+      let few = few-around (pieces_at stock key) from to (walk_steps stock key from to) (old + 3 * reach_at stock key) new around is in
+      omega (arith, few)
+
+pub returns-in-Ok-clause-steps : goal.returns-in-Ok-clause-steps
+returns-in-Ok-clause-steps g c = λ key at.
+    let q = c.args.query.now in
+    walked c.args.db.now key q.from q.to c.args.steps.now c.rows_walked.new.steps (c.seams_of.ensures key at q.from q.to) (c.rows_walked.ensures.seams key at)
+
+pub returns-in-Err-clause-steps : goal.returns-in-Err-clause-steps
+returns-in-Err-clause-steps g c = λ key at.
+    let q = c.args.query.now in
+    walked c.args.db.now key q.from q.to c.args.steps.now c.rows_walked.new.steps (c.seams_of.ensures key at q.from q.to) (c.rows_walked.ensures.seams key at)
+
+pub returns-in-Some-clause-steps : goal.returns-in-Some-clause-steps
+returns-in-Some-clause-steps g c = λ key at.
+    let q = c.args.query.now in
+    walked c.args.db.now key q.from q.to c.args.steps.now c.rows_filled.new.steps (c.seams_of.ensures key at q.from q.to) (c.rows_filled.ensures.seams key at)

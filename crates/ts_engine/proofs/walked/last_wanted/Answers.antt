@@ -7,8 +7,8 @@ use Rattle.ts_engine.proofs.Finding.{kept_ascending}
 use Rattle.ts_engine.proofs.Reaching.{rows-upto}
 use Rattle.ts_engine.proofs.walked.last_wanted.Goals as goal
 
-pub returns : goal.returns
-returns c = λ key at.
+pub returns-clause-rows : goal.returns-clause-rows
+returns-clause-rows c = λ key at.
     let query = c.args.query.now in
     let each = c.tells_each.ensures c.if-not-tells_each.false in
     let plain : c.args.latest ≡ false = c.if-latest.false in

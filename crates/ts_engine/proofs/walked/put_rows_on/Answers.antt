@@ -1,4 +1,4 @@
-use Rattle.std.proofs.Common.{◌≡◌, ℕ, List, ◌∙◌, ap, subst}
+use Rattle.std.proofs.Common.{◌≡◌, ℕ, List, ◌∙◌, ap, subst, arith}
 use Rattle.std.specs.Prelude.{filter, Option, option_map}
 use Rattle.ts_spec.specs.Answer.{Row, first_ones, rows}
 use Rattle.ts_spec.specs.KeptQuestions.{kept_asked}
@@ -10,6 +10,8 @@ use Rattle.ts_range.specs.Query.{buckets_of, query_of}
 use Rattle.ts_range.specs.Walking.{rows_chosen}
 use Rattle.ts_range.proofs.Whole.{walk-rows}
 use Rattle.ts_engine.specs.Answering.{IsReplyText}
+use Rattle.ts_db.specs.Held.{pieces_at}
+use Rattle.ts_engine.proofs.WalkBounds.{seamed-none, seamed-part}
 use Rattle.ts_engine.proofs.walked.put_rows_on.Goals as goal
 
 pub returns-clause-reply : goal.returns-clause-reply
@@ -21,6 +23,18 @@ returns-clause-reply g c = λ key at.
     let count : c.handed-taker.result.count ≡ query.count = ap (λ (l : Limit). l.count) c.handed-taker.ensures.limit ∙ c.new-taker.ensures.count in
     let same : first_ones c.handed-taker.result.count handed ≡ rows (query_of query) all =
     ap (λ (o : Option ℕ). first_ones o handed) count ∙ walk-rows (record (query_of query) { to = c.last_wanted-to.result }) all lets c.in-Ok-of.ensures c.requires.forward c.requires.full
-    ∙ c.last_wanted-to.ensures key at in
+    ∙ c.last_wanted-to.ensures.rows key at in
     subst (λ (rs : List Row). IsReplyText (Rows rs) c.finish.result.bytes) same
     (c.finish.ensures.reply (first_ones c.handed-taker.result.count handed) (c.into_taker.ensures handed (c.handed-taker.ensures.rows key at)))
+
+pub returns-in-Err-clause-seams : goal.returns-in-Err-clause-seams
+returns-in-Err-clause-seams g c = λ key at. seamed-none (pieces_at c.args.db.now key) c.args.query.now.from c.args.query.now.to c.args.steps.now
+
+pub returns-in_default-clause-seams : goal.returns-in_default-clause-seams
+returns-in_default-clause-seams g c = λ key at. seamed-none (pieces_at c.args.db.now key) c.args.query.now.from c.args.query.now.to c.args.steps.now
+
+pub returns-clause-seams : goal.returns-clause-seams
+returns-clause-seams g c = λ key at.
+    let q = c.args.query.now in
+    seamed-part (pieces_at c.args.db.now key) q.from q.to q.from c.last_wanted-to.result c.args.steps.now c.args.steps.now c.handed-taker.new.steps (omega arith) c.last_wanted-to.ensures.within (omega arith)
+    (c.handed-taker.ensures.seams key at)

@@ -35,3 +35,6 @@ returns-in-Some-clause-reply g c = λ from stands.
     (no-limit q all from.limits.empty_rows c.requires.full)
     (subst (λ (ps : List Point). IsReplyText (Rows (rows q ps)) c.put_rows_of.new.out.bytes) (asked_stands c.args.db.now c.args.latest c.args.key.now from stands)
     (c.put_rows_of.ensures.reply c.args.key.now (sym c.id_of.ensures.id ∙ c.in-Some.is)))
+
+pub returns-in-Some-clause-steps : goal.returns-in-Some-clause-steps
+returns-in-Some-clause-steps g c = c.put_rows_of.ensures.steps c.args.key.now (sym c.id_of.ensures.id ∙ c.in-Some.is)

@@ -12,8 +12,8 @@ use Rattle.ts_range.specs.Walking.{lets, rows_chosen}
 use Rattle.ts_engine.proofs.Handing.{for-each-key}
 use Rattle.ts_engine.proofs.walked_back.rows_from.Goals as goal
 
-pub returns : goal.returns
-returns g c =
+pub returns-clause-rows : goal.returns-clause-rows
+returns-clause-rows g c =
     let bs = option_map buckets_of c.args.query.now.buckets in
     let walk = c.new-walk.result in
     let test = is_let_through (query_of c.args.query.now) in

@@ -9,12 +9,14 @@ use Rattle.ts_spec.proofs.Samples.{ascending-times}
 use Rattle.ts_range.specs.declared.query.Buckets.{Buckets}
 use Rattle.ts_range.specs.Empty.{known_before}
 use Rattle.ts_range.specs.Filling.{Filling, filling_of, filled_line}
+use Rattle.ts_range.specs.LastValues.{last_rows}
 use Rattle.ts_range.specs.Query.{query_of}
 use Rattle.ts_range.specs.Stretches.{filling_with}
 use Rattle.ts_range.specs.Taking.{Limit}
 use Rattle.ts_range.specs.Walk.{last_before}
 use Rattle.ts_range.specs.Walking.{lets, rows_chosen}
 use Rattle.ts_range.proofs.AllRows.{stretch-rows}
+use Rattle.ts_range.proofs.LastLines.{told-by}
 use Rattle.ts_range.proofs.Known.{part-of, ahead-known, prior-known}
 use Rattle.ts_range.proofs.filled_rows.stretch_rows.Goals as goal
 
@@ -23,6 +25,26 @@ walked-requires-clause-ascending c =
     let stretch = c.args.stretch.now in
     subst IsAscending (sym c.places_between.ensures.inside)
     (ascending-times (is_within stretch.from stretch.to) c.as_slice-samples.result.now (subst IsAscending (sym c.as_slice-samples.ensures.value) c.requires.ascending))
+
+pub returns-then-says_hidden : goal.returns-then-says_hidden
+returns-then-says_hidden c = λ l buckets rises is filled told.
+    let q = c.args.query.now in
+    let asked = c.args.asked.now in
+    let stretch = c.args.stretch.now in
+    let around = is.around buckets filled.told filled.empty in
+    let line = c.last_values-line.result in
+    let samples : List Point = slice_range c.as_slice-samples.result.now c.places_between.result.start c.places_between.result.end in
+    let all : samples ≡ between stretch.from stretch.to l =
+    c.places_between.ensures.inside ∙ ap (between stretch.from stretch.to) c.as_slice-samples.ensures.value ∙ part-of q buckets l rises asked is.rows around stretch told in
+    let begins : c.first-first.result ≡ start buckets.grid stretch.from = c.first-first.ensures.start ∙ ap (λ (b : Buckets). start b.grid stretch.from) told.buckets in
+    let ahead : c.before-ahead.result ≡ last_before (start stretch.buckets.grid stretch.from) l =
+    c.before-ahead.ensures ∙ ap (λ (t : ℕ). known_before (nat_lt t q.from) t asked) begins ∙ ahead-known q buckets l rises asked is.rows around stretch told
+    ∙ sym (ap (λ (b : Buckets). last_before (start b.grid stretch.from) l) told.buckets) in
+    let prior : c.before-prior.result ≡ last_before stretch.from l = c.before-prior.ensures ∙ prior-known q buckets l rises asked is.rows around stretch told in
+    let rows-by = told-by q l stretch buckets asked.ends rises filled told around.ends (c.says_hidden.ensures.last c.if-says_hidden.true) c.before-ahead.result c.before-prior.result (record { first = ahead; others = prior })
+    (record line { seen = samples }) c.last_values-line.ensures.filling all (λ p. c.last_values-line.ensures.counts p ∙ c.requires.lets p) in
+    let handed : List Row = last_rows (record line { seen = samples }) in
+    IfOk-weaker c.into_rows.result _ _ (λ kept are. ap (turned q.reverse) are ∙ rows-by.rows) (c.into_rows.ensures handed (c.seen_by.ensures rows-by.lo rows-by.hi rows-by.line))
 
 pub returns : goal.returns
 returns c = λ l buckets rises is filled told.
@@ -48,5 +70,6 @@ returns c = λ l buckets rises is filled told.
     ap (λ (f : Filling). turned q.reverse (filled_line f handed)) same
     ∙ ap (λ (ps : List Point). turned q.reverse (filled_line known (rows_chosen walk.buckets l (filter (lets walk) ps)))) all
     ∙ ap (λ (o : Option spec.Buckets). turned q.reverse (filled_line known (rows_chosen o l (filter (lets walk) (between stretch.from stretch.to l))))) c.walk.ensures.buckets
-    ∙ stretch-rows q buckets filled l rises asked.ends around.ends stretch told (lets walk) (λ p. c.walk.ensures.lets p ∙ c.requires.lets p) c.before-ahead.result c.before-prior.result ahead prior in
-    IfOk-weaker c.into_rows.result _ _ (λ kept are. ap (turned q.reverse) are ∙ answer) (c.into_rows.ensures (filled_line line handed) (c.into_taker.ensures handed (c.walked.ensures.rows l)))
+    ∙ stretch-rows q buckets filled l rises asked.ends around.ends stretch told (lets walk) (λ p. c.walk.ensures.lets p ∙ c.requires.lets p) (λ last p. c.walk.ensures.lets p ∙ c.says_hidden.ensures.shown c.if-says_hidden.false last p)
+    c.before-ahead.result c.before-prior.result (λ last. record { first = ahead; others = prior }) in
+    IfOk-weaker c.into_rows-2.result _ _ (λ kept are. ap (turned q.reverse) are ∙ answer) (c.into_rows-2.ensures (filled_line line handed) (c.into_taker.ensures handed (c.walked.ensures.rows l)))

@@ -1,0 +1,31 @@
+-- How many steps a question takes at most, by what contracts see of a database. Each sample that is decoded is a step, and so is each filter
+-- that is asked whether the labels of a key pass it.
+use Rattle.std.specs.Prelude.{ℕ, ◌+◌, ◌*◌, ◌≤◌, ⊤, List, sum_by}
+use Rattle.ts_spec.specs.Command.{Command, Range, MRange}
+use Rattle.ts_spec.specs.Filter.{Filter}
+use Rattle.ts_spec.specs.Key.{Key}
+use Rattle.ts_spec.specs.KeptQuestions.{kept_selection}
+use Rattle.ts_db.specs.Bounds.{walk_steps, selection_steps}
+use Rattle.ts_db.specs.Held.{Stock, reach_at}
+use Rattle.ts_engine.specs.declared.wanted.Wanted.{Wanted}
+use Rattle.ts_engine.specs.declared.wanted.Wanted.TheVariants as wanted
+
+-- for one series: the samples of the key in the interval, and five times its reach
+abbrev pub question_steps : Stock → Key → (from to : ℕ) → ℕ
+question_steps stock key from to = walk_steps stock key from to + 3 * reach_at stock key
+
+-- for many: the selection of the keys, and what the question takes of each of them
+abbrev pub questions_steps : Stock → List Filter → (from to : ℕ) → ℕ
+questions_steps stock filters from to = selection_steps stock filters + sum_by (λ key. question_steps stock key from to) (kept_selection stock.keys filters)
+
+-- what is told of a key among many takes steps only where it is the rows of a question
+abbrev pub wanted_steps : Stock → Wanted → Key → ℕ
+wanted_steps stock wanted.Key key = 0
+wanted_steps stock (wanted.Last latest show) key = 0
+wanted_steps stock (wanted.Rows latest show query) key = question_steps stock key query.from query.to
+
+-- a command that asks for the samples of an interval takes no more steps than its question
+abbrev pub IsBounded : Stock → Command → (old new : ℕ) → Type 0
+IsBounded stock (Range key latest query) old new = new ≤ old + question_steps stock key query.from query.to
+IsBounded stock (MRange latest show filters query) old new = new ≤ old + questions_steps stock filters query.from query.to
+IsBounded stock other old new = ⊤
