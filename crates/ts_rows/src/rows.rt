@@ -1,3 +1,4 @@
+// Whole sessions through `top`, as tables of requests and replies.
 ghost use Rattle.std.specs.Prelude.{◌≤◌};
 
 use std::alloc::{AllocError, Global};
@@ -6,28 +7,9 @@ use std::test::Fail;
 use ts_engine::{Limits, top};
 use ts_io::{MemClock, MemListener, MemSink, MemSource};
 
-mod backwards;
-mod buckets;
-mod chunks;
 mod connections;
-mod day;
-mod destinations;
 mod devices;
-mod edges;
-mod full;
-mod information;
-mod lengths;
-mod many;
-mod patterns;
-mod questions;
-mod rollups;
-mod rules;
-mod series;
 mod sessions;
-mod shares;
-mod sixteen;
-mod sizes;
-mod talk;
 mod wire;
 mod words;
 mod workload;

@@ -1,3 +1,4 @@
+// Connections that fail, end early or are followed by others.
 use super::fails;
 use std::alloc::{AllocError, Global};
 use std::process::Abort;

@@ -1,3 +1,4 @@
+// Reads and writes that fail, and the budget of bytes.
 use super::{PLAIN, Row, run, run_all};
 use std::test::Fail;
 

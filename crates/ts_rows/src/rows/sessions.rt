@@ -1,4 +1,4 @@
-use super::talk::{Line, run_talk};
+// How a session ends.
 use super::{PLAIN, Row, run_all};
 use std::test::Fail;
 
@@ -23,12 +23,5 @@ fn sessions_and_their_ends(rt: HostRuntime) -> Result<(), Fail> {
             ..PLAIN
         },
     ];
-    const WORDS_BACK: &[Line] = &[
-        ("PING", "+PONG"),
-        ("PING hi", "$2\r\nhi"),
-        ("ECHO hi", "$2\r\nhi"),
-        ("QUIT now", "+OK"),
-    ];
-    run_all(&rt, rt.alloc(), ROWS)?;
-    run_talk(&rt, rt.alloc(), PLAIN, WORDS_BACK)
+    run_all(&rt, rt.alloc(), ROWS)
 }

@@ -1,3 +1,4 @@
+// Streams that break, or end early.
 use super::{PLAIN, Row, run_all};
 use std::test::Fail;
 

@@ -1,3 +1,4 @@
+// Words that ask for nothing.
 use super::{PLAIN, Row, run_all};
 use std::test::Fail;
 

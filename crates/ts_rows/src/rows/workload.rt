@@ -1,3 +1,4 @@
+// A workload that is answered and summed up.
 use super::{PLAIN, Row, run_all};
 use std::test::Fail;
 

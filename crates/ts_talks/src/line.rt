@@ -1,0 +1,92 @@
+// A line of a talk: a command and the reply that is due to it.
+use crate::patterns::{Words, unfold};
+use crate::setting::Numbers;
+use crate::texts::Exchange;
+use itoa::Buffer;
+use std::alloc::{AllocError, Global};
+
+#[derive(Drop)]
+pub(crate) struct Line {
+    command: String,
+    reply: String,
+    // Whether it stands once for each number.
+    each: bool,
+}
+
+impl Line {
+    // The line of a text, where it has a command and a reply. After `each ` it stands once for each number.
+    pub(crate) fn read(alloc: Global, text: &str) -> Result<Option<Line>, AllocError> {
+        let (each, text) = match text.strip_prefix("each ") {
+            None => (false, text),
+            Some(rest) => (true, rest),
+        };
+        let Some((command, reply)) = text.split_once(" -> ") else {
+            return Ok(None);
+        };
+        Ok(Some(Line {
+            command: String::from_str(alloc, command)?,
+            reply: String::from_str(alloc, reply)?,
+            each,
+        }))
+    }
+
+    // Adds its requests and replies to others: `^` is the word in a command, and in a reply the word as a reply.
+    pub(crate) fn add_to(
+        &self,
+        alloc: Global,
+        numbers: Numbers,
+        word: &str,
+        exchange: &mut Exchange,
+    ) -> Result<(), AllocError> {
+        if self.each {
+            return self.add_each(alloc, numbers, exchange);
+        }
+        let command = unfold(alloc, &self.command, numbers)?;
+        let reply = unfold(alloc, &self.reply, numbers)?;
+        let command = with_word(alloc, &command, word)?;
+        let reply = with_word(alloc, &reply, &bulk(alloc, word)?)?;
+        exchange.push(&command, &reply)
+    }
+
+    // Adds its request and its reply once for each number, which stands in place of each `#`; in place of each `@` stands
+    // the number that is as far from the end as this one is from the beginning.
+    fn add_each(
+        &self,
+        alloc: Global,
+        numbers: Numbers,
+        exchange: &mut Exchange,
+    ) -> Result<(), AllocError> {
+        let there = numbers.first..numbers.end;
+        let back = (numbers.first..numbers.end).rev();
+        for (number, other) in there.zip(back) {
+            let mut digits = Buffer::new();
+            let mut others = Buffer::new();
+            let words = Words {
+                word: digits.format(number),
+                other: others.format(other),
+            };
+            let command = words.fill(alloc, &self.command)?;
+            let reply = words.fill(alloc, &self.reply)?;
+            exchange.push(&command, &reply)?;
+        }
+        Ok(())
+    }
+}
+
+// A text with a word in place of each `^`.
+fn with_word(alloc: Global, text: &str, word: &str) -> Result<String, AllocError> {
+    let mut list = String::new(alloc);
+    for letter in text.chars() {
+        match letter {
+            '^' => list.push_str(word)?,
+            letter => list.push(letter)?,
+        }
+    }
+    Ok(list)
+}
+
+// The word as a reply.
+fn bulk(alloc: Global, word: &str) -> Result<String, AllocError> {
+    let length = word.len();
+    format!(in alloc; "${length} | {word}")
+}

@@ -1,0 +1,117 @@
+// What a talk is run with: the limits of the database, what the clock shows, and the numbers and words of its lines.
+ghost use Rattle.ts_engine.specs.Top.{AreUsable};
+
+use std::alloc::{AllocError, Global};
+use ts_engine::Limits;
+
+// The numbers from one up to another, and without this one.
+#[derive(Clone, Copy)]
+pub(crate) struct Numbers {
+    pub(crate) first: usize,
+    pub(crate) end: usize,
+}
+
+impl Numbers {
+    // Those of a text of two numbers with a blank between them.
+    fn of(text: &str) -> Option<Numbers> {
+        let (first, end) = text.split_once(' ')?;
+        let (Ok(first), Ok(end)) = (first.parse::<usize>(), end.parse::<usize>()) else {
+            return None;
+        };
+        Some(Numbers { first, end })
+    }
+}
+
+#[derive(Drop)]
+pub(crate) struct Setting {
+    limits: Limits,
+    pub(crate) readings: Vec<u64>,
+    // How many bytes a read takes at most, in one run after another.
+    pub(crate) pieces: Vec<u64>,
+    // For which numbers a part of a line, or a whole line, stands once.
+    pub(crate) numbers: Numbers,
+    // How many letters the word has, in one run after another.
+    pub(crate) lengths: Numbers,
+}
+
+impl Setting {
+    // The usual limits, a clock that shows nothing, no numbers, and one run with a word of one letter.
+    pub(crate) fn new(alloc: Global) -> Setting {
+        Setting {
+            limits: Limits::usual(),
+            readings: Vec::new(alloc),
+            pieces: Vec::new(alloc),
+            numbers: Numbers { first: 0, end: 0 },
+            lengths: Numbers { first: 1, end: 2 },
+        }
+    }
+
+    // Takes what a line says of it, as `keys 1`, `clock 1000,900` or `numbers 0 1001`. Answers whether it says anything.
+    pub(crate) fn take(&mut self, line: &str) -> Result<bool, AllocError> {
+        let Some((name, what)) = line.split_once(' ') else {
+            return Ok(false);
+        };
+        match name {
+            "clock" => return take_list(what, &mut self.readings),
+            "pieces" => return take_list(what, &mut self.pieces),
+            "numbers" => return Ok(take_numbers(what, &mut self.numbers)),
+            "lengths" => return Ok(take_numbers(what, &mut self.lengths)),
+            _ => {}
+        }
+        match what.parse::<u32>() {
+            Ok(number) => Ok(self.take_limit(name, number)),
+            Err(_) => Ok(false),
+        }
+    }
+
+    // Takes a limit of this name, if there is one.
+    fn take_limit(&mut self, name: &str, number: u32) -> bool {
+        match name {
+            "keys" => self.limits.keys = number,
+            "labels" => self.limits.labels = number,
+            "samples" => self.limits.samples = number,
+            "rules" => self.limits.rules = number,
+            "born" => self.limits.born = number,
+            "empty_rows" => self.limits.empty_rows = number,
+            _ => return false,
+        }
+        true
+    }
+
+    // The limits, each of which is 1 at least.
+    pub(crate) fn usable_limits(&self) -> Limits
+        ensures { AreUsable result }
+    {
+        Limits {
+            keys: self.limits.keys.max(1),
+            labels: self.limits.labels.max(1),
+            rules: self.limits.rules.max(1),
+            samples: self.limits.samples.max(1),
+            born: self.limits.born.max(1),
+            empty_rows: self.limits.empty_rows.max(1),
+            ..Limits::usual()
+        }
+    }
+}
+
+// Takes numbers from a text, if it says which.
+fn take_numbers(text: &str, into: &mut Numbers) -> bool {
+    match Numbers::of(text) {
+        None => false,
+        Some(numbers) => {
+            *into = numbers;
+            true
+        }
+    }
+}
+
+// Takes a list of numbers from a text, if it says one.
+fn take_list(text: &str, into: &mut Vec<u64>) -> Result<bool, AllocError> {
+    for number in text.split(',') {
+        let Ok(number) = number.parse::<u64>() else {
+            return Ok(false);
+        };
+        into.push(number)?;
+    }
+    Ok(true)
+}

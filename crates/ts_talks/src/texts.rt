@@ -1,0 +1,72 @@
+// The bytes of requests and of the replies that are due to them.
+use itoa::Buffer;
+use std::alloc::{AllocError, Global};
+
+// Requests, and the replies that are due to them.
+#[derive(Drop)]
+pub(crate) struct Exchange {
+    pub(crate) input: Vec<u8>,
+    pub(crate) out: Vec<u8>,
+}
+
+impl Exchange {
+    // No requests.
+    pub(crate) fn new(alloc: Global) -> Exchange {
+        Exchange {
+            input: Vec::new(alloc),
+            out: Vec::new(alloc),
+        }
+    }
+
+    // Adds a command, whose words stand apart by spaces, and the reply to it, in either form.
+    pub(crate) fn push(&mut self, command: &str, reply: &str) -> Result<(), AllocError> {
+        push_request(command, &mut self.input)?;
+        match reply.strip_prefix('[') {
+            Some(rest) => push_rows(rest.trim_end_matches(']'), &mut self.out),
+            None => push_lines(reply, &mut self.out),
+        }
+    }
+}
+
+// Appends a mark, a number and the end of the line.
+fn push_header(mark: u8, number: usize, bytes: &mut Vec<u8>) -> Result<(), AllocError> {
+    let mut digits = Buffer::new();
+    bytes.push(mark)?;
+    bytes.extend_from_slice(digits.format(number).as_bytes())?;
+    bytes.extend_from_slice(b"\r\n")
+}
+
+// Appends the request of a command.
+fn push_request(command: &str, bytes: &mut Vec<u8>) -> Result<(), AllocError> {
+    push_header(b'*', command.split(' ').count(), bytes)?;
+    for word in command.split(' ') {
+        push_header(b'$', word.len(), bytes)?;
+        bytes.extend_from_slice(word.as_bytes())?;
+        bytes.extend_from_slice(b"\r\n")?;
+    }
+    Ok(())
+}
+
+// Appends a reply whose lines are written apart by ` | `.
+fn push_lines(reply: &str, bytes: &mut Vec<u8>) -> Result<(), AllocError> {
+    for line in reply.split(" | ") {
+        bytes.extend_from_slice(line.as_bytes())?;
+        bytes.extend_from_slice(b"\r\n")?;
+    }
+    Ok(())
+}
+
+// Appends rows that are written `1:2, 3:4`, each with a time and a value, or none where nothing is written.
+fn push_rows(rows: &str, bytes: &mut Vec<u8>) -> Result<(), AllocError> {
+    push_header(b'*', rows.matches(':').count(), bytes)?;
+    for row in rows.split(", ") {
+        if let Some((time, value)) = row.split_once(':') {
+            bytes.extend_from_slice(b"*2\r\n:")?;
+            bytes.extend_from_slice(time.as_bytes())?;
+            bytes.extend_from_slice(b"\r\n+")?;
+            bytes.extend_from_slice(value.as_bytes())?;
+            bytes.extend_from_slice(b"\r\n")?;
+        }
+    }
+    Ok(())
+}
