@@ -11,13 +11,14 @@ use Rattle.ts_spec.specs.Keeping.{kept_altered, keep_changed}
 use Rattle.ts_spec.specs.Command.{Change}
 use Rattle.ts_spec.specs.Response.{Done}
 use Rattle.ts_spec.specs.Step.{is_longer}
-use Rattle.ts_spec.specs.KeptStep.{kept_refused, kept_alter_at}
+use Rattle.ts_spec.specs.KeptStep.{KeptOutcome, kept_refused, kept_alter_at}
 use Rattle.ts_sample.specs.declared.id.Id.{Id}
 use Rattle.ts_series.specs.History.{list_of}
 use Rattle.ts_series.specs.Plan.{Plan, after, alters, options_with, with_change}
 use Rattle.ts_series.proofs.Counting.{times-length}
 use Rattle.ts_db.specs.declared.node.Node.{Node}
 use Rattle.ts_db.specs.declared.store.Store.{Store}
+use Rattle.ts_db.specs.Held.{YieldsToMemory}
 use Rattle.ts_db.specs.Store.{kept_at, stock_of, contents_of, Contents, IsInOrder, Holds}
 use Rattle.ts_db.specs.Answering.{node_after}
 use Rattle.ts_db.proofs.Applying.{there}
@@ -42,6 +43,12 @@ module _ (s : Store) (store : IsInOrder s) (key : Key) (id : Id) (n : Node) (hol
   alter-longer c long =
       ap (kept_alter_at s.limits (stock_of s).keys key c) (there s store key id n holds)
       ∙ ap (λ b. if b then kept_refused (stock_of s).keys refusal.LabelsFull else record { keys = keep_changed key (kept_altered c) (stock_of s).keys; response = Done }) long
+
+  pub alter-yields : (c : Change) → is_longer s.limits.labels c.labels ≡ false → YieldsToMemory (kept_alter_at s.limits (stock_of s).keys key c (get key (stock_of s).keys)).response
+  alter-yields c fits =
+      subst (λ (o : KeptOutcome). YieldsToMemory o.response)
+      (sym (ap (kept_alter_at s.limits (stock_of s).keys key c) (there s store key id n holds)
+      ∙ ap (λ b. if b then kept_refused (stock_of s).keys refusal.LabelsFull else record { keys = keep_changed key (kept_altered c) (stock_of s).keys; response = Done }) fits)) tt
 
   pub alter-answers : (c : Change) (plan : Plan) (new : Contents) → is_longer s.limits.labels c.labels ≡ false → plan ≡ with_change plan (alters (options_with c.retention c.chunk_size c.policy n.series.options))
       → new ≡ record (contents_of s) { keys = with_key key (kept_at s.nodes (node_after plan c.labels None n)) (stock_of s).keys }

@@ -23,6 +23,7 @@ use Rattle.ts_db.specs.declared.store.Store.{Store}
 use Rattle.ts_db.specs.declared.work.Work.TheVariants.{Delete}
 use Rattle.ts_db.specs.Faults.{refusal_of}
 use Rattle.ts_db.specs.Feeding.{Rows, Gone, keep_fed}
+use Rattle.ts_db.specs.Held.{YieldsToMemory}
 use Rattle.ts_db.specs.Planning.{changed_by, gone_by, rows_by_work, AreChanged, first_full, IsUnplanned}
 use Rattle.ts_db.specs.Store.{kept_of, rules_by, key_in, kept_by, kept_at, stock_of, contents_of, Contents, IsInOrder, IsDb, Holds}
 use Rattle.ts_db.specs.Answering.{node_after, IsKeptAnswer}
@@ -30,7 +31,7 @@ use Rattle.ts_db.proofs.Applying.{there}
 use Rattle.ts_db.proofs.Fed.{deleted-fed}
 use Rattle.ts_db.proofs.Fitting.{keys_fed, destinations-tested}
 use Rattle.ts_db.proofs.Known.{links}
-use Rattle.ts_db.proofs.Unplanned.{destination-refused}
+use Rattle.ts_db.proofs.Unplanned.{unless-full-yields, destination-refused}
 use Rattle.ts_db.proofs.Working.{changed-rules}
 
 -- a plan of a deletion leaves what is outside the interval
@@ -144,4 +145,11 @@ module _ (s : Store) (db : IsDb s) (key : Key) (id : Id) (n : Node) (holds : Hol
   undeleted-answers fault x =
       let many : ℕ = length (between from to (list_of n.series)) in
       subst (IsKeptAnswer (refusal_of (stock_of s).ids fault) (stock_of s).keys) (sym (delete-from many))
-      (destination-refused s db.store n.rules.items rows gone (db.store.live id.0 n holds.node).rules fault (record { keys = after_keys; response = Count many }) x)
+      (destination-refused s db.store n.rules.items rows gone (db.store.live id.0 n holds.node).rules fault (record { keys = after_keys; response = Count many }) tt x)
+
+  -- one for which there was no memory: but for a destination it is not refused
+  pub uncut-yields : YieldsToMemory (kept_within_destinations s.limits (stock_of s).keys key (record { keys = keep_deleted key from to (stock_of s).keys; response = Count (length (between from to (list_of n.series))) })).response
+  uncut-yields =
+      let many : ℕ = length (between from to (list_of n.series)) in
+      subst (λ (o : KeptOutcome). YieldsToMemory o.response) (sym (delete-from many))
+      (unless-full-yields (stock_of s).keys (option_map (key_in s.nodes) full_without) (record { keys = after_keys; response = Count many }) tt)

@@ -1,13 +1,13 @@
 -- The answers of the calls of a store are those of the steps of each state that it stands for.
 use Rattle.std.proofs.Common.{◌≡◌, ◌≤◌, ℕ, ℤ, Bool, true, false, List, sym, ◌∙◌, ap, subst}
-use Rattle.std.specs.Prelude.{⊤, Option, option_map, is_some, if◌then◌else◌, Result}
+use Rattle.std.specs.Prelude.{⊤, nat_le, Option, option_map, is_some, if◌then◌else◌, Result}
 use Rattle.ts_spec.specs.declared.limits.Limits.{Limits}
 use Rattle.ts_spec.specs.declared.series.Policy.{Policy}
 use Rattle.ts_spec.specs.declared.bucket.Aggregator.{Aggregator}
 use Rattle.ts_spec.specs.Sample.{Point}
 use Rattle.ts_spec.specs.Bucket.{Grid}
 use Rattle.ts_spec.specs.Key.{Key}
-use Rattle.ts_spec.specs.Keyed.{get}
+use Rattle.ts_spec.specs.Keyed.{get, count_keys}
 use Rattle.ts_spec.specs.State.{State}
 use Rattle.ts_spec.specs.Command.{Spec, Change, Create, Alter, CreateRule, DeleteRule}
 use Rattle.ts_spec.specs.Rules.{dropped}
@@ -25,7 +25,7 @@ use Rattle.ts_spec.proofs.WriteSteps.{add-step, put-step, incr-step}
 use Rattle.ts_spec.proofs.DeleteStep.{delete-step}
 use Rattle.ts_spec.proofs.KeptEnds.{kept-dropped}
 use Rattle.ts_spec.proofs.KeysGo.{valid-dropped}
-use Rattle.ts_spec.proofs.KeptMaps.{get-kept, some-kept}
+use Rattle.ts_spec.proofs.KeptMaps.{get-kept, some-kept, count-kept}
 use Rattle.ts_spec.proofs.KeptAsked.{asked-kept, info-kept}
 use Rattle.ts_db.specs.declared.fault.DbFault.{DbFault}
 use Rattle.ts_db.specs.Held.{Held, Stock, Stands, Leads, AnswersDone, AnswersNumber, Drops, Finds}
@@ -77,6 +77,11 @@ module _ (old new : Stock) (room : 1 ≤ old.limits.samples) where
 -- a key is there exactly where it is in each state that is stood for
 pub there-law : (stock : Stock) (key : Key) (was : Bool) → was ≡ is_some (get key stock.keys) → (from : Held) → Stands stock from → was ≡ is_some (get key from.state)
 there-law stock key was is from st = is ∙ ap (λ (m : Keeping). is_some (get key m)) st.state.kept ∙ some-kept from.state key
+
+-- there is no room for one more exactly where there is none in each state that is stood for
+pub full-law : (stock : Stock) (full : Bool) → full ≡ nat_le stock.limits.keys (count_keys stock.keys) → (from : Held) → Stands stock from → full ≡ nat_le from.limits.keys (count_keys from.state)
+full-law stock full is = at-limits stock (λ from. full ≡ nat_le from.limits.keys (count_keys from.state))
+    (λ m st. is ∙ ap (λ (keys : Keeping). nat_le stock.limits.keys (count_keys keys)) st.kept ∙ ap (nat_le stock.limits.keys) (count-kept m))
 
 -- a key that goes
 pub drop-law : (old new : Stock) (key : Key) (was : Bool) → was ≡ is_some (get key old.keys) → new.keys ≡ (if is_some (get key old.keys) then keep_dropped key old.keys else old.keys)

@@ -10,7 +10,7 @@ use Rattle.ts_spec.specs.KeptStep.{KeptOutcome}
 use Rattle.ts_spec.specs.Stands.{StandsFor, IsStepOf}
 use Rattle.ts_db.specs.declared.fault.DbFault.{DbFault}
 use Rattle.ts_db.specs.Faults.{refusal_of}
-use Rattle.ts_db.specs.Held.{Held, Stock, Stands, Leads, IsAnswer, IsDone, Answers, Finds}
+use Rattle.ts_db.specs.Held.{Held, Stock, Stands, Leads, YieldsToMemory, IsAnswer, IsDone, Answers, Finds}
 use Rattle.ts_db.specs.Answering.{IsKeptAnswer, KeptAnswers}
 use Rattle.ts_db.proofs.Refusing.{Refuses}
 
@@ -39,7 +39,7 @@ module _ (old new : Stock) (step : Held → Outcome) (kept_step : KeptOutcome)
       })
 
   refusal : (o : Option Refusal) → IsKeptAnswer o old.keys kept_step → (from : Held) → Stands old from → IsAnswer o from.state (step from)
-  refusal None a = λ from st. tt
+  refusal None a = at-limits old (λ from. IsAnswer None from.state (step from)) (λ m s. subst YieldsToMemory (sym (law m s).is_step.response) a)
   refusal (Some r) a = at-limits old (λ from. IsAnswer (Some r) from.state (step from)) (λ m s.
       let both = law m s in both.refuses r (both.is_step.response ∙ ap (λ (o : KeptOutcome). o.response) a))
 

@@ -1,5 +1,5 @@
 -- A rule is made: what the step over what is kept comes to.
-use Rattle.std.proofs.Common.{◌≡◌, suc, Bool, true, false, List, [], ◌∷◌, length, refl, sym, ◌∙◌, ap}
+use Rattle.std.proofs.Common.{◌≡◌, suc, Bool, true, false, List, [], ◌∷◌, length, refl, sym, ◌∙◌, ap, subst}
 use Rattle.std.specs.Prelude.{nat_le, nat_eq, if◌then◌else◌, Option, None, Some, is_some, option_map}
 use Rattle.std.specs.Cmp.Lexicographic.{pointwise}
 use Rattle.std.proofs.lemmas.Map.Text.{is_eq-slice_cmp}
@@ -20,6 +20,7 @@ use Rattle.ts_db.specs.declared.node.Node.{Node}
 use Rattle.ts_db.specs.declared.store.Store.{Store}
 use Rattle.ts_db.specs.Answering.{IsKeptAnswer, IsElsewhere}
 use Rattle.ts_db.specs.Faults.{refusal_of}
+use Rattle.ts_db.specs.Held.{YieldsToMemory}
 use Rattle.ts_db.specs.Linking.{kept_sourced, any_rule, barred_by, IsKeptBy, IsReason}
 use Rattle.ts_db.specs.Store.{rules_by, key_in, kept_by, kept_at, stock_of, contents_of, Contents, IsInOrder, Holds}
 use Rattle.ts_db.proofs.Applying.{there}
@@ -101,12 +102,17 @@ module _ (s : Store) (store : IsInOrder s) (source dest : Key) (from to : Id) (n
   barred-answer fault reason = go (refusal_of (stock_of s).ids fault) (reason (stock_of s).ids)
     where
       go : (o : Option Refusal) → o ≡ barred_by s.limits n d → IsKeptAnswer o (stock_of s).keys (kept_create_rule s.limits (stock_of s).keys source dest agg grid)
-      go None e = tt
+      go None e =
+          subst (λ (o : KeptOutcome). YieldsToMemory o.response)
+          (sym (step-by ∙ ap (λ (o : Option Refusal). unless_barred (stock_of s).keys o (record { keys = keep_ruled source dest agg grid (stock_of s).keys; response = Done })) (sym e))) tt
       go (Some refusal) e = step-by ∙ ap (λ (o : Option Refusal). unless_barred (stock_of s).keys o (record { keys = keep_ruled source dest agg grid (stock_of s).keys; response = Done })) (sym e)
 
   -- where there is none
   pub unbarred-answer : IsReason s.limits n d None → kept_create_rule s.limits (stock_of s).keys source dest agg grid ≡ record { keys = keep_ruled source dest agg grid (stock_of s).keys; response = Done }
   unbarred-answer reason = step-by ∙ ap (λ (o : Option Refusal). unless_barred (stock_of s).keys o (record { keys = keep_ruled source dest agg grid (stock_of s).keys; response = Done })) reason.0
+
+  pub unbarred-yields : IsReason s.limits n d None → YieldsToMemory (kept_create_rule s.limits (stock_of s).keys source dest agg grid).response
+  unbarred-yields reason = subst (λ (o : KeptOutcome). YieldsToMemory o.response) (sym (unbarred-answer reason)) tt
 
   -- both changes come to what is kept then
   pub both-ruled : (mid new : Store) → IsElsewhere s mid from → IsKeptBy s from (kept_with_rule (key_in s.nodes to) agg grid) mid → IsKeptBy mid to (kept_sourced (Some (key_in mid.nodes from))) new

@@ -1,10 +1,11 @@
 -- Work on a source that the destination of one of its rules refuses.
 use Rattle.std.proofs.Common.{◌≡◌, Bool, true, false, List, [], ◌∷◌, length, refl, sym, ◌∙◌, ap, subst, eqb-true, eq-eqb}
-use Rattle.std.specs.Prelude.{◌==◌, nat_lt, if◌then◌else◌, Option, Some, option_map}
+use Rattle.std.specs.Prelude.{◌==◌, nat_lt, if◌then◌else◌, Option, None, Some, option_map}
 use Rattle.std.proofs.lemmas.Bool.{and_parts}
 use Rattle.ts_spec.specs.Refusal.{DestinationFull}
 use Rattle.ts_spec.specs.Key.{Key, same}
 use Rattle.ts_spec.specs.Keyed.{Entry, get_in, is_below, is_sorted, get}
+use Rattle.ts_spec.specs.Kept.{Keeping}
 use Rattle.ts_spec.specs.KeptStep.{KeptOutcome, kept_refused, kept_unless_full}
 use Rattle.ts_spec.proofs.Keys.{same-refl, same-true}
 use Rattle.ts_spec.proofs.Maps.{below-get}
@@ -16,7 +17,7 @@ use Rattle.ts_db.specs.declared.fault.DbFault.TheVariants.{KeyExists, NoKey, Key
 use Rattle.ts_db.specs.declared.store.Store.{Store}
 use Rattle.ts_db.specs.Faults.{key_among, key_with, full_refusal, refusal_of}
 use Rattle.ts_db.specs.Feeding.{Rows, Gone}
-use Rattle.ts_db.specs.Held.{IsLive as IsLiveNumber, IsFullAt, IsOwn}
+use Rattle.ts_db.specs.Held.{IsLive as IsLiveNumber, YieldsToMemory, IsFullAt, IsOwn}
 use Rattle.ts_db.specs.Planning.{fed_list, first_full, IsUnplanned}
 use Rattle.ts_db.specs.Store.{key_at, key_in, stock_of, IsLive, AreLive, IsInOrder}
 use Rattle.ts_db.specs.Answering.{IsKeptAnswer}
@@ -59,6 +60,11 @@ module _ (s : Store) (store : IsInOrder s) (i : Id) (live : IsLive s.nodes i) wh
 
 -- ---- the first destination that is full
 
+-- want of memory may be told where a destination alone may refuse
+pub unless-full-yields : (m : Keeping) (full : Option Key) (done : KeptOutcome) → YieldsToMemory done.response → YieldsToMemory (kept_unless_full m full done).response
+unless-full-yields m None done yields = yields
+unless-full-yields m (Some k) done yields = tt
+
 module _ (s : Store) (store : IsInOrder s) (rs : List Rule) (rows : Rows) (gone : Gone) (lives : AreLive s.nodes rs) where
   full-live : (i : Id) → first_full s.limits.samples s.nodes rows gone rs ≡ Some i → IsLive s.nodes i
   full-live i is = go rs lives is
@@ -72,29 +78,29 @@ module _ (s : Store) (store : IsInOrder s) (rs : List Rule) (rows : Rows) (gone 
           pick false y ih = ih y
 
   -- the step refuses for that destination, and the fault tells its number
-  pub destination-refused : (fault : DbFault) (done : KeptOutcome) → IsUnplanned (first_full s.limits.samples s.nodes rows gone rs) fault
+  pub destination-refused : (fault : DbFault) (done : KeptOutcome) → YieldsToMemory done.response → IsUnplanned (first_full s.limits.samples s.nodes rows gone rs) fault
       → IsKeptAnswer (refusal_of (stock_of s).ids fault) (stock_of s).keys (kept_unless_full (stock_of s).keys (option_map (key_in s.nodes) (first_full s.limits.samples s.nodes rows gone rs)) done)
-  destination-refused KeyExists done x = absurd x
-  destination-refused NoKey done x = absurd x
-  destination-refused KeysFull done x = absurd x
-  destination-refused LabelsFull done x = absurd x
-  destination-refused TooOld done x = absurd x
-  destination-refused Duplicate done x = absurd x
-  destination-refused OutOfRange done x = absurd x
-  destination-refused BeforeLast done x = absurd x
-  destination-refused (SamplesFull i written) done x =
+  destination-refused KeyExists done yields x = absurd x
+  destination-refused NoKey done yields x = absurd x
+  destination-refused KeysFull done yields x = absurd x
+  destination-refused LabelsFull done yields x = absurd x
+  destination-refused TooOld done yields x = absurd x
+  destination-refused Duplicate done yields x = absurd x
+  destination-refused OutOfRange done yields x = absurd x
+  destination-refused BeforeLast done yields x = absurd x
+  destination-refused (SamplesFull i written) done yields x =
       ap (λ (o : Option Id). kept_unless_full (stock_of s).keys (option_map (key_in s.nodes) o) done) x.1
       ∙ ap (λ (k : Key). kept_refused (stock_of s).keys (DestinationFull k)) (sym (key-with s store i (full-live i x.1)))
       ∙ ap (λ b. kept_refused (stock_of s).keys (full_refusal b (key_with (stock_of s).ids i))) (sym x.0)
-  destination-refused DeleteBeyondRetention done x = absurd x
-  destination-refused SameKey done x = absurd x
-  destination-refused SourceIsDest done x = absurd x
-  destination-refused DestIsSource done x = absurd x
-  destination-refused DestHasSource done x = absurd x
-  destination-refused RulesSpent done x = absurd x
-  destination-refused RulesFull done x = absurd x
-  destination-refused NoRule done x = absurd x
-  destination-refused (Memory e) done x = tt
+  destination-refused DeleteBeyondRetention done yields x = absurd x
+  destination-refused SameKey done yields x = absurd x
+  destination-refused SourceIsDest done yields x = absurd x
+  destination-refused DestIsSource done yields x = absurd x
+  destination-refused DestHasSource done yields x = absurd x
+  destination-refused RulesSpent done yields x = absurd x
+  destination-refused RulesFull done yields x = absurd x
+  destination-refused NoRule done yields x = absurd x
+  destination-refused (Memory e) done yields x = unless-full-yields (stock_of s).keys (option_map (key_in s.nodes) (first_full s.limits.samples s.nodes rows gone rs)) done yields
 
   pub destination-own : (key : Key) (fault : DbFault) → IsUnplanned (first_full s.limits.samples s.nodes rows gone rs) fault → IsOwn (stock_of s) key fault
   destination-own key (SamplesFull i written) x = subst (IsFullAt (stock_of s).ids key i) (sym x.0) (live-number s store i (full-live i x.1))

@@ -20,7 +20,7 @@ use Rattle.ts_spec.proofs.Tidy.{some-same}
 use Rattle.ts_sample.specs.declared.id.Id.{Id}
 use Rattle.ts_series.specs.History.{History, list_of, low, IsKept}
 use Rattle.ts_series.specs.Plan.{Plan, after}
-use Rattle.ts_series.specs.Put.{Answers, Writes, IsWrite, IsFullFault, met, sample_of, list_after, refusal_of as put_refusal}
+use Rattle.ts_series.specs.Put.{Answers, Writes, Fits, IsWrite, IsFullFault, met, sample_of, list_after, refusal_of as put_refusal}
 use Rattle.ts_series.specs.declared.plan.PutFault.{PutFault}
 use Rattle.ts_series.specs.declared.plan.PutFault.TheVariants.{TooOld, Duplicate, OutOfRange, Full, Memory}
 use Rattle.ts_series.proofs.Counting.{length-after}
@@ -31,6 +31,7 @@ use Rattle.ts_db.specs.declared.store.Store.{Store}
 use Rattle.ts_db.specs.declared.work.Work.TheVariants.{Write}
 use Rattle.ts_db.specs.Faults.{refusal_of}
 use Rattle.ts_db.specs.Feeding.{Rows, Gone, keep_fed}
+use Rattle.ts_db.specs.Held.{YieldsToMemory}
 use Rattle.ts_db.specs.Planning.{changed_by, gone_by, rows_by_work, AreChanged, first_full, IsUnplanned}
 use Rattle.ts_db.specs.Store.{kept_of, rules_by, key_in, kept_by, kept_at, stock_of, contents_of, Contents, IsNode, IsDb, Holds}
 use Rattle.ts_db.specs.Answering.{node_after, IsKeptAnswer}
@@ -38,7 +39,7 @@ use Rattle.ts_db.proofs.Applying.{there}
 use Rattle.ts_db.proofs.Fed.{written-fed}
 use Rattle.ts_db.proofs.Fitting.{keys_fed, own-fed, destinations-tested}
 use Rattle.ts_db.proofs.Known.{links}
-use Rattle.ts_db.proofs.Unplanned.{destination-refused}
+use Rattle.ts_db.proofs.Unplanned.{unless-full-yields, destination-refused}
 use Rattle.ts_db.proofs.Working.{changed-rules}
 
 -- what a plan writes where it writes this sample
@@ -106,16 +107,17 @@ module _ (s : Store) (db : IsDb s) (key : Key) (id : Id) (n : Node) (holds : Hol
   -- where the key itself has room
   write-fits : (t : ℕ) (v : ℤ) → length (list_after (sample_of t v n.series) n.series) ≤ s.limits.samples
       → kept_write_merged s.limits (stock_of s).keys key t (To v) ≡ kept_unless_full (stock_of s).keys (option_map (key_in s.nodes) (full_by t v)) (record { keys = after_keys t v; response = Count t })
-  write-fits t v short =
+  write-fits t v few =
       write-to t v
       ∙ ap (λ b. if b then kept_refused (stock_of s).keys refusal.SamplesFull
       else kept_unless_full (stock_of s).keys (option_map (key_in s.nodes) (full_by t v)) (record { keys = after_keys t v; response = Count t }))
-      (le-ltb s.limits.samples (length (list_after (sample_of t v n.series) n.series)) short)
+      (le-ltb s.limits.samples (length (list_after (sample_of t v n.series) n.series)) few)
 
-  fits : (plan : Plan) (t : ℕ) (v : ℤ) → IsWrite s.limits.samples (sample_of t v n.series) n.series (Ok plan) → length (list_after (sample_of t v n.series) n.series) ≤ s.limits.samples
-  fits plan t v a =
+  -- a write that fits leaves the key within the limit
+  short : (t : ℕ) (v : ℤ) → Fits s.limits.samples (sample_of t v n.series) n.series → length (list_after (sample_of t v n.series) n.series) ≤ s.limits.samples
+  short t v few =
       let node : IsNode s.limits n = db.store.each id.0 n holds.node in
-      length-after s.limits.samples (edge_of n.series.options.retention (raised t n.series.high)) (sample_of t v n.series) n.series.samples node.kept.ascending a.1 node.within
+      length-after s.limits.samples (edge_of n.series.options.retention (raised t n.series.high)) (sample_of t v n.series) n.series.samples node.kept.ascending few node.within
 
   -- a write that was planned, for the key and for the destinations of its rules
   pub planned-answers : (plan : Plan) (d : Kept) (t : ℕ) (v : ℤ) (new : Contents) → IsWrite s.limits.samples (sample_of t v n.series) n.series (Ok plan)
@@ -123,7 +125,7 @@ module _ (s : Store) (db : IsDb s) (key : Key) (id : Id) (n : Node) (holds : Hol
       → new ≡ record (contents_of s) { keys = keep_fed (rows t v) (gone t v) (rules_by (key_in s.nodes) n.rules.items) (with_key key d (stock_of s).keys) }
       → kept_write_merged s.limits (stock_of s).keys key t (To v) ≡ record { keys = new.keys; response = Count t }
   planned-answers plan d t v new a same room is =
-      write-fits t v (fits plan t v a)
+      write-fits t v (short t v a.1)
       ∙ ap (λ (o : Option Id). kept_unless_full (stock_of s).keys (option_map (key_in s.nodes) o) (record { keys = after_keys t v; response = Count t })) room
       ∙ ap (λ (m : Keeping). record { keys = m; response = Count t })
       (sym (ap (λ (x : Contents). x.keys) is
@@ -133,8 +135,8 @@ module _ (s : Store) (db : IsDb s) (key : Key) (id : Id) (n : Node) (holds : Hol
   pub unplanned-answers : (plan : Plan) (fault : DbFault) (t : ℕ) (v : ℤ) → IsWrite s.limits.samples (sample_of t v n.series) n.series (Ok plan) → IsUnplanned (full_by t v) fault
       → IsKeptAnswer (refusal_of (stock_of s).ids fault) (stock_of s).keys (kept_write_merged s.limits (stock_of s).keys key t (To v))
   unplanned-answers plan fault t v a x =
-      subst (IsKeptAnswer (refusal_of (stock_of s).ids fault) (stock_of s).keys) (sym (write-fits t v (fits plan t v a)))
-      (destination-refused s db.store n.rules.items (rows t v) (gone t v) (db.store.live id.0 n holds.node).rules fault (record { keys = after_keys t v; response = Count t }) x)
+      subst (IsKeptAnswer (refusal_of (stock_of s).ids fault) (stock_of s).keys) (sym (write-fits t v (short t v a.1)))
+      (destination-refused s db.store n.rules.items (rows t v) (gone t v) (db.store.live id.0 n holds.node).rules fault (record { keys = after_keys t v; response = Count t }) tt x)
 
   -- a write that was not planned
   pub refused-answers : (fault : PutFault) (o : Option Refusal) (what : Merged) (t : ℕ) → o ≡ put_refusal fault → Answers what s.limits.samples t n.series (Err fault)
@@ -153,7 +155,9 @@ module _ (s : Store) (db : IsDb s) (key : Key) (id : Id) (n : Node) (holds : Hol
           ∙ ap (λ b. if b then kept_refused (stock_of s).keys refusal.SamplesFull
           else kept_unless_full (stock_of s).keys (option_map (key_in s.nodes) (full_by t v)) (record { keys = after_keys t v; response = Count t }))
           (lt-ltb s.limits.samples (length (list_after (sample_of t v n.series) n.series)) x.longer)
-      full (Memory e) x = tt
+      full (Memory e) x =
+          subst (λ (o : KeptOutcome). YieldsToMemory o.response) (sym (write-fits t v (short t v x)))
+          (unless-full-yields (stock_of s).keys (option_map (key_in s.nodes) (full_by t v)) (record { keys = after_keys t v; response = Count t }) tt)
 
 -- what a write comes to, by what is kept and by the series
 pub write-met : (m : Keeping) (s : Store) (key : Key) (n : Node) (how : Merge) (t : ℕ) (v : ℤ) → kept_write s.limits m key (kept_at s.nodes n) how t v ≡ kept_write_merged s.limits m key t (met how t v n.series)

@@ -1,5 +1,5 @@
 -- How the calls of a store answer: by the functions of what is kept.
-use Rattle.std.specs.Prelude.{◌≡◌, ◌≢◌, ◌≤◌, ℕ, ⊤, List, length, Vec, Option, None, Some, Result, Ok, Err}
+use Rattle.std.specs.Prelude.{◌≡◌, ◌≢◌, ◌≤◌, ℕ, List, length, Vec, Option, None, Some, Result, Ok, Err}
 use Rattle.std.specs.Option.{unwrap_or}
 use Rattle.std.specs.declared.alloc.Global.{Global}
 use Rattle.slab.specs.Slab as slab
@@ -18,16 +18,16 @@ use Rattle.ts_db.specs.declared.fault.DbFault.{DbFault}
 use Rattle.ts_db.specs.declared.node.Node.{Node}
 use Rattle.ts_db.specs.declared.store.Store.{Store}
 use Rattle.ts_db.specs.Faults.{refusal_of}
-use Rattle.ts_db.specs.Held.{Stock}
+use Rattle.ts_db.specs.Held.{Stock, YieldsToMemory}
 use Rattle.ts_db.specs.Store.{key_in, kept_at, stock_of, contents_of, AreLive, HaveGrids, Holds}
 
--- a refusal is the step's answer; want of memory is free
+-- a refusal is the step's answer; want of memory is told only where the step's answer yields to it
 abbrev pub IsKeptAnswer : Option Refusal → Keeping → KeptOutcome → Type 0
-IsKeptAnswer None m step = ⊤
+IsKeptAnswer None m step = YieldsToMemory step.response
 IsKeptAnswer (Some refusal) m step = step ≡ kept_refused m refusal
 
--- An answer is that of the step over what is kept, and so is what is kept then; or it is the step's refusal or want of memory, and
--- nothing has changed.
+-- An answer is that of the step over what is kept, and so is what is kept then; or it is the step's refusal, or want of memory where its
+-- answer yields to it, and nothing has changed.
 abbrev pub KeptAnswers : {T : Type 0} → (T → Response) → (old : Stock) → KeptOutcome → Result T DbFault → (new : Stock) → Type 0
 KeptAnswers response old step (Ok x) new = (step ≡ record { keys = new.keys; response = response x }) × (new.limits ≡ old.limits)
 KeptAnswers response old step (Err fault) new = IsKeptAnswer (refusal_of old.ids fault) old.keys step × (new ≡ old)

@@ -5,11 +5,11 @@ use Rattle.ts_spec.specs.Sample.{Point, MAX_TIME, last_of, later_or}
 use Rattle.ts_spec.specs.declared.limits.Limits.{Limits}
 use Rattle.ts_spec.specs.Key.{Key}
 use Rattle.ts_spec.specs.Keyed.{Keyed, get}
-use Rattle.ts_spec.specs.Refusal.{Refusal}
+use Rattle.ts_spec.specs.Refusal.{Refusal, DestinationFull}
 use Rattle.ts_spec.specs.State.{State}
 use Rattle.ts_spec.specs.Rules.{dropped}
 use Rattle.ts_spec.specs.Step.{Outcome, refused}
-use Rattle.ts_spec.specs.Response.{Response, Done, Count}
+use Rattle.ts_spec.specs.Response.{Response, Done, Count, Refused}
 use Rattle.ts_spec.specs.Kept.{Keeping}
 use Rattle.ts_spec.specs.Stands.{StandsFor}
 use Rattle.ts_sample.specs.declared.id.Id.{Id}
@@ -54,9 +54,19 @@ pub record Leads (stock : Stock) (P : Held → Type 0) : Type 0 where
 abbrev pub Carries : (old new : Stock) → (Held → Held → Type 0) → Type 0
 Carries old new P = (from : Held) → Stands old from → Leads new (P from)
 
--- a refusal is the step's answer; want of memory is free
+-- a refusal that want of memory may hide: there was none to find out that a destination would be full
+abbrev pub MayBeHidden : Refusal → Type 0
+MayBeHidden (DestinationFull key) = ⊤
+MayBeHidden refusal = ⊥
+
+-- want of memory may be told in the place of this answer: it is no refusal, or one that may be hidden
+abbrev pub YieldsToMemory : Response → Type 0
+YieldsToMemory (Refused refusal) = MayBeHidden refusal
+YieldsToMemory response = ⊤
+
+-- a refusal is the step's answer; want of memory is told only where the step's answer yields to it
 abbrev pub IsAnswer : Option Refusal → State → Outcome → Type 0
-IsAnswer None m step = ⊤
+IsAnswer None m step = YieldsToMemory step.response
 IsAnswer (Some refusal) m step = step ≡ refused m refusal
 
 -- the step answers so, and the database stands for the state after it
@@ -65,7 +75,7 @@ pub record IsDone (response : Response) (limits : Limits) (step : Outcome) (new 
   pub stands : Stands new (record { limits = limits; state = step.state })
 
 -- For each state that the database stood for: an answer is that of the step, after which it stands for the step's state; or it is the
--- step's refusal or want of memory, and nothing has changed.
+-- step's refusal, or want of memory where the step's answer yields to it, and nothing has changed.
 abbrev pub Answers : {T : Type 0} → (T → Response) → (old : Stock) → (Held → Outcome) → Result T DbFault → (new : Stock) → Type 0
 Answers response old step (Ok x) new = (from : Held) → Stands old from → IsDone (response x) from.limits (step from) new
 Answers response old step (Err fault) new = ((from : Held) → Stands old from → IsAnswer (refusal_of old.ids fault) from.state (step from)) × (new ≡ old)

@@ -1,5 +1,5 @@
 // The database as its callers see it.
-ghost use Rattle.std.specs.Prelude.{◌≡◌, ◌≤◌, ⊤, is_some};
+ghost use Rattle.std.specs.Prelude.{◌≡◌, ◌≤◌, ⊤, nat_le, is_some};
 ghost use Rattle.ts_spec.specs.Keyed.{none, get, count_keys};
 ghost use Rattle.ts_spec.specs.State.{empty};
 ghost use Rattle.ts_db.specs.Held.{Held, Stands, Leads};
@@ -63,6 +63,14 @@ impl Db {
         ensures { result ≡ count_keys self.now.keys }
     {
         self.store.keys.len().min(self.store.limits.keys as usize) as u32
+    }
+
+    /// Whether there are as many keys as there may be. Takes no memory.
+    pub fn is_full(&self) -> bool
+        ensures full { result ≡ nat_le self.now.limits.keys (count_keys self.now.keys) }
+        ensures each { (held : Held) → Stands self.now held → result ≡ nat_le held.limits.keys (count_keys held.state) }
+    {
+        self.store.is_full()
     }
 
     /// How much it may hold.

@@ -1,5 +1,5 @@
 // Keys by their numbers, for questions over many series.
-ghost use Rattle.std.specs.Prelude.{◌≡◌, ◌≤◌, ◌^◌, ◌⊎◌, ℕ, false, nat_lt, length, is_some, Some, IfOk, ◌+◌, ◌*◌};
+ghost use Rattle.std.specs.Prelude.{◌≡◌, ◌≤◌, ◌^◌, ◌⊎◌, ℕ, suc, false, nat_lt, length, is_some, Some, IfOk, ◌+◌, ◌*◌};
 ghost use Rattle.ts_sample.specs.Visit.{visited};
 ghost use Rattle.std.specs.Option.{ForSome};
 ghost use Rattle.ts_spec.specs.Key.{Key};
@@ -153,6 +153,15 @@ impl Db {
         ensures { (key : Key) → get key self.now.ids ≡ Some id → result ≤ reach_at self.now key }
     {
         self.store.chunk_reach_of(id)
+    }
+
+    /// Does nothing: it tells a caller that between one time and the next at most one chunk of the key of a number is cut.
+    pub fn cuts_of(&self, id: Id)
+        requires live { IsLive self.now.ids id }
+        ensures { (key : Key) → get key self.now.ids ≡ Some id
+            → (t : ℕ) → Around (suc t) t (reach_at self.now key) (pieces_at self.now key) }
+    {
+        self.store.cuts_of(id);
     }
 
     /// Does nothing: it tells a caller that there are times near each interval that cut no chunk of the key of a number.

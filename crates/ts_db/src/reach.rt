@@ -1,5 +1,5 @@
 // A time up to which, or from which on, what is kept under a number has so many samples.
-ghost use Rattle.std.specs.Prelude.{◌≡◌, ◌≤◌, ◌+◌, ◌*◌, ◌⊎◌, ℕ, false, length, Some};
+ghost use Rattle.std.specs.Prelude.{◌≡◌, ◌≤◌, ◌+◌, ◌*◌, ◌⊎◌, ℕ, suc, false, length, Some};
 ghost use Rattle.ts_spec.specs.Key.{Key};
 ghost use Rattle.ts_spec.specs.Keyed.{get};
 ghost use Rattle.ts_spec.specs.KeptQuestions.{kept_asked};
@@ -52,6 +52,16 @@ impl Store {
         ensures { (key : Key) → get key (stock_of self.now).ids ≡ Some id → result ≤ reach_at (stock_of self.now) key }
     {
         self.node(id).series.chunk_reach()
+    }
+
+    // Does nothing: it tells a caller that between one time and the next at most one chunk is cut.
+    pub(crate) fn cuts_of(&self, id: Id)
+        requires store { IsInOrder self.now }
+        requires live { IsLive (stock_of self.now).ids id }
+        ensures { (key : Key) → get key (stock_of self.now).ids ≡ Some id
+            → (t : ℕ) → Around (suc t) t (reach_at (stock_of self.now) key) (pieces_at (stock_of self.now) key) }
+    {
+        self.node(id).series.cuts();
     }
 
     // Does nothing: it tells a caller that there are seams near each interval.

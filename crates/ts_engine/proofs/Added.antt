@@ -54,7 +54,8 @@ module _ (key : Key) (t : ℕ) (v : ℤ) (on : Option Policy) (spec : Spec) wher
 
   refused_as : (r : Option Refusal) (from : Held) (o : Option Record) → r ≢ Some refusal.NoKey
       → IsAnswer r from.state (put_by from.limits from.state key t v on o) → IsAnswer r from.state (add_at from.limits from.state key t v on spec o)
-  refused_as None from o other is = tt
+  refused_as None from None other is = absurd is
+  refused_as None from (Some d) other is = is
   refused_as (Some r) from None other is =
       let same : Refused refusal.NoKey ≡ Refused r = ap (λ (s : Outcome). s.response) is in
       let missing : refusal.NoKey ≡ r = cc same in

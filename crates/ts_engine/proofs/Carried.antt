@@ -38,7 +38,7 @@ carries_then old mid new P Q R both one two = λ from stands.
 
 -- a refusal of the step, or want of memory, is replied
 refused_or_memory : (o : Option Refusal) (from : Held) (step : Outcome) → IsAnswer o from.state step → StepOrMemory step from (Error (message_of o)) from
-refused_or_memory None from step is = inr (record { says = refl; same = refl })
+refused_or_memory None from step is = inr (is, record { says = refl; same = refl })
 refused_or_memory (Some r) from step is = inl (record {
   says = ap (λ (s : Outcome). reply_to s.response) (sym is);
   state = ap (λ (s : Outcome). s.state) (sym is);

@@ -36,3 +36,5 @@ pub mod Tops
 pub mod Turned
 pub mod WalkBounds
 pub mod MemberBounds
+pub mod Yielding
+pub mod MissingKey

@@ -1,7 +1,7 @@
 -- What is told over many series is the answer of the definitions.
 use Rattle.std.proofs.Common.{◌≡◌, Bool, ℕ, List, [], ◌∷◌, ◌++◌, map, inl, refl, sym, ap, subst, ◌∙◌}
 use Rattle.std.proofs.lemmas.Simd.{map-map}
-use Rattle.std.specs.Prelude.{Option, None, Some, option_map}
+use Rattle.std.specs.Prelude.{⊤, Option, None, Some, option_map}
 use Rattle.ts_spec.specs.declared.limits.Limits.{Limits}
 use Rattle.ts_spec.specs.Answer.{Row, answer}
 use Rattle.ts_spec.specs.Command.{Show, Query}
@@ -20,7 +20,7 @@ use Rattle.ts_range.specs.Query.{query_of}
 use Rattle.ts_db.specs.Held.{Held, Stock, Stands}
 use Rattle.ts_engine.specs.declared.wanted.Wanted.{Wanted}
 use Rattle.ts_engine.specs.declared.wanted.Wanted.TheVariants as wanted
-use Rattle.ts_engine.specs.Answering.{IsReplyText}
+use Rattle.ts_engine.specs.Answering.{IsTextOrLost}
 use Rattle.ts_engine.specs.Members.{rows_at, reply_at, replies_then, replies_of, AreAdded, many_response}
 
 -- the response to what is wanted of keys, by what is kept of them
@@ -94,11 +94,11 @@ kept-stands stock w fs from stands =
         ∙ ap (λ (l : Limits). members_response (members_of l from.state latest (show_of show) (query_of query) (selection from.state fs))) (sym stands.limits)
 
 pub many-told : (stock : Stock) (w : Wanted) (fs : List Filter) (before after : List ℕ) → before ≡ [] → AreAdded (replies_of (reply_at stock.limits stock.keys w) (kept_selection stock.keys fs)) before after
-    → (from : Held) → Stands stock from → IsReplyText (many_response from w fs) after
+    → (from : Held) → Stands stock from → IsTextOrLost ⊤ (many_response from w fs) after
 many-told stock w fs before after empty added from stands =
     inl (kept-told stock.limits stock.keys w (kept_selection stock.keys fs) before after empty added ∙ ap (λ r. text (reply_to r)) (kept-stands stock w fs from stands))
 
 pub many-refused : (stock : Stock) (w : Wanted) (fs : List Filter) (after : List ℕ) → replies_of (reply_at stock.limits stock.keys w) (kept_selection stock.keys fs) ≡ None
-    → after ≡ text (refusal_reply EmptyRows) → (from : Held) → Stands stock from → IsReplyText (many_response from w fs) after
+    → after ≡ text (refusal_reply EmptyRows) → (from : Held) → Stands stock from → IsTextOrLost ⊤ (many_response from w fs) after
 many-refused stock w fs after none is from stands =
     inl (is ∙ ap (λ r. text (reply_to r)) (sym (kept-none stock.limits stock.keys w (kept_selection stock.keys fs) none) ∙ kept-stands stock w fs from stands))

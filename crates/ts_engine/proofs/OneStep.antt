@@ -57,7 +57,7 @@ module _ (limits : Limits) (reading : ℕ) where
       ⊎_elim
       (λ (item : IsItem done told.first told.mid). tells-more triple triples old told.mid new so_far items told.first told.others told.split item
       (tells triples told.mid new (so_far ++ item_of done.response) told.others told.after (All-tail IsNoWant told.first told.others all)))
-      (λ (lost : IsItemLost triple old told.first told.mid). absurd (All-head IsNoWant told.first told.others all lost.reply))
+      (λ (lost : IsItemLost done triple old told.first told.mid). absurd (All-head IsNoWant told.first told.others all lost.reply))
       told.here
 
 pub all_items_are_a_step : (reading : ℕ) (triples : List Triple) (old new : Held) (reply : Reply) → (all : HasAllItems reading triples old reply new)

@@ -14,7 +14,7 @@ use Rattle.ts_command.specs.declared.fault.CommandFault.TheVariants as code
 use Rattle.ts_sample.specs.declared.id.Id.{Id}
 use Rattle.ts_spec.specs.Keyed.{Keyed}
 use Rattle.ts_db.specs.Faults.{refusal_of}
-use Rattle.ts_db.specs.Held.{Held, Stock, Stands, Carries, AnswersNumber, IsAnswer}
+use Rattle.ts_db.specs.Held.{Held, Stock, Stands, Carries, AnswersNumber, YieldsToMemory, IsAnswer}
 use Rattle.ts_db.specs.declared.fault.DbFault.{DbFault}
 use Rattle.ts_engine.specs.Answering.{message_of, reply_of_number}
 use Rattle.ts_engine.specs.Turn.{HasItem, IsItem, is_well_formed}
@@ -74,7 +74,7 @@ module _ (reading : ℕ) (triple : Triple) (time : At) (value : ℤ) (at_is : tr
   well_formed = ap (λ (a : Result At Fault). is_ok a && is_ok triple.value) at_is ∙ ap (λ (v : Result ℤ Fault). is_ok v) value_is
 
   lost : (o : Option Refusal) (from : Held) (item : Reply) → IsAnswer o from.state (the_step from) → item ≡ Error (message_of o) → HasItem from.limits reading triple from.state item from.state
-  lost None from item answer is = inr (record { well_formed = well_formed; reply = is; same = refl })
+  lost None from item answer is = inr (record { well_formed = well_formed; yields = subst (λ (s : Outcome). YieldsToMemory s.response) (as_step from) answer; reply = is; same = refl })
   lost (Some r) from item answer is = inl (subst (λ (s : Outcome). IsItem s item from.state) (sym answer ∙ as_step from) (record { reply = ap (λ (r : Reply). r ∷ []) (sym is); state = refl }))
 
   pub put_item : (old new : Stock) (result : Result ℕ DbFault) (item : Reply) → ((ids : Keyed Id) → item ≡ reply_of_number ids result) → AnswersNumber old the_step result new

@@ -8,6 +8,7 @@ use Rattle.ts_spec.specs.Response.{Response, Done, Count}
 use Rattle.ts_spec.specs.Text.{Reply, Error, text}
 use Rattle.ts_sample.specs.declared.id.Id.{Id}
 use Rattle.ts_db.specs.Faults.{refusal_of}
+use Rattle.ts_db.specs.Held.{YieldsToMemory}
 use Rattle.ts_db.specs.declared.fault.DbFault.{DbFault}
 
 -- what is said of a refusal, or of want of memory
@@ -27,9 +28,13 @@ reply_of_done ids result = reply_of_result ids (λ x. Done) result
 abbrev pub reply_of_number : Keyed Id → Result ℕ DbFault → Reply
 reply_of_number ids result = reply_of_result ids (λ t. Count t) result
 
--- the text of a response was written, or that of want of memory
+-- the text of a response was written, or that of want of memory where this may be told
+abbrev pub IsTextOrLost : (may : Type 0) → Response → List ℕ → Type 0
+IsTextOrLost may response written = (written ≡ text (reply_to response)) ⊎ (may × (written ≡ text memory_reply))
+
+-- it may be told where the response yields to it
 abbrev pub IsReplyText : Response → List ℕ → Type 0
-IsReplyText response written = (written ≡ text (reply_to response)) ⊎ (written ≡ text memory_reply)
+IsReplyText response written = IsTextOrLost (YieldsToMemory response) response written
 
 -- any number of 64 bits, and any error, has a text of so many bytes at most
 abbrev pub IsShort : Reply → Type 0

@@ -1,17 +1,18 @@
 -- One turn: what a request is answered, and what it does to the database.
-use Rattle.std.specs.Prelude.{◌≡◌, ◌⊎◌, ◌<◌, ◌^◌, ℕ, Bool, true, false, ◌&&◌, List, [], ◌∷◌, map, Option, None, Some, is_some, option_map, Result, Ok, Err, IsTrue}
+use Rattle.std.specs.Prelude.{◌≡◌, ◌⊎◌, ◌<◌, ◌^◌, ℕ, ⊤, nat_lt, Bool, true, false, ◌&&◌, length, List, [], ◌∷◌, map, Option, None, Some, option_map, Result, Ok, Err, IsTrue}
 use Rattle.std.specs.Result.{is_ok}
 use Rattle.ts_io.specs.Clocks.{reading_of, readings_after}
-use Rattle.ts_spec.specs.Command.{Triple, Command, Madd, DeleteRule, Ping, Quit, Drop, Exists}
+use Rattle.ts_spec.specs.Command.{Triple, Command, Madd, DeleteRule, MRange, Get, Ping, Echo, Quit, Drop, Exists}
 use Rattle.ts_spec.specs.Grammar.{command, makes_list, needs_clock}
 use Rattle.ts_spec.specs.Refusal.{Fault}
 use Rattle.ts_spec.specs.Replies.{array, fault_reply, memory_reply, item_reply, reply_to}
+use Rattle.ts_spec.specs.Response.{Response}
 use Rattle.ts_spec.specs.State.{State}
 use Rattle.ts_spec.specs.Step.{Outcome, step, triple_step, item_of}
 use Rattle.ts_spec.specs.Text.{Reply, text}
 use Rattle.ts_spec.specs.Wire.{Request}
 use Rattle.ts_spec.specs.declared.limits.Limits.{Limits}
-use Rattle.ts_db.specs.Held.{Held}
+use Rattle.ts_db.specs.Held.{Held, YieldsToMemory}
 
 -- the database, and the readings of the clock that are left, where they are told
 pub record World : Type 0 where
@@ -31,9 +32,9 @@ pub record IsOutOfMemory (old : Held) (reply : Reply) (new : Held) : Type 0 wher
   pub says : reply ≡ memory_reply
   pub same : new ≡ old
 
--- the answer of the definitions, or want of memory
+-- the answer of the definitions, or want of memory, to which that answer yields
 abbrev pub StepOrMemory : Outcome → Held → Reply → Held → Type 0
-StepOrMemory step old reply new = IsStep step old reply new ⊎ IsOutOfMemory old reply new
+StepOrMemory step old reply new = IsStep step old reply new ⊎ (YieldsToMemory step.response × IsOutOfMemory old reply new)
 
 -- ---- TS.MADD
 
@@ -46,16 +47,18 @@ pub record IsItem (step : Outcome) (item : Reply) (new : State) : Type 0 where
   pub reply : map item_reply (item_of step.response) ≡ item ∷ []
   pub state : new ≡ step.state
 
--- want of memory is said of a triple that is well formed, and the state stays
-pub record IsItemLost (triple : Triple) (old : State) (item : Reply) (new : State) : Type 0 where
+-- want of memory is said of a triple that is well formed, whose answer yields to it, and the state stays
+pub record IsItemLost (step : Outcome) (triple : Triple) (old : State) (item : Reply) (new : State) : Type 0 where
   pub well_formed : IsTrue (is_well_formed triple)
+  pub yields : YieldsToMemory step.response
   pub reply : item ≡ memory_reply
   pub same : new ≡ old
 
 -- what is told of a triple, and what it does to the state
 abbrev pub HasItem : Limits → (reading : ℕ) → Triple → State → Reply → State → Type 0
 HasItem limits reading triple old item new =
-    IsItem (triple_step limits old reading triple.key triple.at triple.value) item new ⊎ IsItemLost triple old item new
+    let step : Outcome = triple_step limits old reading triple.key triple.at triple.value in
+    IsItem step item new ⊎ IsItemLost step triple old item new
 
 -- a triple has the first item, and what is told after it is told from there on
 pub record ItemThen (limits : Limits) (reading : ℕ) (triple : Triple) (old : State) (later : State → List Reply → Type 0) (items : List Reply) : Type 0 where
@@ -92,20 +95,38 @@ abbrev pub IsAnswered : (reading : ℕ) → Command → Held → Reply → Held 
 IsAnswered reading (Madd triples) old reply new = HasAllItems reading triples old reply new
 IsAnswered reading other old reply new = IsStep (step old.limits old.state reading other) old reply new
 
+-- a word that may be too long for the room that there is
+abbrev pub is_long : List ℕ → Bool
+is_long word = nat_lt 30 (length word)
+
 -- whether a command may find no memory: the reply of any other fits the room that there is
 abbrev pub takes_memory : Command → Bool
 takes_memory (DeleteRule source dest) = false
-takes_memory (Ping word) = is_some word
+takes_memory (Get key latest) = false
+takes_memory (Ping None) = false
+takes_memory (Ping (Some word)) = is_long word
+takes_memory (Echo word) = is_long word
 takes_memory Quit = false
 takes_memory (Drop keys) = false
 takes_memory (Exists keys) = false
 takes_memory other = true
 
+-- want of memory may be told in the place of this answer of a command: the rows of a question over many series may be too many then
+abbrev pub MayBeLost : Command → Response → Type 0
+MayBeLost (MRange latest show filters query) response = ⊤
+MayBeLost command response = YieldsToMemory response
+
+-- want of memory is said of a command that may find none, in the place of such an answer, and nothing is changed
+pub record IsLost (reading : ℕ) (command : Command) (old : Held) (reply : Reply) (new : Held) : Type 0 where
+  pub may : IsTrue (takes_memory command)
+  pub yields : MayBeLost command (step old.limits old.state reading command).response
+  pub out_of_memory : IsOutOfMemory old reply new
+
 -- what `execute` writes of a command: the text of its answer, or of want of memory
 pub record Executes (reading : ℕ) (command : Command) (old : Held) (written : List ℕ) (new : Held) : Type 0 where
   pub reply : Reply
   pub its_text : written ≡ text reply
-  pub done : IsAnswered reading command old reply new ⊎ (IsTrue (takes_memory command) × IsOutOfMemory old reply new)
+  pub done : IsAnswered reading command old reply new ⊎ IsLost reading command old reply new
 
 -- ---- the clock
 

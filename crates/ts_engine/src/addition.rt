@@ -1,5 +1,5 @@
 // TS.ADD with no option but ON_DUPLICATE, from the words of its request: most requests of a busy client are such.
-ghost use Rattle.std.specs.Prelude.{◌≡◌, ◌+◌, ◌≤◌, length};
+ghost use Rattle.std.specs.Prelude.{◌≡◌, ◌+◌, ◌≤◌, length, None};
 ghost use Rattle.ts_spec.specs.Keyed.{get};
 ghost use Rattle.ts_spec.specs.Sample.{MAX_TIME};
 ghost use Rattle.ts_spec.specs.Settings.{nothing};
@@ -7,7 +7,7 @@ ghost use Rattle.ts_spec.specs.SeriesOptions.{spec};
 ghost use Rattle.ts_spec.specs.Step.{add_at};
 ghost use Rattle.ts_resp.specs.Replies.{reply_of};
 ghost use Rattle.ts_command.specs.Addition.{addition_of};
-ghost use Rattle.ts_db.specs.Held.{Carries};
+ghost use Rattle.ts_db.specs.Held.{Held, Stands, Carries};
 ghost use Rattle.ts_engine.specs.Answering.{IsShort};
 ghost use Rattle.ts_engine.specs.Turn.{StepOrMemory, Executes};
 
@@ -69,7 +69,8 @@ fn begin<L: Ledger>(
     time: u64,
     steps: &mut Steps<L>,
 ) -> Reply
-    requires { time ≤ MAX_TIME }
+    requires time { time ≤ MAX_TIME }
+    requires missing { (from : Held) → Stands db.old from → get addition.now.key.now from.state ≡ None }
     ensures answer { Carries db.old db.new (λ from to. StepOrMemory (add_at from.limits from.state addition.now.key.now time addition.now.value addition.now.on (spec nothing)
         (get addition.now.key.now from.state)) from (reply_of result) to) }
     ensures short { IsShort (reply_of result) }
@@ -84,6 +85,11 @@ fn begin<L: Ledger>(
             Addition::spec(alloc),
             steps,
         ),
-        Err(fault) => refusal_reply(DbFault::Memory(fault)),
+        Err(fault) => {
+            if db.is_full() {
+                return refusal_reply(DbFault::KeysFull);
+            }
+            refusal_reply(DbFault::Memory(fault))
+        }
     }
 }

@@ -1,10 +1,12 @@
 // PING and ECHO: a sign of life, and words that are sent back.
-ghost use Rattle.std.specs.Prelude.{◌≡◌, ◌+◌, ◌≤◌, [], length, None, IfNone};
+ghost use Rattle.std.specs.Prelude.{◌≡◌, ◌+◌, ◌≤◌, [], length, IsTrue};
+ghost use Rattle.ts_spec.specs.Command.{Ping, Echo};
 ghost use Rattle.ts_spec.specs.Questions.{ping_response};
 ghost use Rattle.ts_spec.specs.Replies.{reply_to};
 ghost use Rattle.ts_spec.specs.Response.{Word as WordBack};
-ghost use Rattle.ts_spec.specs.Text.{text};
-ghost use Rattle.ts_engine.specs.Answering.{IsReplyText};
+ghost use Rattle.ts_resp.specs.Replies.{reply_of};
+ghost use Rattle.ts_engine.specs.Answering.{IsTextOrLost};
+ghost use Rattle.ts_engine.specs.Turn.{takes_memory};
 
 use crate::room::put_or_no_memory;
 use ts_resp::{Out, Reply, Word, put};
@@ -13,8 +15,7 @@ use ts_resp::{Out, Reply, Word, put};
 pub(crate) fn put_pong(word: Option<Word>, out: &mut Out)
     requires empty { out.old.bytes ≡ [] }
     requires room { 128 ≤ out.old.spare }
-    ensures pong { IfNone word (out.new.bytes ≡ text (reply_to (ping_response None))) }
-    ensures reply { IsReplyText (ping_response word) out.new.bytes }
+    ensures reply { IsTextOrLost (IsTrue (takes_memory (Ping word))) (ping_response word) out.new.bytes }
     ensures room { 128 ≤ length out.new.bytes + out.new.spare }
 {
     match word {
@@ -23,12 +24,19 @@ pub(crate) fn put_pong(word: Option<Word>, out: &mut Out)
     }
 }
 
-/// Writes a word back, or says that there is no memory.
+/// Writes a word back, or says that there is no memory for a long one.
 pub(crate) fn put_word(word: Word, out: &mut Out)
     requires empty { out.old.bytes ≡ [] }
     requires room { 128 ≤ out.old.spare }
-    ensures reply { IsReplyText (WordBack word) out.new.bytes }
+    ensures reply { IsTextOrLost (IsTrue (takes_memory (Echo word))) (WordBack word) out.new.bytes }
     ensures room { 128 ≤ length out.new.bytes + out.new.spare }
 {
-    put_or_no_memory(&Reply::Bulk(word), out);
+    put_or_no_memory(&sent_back(word), out);
+}
+
+// The reply that is a word.
+fn sent_back(word: Word) -> Reply
+    ensures { reply_of result ≡ reply_to (WordBack word) }
+{
+    Reply::Bulk(word)
 }

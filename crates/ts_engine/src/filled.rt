@@ -1,11 +1,12 @@
 // A question that tells of empty buckets, answered by one walk over the samples.
-ghost use Rattle.std.specs.Prelude.{◌≡◌, ◌+◌, ◌*◌, ◌≤◌, ℕ, List, [], length, map, false, None, Some, IfErr, IfNone, IfOk, IfSome};
+ghost use Rattle.std.specs.Prelude.{◌≡◌, ◌≢◌, ◌+◌, ◌*◌, ◌≤◌, ℕ, List, [], length, map, false, None, Some, IfErr, IfNone, IfOk, IfSome};
 ghost use Rattle.ts_spec.specs.declared.bucket.Aggregator.TheVariants.{Last};
 ghost use Rattle.ts_spec.specs.Sample.{Point, between};
 ghost use Rattle.ts_spec.specs.Answer.{Row as TheRow, is_let_through, answer as spec_answer, rows, turned as spec_turned};
 ghost use Rattle.ts_spec.specs.Key.{Key};
 ghost use Rattle.ts_spec.specs.Keyed.{get};
 ghost use Rattle.ts_spec.specs.KeptQuestions.{kept_asked};
+ghost use Rattle.ts_spec.specs.Questions.{rows_response};
 ghost use Rattle.ts_spec.specs.Response.{Rows};
 ghost use Rattle.ts_range.specs.Filters.{passes};
 ghost use Rattle.ts_range.specs.LastValues.{last_rows, IsLine};
@@ -13,7 +14,7 @@ ghost use Rattle.ts_range.specs.Query.{query_of, row_of};
 ghost use Rattle.ts_range.specs.Stretches.{IsFilledIn, IsKnownBefore, IsStretchIn};
 ghost use Rattle.ts_range.specs.declared.fault.RangeFault.TheVariants.{EmptyRows};
 ghost use Rattle.ts_series.specs.Seams.{IsSeamed};
-ghost use Rattle.ts_db.specs.Held.{IsLive, pieces_at, reach_at};
+ghost use Rattle.ts_db.specs.Held.{IsLive, YieldsToMemory, pieces_at, reach_at};
 ghost use Rattle.ts_engine.specs.Answering.{IsReplyText};
 
 use crate::room::put_no_memory;
@@ -71,6 +72,8 @@ pub(crate) fn rows_filled<L: Ledger>(
         → spec_answer db.now.limits.empty_rows (query_of query.now) (kept_asked db.now.keys latest key) ≡ Some (map row_of found.items)) }
     ensures refused { IfErr result (λ fault. fault ≡ EmptyRows → (key : Key) → get key db.now.ids ≡ Some id
         → spec_answer db.now.limits.empty_rows (query_of query.now) (kept_asked db.now.keys latest key) ≡ None) }
+    ensures lost { IfErr result (λ fault. fault ≢ EmptyRows → (key : Key) → get key db.now.ids ≡ Some id
+        → YieldsToMemory (rows_response (spec_answer db.now.limits.empty_rows (query_of query.now) (kept_asked db.now.keys latest key)))) }
     ensures seams { (key : Key) → get key db.now.ids ≡ Some id
         → IsSeamed (pieces_at db.now key) query.now.from query.now.to (steps.old + 3 * reach_at db.now key) steps.new }
 {

@@ -1,11 +1,11 @@
 // The answers over many series.
-ghost use Rattle.std.specs.Prelude.{◌≡◌, ◌+◌, ◌≤◌, ◌++◌, All, List, [], length, sum_by, None, OnOk, IfErr};
+ghost use Rattle.std.specs.Prelude.{◌≡◌, ◌+◌, ◌≤◌, ◌++◌, ⊤, All, List, [], length, sum_by, None, OnOk, IfErr};
 ghost use Rattle.ts_spec.specs.Key.{Key};
 ghost use Rattle.ts_range.specs.declared.fault.RangeFault.TheVariants.{EmptyRows};
 ghost use Rattle.ts_spec.specs.KeptQuestions.{kept_selection};
 ghost use Rattle.ts_db.specs.Bounds.{selection_steps};
 ghost use Rattle.ts_db.specs.Held.{Held, Stands, IsLive, AreNumbersOf};
-ghost use Rattle.ts_engine.specs.Answering.{IsReplyText};
+ghost use Rattle.ts_engine.specs.Answering.{IsTextOrLost};
 ghost use Rattle.ts_engine.specs.Bounds.{wanted_steps};
 ghost use Rattle.ts_engine.specs.Members.{reply_at, replies_of, AreAdded, many_response};
 
@@ -31,7 +31,7 @@ pub(crate) fn put_members<L: Ledger>(
 )
     requires empty { out.old.bytes ≡ [] }
     requires room { 128 ≤ out.old.spare }
-    ensures reply { (from : Held) → Stands db.now from → IsReplyText (many_response from wanted.now filters.now) out.new.bytes }
+    ensures reply { (from : Held) → Stands db.now from → IsTextOrLost ⊤ (many_response from wanted.now filters.now) out.new.bytes }
     ensures room { 128 ≤ length out.new.bytes + out.new.spare }
     ensures steps { steps.new ≤ steps.old + (selection_steps db.now filters.now + sum_by (wanted_steps db.now wanted.now) (kept_selection db.now.keys filters.now)) }
 {

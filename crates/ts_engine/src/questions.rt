@@ -2,6 +2,8 @@
 ghost use Rattle.std.specs.Prelude.{◌≡◌, ◌+◌, ◌≤◌, [], length};
 ghost use Rattle.ts_spec.specs.Keyed.{get};
 ghost use Rattle.ts_spec.specs.Questions.{range_response, last_response};
+ghost use Rattle.ts_spec.specs.Replies.{reply_to};
+ghost use Rattle.ts_spec.specs.Text.{text};
 ghost use Rattle.ts_range.specs.Query.{query_of};
 ghost use Rattle.ts_db.specs.Held.{Held, Stands};
 ghost use Rattle.ts_engine.specs.Answering.{IsReplyText};
@@ -39,7 +41,7 @@ pub(crate) fn put_range<L: Ledger>(
     }
 }
 
-/// Writes the reply to TS.GET.
+/// Writes the reply to TS.GET, which needs no memory.
 pub(crate) fn put_get<L: Ledger>(
     db: &Db,
     key: &Word,
@@ -49,7 +51,7 @@ pub(crate) fn put_get<L: Ledger>(
 )
     requires empty { out.old.bytes ≡ [] }
     requires room { 128 ≤ out.old.spare }
-    ensures reply { (from : Held) → Stands db.now from → IsReplyText (last_response from.state key.now latest (get key.now from.state)) out.new.bytes }
+    ensures reply { (from : Held) → Stands db.now from → out.new.bytes ≡ text (reply_to (last_response from.state key.now latest (get key.now from.state))) }
     ensures room { 128 ≤ length out.new.bytes + out.new.spare }
 {
     match db.last(key, latest, steps) {

@@ -3,7 +3,6 @@ ghost use Rattle.std.specs.Prelude.{◌≡◌, ◌+◌, ◌<◌, ◌≤◌, ◌^
 ghost use Rattle.ts_engine.specs.Going.{end_of};
 
 use crate::go::Go;
-use crate::room::give_back;
 use crate::turn::take_turn;
 use std::alloc::{AllocError, Global};
 use std::marker::Brand;
@@ -16,7 +15,6 @@ use ts_sample::Steps;
 /// Answers the requests of one stream, which comes in pieces.
 #[derive(Drop)]
 pub struct Session {
-    alloc: Global,
     reader: Reader,
     room: Out,
     executed: u64,
@@ -40,7 +38,6 @@ impl Session {
     {
         let room = Out::new(alloc)?;
         Ok(Session {
-            alloc,
             reader: Reader::new(alloc, limits),
             room,
             executed: 0,
@@ -156,7 +153,7 @@ impl Session {
         ensures within { (reader_of self.new).begin ≤ fed (reader_of self.new) }
         ensures cause { WroteOrFault (K.faults out.old) (K.faults out.new) result }
     {
-        give_back(&mut self.room, self.alloc);
+        self.room.give_back();
         match self.reader.next() {
             Next::Request(words) => self.answer(words, db, clock, out, steps),
             Next::NotYet => Some(Go::More),

@@ -1,5 +1,5 @@
 // What a server takes its connections from.
-ghost use Rattle.std.specs.Prelude.{◌≡◌, ◌≤◌, ℕ, List, Option, Bool, true, false, is_ok, IfOk, OnErr};
+ghost use Rattle.std.specs.Prelude.{◌≡◌, ℕ, List, Option, Bool, true, false, is_ok, IfOk, OnErr};
 ghost use Rattle.ts_io.specs.Causes.{HasCause};
 ghost use Rattle.ts_io.specs.Links.{TakesFront, AddsAtEnd};
 ghost use Rattle.ts_io.specs.declared.listener.Ends.{Ends};
@@ -53,6 +53,5 @@ pub trait Listener {
         ensures coming { coming self.new ≡ coming self.old }
         ensures closed { AddsAtEnd (closed self.old) (closed self.new) ends }
         ensures out { is_out self.new ≡ false }
-        ensures later { faults self.old ≤ faults self.new }
         ensures faults { faults self.new ≡ faults self.old };
 }

@@ -28,12 +28,15 @@ pub fn reserve_items(count: usize, out: &mut Out) -> Result<(), AllocError>
 pub fn encode_bulk(bytes: &[u8], out: &mut Out) -> Result<(), AllocError>
     ensures ok { OnOk result (out.new.bytes ≡ out.old.bytes ++ text (Bulk bytes.now)) }
     ensures err { OnErr result (out.new.bytes ≡ out.old.bytes) }
+    ensures full { OnErr result (out.old.spare < length (text (Bulk bytes.now))) }
     ensures room { length out.old.bytes + out.old.spare ≤ length out.new.bytes + out.new.spare }
 {
-    let Some(size) = bulk_len(bytes) else {
-        return Err(AllocError);
-    };
-    out.reserve(size)?;
+    let room = out.spare();
+    match bulk_len(bytes) {
+        Some(size) if size <= room => {}
+        Some(size) => out.reserve(size)?,
+        None => return Err(AllocError),
+    }
     put_bulk(bytes, out);
     Ok(())
 }
@@ -43,6 +46,7 @@ pub fn encode_bulk(bytes: &[u8], out: &mut Out) -> Result<(), AllocError>
 pub fn encode_count(count: usize, out: &mut Out) -> Result<(), AllocError>
     ensures ok { OnOk result (out.new.bytes ≡ out.old.bytes ++ line_text 42 (decimal count)) }
     ensures err { OnErr result (out.new.bytes ≡ out.old.bytes) }
+    ensures full { OnErr result (out.old.spare < length (line_text 42 (decimal count))) }
     ensures room { length out.old.bytes + out.old.spare ≤ length out.new.bytes + out.new.spare }
 {
     out.reserve(count_len(count))?;

@@ -1,5 +1,5 @@
 // A word of a request: bytes of any kind, which it owns.
-ghost use Rattle.std.specs.Prelude.{◌≡◌, ◌≤◌, length, take, slice_range, nat_eq, refl, Some, IfOk, IfSome};
+ghost use Rattle.std.specs.Prelude.{◌≡◌, ◌<◌, ◌≤◌, length, take, slice_range, nat_eq, refl, Some, IfOk, IfSome, OnErr};
 ghost use Rattle.std.specs.Ordering.{nat_cmp};
 ghost use Rattle.std.specs.Hash as fed;
 ghost use Rattle.std.specs.Cmp.Lexicographic.{pointwise, slice_cmp, nat_list_eq_equiv, nat_list_cmp_total, texts_ties, texts_po};
@@ -47,10 +47,11 @@ impl Model for Word {
 }
 
 impl Word {
-    /// A word of these bytes.
+    /// A word of these bytes. One of up to 30 bytes takes no memory.
     #[inline]
     pub fn from_slice(alloc: Global, bytes: &[u8]) -> Result<Word, AllocError>
-        ensures { IfOk result (λ w. w ≡ bytes.now) }
+        ensures bytes { IfOk result (λ w. w ≡ bytes.now) }
+        ensures long { OnErr result (30 < length bytes.now) }
     {
         if bytes.len() <= SHORT {
             return Ok(Word::short(alloc, bytes));
@@ -98,9 +99,10 @@ impl Word {
         Word::filled(alloc, bytes.len() as u8, room)
     }
 
-    /// A word of the same bytes.
+    /// A word of the same bytes. One of up to 30 bytes takes no memory.
     pub fn copy(&self) -> Result<Word, AllocError>
-        ensures { IfOk result (λ w. w ≡ self.now) }
+        ensures bytes { IfOk result (λ w. w ≡ self.now) }
+        ensures long { OnErr result (30 < length self.now) }
     {
         Word::from_slice(self.allocator(), self.bytes())
     }

@@ -10,12 +10,13 @@ use Rattle.ts_series.specs.Held.{Held, AreChunks, IsMeeting, IsTrimmed, HaveBegu
 use Rattle.ts_series.specs.History.{History, history_of, list_of, reach, IsKeptIn}
 use Rattle.ts_series.specs.Seams.{Around}
 use Rattle.ts_series.proofs.EarlyLate.{none-head, none-left, none-both, after-none, after-some}
-use Rattle.ts_series.proofs.Joined.{ascending-right, joined-parts}
+use Rattle.ts_series.proofs.Joined.{ascending-right, joined-parts, longest-at}
 use Rattle.ts_series.proofs.Meeting.{meets}
-use Rattle.ts_series.proofs.Walking.{walked}
+use Rattle.ts_series.proofs.Walking.{length-more, walked}
 use Rattle.ts_series.proofs.EdgeQuestions.{between-from}
 use Rattle.ts_series.proofs.Reach.{within-reach}
 use Rattle.ts_series.proofs.Seams.{Parts, PartsPast, parted, parted-past, seam-at, inner-few}
+use Rattle.ts_series.proofs.ShareEnds.{past-trimmed}
 
 -- the first place from which on a piece has a sample from a time on
 record Start (t : ℕ) (pss : List (List Point)) : Type 0 where
@@ -105,3 +106,28 @@ around-series format at_least o high born held h kept view from to =
     let far = within-reach at_least kept refl in
     subst (λ (k : History). Around from to (length (between from to (list_of k)) + 2 * reach k) k.held.pieces) view
     (around from to start a.place end pss meeting rises early (length (between from to (list_of (history_of o high born held))) + 2 * reach (history_of o high born held)) (omega (arith, shown, far)))
+
+-- between one time and the next at most one piece is cut
+cut : (t : ℕ) (pss : List (List Point)) → IsAscending (joined pss) → (n : ℕ) → longest pss ≤ n → Around (suc t) t n pss
+cut t pss rises n le =
+    let a : Start (suc t) pss = start-of (suc t) pss in
+    let end : ℕ = suc a.place in
+    let x : Parts (suc t) (joined (take a.place pss)) (joined (drop a.place pss)) =
+    parted (suc t) (joined (take a.place pss)) (joined (drop a.place pss)) (subst IsAscending (joined-parts a.place pss) rises) a.earlier in
+    let y : PartsPast (suc t) (joined (take end pss)) (joined (drop end pss)) =
+    parted-past (suc t) (joined (take end pss)) (joined (drop end pss)) (subst IsAscending (joined-parts end pss) rises) (past-trimmed (suc t) a.place pss rises a.reached) in
+    record {
+      first = x.time;
+      last = y.time;
+      starts = seam-at x.time a.place pss x.early x.late;
+      ends = seam-at (suc y.time) end pss y.early y.late;
+      before = x.upto;
+      past = omega (arith, y.from);
+      few = omega (arith, le, inner-few x.time y.time a.place end pss (omega arith) x.early y.late, length-more a.place end pss refl, longest-at a.place pss);
+    }
+
+pub cut-series : (format : List Point → List ℕ) → ((ps : List Point) → 3 * length ps ≤ length (format ps)) → (o : Options) (high : Option ℕ) (born : ℕ) (held : Held) (h : History)
+    → IsKeptIn format (history_of o high born held) → history_of o high born held ≡ h → (t : ℕ) → Around (suc t) t (reach h) h.held.pieces
+cut-series format at_least o high born held h kept view t =
+    subst (λ (k : History). Around (suc t) t (reach k) k.held.pieces) view
+    (cut t held.pieces kept.chunks.ascending (reach (history_of o high born held)) (within-reach at_least kept refl))

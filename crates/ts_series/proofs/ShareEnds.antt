@@ -20,7 +20,7 @@ trimmed-less t u (ps ∷ pss) le h = λ n. h (none-less (nat_le t) (nat_le u) (l
     less le v e = grind (arith, nat_tests)
 
 -- past a piece that has a sample from a time on
-past-trimmed : (t k : ℕ) (pss : List (List Point)) → IsAscending (joined pss) → IsTrimmed t (drop k pss) → at_times (λ u. nat_le u t) (joined (drop (suc k) pss)) ≡ []
+pub past-trimmed : (t k : ℕ) (pss : List (List Point)) → IsAscending (joined pss) → IsTrimmed t (drop k pss) → at_times (λ u. nat_le u t) (joined (drop (suc k) pss)) ≡ []
 past-trimmed t zero [] rises h = refl
 past-trimmed t zero (ps ∷ pss) rises h = after-none t t (joined pss) (omega arith) (after-some t ps (joined pss) rises h)
 past-trimmed t (suc k) [] rises h = refl

@@ -1,5 +1,5 @@
 -- What a write to a series comes to.
-use Rattle.std.specs.Prelude.{◌≡◌, ℕ, ℤ, ◌<◌, ◌≤◌, nat_lt, if◌then◌else◌, ⊤, List, [], ◌∷◌, length, Option, None, Some, Result, Ok, Err}
+use Rattle.std.specs.Prelude.{◌≡◌, ℕ, ℤ, ◌<◌, ◌≤◌, nat_lt, if◌then◌else◌, List, [], ◌∷◌, length, Option, None, Some, Result, Ok, Err}
 use Rattle.ts_spec.specs.declared.series.Encoding.{Encoding}
 use Rattle.ts_spec.specs.declared.series.Merge.{Merge}
 use Rattle.ts_spec.specs.Sample.{Point, at}
@@ -63,9 +63,10 @@ abbrev pub IsNothing : Result Plan PutFault → Type 0
 IsNothing (Ok plan) = plan ≡ nothing_in plan.encoding
 IsNothing (Err fault) = ⊥
 
+-- the series is full, or there is no memory for a write that fits
 abbrev pub IsFullFault : ℕ → Point → History → PutFault → Type 0
 IsFullFault limit p h Full = IsFull limit p h
-IsFullFault limit p h (Memory e) = ⊤
+IsFullFault limit p h (Memory e) = Fits limit p h
 IsFullFault limit p h fault = ⊥
 
 abbrev pub IsWrite : ℕ → Point → History → Result Plan PutFault → Type 0

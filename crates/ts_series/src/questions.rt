@@ -1,5 +1,5 @@
 // Questions about a series of one kind of chunk.
-ghost use Rattle.std.specs.Prelude.{◌≡◌, ◌≤◌, ◌+◌, ◌*◌, ℕ, nat_lt, length};
+ghost use Rattle.std.specs.Prelude.{◌≡◌, ◌≤◌, ◌+◌, ◌*◌, ℕ, suc, nat_lt, length};
 ghost use Rattle.ts_spec.specs.Sample.{MAX_TIME, at, at_times, between, first_of, last_of};
 ghost use Rattle.ts_sample.specs.Visit.{visited};
 ghost use Rattle.ts_spec.specs.Valid.{Every};
@@ -25,6 +25,13 @@ impl<C: Chunk> Line<C> {
     // Does nothing: it tells a caller that there are seams near each interval.
     pub(crate) fn seams(&self)
         ensures { (from to : ℕ) → Around from to (length (between from to (list_of self.now)) + 2 * reach self.now) self.now.held.pieces }
+    {
+        let _chunks = &self.chunks;
+    }
+
+    // Does nothing: it tells a caller that between one time and the next at most one chunk is cut.
+    pub(crate) fn cuts(&self)
+        ensures { (t : ℕ) → Around (suc t) t (reach self.now) self.now.held.pieces }
     {
         let _chunks = &self.chunks;
     }

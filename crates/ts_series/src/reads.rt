@@ -1,5 +1,5 @@
 // The public questions about a series, for either encoding.
-ghost use Rattle.std.specs.Prelude.{◌≡◌, ◌≤◌, ◌+◌, ◌*◌, ◌⊎◌, ℕ, nat_lt, length};
+ghost use Rattle.std.specs.Prelude.{◌≡◌, ◌≤◌, ◌+◌, ◌*◌, ◌⊎◌, ℕ, suc, nat_lt, length};
 ghost use Rattle.ts_spec.specs.Sample.{MAX_TIME, at, at_times, between, first_of, last_of};
 ghost use Rattle.ts_sample.specs.Visit.{visited};
 ghost use Rattle.ts_spec.specs.Valid.{Every};
@@ -29,6 +29,16 @@ impl Series {
         match &self.lines {
             Lines::Plain(line) => line.seams(),
             Lines::Packed(line) => line.seams(),
+        }
+    }
+
+    /// Does nothing: it tells a caller that between one time and the next at most one chunk is cut.
+    pub fn cuts(&self)
+        ensures { (t : ℕ) → Around (suc t) t (reach self.now) self.now.held.pieces }
+    {
+        match &self.lines {
+            Lines::Plain(line) => line.cuts(),
+            Lines::Packed(line) => line.cuts(),
         }
     }
 

@@ -2,14 +2,17 @@
 //! status.
 #![tactic(auto)]
 
+ghost use Rattle.std.specs.Prelude.{◌≡◌, ◌≤◌, ◌^◌, ℕ, false, List, Some, IfOk};
+ghost use Rattle.ts_spec.specs.Limits.{usual};
+ghost use Rattle.ts_engine.specs.Headline.{Seen};
+ghost use Rattle.ts_engine.specs.Top.{IsPipe, Headline};
+
+use std::alloc::Global;
 use std::io::ErrorKind;
 use std::process::ExitCode;
 use std::{env, io};
-use ts_engine::{Limits, top};
-use ts_io::{StdSink, StdSource, SystemClock, TcpNet};
-
-/// The most bytes that are taken of the input, or of a connection.
-const BUDGET: u64 = 1 << 60;
+use ts_engine::{Limits, Status, top, usual_budget};
+use ts_io::{Clock, Listener, Sink, Source, StdSink, StdSource, SystemClock, TcpNet};
 
 /// The status where there was no memory for the words of the command line.
 const OUT_OF_MEMORY: u8 = 6;
@@ -26,7 +29,9 @@ fn main(rt: HostRuntime) -> ExitCode {
 }
 
 /// The status of a run over the process's own streams and clock, and the system's network.
-fn run(rt: &HostRuntime) -> io::Result<u8> {
+fn run(rt: &HostRuntime) -> io::Result<u8>
+    ensures { IfOk result (λ status. status ≤ 8) }
+{
     let alloc = rt.alloc();
     let mut words = Vec::new(alloc);
     for word in env::args(rt)?.skip(1) {
@@ -37,16 +42,36 @@ fn run(rt: &HostRuntime) -> io::Result<u8> {
     let mut err = StdSink::new(rt.stderr());
     let mut clock = SystemClock::new(rt);
     let mut net = TcpNet::new(rt);
-    let status = top(
-        alloc,
-        &words,
-        &mut input,
-        &mut out,
-        &mut err,
-        &mut clock,
-        &mut net,
-        Limits::usual(),
-        BUDGET,
+    let status = answer(
+        alloc, &words, &mut input, &mut out, &mut err, &mut clock, &mut net,
     );
     Ok(status.code())
+}
+
+/// Runs what the words ask for, under the limits and the budget of the program.
+fn answer<S: Source, K: Sink, E: Sink, C: Clock, N: Listener>(
+    alloc: Global,
+    words: &[String],
+    input: &mut S,
+    out: &mut K,
+    err: &mut E,
+    clock: &mut C,
+    net: &mut N,
+) -> Status
+    requires { N.is_out net.old ≡ false }
+    ensures { IsPipe words.now → (bytes : List ℕ) → S.left input.old ≡ Some bytes → Headline
+        (record { limits = usual; readings = C.readings clock.old; readings_left = C.readings clock.new; had = K.has out.old; has = K.has out.new })
+        (2 ^ 60) bytes (S.left input.new) (E.has err.old) (E.has err.new) result }
+{
+    top(
+        alloc,
+        words,
+        input,
+        out,
+        err,
+        clock,
+        net,
+        Limits::usual(),
+        usual_budget(),
+    )
 }

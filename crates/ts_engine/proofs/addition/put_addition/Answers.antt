@@ -14,6 +14,6 @@ pub returns-clause-executes : goal.returns-clause-executes
 returns-clause-executes g c =
     let a = c.args.addition.now in
     step_executes c.args.reading (Add a.key.now a.at a.value a.on (spec nothing)) (λ (h : Held). add_at h.limits h.state a.key.now (time_of c.args.reading a.at) a.value a.on (spec nothing) (get a.key.now h.state))
-    c.args.db.now c.write.new.db (reply_of c.write.result) c.put.new.out.bytes refl (λ from to is. is)
+    c.args.db.now c.write.new.db (reply_of c.write.result) c.put.new.out.bytes refl (λ from y. y) (λ from to is. is)
     (subst (λ (t : ℕ). Carries c.args.db.now c.write.new.db (λ from to. StepOrMemory (add_at from.limits from.state a.key.now t a.value a.on (spec nothing) (get a.key.now from.state)) from (reply_of c.write.result) to))
     c.time_at-time.ensures.time c.write.ensures.answer) (alone (reply_of c.write.result) c.clear.new.self.bytes c.put.new.out.bytes c.put.ensures.bytes c.clear.ensures.empty)

@@ -4,13 +4,17 @@ use Rattle.ts_spec.specs.Keyed.{get}
 use Rattle.ts_spec.specs.Response.{Count}
 use Rattle.ts_spec.specs.Settings.{nothing}
 use Rattle.ts_spec.specs.SeriesOptions.{spec}
-use Rattle.ts_spec.specs.Step.{add_at}
+use Rattle.ts_spec.specs.Step.{Outcome, add_at}
 use Rattle.ts_resp.specs.Replies.{reply_of}
-use Rattle.ts_db.specs.Held.{Stock, Carries}
+use Rattle.ts_db.specs.Faults.{refusal_of}
+use Rattle.ts_db.specs.Held.{Stock, Stands, Carries, IsAnswer}
+use Rattle.ts_db.specs.PutBy.{put_by}
+use Rattle.ts_db.specs.declared.fault.DbFault.{DbFault}
 use Rattle.ts_engine.specs.Answering.{IsShort}
 use Rattle.ts_engine.specs.Turn.{StepOrMemory}
 use Rattle.ts_engine.proofs.Added.{adds, added, not_added}
 use Rattle.ts_engine.proofs.Carried.{answered}
+use Rattle.ts_engine.proofs.MissingKey.{missing}
 use Rattle.ts_engine.proofs.Short.{short_number}
 use Rattle.ts_engine.proofs.addition.write.Goals as goal
 
@@ -22,6 +26,14 @@ returns-in-Ok-clause-answer g c =
 
 pub returns-in-Ok-clause-short : goal.returns-in-Ok-clause-short
 returns-in-Ok-clause-short g c = subst IsShort (sym c.number.ensures) (short_number c.in-Ok.time (omega (arith, c.in-Ok.ensures.bounded)))
+
+pub begin-requires-clause-missing : goal.begin-requires-clause-missing
+begin-requires-clause-missing g c from stands =
+    let a = c.args.addition.now in
+    let before = subst (λ (s : Stock). Stands s from) c.in-Err.ensures.put.1 stands in
+    let step : Outcome = put_by from.limits from.state a.key.now c.args.time a.value a.on (get a.key.now from.state) in
+    missing from.limits from.state a.key.now c.args.time a.value a.on (get a.key.now from.state)
+    (subst (λ (fault : DbFault). IsAnswer (refusal_of c.args.db.now.ids fault) from.state step) c.in-NoKey.is (c.in-Err.ensures.put.0 from before))
 
 -- a key that is missing: what is written is so of the database as it was
 pub returns-in-NoKey-clause-answer : goal.returns-in-NoKey-clause-answer

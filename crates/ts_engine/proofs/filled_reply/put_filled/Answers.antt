@@ -1,4 +1,4 @@
-use Rattle.std.proofs.Common.{List, refl, sym, ◌∙◌, ap, subst}
+use Rattle.std.proofs.Common.{List, inl, refl, sym, ◌∙◌, ap, subst}
 use Rattle.std.specs.Prelude.{⊤, is_some}
 use Rattle.ts_spec.specs.declared.limits.Limits.{Limits}
 use Rattle.ts_spec.specs.Answer.{answer}
@@ -15,19 +15,19 @@ use Rattle.ts_engine.specs.Answering.{IsReplyText}
 use Rattle.ts_engine.proofs.Executed.{alone}
 use Rattle.ts_engine.proofs.Finding.{asked_stands, finds_none}
 use Rattle.ts_engine.proofs.Handing.{answer_here}
-use Rattle.ts_engine.proofs.Refusals.{missing_key_response}
+use Rattle.ts_engine.proofs.Refusals.{no_key_response}
 use Rattle.ts_engine.proofs.filled_reply.put_filled.Goals as goal
 
 pub returns-in-None-clause-reply : goal.returns-in-None-clause-reply
 returns-in-None-clause-reply g c = λ from stands.
     let q = query_of c.args.query.now in
     let key = c.args.key.now in
-    missing_key_response (range_response from.limits from.state key c.args.latest q) (get key from.state) (λ (a : Asked). ⊤) NoKey
-    c.args.db.now.ids c.put.new.out.bytes refl
+    inl (no_key_response (range_response from.limits from.state key c.args.latest q) (get key from.state) (λ (a : Asked). ⊤) NoKey
+    c.args.db.now.ids c.put.new.out.bytes refl refl
     (finds_none (get key from.state) (λ (a : Asked). ⊤)
     (ap is_some (sym c.in-None.is) ∙ there-law c.args.db.now key (is_some c.id_of.result) c.id_of.ensures.there from stands))
     (alone (reply_of c.refusal_reply.result) c.args.out.now.bytes c.put.new.out.bytes c.put.ensures.bytes c.requires.empty
-    ∙ ap text (c.refusal_reply.ensures.reply c.args.db.now.ids))
+    ∙ ap text (c.refusal_reply.ensures.reply c.args.db.now.ids)))
 
 pub returns-in-Some-clause-reply : goal.returns-in-Some-clause-reply
 returns-in-Some-clause-reply g c = λ from stands.

@@ -1,4 +1,4 @@
-use Rattle.std.proofs.Common.{ℕ, ◌+◌, ◌≤◌, sym, ap, subst, ◌∙◌, arith}
+use Rattle.std.proofs.Common.{ℕ, ◌+◌, ◌≤◌, inr, sym, ap, subst, ◌∙◌, arith}
 use Rattle.ts_resp.specs.Replies.{reply_of}
 use Rattle.ts_spec.specs.KeptQuestions.{kept_selection}
 use Rattle.ts_spec.specs.Text.{text}
@@ -51,3 +51,9 @@ returns-clause-steps g c =
     let keys = kept_selection c.args.db.now.keys c.args.filters.now in
     both c.args.steps.now c.select.new.steps c.add_members.new.steps (selection_steps c.args.db.now c.args.filters.now) (sum_by (wanted_steps c.args.db.now c.args.wanted.now) keys) c.select.ensures.steps
     (c.add_members.ensures.steps keys (subst (AreNumbersOf c.args.db.now.ids keys) (sym c.deref.ensures.value) c.in-Ok.ensures.numbers))
+
+pub returns-in_default-clause-reply : goal.returns-in_default-clause-reply
+returns-in_default-clause-reply g c = λ from stands. inr (tt, c.put_no_memory.ensures.bytes)
+
+pub returns-clause-reply : goal.returns-clause-reply
+returns-clause-reply g c = λ from stands. inr (tt, c.put_no_memory-in-Err-Memory.ensures.bytes)

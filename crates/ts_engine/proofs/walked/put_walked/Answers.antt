@@ -1,4 +1,4 @@
-use Rattle.std.proofs.Common.{List, refl, sym, ◌∙◌, ap, subst}
+use Rattle.std.proofs.Common.{List, inl, refl, sym, ◌∙◌, ap, subst}
 use Rattle.std.specs.Prelude.{⊤, is_some}
 use Rattle.ts_spec.specs.Answer.{rows}
 use Rattle.ts_spec.specs.Keyed.{get}
@@ -16,15 +16,15 @@ use Rattle.ts_engine.specs.Answering.{IsReplyText}
 use Rattle.ts_engine.proofs.Executed.{alone}
 use Rattle.ts_engine.proofs.Finding.{asked_stands, finds_none}
 use Rattle.ts_engine.proofs.Handing.{rows_here}
-use Rattle.ts_engine.proofs.Refusals.{missing_key_response}
+use Rattle.ts_engine.proofs.Refusals.{no_key_response}
 use Rattle.ts_engine.proofs.walked.put_walked.Goals as goal
 
 pub returns-in-None-clause-reply : goal.returns-in-None-clause-reply
 returns-in-None-clause-reply g c = λ from stands.
-    missing_key_response (range_response from.limits from.state c.args.key.now c.args.latest (query_of c.args.query.now)) (get c.args.key.now from.state) (λ (a : Asked). ⊤) NoKey c.args.db.now.ids c.put.new.out.bytes refl
+    inl (no_key_response (range_response from.limits from.state c.args.key.now c.args.latest (query_of c.args.query.now)) (get c.args.key.now from.state) (λ (a : Asked). ⊤) NoKey c.args.db.now.ids c.put.new.out.bytes refl refl
     (finds_none (get c.args.key.now from.state) (λ (a : Asked). ⊤)
     (ap is_some (sym c.in-None.is) ∙ there-law c.args.db.now c.args.key.now (is_some c.id_of.result) c.id_of.ensures.there from stands))
-    (alone (reply_of c.refusal_reply.result) c.args.out.now.bytes c.put.new.out.bytes c.put.ensures.bytes c.requires.empty ∙ ap text (c.refusal_reply.ensures.reply c.args.db.now.ids))
+    (alone (reply_of c.refusal_reply.result) c.args.out.now.bytes c.put.new.out.bytes c.put.ensures.bytes c.requires.empty ∙ ap text (c.refusal_reply.ensures.reply c.args.db.now.ids)))
 
 pub returns-in-Some-clause-reply : goal.returns-in-Some-clause-reply
 returns-in-Some-clause-reply g c = λ from stands.

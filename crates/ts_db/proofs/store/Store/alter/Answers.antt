@@ -4,7 +4,7 @@ use Rattle.ts_labels.specs.Spec.{change_of}
 use Rattle.ts_series.proofs.Effects.{alters-is}
 use Rattle.ts_db.specs.Store.{stock_of, contents_of, Contents, Holds, IsNode}
 use Rattle.ts_db.proofs.Storing.{missing}
-use Rattle.ts_db.proofs.Changing.{few-altered, altered-within, alter-longer, alter-answers}
+use Rattle.ts_db.proofs.Changing.{few-altered, altered-within, alter-longer, alter-yields, alter-answers}
 use Rattle.ts_db.proofs.Reaches.{reach-held}
 use Rattle.ts_db.proofs.store.Store.alter.Goals as goal
 
@@ -40,6 +40,11 @@ returns-in-Ok-clause-altered g c =
           (sym c.are_too_many.ensures ∙ c.if-are_too_many.false) (alters-is _ c.in-Ok.plan c.in-Ok.ensures.options) (c.apply.ensures.applied c.args.key.now c.in-Some-get.node.now holds),
       ap (λ (x : Contents). x.limits) (c.apply.ensures.applied c.args.key.now c.in-Some-get.node.now holds),
     )
+
+pub returns-in-Err-clause-altered : goal.returns-in-Err-clause-altered
+returns-in-Err-clause-altered g c =
+    let holds : Holds c.args.self.now c.args.key.now c.in-Some.id c.in-Some-get.node.now = record { number = sym (c.in-Some.ensures ∙ c.get.ensures.value); node = sym c.in-Some-get.ensures } in
+    (alter-yields c.args.self.now c.requires c.args.key.now c.in-Some.id c.in-Some-get.node.now holds (change_of c.args.change) (sym c.are_too_many.ensures ∙ c.if-are_too_many.false), refl)
 
 pub returns-in-Ok-clause-steps : goal.returns-in-Ok-clause-steps
 returns-in-Ok-clause-steps g c =

@@ -10,4 +10,4 @@ key_of-requires-clause-live c = live-number c.args.self.now c.requires.store c.a
 pub returns : goal.returns
 returns c =
     let number = live-number c.args.self.now c.requires.store c.args.id c.requires.live in
-    IfOk-weaker c.copy.result _ _ (λ key is. is ∙ c.key_of.ensures number.key number.is ∙ number-key c.args.self.now c.requires.store c.args.id c.requires.live number.key number.is) c.copy.ensures
+    IfOk-weaker c.copy.result _ _ (λ key is. is ∙ c.key_of.ensures number.key number.is ∙ number-key c.args.self.now c.requires.store c.args.id c.requires.live number.key number.is) c.copy.ensures.bytes

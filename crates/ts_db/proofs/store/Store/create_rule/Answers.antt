@@ -5,7 +5,7 @@ use Rattle.ts_db.specs.Store.{stock_of, Contents, Holds}
 use Rattle.ts_db.proofs.Applying.{there}
 use Rattle.ts_db.proofs.Storing.{missing}
 use Rattle.ts_db.proofs.Freed.{live-after}
-use Rattle.ts_db.proofs.NewRules.{keys-apart, no-source, no-dest, barred-answer, unbarred-answer, both-ruled}
+use Rattle.ts_db.proofs.NewRules.{keys-apart, no-source, no-dest, barred-answer, unbarred-answer, unbarred-yields, both-ruled}
 use Rattle.ts_db.proofs.store.Store.create_rule.Goals as goal
 
 pub returns-in_default-clause-ruled : goal.returns-in_default-clause-ruled
@@ -85,4 +85,16 @@ returns-clause-ruled c =
       unbarred-answer s c.requires.store c.args.source.now c.args.dest.now c.in-Some.from c.in-Some-copied.to n.0 d.0 holds other apart c.args.agg c.args.grid (c.in_default-barred.ensures.barred n.0 d.0 n.1 d.1)
           ∙ ap (λ (x : Contents). record { keys = x.keys; response = Done }) (sym done),
       ap (λ (x : Contents). x.limits) done,
+    )
+
+pub returns-in-Err-clause-ruled : goal.returns-in-Err-clause-ruled
+returns-in-Err-clause-ruled c =
+    let s = c.args.self.now in
+    let from = sym (c.in-Some.ensures ∙ c.get.ensures.value) in
+    let to = sym (c.in-Some-copied.ensures ∙ c.get-2.ensures.value) in
+    let n = c.requires.store.stored c.args.source.now c.in-Some.from from in
+    let d = c.requires.store.stored c.args.dest.now c.in-Some-copied.to to in (
+      unbarred-yields s c.requires.store c.args.source.now c.args.dest.now c.in-Some.from c.in-Some-copied.to n.0 d.0 (record { number = from; node = n.1 }) (record { number = to; node = d.1 })
+          (keys-apart c.args.source.now c.args.dest.now c.eq.result c.eq.ensures c.if-eq.false) c.args.agg c.args.grid (c.in_default-barred.ensures.barred n.0 d.0 n.1 d.1),
+      c.in-Err.ensures.unchanged,
     )

@@ -13,12 +13,15 @@ use Rattle.ts_db.specs.Answering.{node_after}
 use Rattle.ts_db.proofs.Known.{distinct, links}
 use Rattle.ts_db.proofs.Unplanned.{destination-own}
 use Rattle.ts_db.proofs.Working.{ArePlanned, planned-for, unplanned-for, changed-live, changed-grids, takes-deleted, is-feed, still-fed, worked}
-use Rattle.ts_db.proofs.Deleting.{cut-within, deleted-few, deleted-answers, undeleted-answers}
+use Rattle.ts_db.proofs.Deleting.{cut-within, deleted-few, deleted-answers, undeleted-answers, uncut-yields}
 use Rattle.ts_db.proofs.EasyWrites.{deletion-total}
 use Rattle.ts_db.proofs.store.Store.delete.Goals as goal
 
 pub plan_rules-requires-clause-room : goal.plan_rules-requires-clause-room
 plan_rules-requires-clause-room g c = takes-deleted c.args.from c.args.to c.in-Some.node.now.series c.deref.result.now
+
+pub returns-in-Err-clause-deleted : goal.returns-in-Err-clause-deleted
+returns-in-Err-clause-deleted g c key n holds = (uncut-yields c.args.self.now c.requires.db key c.args.id n holds c.args.from c.args.to, refl)
 
 pub returns-in-Err-plan_rules-clause-deleted : goal.returns-in-Err-plan_rules-clause-deleted
 returns-in-Err-plan_rules-clause-deleted g c key n holds =

@@ -43,7 +43,7 @@ returns-clause-store c =
     let room : length c.args.self.now.keys.entries < c.args.self.now.limits.keys =
     subst (λ n. n < c.args.self.now.limits.keys) c.requires.store.counted c.requires.room in
     store-added c.args.self.now.limits c.reserve.new.self c.args.self.now.keys.entries mid c.insert_reserved.new.self c.insert.new.self.entries c.args.key (record { 0 = c.vacant_key.result }) node
-    none c.vacant_key.ensures.vacant change c.in-Ok-insert.ensures.updates.0 c.insert_reserved.ensures.len more room c.in-Ok.ensures (c.new.ensures.items, refl)
+    none c.vacant_key.ensures.vacant change c.in-Ok-insert.ensures.updates.0 c.insert_reserved.ensures.len more room c.in-Ok.ensures.bytes (c.new.ensures.items, refl)
     (record { kept = c.requires.kept; within = c.requires.within; born = c.requires.born; labels = c.requires.labels; grids = subst HaveGrids (sym c.new.ensures.items) tt })
 
 pub returns-clause-added : goal.returns-clause-added
