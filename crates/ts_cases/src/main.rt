@@ -1,6 +1,7 @@
 //! Rows that try `ts_command`: each line of the input is a request, its words between single blanks, and is answered
-//! by a line with the message of the first fault in it, or with `ok` and what the command says. The rows stand here
-//! because tests are proved as code is, and lines of a file are not.
+//! by a line with the message of the first fault in it, or with `ok` and what the command says. After `in place ` TS.ADD is
+//! read where its words stand, if it can be. The rows stand here because tests are proved as code is, and lines of a file
+//! are not.
 #![tactic(auto)]
 
 mod questions;
@@ -10,7 +11,7 @@ mod texts;
 
 use std::alloc::{AllocError, Global};
 use std::io;
-use ts_command::{Command, CommandFault, read};
+use ts_command::{Addition, Command, CommandFault, read};
 use ts_resp::Word;
 
 fn main(rt: HostRuntime) -> io::Result<()> {
@@ -23,10 +24,25 @@ fn main(rt: HostRuntime) -> io::Result<()> {
 
 // What a line is answered by.
 fn answer(alloc: Global, line: &str) -> Result<String, AllocError> {
+    if let Some(request) = line.strip_prefix("in place ") {
+        return in_place(alloc, request);
+    }
     match read(words(alloc, line)?) {
         Ok(command) => line_of(alloc, &command),
         Err(CommandFault::Memory(error)) => Err(error),
         Err(fault) => String::from_str(alloc, fault.message()),
+    }
+}
+
+// What the write of TS.ADD does with a sample at its time, where its words are read where they stand.
+fn in_place(alloc: Global, request: &str) -> Result<String, AllocError> {
+    let words = words(alloc, request)?;
+    match Addition::read(&words) {
+        Some(addition) => {
+            let on = addition.on;
+            format!(in alloc; "ok in place, on {on:?}")
+        }
+        None => String::from_str(alloc, "not in place"),
     }
 }
 

@@ -2,4 +2,6 @@
 #![tactic(auto)]
 
 #[cfg(test)]
-mod db;
+mod call;
+#[cfg(test)]
+mod full;

@@ -1,36 +1,56 @@
-// A line of a talk: a command and the reply that is due to it.
+// A line of a stream: a command and the reply that is due to it, or bytes.
 use crate::patterns::{Words, unfold};
 use crate::setting::Numbers;
 use crate::texts::Exchange;
 use itoa::Buffer;
 use std::alloc::{AllocError, Global};
 
+// How often a command stands, or that there is none.
+#[derive(Clone, Copy)]
+enum Form {
+    Once,
+    // Once for each number.
+    Each,
+    // Bytes as they are.
+    Bytes,
+}
+
 #[derive(Drop)]
 pub(crate) struct Line {
     command: String,
     reply: String,
-    // Whether it stands once for each number.
-    each: bool,
+    form: Form,
 }
 
 impl Line {
-    // The line of a text, where it has a command and a reply. After `each ` it stands once for each number.
+    // The line of a text, if it says one. After `each ` a command with its reply stands once for each number, and after
+    // `sends ` and `gets ` are bytes.
     pub(crate) fn read(alloc: Global, text: &str) -> Result<Option<Line>, AllocError> {
-        let (each, text) = match text.strip_prefix("each ") {
-            None => (false, text),
-            Some(rest) => (true, rest),
+        if let Some(sent) = text.strip_prefix("sends ") {
+            return Ok(Some(Line::of(alloc, sent, "", Form::Bytes)?));
+        }
+        if let Some(due) = text.strip_prefix("gets ") {
+            return Ok(Some(Line::of(alloc, "", due, Form::Bytes)?));
+        }
+        let (form, text) = match text.strip_prefix("each ") {
+            None => (Form::Once, text),
+            Some(rest) => (Form::Each, rest),
         };
         let Some((command, reply)) = text.split_once(" -> ") else {
             return Ok(None);
         };
-        Ok(Some(Line {
-            command: String::from_str(alloc, command)?,
-            reply: String::from_str(alloc, reply)?,
-            each,
-        }))
+        Ok(Some(Line::of(alloc, command, reply, form)?))
     }
 
-    // Adds its requests and replies to others: `^` is the word in a command, and in a reply the word as a reply.
+    fn of(alloc: Global, command: &str, reply: &str, form: Form) -> Result<Line, AllocError> {
+        Ok(Line {
+            command: String::from_str(alloc, command)?,
+            reply: String::from_str(alloc, reply)?,
+            form,
+        })
+    }
+
+    // Adds what it sends and what is due to others: `^` is the word in a command, and in a reply the word as a reply.
     pub(crate) fn add_to(
         &self,
         alloc: Global,
@@ -38,8 +58,10 @@ impl Line {
         word: &str,
         exchange: &mut Exchange,
     ) -> Result<(), AllocError> {
-        if self.each {
-            return self.add_each(alloc, numbers, exchange);
+        match self.form {
+            Form::Once => {}
+            Form::Each => return self.add_each(alloc, numbers, exchange),
+            Form::Bytes => return exchange.push_bytes(&self.command, &self.reply),
         }
         let command = unfold(alloc, &self.command, numbers)?;
         let reply = unfold(alloc, &self.reply, numbers)?;

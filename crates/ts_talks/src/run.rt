@@ -1,36 +1,70 @@
 // A run of the program over devices in memory.
+use crate::end::End;
 use crate::setting::Setting;
+use crate::stream::Stream;
 use crate::texts::Exchange;
 use std::alloc::{AllocError, Global};
 use ts_engine::top;
-use ts_io::{MemClock, MemListener, MemSink, MemSource};
+use ts_io::{Ends, MemClock, MemListener, MemSink, MemSource};
 
-// Whether a run with these requests, in pieces of so many bytes, one at least, writes these replies and nothing else,
-// and ends well.
+// A stream, with what is sent and what is due.
+#[derive(Drop)]
+pub(crate) struct Talking<'a> {
+    pub(crate) stream: &'a Stream,
+    pub(crate) exchange: Exchange,
+}
+
+// Whether a run in which so many bytes are read at once writes what is due to the output and to each connection, and
+// nothing else, and ends so.
 pub(crate) fn is_answered(
     alloc: Global,
     setting: &Setting,
-    exchange: &Exchange,
+    own: &Talking,
+    links: &[Talking],
+    end: &End,
     piece: usize,
 ) -> Result<bool, AllocError> {
-    let mut words = Vec::new(alloc);
-    words.push(String::from_str(alloc, "pipe")?)?;
-    let input = Vec::from_slice(alloc, &exchange.input)?;
-    let mut source = MemSource::new(input, piece.max(1), Vec::new(alloc));
-    let mut out = MemSink::new(alloc, 4096, Vec::new(alloc));
+    let mut ends = own.stream.ends(&own.exchange, piece)?;
     let mut err = MemSink::new(alloc, 4096, Vec::new(alloc));
     let mut clock = MemClock::new(Vec::from_slice(alloc, &setting.readings)?);
-    let mut net = MemListener::new(alloc, Vec::new(alloc), Vec::new(alloc))?;
+    let failing = Vec::from_slice(alloc, &setting.failing_calls)?;
+    let mut net = MemListener::new(alloc, ends_of(alloc, links, piece)?, failing)?;
     let status = top(
         alloc,
-        &words,
-        &mut source,
-        &mut out,
+        &setting.words(alloc)?,
+        &mut ends.input,
+        &mut ends.out,
         &mut err,
         &mut clock,
         &mut net,
         setting.usable_limits(),
-        1 << 60,
+        setting.budget.max(1),
     );
-    Ok(status.code() == 0 && out.bytes() == exchange.out.as_slice() && err.bytes().is_empty())
+    Ok(
+        ends.out.bytes() == own.exchange.out.as_slice()
+            && are_answered(net.done(), links)
+            && end.is(status.code(), err.bytes()),
+    )
+}
+
+// The ends of connections.
+fn ends_of(
+    alloc: Global,
+    links: &[Talking],
+    piece: usize,
+) -> Result<Vec<Ends<MemSource, MemSink>>, AllocError> {
+    let mut ends = Vec::new(alloc);
+    for link in links {
+        ends.push(link.stream.ends(&link.exchange, piece)?)?;
+    }
+    Ok(ends)
+}
+
+// Whether each connection was closed, and was written what is due to it.
+fn are_answered(done: &[Ends<MemSource, MemSink>], links: &[Talking]) -> bool {
+    let mut all = done.len() == links.len();
+    for (ends, link) in done.iter().zip(links) {
+        all = all && ends.out.bytes() == link.exchange.out.as_slice();
+    }
+    all
 }

@@ -24,8 +24,14 @@ impl Numbers {
 
 #[derive(Drop)]
 pub(crate) struct Setting {
+    // The words of the command line, where it is not `pipe`.
+    words: Option<String>,
     limits: Limits,
+    // How many bytes may be taken.
+    pub(crate) budget: u64,
     pub(crate) readings: Vec<u64>,
+    // The numbers of the calls of the listener that fail.
+    pub(crate) failing_calls: Vec<u64>,
     // How many bytes a read takes at most, in one run after another.
     pub(crate) pieces: Vec<u64>,
     // For which numbers a part of a line, or a whole line, stands once.
@@ -35,11 +41,14 @@ pub(crate) struct Setting {
 }
 
 impl Setting {
-    // The usual limits, a clock that shows nothing, no numbers, and one run with a word of one letter.
+    // The word `pipe`, the usual limits, room for all bytes, a clock that shows nothing, no numbers, and one run with a word of one letter.
     pub(crate) fn new(alloc: Global) -> Setting {
         Setting {
+            words: None,
             limits: Limits::usual(),
+            budget: 1 << 60,
             readings: Vec::new(alloc),
+            failing_calls: Vec::new(alloc),
             pieces: Vec::new(alloc),
             numbers: Numbers { first: 0, end: 0 },
             lengths: Numbers { first: 1, end: 2 },
@@ -47,26 +56,29 @@ impl Setting {
     }
 
     // Takes what a line says of it, as `keys 1`, `clock 1000,900` or `numbers 0 1001`. Answers whether it says anything.
-    pub(crate) fn take(&mut self, line: &str) -> Result<bool, AllocError> {
-        let Some((name, what)) = line.split_once(' ') else {
-            return Ok(false);
-        };
+    pub(crate) fn take(&mut self, alloc: Global, line: &str) -> Result<bool, AllocError> {
+        let (name, what) = line.split_once(' ').unwrap_or((line, ""));
         match name {
+            "words" => self.words = Some(String::from_str(alloc, what)?),
+            "failing_calls" => return take_list(what, &mut self.failing_calls),
             "clock" => return take_list(what, &mut self.readings),
             "pieces" => return take_list(what, &mut self.pieces),
             "numbers" => return Ok(take_numbers(what, &mut self.numbers)),
             "lengths" => return Ok(take_numbers(what, &mut self.lengths)),
-            _ => {}
+            _ => {
+                return match what.parse::<u32>() {
+                    Ok(number) => Ok(self.take_limit(name, number)),
+                    Err(_) => Ok(false),
+                };
+            }
         }
-        match what.parse::<u32>() {
-            Ok(number) => Ok(self.take_limit(name, number)),
-            Err(_) => Ok(false),
-        }
+        Ok(true)
     }
 
     // Takes a limit of this name, if there is one.
     fn take_limit(&mut self, name: &str, number: u32) -> bool {
         match name {
+            "budget" => self.budget = number as u64,
             "keys" => self.limits.keys = number,
             "labels" => self.limits.labels = number,
             "samples" => self.limits.samples = number,
@@ -76,6 +88,21 @@ impl Setting {
             _ => return false,
         }
         true
+    }
+
+    // The words of the command line, which stand apart by spaces.
+    pub(crate) fn words(&self, alloc: Global) -> Result<Vec<String>, AllocError> {
+        let text = match &self.words {
+            None => "pipe",
+            Some(words) => words.as_str(),
+        };
+        let mut words = Vec::new(alloc);
+        for word in text.split(' ') {
+            if !word.is_empty() {
+                words.push(String::from_str(alloc, word)?)?;
+            }
+        }
+        Ok(words)
     }
 
     // The limits, each of which is 1 at least.
@@ -106,7 +133,7 @@ fn take_numbers(text: &str, into: &mut Numbers) -> bool {
 }
 
 // Takes a list of numbers from a text, if it says one.
-fn take_list(text: &str, into: &mut Vec<u64>) -> Result<bool, AllocError> {
+pub(crate) fn take_list(text: &str, into: &mut Vec<u64>) -> Result<bool, AllocError> {
     for number in text.split(',') {
         let Ok(number) = number.parse::<u64>() else {
             return Ok(false);

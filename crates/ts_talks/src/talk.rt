@@ -1,8 +1,8 @@
 // A talk: requests with the replies that are due to them, and what they are run with.
-use crate::line::Line;
-use crate::run::is_answered;
+use crate::end::End;
+use crate::run::{Talking, is_answered};
 use crate::setting::Setting;
-use crate::texts::Exchange;
+use crate::stream::Stream;
 use std::alloc::{AllocError, Global};
 
 #[derive(Drop)]
@@ -10,7 +10,10 @@ pub(crate) struct Talk {
     alloc: Global,
     name: Option<String>,
     setting: Setting,
-    lines: Vec<Line>,
+    // The input with the output, and the connections.
+    own: Stream,
+    links: Vec<Stream>,
+    end: End,
     // Whether each line could be read.
     readable: bool,
 }
@@ -25,7 +28,9 @@ impl Talk {
             alloc,
             name: None,
             setting: Setting::new(alloc),
-            lines: Vec::new(alloc),
+            own: Stream::new(alloc),
+            links: Vec::new(alloc),
+            end: End::well(alloc),
             readable: true,
         }
     }
@@ -39,16 +44,31 @@ impl Talk {
             self.name = Some(String::from_str(self.alloc, name)?);
             return Ok(());
         }
-        if let Some(what) = line.strip_prefix("with ") {
-            let taken = self.setting.take(what)?;
-            self.readable = self.readable && taken;
-            return Ok(());
-        }
-        match Line::read(self.alloc, line)? {
-            Some(line) => self.lines.push(line)?,
-            None => self.readable = false,
-        }
+        let taken = self.take(line)?;
+        self.readable = self.readable && taken;
         Ok(())
+    }
+
+    // Takes a line that is not its name. Answers whether it says anything.
+    fn take(&mut self, line: &str) -> Result<bool, AllocError> {
+        if let Some(what) = line.strip_prefix("with ") {
+            return self.setting.take(self.alloc, what);
+        }
+        if let Some(text) = line.strip_prefix("ends ") {
+            let Some(end) = End::read(self.alloc, text)? else {
+                return Ok(false);
+            };
+            self.end = end;
+            return Ok(true);
+        }
+        if line == "link" {
+            self.links.push(Stream::new(self.alloc))?;
+            return Ok(true);
+        }
+        match self.links.last_mut() {
+            Some(link) => link.take(line),
+            None => self.own.take(line),
+        }
     }
 
     // What is told of it, if it has a name.
@@ -80,9 +100,10 @@ impl Talk {
 
     // Whether they have them with this word, in pieces of each size.
     fn is_answered_with(&self, word: &str) -> Result<bool, AllocError> {
-        let mut exchange = Exchange::new(self.alloc);
-        for line in &self.lines {
-            line.add_to(self.alloc, self.setting.numbers, word, &mut exchange)?;
+        let own = self.talking(&self.own, word)?;
+        let mut links = Vec::new(self.alloc);
+        for link in &self.links {
+            links.push(self.talking(link, word)?)?;
         }
         let pieces = if self.setting.pieces.is_empty() {
             &PIECES
@@ -90,10 +111,17 @@ impl Talk {
             self.setting.pieces.as_slice()
         };
         for piece in pieces {
-            if !is_answered(self.alloc, &self.setting, &exchange, *piece as usize)? {
+            let piece = *piece as usize;
+            if !is_answered(self.alloc, &self.setting, &own, &links, &self.end, piece)? {
                 return Ok(false);
             }
         }
         Ok(true)
+    }
+
+    // A stream, with what is sent and due where the word is this one.
+    fn talking<'a>(&self, stream: &'a Stream, word: &str) -> Result<Talking<'a>, AllocError> {
+        let exchange = stream.exchange(self.setting.numbers, word)?;
+        Ok(Talking { stream, exchange })
     }
 }

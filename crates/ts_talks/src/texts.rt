@@ -26,6 +26,12 @@ impl Exchange {
             None => push_lines(reply, &mut self.out),
         }
     }
+
+    // Adds bytes that are sent, and bytes that are due.
+    pub(crate) fn push_bytes(&mut self, sent: &str, due: &str) -> Result<(), AllocError> {
+        push_bytes(sent, &mut self.input)?;
+        push_bytes(due, &mut self.out)
+    }
 }
 
 // Appends a mark, a number and the end of the line.
@@ -66,6 +72,23 @@ fn push_rows(rows: &str, bytes: &mut Vec<u8>) -> Result<(), AllocError> {
             bytes.extend_from_slice(b"\r\n+")?;
             bytes.extend_from_slice(value.as_bytes())?;
             bytes.extend_from_slice(b"\r\n")?;
+        }
+    }
+    Ok(())
+}
+
+// Appends the bytes of a text, in which `\r` and `\n` stand for the bytes at the end of a line.
+fn push_bytes(text: &str, bytes: &mut Vec<u8>) -> Result<(), AllocError> {
+    let mut marked = false;
+    for byte in text.as_bytes() {
+        let byte = match *byte {
+            b'r' if marked => b'\r',
+            b'n' if marked => b'\n',
+            byte => byte,
+        };
+        marked = byte == b'\\';
+        if !marked {
+            bytes.push(byte)?;
         }
     }
     Ok(())

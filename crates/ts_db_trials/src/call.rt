@@ -1,0 +1,106 @@
+// Calls of a database that may fill a series, on keys of one byte, with values of a millionth.
+use std::alloc::{AllocError, Global};
+use std::sync::ledger::Ledger;
+use ts_bucket::Grid;
+use ts_db::{Db, DbFault};
+use ts_labels::{Labels, Spec};
+use ts_resp::Word;
+use ts_sample::{Steps, Units};
+use ts_spec::{Aggregator, Encoding, Options, Policy};
+
+#[derive(Clone, Copy)]
+pub(crate) enum Call {
+    Create(u8),
+    Put(u8, u64),
+    Add(u8, u64),
+    Incr(u8, u64),
+    Delete(u8, u64, u64),
+    // A rule from one key to another, of the last value of each ten milliseconds, is made, or ends.
+    Make(u8, u8),
+    End(u8, u8),
+}
+
+// What a call came to.
+#[derive(Clone, Copy, PartialEq)]
+pub(crate) enum Came {
+    Done,
+    Number(u64),
+    // The number of the series that has as many samples as it may, and whether it is the written one.
+    Full(usize, bool),
+    OtherFault,
+}
+
+fn fault(fault: DbFault) -> Came {
+    match fault {
+        DbFault::SamplesFull { id, written } => Came::Full(id.0, written),
+        _ => Came::OtherFault,
+    }
+}
+
+fn number(answer: Result<u64, DbFault>) -> Came {
+    match answer {
+        Ok(number) => Came::Number(number),
+        Err(why) => fault(why),
+    }
+}
+
+fn done(answer: Result<(), DbFault>) -> Came {
+    match answer {
+        Ok(()) => Came::Done,
+        Err(why) => fault(why),
+    }
+}
+
+fn spec(alloc: Global) -> Spec {
+    Spec {
+        options: Options {
+            retention: 0,
+            encoding: Encoding::Compressed,
+            chunk_size: 4096,
+            policy: Policy::Block,
+        },
+        labels: Labels::new(alloc),
+    }
+}
+
+fn word(alloc: Global, key: u8) -> Result<Word, AllocError> {
+    Word::from_slice(alloc, &[key])
+}
+
+// Makes a call, if its time is 1,000 at most.
+pub(crate) fn run<L: Ledger>(
+    alloc: Global,
+    db: &mut Db,
+    call: Call,
+    steps: &mut Steps<L>,
+) -> Result<Came, AllocError> {
+    let unit = Units::new(1).unwrap_or(Units::ZERO);
+    match call {
+        Call::Create(key) => Ok(done(db.create(word(alloc, key)?, spec(alloc)))),
+        Call::Put(key, at) if at <= 1000 => Ok(number(db.put(&word(alloc, key)?, at, unit, steps))),
+        Call::Add(key, at) if at <= 1000 => {
+            let key = word(alloc, key)?;
+            Ok(number(db.add(key, at, unit, None, spec(alloc), steps)))
+        }
+        Call::Incr(key, at) if at <= 1000 => {
+            let key = word(alloc, key)?;
+            Ok(number(db.incr(key, unit, at, spec(alloc), steps)))
+        }
+        Call::Delete(key, from, to) if from <= 1000 => {
+            Ok(number(db.delete_range(&word(alloc, key)?, from, to, steps)))
+        }
+        Call::Make(source, dest) => make_rule(alloc, db, source, dest),
+        Call::End(source, dest) => {
+            Ok(done(db.delete_rule(&word(alloc, source)?, &word(alloc, dest)?)))
+        }
+        _ => Ok(Came::OtherFault),
+    }
+}
+
+fn make_rule(alloc: Global, db: &mut Db, source: u8, dest: u8) -> Result<Came, AllocError> {
+    let (source, dest) = (word(alloc, source)?, word(alloc, dest)?);
+    let Some(grid) = Grid::new(0, 10) else {
+        return Ok(Came::OtherFault);
+    };
+    Ok(done(db.create_rule(&source, &dest, Aggregator::Last, grid)))
+}

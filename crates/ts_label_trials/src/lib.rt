@@ -1,7 +1,0 @@
-//! Trials of labels, and of replies over many series, with ample memory. In a crate of their own they begin with what is proved.
-#![tactic(auto)]
-
-#[cfg(test)]
-mod labels;
-#[cfg(test)]
-mod multi;

@@ -1,0 +1,129 @@
+// A chunk at hand, and what a line asks of it.
+ghost use Rattle.std.specs.Prelude.{◌≡◌, true};
+ghost use Rattle.ts_sample.specs.Chunk.{IsPast};
+ghost use Rattle.ts_spec.specs.Sample.{last_of};
+
+use crate::long::long_text;
+use crate::texts::{chunk_text, chunks_text, interval_of, sample_of};
+use std::alloc::{AllocError, Global};
+use std::sync::ledger::Ledger;
+use ts_chunk_packed::PackedChunk;
+use ts_sample::{Chunk, Sample, Steps};
+
+#[derive(Drop)]
+pub(crate) struct Trial {
+    alloc: Global,
+    chunk: PackedChunk,
+}
+
+impl Trial {
+    // An empty chunk of the least limit is at hand.
+    pub(crate) fn new(alloc: Global) -> Result<Trial, AllocError> {
+        let chunk = PackedChunk::new(alloc, 48)?;
+        Ok(Trial { alloc, chunk })
+    }
+
+    // The answer to a line, if it asks anything.
+    pub(crate) fn answer<L: Ledger>(
+        &mut self,
+        line: &str,
+        steps: &mut Steps<L>,
+    ) -> Result<Option<String>, AllocError> {
+        let (verb, rest) = line.split_once(' ').unwrap_or((line, ""));
+        match verb {
+            "chunk" => self.begin(rest, steps),
+            "more" => self.more(rest, steps),
+            "without" => self.without(rest, steps),
+            "long" => long_text(self.alloc, rest, steps),
+            "small" => {
+                let small = size_of::<PackedChunk>() <= 144;
+                Ok(Some(format!(in self.alloc; "{small}")?))
+            }
+            _ => match sample_of(rest) {
+                Some(sample) => self.changed(verb, &sample, steps),
+                None => Ok(None),
+            },
+        }
+    }
+
+    // A new chunk of the limit, with the samples, if there is such a limit.
+    fn begin<L: Ledger>(
+        &mut self,
+        text: &str,
+        steps: &mut Steps<L>,
+    ) -> Result<Option<String>, AllocError> {
+        let (limit, samples) = text.split_once(' ').unwrap_or((text, ""));
+        let Ok(limit) = limit.parse::<u32>() else {
+            return Ok(None);
+        };
+        if limit < 48 || 1_048_576 < limit {
+            return Ok(None);
+        }
+        self.chunk = PackedChunk::new(self.alloc, limit)?;
+        self.more(samples, steps)
+    }
+
+    // Puts the samples behind the last one, up to one that does not fit.
+    fn more<L: Ledger>(
+        &mut self,
+        text: &str,
+        steps: &mut Steps<L>,
+    ) -> Result<Option<String>, AllocError> {
+        for word in text.split(' ') {
+            if let Some(sample) = sample_of(word)
+                && !append(&mut self.chunk, &sample)
+            {
+                return Ok(Some(format!(in self.alloc; "full before {word}")?));
+            }
+        }
+        Ok(Some(chunk_text(self.alloc, &self.chunk, steps)?))
+    }
+
+    // What comes of one sample more.
+    fn changed<L: Ledger>(
+        &self,
+        verb: &str,
+        sample: &Sample,
+        steps: &mut Steps<L>,
+    ) -> Result<Option<String>, AllocError> {
+        match verb {
+            "with" => {
+                let chunks = self.chunk.upsert(self.alloc, sample, steps)?;
+                Ok(Some(chunks_text(self.alloc, &chunks, steps)?))
+            }
+            "late" => match self.chunk.spliced(self.alloc, sample, steps)? {
+                Some(one) => Ok(Some(chunk_text(self.alloc, &one, steps)?)),
+                None => Ok(Some(String::from_str(self.alloc, "none")?)),
+            },
+            _ => Ok(None),
+        }
+    }
+
+    // What comes without the samples of an interval.
+    fn without<L: Ledger>(
+        &self,
+        text: &str,
+        steps: &mut Steps<L>,
+    ) -> Result<Option<String>, AllocError> {
+        let Some((from, to)) = interval_of(text) else {
+            return Ok(None);
+        };
+        let chunks = self.chunk.without(self.alloc, from, to, steps)?;
+        Ok(Some(chunks_text(self.alloc, &chunks, steps)?))
+    }
+}
+
+// Puts a sample behind the last one, where it is later and fits. Answers whether it did.
+pub(crate) fn append(chunk: &mut PackedChunk, sample: &Sample) -> bool {
+    is_past(chunk, sample.time) && chunk.try_append(sample)
+}
+
+// Whether a time is past the last sample.
+fn is_past(chunk: &PackedChunk, time: u64) -> bool
+    ensures { result ≡ true → IsPast (last_of chunk.now.list) time }
+{
+    match chunk.last() {
+        Some(last) => last.time < time,
+        None => true,
+    }
+}

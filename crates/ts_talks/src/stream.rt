@@ -1,0 +1,67 @@
+// A stream of a talk: the input with the output, or a connection.
+use crate::line::Line;
+use crate::setting::{Numbers, take_list};
+use crate::texts::Exchange;
+use std::alloc::{AllocError, Global};
+use ts_io::{Ends, MemSink, MemSource};
+
+#[derive(Drop)]
+pub(crate) struct Stream {
+    alloc: Global,
+    lines: Vec<Line>,
+    // The numbers of the reads and of the writes that fail.
+    reads: Vec<u64>,
+    writes: Vec<u64>,
+}
+
+impl Stream {
+    // Nothing is sent and nothing is due.
+    pub(crate) fn new(alloc: Global) -> Stream {
+        Stream {
+            alloc,
+            lines: Vec::new(alloc),
+            reads: Vec::new(alloc),
+            writes: Vec::new(alloc),
+        }
+    }
+
+    // Takes a line, as `fails read 2` or what is sent and due. Answers whether it says anything.
+    pub(crate) fn take(&mut self, line: &str) -> Result<bool, AllocError> {
+        if let Some(numbers) = line.strip_prefix("fails read ") {
+            return take_list(numbers, &mut self.reads);
+        }
+        if let Some(numbers) = line.strip_prefix("fails write ") {
+            return take_list(numbers, &mut self.writes);
+        }
+        match Line::read(self.alloc, line)? {
+            Some(line) => self.lines.push(line)?,
+            None => return Ok(false),
+        }
+        Ok(true)
+    }
+
+    // What is sent and what is due, with these numbers and this word.
+    pub(crate) fn exchange(&self, numbers: Numbers, word: &str) -> Result<Exchange, AllocError> {
+        let mut exchange = Exchange::new(self.alloc);
+        for line in &self.lines {
+            line.add_to(self.alloc, numbers, word, &mut exchange)?;
+        }
+        Ok(exchange)
+    }
+
+    // Its two ends, with so many bytes a read, one at least.
+    pub(crate) fn ends(
+        &self,
+        exchange: &Exchange,
+        piece: usize,
+    ) -> Result<Ends<MemSource, MemSink>, AllocError> {
+        let alloc = self.alloc;
+        let input = Vec::from_slice(alloc, &exchange.input)?;
+        let reads = Vec::from_slice(alloc, &self.reads)?;
+        let writes = Vec::from_slice(alloc, &self.writes)?;
+        Ok(Ends {
+            input: MemSource::new(input, piece.max(1), reads),
+            out: MemSink::new(alloc, 4096, writes),
+        })
+    }
+}
