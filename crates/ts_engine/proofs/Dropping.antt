@@ -1,5 +1,5 @@
 -- How keys that are taken away one after another add up.
-use Rattle.std.proofs.Common.{◌≡◌, ◌+◌, ℕ, Bool, List, [], ◌∷◌, refl, ◌∙◌, ap}
+use Rattle.std.proofs.Common.{◌≡◌, ◌+◌, ℕ, Bool, List, [], ◌∷◌, ◌∙◌, ap}
 use Rattle.std.specs.Prelude.{is_some, if◌then◌else◌}
 use Rattle.ts_spec.specs.Key.{Key}
 use Rattle.ts_spec.specs.Keyed.{get}
@@ -10,7 +10,7 @@ use Rattle.ts_spec.specs.Text.{Reply}
 use Rattle.ts_spec.specs.State.{State}
 use Rattle.ts_db.specs.Held.{Held, Stock, Stands, Carries, Drops}
 use Rattle.ts_engine.specs.Turn.{IsStep}
-use Rattle.ts_engine.proofs.Carried.{carries_none, carries_as}
+use Rattle.ts_engine.proofs.Carried.{carries_as}
 
 -- the keys that are left go on to what becomes of all of them
 pub record DropsOn (all rest : List Key) (count : ℕ) (from now : Held) : Type 0 where

@@ -11,7 +11,7 @@ pub mod Handing
 pub mod Headlines
 pub mod InfoTexts
 pub mod Items
-pub mod LastRows
+pub mod RowsSplit
 pub mod Links
 pub mod Lists
 pub mod ManyTexts

@@ -10,12 +10,12 @@ use Rattle.ts_spec.specs.declared.series.Merge.TheVariants.{By}
 use Rattle.ts_spec.specs.Command.{Spec}
 use Rattle.ts_spec.specs.Key.{Key}
 use Rattle.ts_spec.specs.Keyed.{get, count_keys, with_key}
-use Rattle.ts_spec.specs.Refusal.{Refusal, NoKey, TooOld, Duplicate, OutOfRange, SamplesFull, LabelsFull, KeysFull, DestinationFull}
+use Rattle.ts_spec.specs.Refusal.{Refusal, NoKey, TooOld, OutOfRange, SamplesFull, LabelsFull, KeysFull}
 use Rattle.ts_spec.specs.Response.{Response, Count, Refused}
 use Rattle.ts_spec.specs.Rules.{shown, written, Merged, Refuse, Keep, To, merge}
-use Rattle.ts_spec.specs.Merging.{merge_by, within_bound}
+use Rattle.ts_spec.specs.Merging.{within_bound}
 use Rattle.ts_spec.specs.State.{Record, State, edge}
-use Rattle.ts_spec.specs.Step.{Outcome, refused, fresh, created, first_full, rules_at, unless_full, shows_more, within_samples, within_destinations, write_merged, value_at, write, create_with, add_at}
+use Rattle.ts_spec.specs.Step.{Outcome, refused, fresh, first_full, rules_at, unless_full, shows_more, within_destinations, write_merged, value_at, write, add_at}
 use Rattle.ts_spec.specs.Value.{bound}
 use Rattle.ts_db.specs.Held.{YieldsToMemory}
 use Rattle.ts_db.specs.PutBy.{put_by}

@@ -1,5 +1,5 @@
 -- How many samples a walk decodes that is given an interval share by share.
-use Rattle.std.proofs.Common.{◌≡◌, ◌≢◌, ℕ, suc, ◌+◌, ◌*◌, ◌≤◌, ◌<◌, ◌⊎◌, inl, inr, Bool, true, false, ◌&&◌, cond, List, [], ◌∷◌, length, refl, sym, ap, subst, arith, ◌∙◌, add-one}
+use Rattle.std.proofs.Common.{◌≡◌, ◌≢◌, ℕ, zero, suc, ◌+◌, ◌-◌, ◌*◌, ◌≤◌, ◌<◌, ◌⊎◌, inl, inr, Bool, true, false, ◌&&◌, cond, List, [], ◌∷◌, length, ap, subst, arith, add-one}
 use Rattle.std.specs.Prelude.{nat_le, nat_lt}
 use Rattle.std.proofs.lemmas.Bool.Decides.{nat_tests}
 use Rattle.ts_spec.specs.Sample.{Point, at_times, is_within, between}
@@ -7,7 +7,7 @@ use Rattle.ts_sample.specs.Chunk.{joined}
 use Rattle.ts_range.specs.declared.query.Query.{Query}
 use Rattle.ts_range.specs.declared.stretch.Stretch.{Stretch}
 use Rattle.ts_range.specs.Stretches.{IsStretchIn}
-use Rattle.ts_series.specs.Seams.{IsSeam, IsSeamed, EndsNear, Around}
+use Rattle.ts_series.specs.Seams.{IsSeam, IsSeamed, Around}
 
 -- ---- how many samples there are
 
@@ -90,26 +90,91 @@ module _ (pieces : List (List Point)) where
   pub few-around : (from to n old new : ℕ) → Around from to n pieces → IsSeamed pieces from to old new → new ≤ old + n
   few-around from to n old new around is = omega (arith, is around.first around.last around.starts around.ends around.before around.past, around.few)
 
-  -- a walk over the end of an interval, which has few samples
-  module _ (from near to n most old mid : ℕ) (seam : (near ≡ from) ⊎ IsSeam near pieces) (few : (near ≡ from) ⊎ EndsNear near to n pieces) (fits : n ≤ most) (is : IsSeamed pieces near to old mid) where
-    pub few-near : near ≢ from → mid ≤ old + most
-    few-near other = go seam few
-      where
-        go : (near ≡ from) ⊎ IsSeam near pieces → (near ≡ from) ⊎ EndsNear near to n pieces → mid ≤ old + most
-        go (inl same) b = absurd (omega arith)
-        go (inr starts) (inl same) = absurd (omega arith)
-        go (inr starts) (inr ends) = omega (arith, is near ends.last starts ends.seam (omega arith) ends.past, ends.few)
+-- two tests of which both hold only where both of two others do, and one only where the first of these does
+both-fewer : (a b one_of other : ℕ → Bool) → ((t : ℕ) → one (a t) + one (b t) ≤ one (one_of t) + one (other t)) → (l : List Point)
+    → length (at_times a l) + length (at_times b l) ≤ length (at_times one_of l) + length (at_times other l)
+both-fewer a b one_of other each [] = omega arith
+both-fewer a b one_of other each (p ∷ ps) =
+    omega (
+      arith,
+      each p.time,
+      both-fewer a b one_of other each ps,
+      one-more (a p.time) p (at_times a ps),
+      one-more (b p.time) p (at_times b ps),
+      one-more (one_of p.time) p (at_times one_of ps),
+      one-more (other p.time) p (at_times other ps),
+    )
 
-    pub seamed-near : IsSeamed pieces from to (old + most) mid
-    seamed-near = go seam few
-      where
-        whole : near ≡ from → IsSeamed pieces from to (old + most) mid
-        whole same = seamed-part from to from to old (old + most) mid (omega arith) (omega arith) (omega arith) (subst (λ (t : ℕ). IsSeamed pieces t to old mid) same is)
+overlap : (s e f l x y t : ℕ) → s ≤ x → f ≤ x → y ≤ e → y ≤ l → one (is_within x e t) + one (is_within s y t) ≤ one (is_within s e t) + one (is_within f l t)
+overlap s e f l x y t a b c d = grind (arith, nat_tests)
 
-        go : (near ≡ from) ⊎ IsSeam near pieces → (near ≡ from) ⊎ EndsNear near to n pieces → IsSeamed pieces from to (old + most) mid
-        go (inl same) b = whole same
-        go (inr starts) (inl same) = whole same
-        go (inr starts) (inr ends) = λ s e first last low past. omega (arith, is near ends.last starts ends.seam (omega arith) ends.past, ends.few)
+either : (a b : ℕ) → (a ≤ b) ⊎ (b ≤ a)
+either a b = grind arith
+
+-- an interval is walked over in two parts, the later one first: what a time cuts between them is decoded twice
+module _ (pieces : List (List Point)) (t n : ℕ) (cut : Around (suc t) t n pieces) where
+  seamed-cut : (from to old mid new : ℕ) → from ≤ t → t ≤ to → IsSeamed pieces (suc t) to old mid → IsSeamed pieces from t mid new → IsSeamed pieces from to (old + n) new
+  seamed-cut from to old mid new low high late early s e starts ends before past = go (either s cut.first) (either cut.last e)
+    where
+      at : (x y : ℕ) → IsSeam x pieces → IsSeam (suc y) pieces → s ≤ x → cut.first ≤ x → x ≤ suc t → y ≤ e → y ≤ cut.last → t ≤ y → new ≤ old + n + length (between s e (joined pieces))
+      at x y seam end a b c d f g =
+          omega (
+            arith,
+            late x e seam ends c past,
+            early s y starts end before g,
+            cut.few,
+            both-fewer (is_within x e) (is_within s y) (is_within s e) (is_within cut.first cut.last) (λ u. overlap s e cut.first cut.last x y u a b d f) (joined pieces),
+          )
+
+      go : (s ≤ cut.first) ⊎ (cut.first ≤ s) → (cut.last ≤ e) ⊎ (e ≤ cut.last) → new ≤ old + n + length (between s e (joined pieces))
+      go (inl a) (inl b) = at cut.first cut.last cut.starts cut.ends a (omega arith) cut.before b (omega arith) cut.past
+      go (inl a) (inr b) = at cut.first e cut.starts ends a (omega arith) cut.before (omega arith) b (omega arith)
+      go (inr a) (inl b) = at s cut.last starts cut.ends (omega arith) a (omega arith) b (omega arith) cut.past
+      go (inr a) (inr b) = at s e starts ends (omega arith) a (omega arith) (omega arith) b (omega arith)
+
+-- so many times the reach
+abbrev pub times : (k n : ℕ) → ℕ
+times zero n = 0
+times (suc k) n = n + times k n
+
+times-more : (k n : ℕ) → times (k + 1) n ≡ n + times k n
+times-more k n = ap (λ (i : ℕ). times i n) (add-one k)
+
+times-few : (k n : ℕ) → k ≤ 3 → times k n ≤ 3 * n
+times-few zero n le = omega arith
+times-few (suc zero) n le = omega arith
+times-few (suc (suc zero)) n le = omega arith
+times-few (suc (suc (suc zero))) n le = omega arith
+times-few (suc (suc (suc (suc k)))) n le = absurd (omega arith)
+
+-- an interval is walked over from its end on: whatever the walk takes over what is left of it, up to an earlier time, is all but
+-- so many cuts, and what was taken already
+abbrev pub GoesOn : List (List Point) → (n from to end cuts old now : ℕ) → Type 0
+GoesOn pieces n from to end cuts old now = (more new : ℕ) → IsSeamed pieces from end (now + more) new → IsSeamed pieces from to (old + times cuts n + more) new
+
+module _ (pieces : List (List Point)) (n from to : ℕ) where
+  pub goes-first : (old : ℕ) → GoesOn pieces n from to to 0 old old
+  goes-first old more new is = seamed-part pieces from to from to (old + more) (old + times 0 n + more) new (omega arith) (omega arith) (omega arith) is
+
+  module _ (end cuts old now : ℕ) (so_far : GoesOn pieces n from to end cuts old now) where
+    -- one share more was walked over
+    pub goes-more : (start mid : ℕ) → Around (suc (start - 1)) (start - 1) n pieces → from < start → start ≤ end → IsSeamed pieces start end now mid → GoesOn pieces n from to (start - 1) (cuts + 1) old mid
+    goes-more start mid cut less high is more new rest =
+        let on : suc (start - 1) ≡ start = omega (arith, less) in
+        let share : IsSeamed pieces (suc (start - 1)) end (now + more) (mid + more) = λ s e x y a b. omega (arith, is s e x y (omega (arith, on)) b) in
+        let both : IsSeamed pieces from end (now + more + n) new = seamed-cut pieces (start - 1) n cut from end (now + more) (mid + more) new (omega arith) (omega arith) share rest in
+        let all : IsSeamed pieces from to (old + times cuts n + (n + more)) new = so_far (n + more) new (seamed-part pieces from end from end (now + more + n) (now + (n + more)) new (omega arith) (omega arith) (omega arith) both) in
+        seamed-part pieces from to from to (old + times cuts n + (n + more)) (old + times (cuts + 1) n + more) new (omega arith) (omega arith) (omega (arith, times-more cuts n)) all
+
+    -- the walk ended with a share
+    pub goes-last : (start mid : ℕ) → cuts ≤ 3 → from ≤ start → IsSeamed pieces start end now mid → IsSeamed pieces from to (old + 3 * n) mid
+    goes-last start mid few low is =
+        seamed-part pieces from to from to (old + times cuts n + 0) (old + 3 * n) mid (omega arith) (omega arith) (omega (arith, times-few cuts n few))
+        (so_far 0 mid (seamed-part pieces from end start end now (now + 0) mid low (omega arith) (omega arith) is))
+
+    -- it ended before one
+    pub goes-none : cuts ≤ 3 → IsSeamed pieces from to (old + 3 * n) now
+    goes-none few = goes-last from now few (omega arith) (seamed-none pieces from end now)
 
 -- a share that is not the last ends at a seam
 pub at-seam : (pieces : List (List Point)) (end last : ℕ) → (end ≡ last) ⊎ IsSeam (end + 1) pieces → end ≢ last → IsSeam (end + 1) pieces

@@ -29,6 +29,7 @@ mod running;
 mod serving;
 mod session;
 mod shares;
+mod shares_back;
 mod status;
 mod texts;
 mod turn;

@@ -1,4 +1,4 @@
-use Rattle.std.proofs.Common.{◌≡◌, ℕ, List, refl, ◌∙◌, ap, ◌+◌, ◌*◌, arith}
+use Rattle.std.proofs.Common.{◌≡◌, List, refl, ◌∙◌, ap, ◌+◌, ◌*◌}
 use Rattle.std.specs.Prelude.{filter, Option, Some}
 use Rattle.ts_spec.specs.Answer.{Row, turned}
 use Rattle.ts_spec.specs.Command as spec

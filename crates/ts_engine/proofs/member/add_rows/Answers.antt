@@ -1,4 +1,4 @@
-use Rattle.std.proofs.Common.{◌≡◌, ◌++◌, ◌∙◌, map, sym, ap}
+use Rattle.std.proofs.Common.{◌≡◌, ◌++◌, ◌∙◌, map, ap}
 use Rattle.std.specs.Prelude.{Some}
 use Rattle.std.proofs.lemmas.Result.{err_from_is_err_and}
 use Rattle.ts_spec.specs.Key.{Key}

@@ -1,4 +1,4 @@
-use Rattle.std.proofs.Common.{◌≡◌, ℕ, ◌+◌, ◌*◌, ◌≤◌, ◌∙◌, refl, sym, ap, arith}
+use Rattle.std.proofs.Common.{ℕ, ◌+◌, ◌*◌, ◌≤◌, ◌∙◌, refl, sym, ap, arith}
 use Rattle.std.specs.Prelude.{Some}
 use Rattle.ts_spec.specs.KeptQuestions.{kept_asked}
 use Rattle.ts_range.specs.Query.{query_of}

@@ -1,4 +1,4 @@
-use Rattle.std.proofs.Common.{◌+◌, ◌*◌, ◌≤◌, arith}
+use Rattle.std.proofs.Common.{◌+◌, ◌*◌, arith}
 use Rattle.ts_db.specs.Bounds.{walk_steps}
 use Rattle.ts_db.specs.Held.{pieces_at, reach_at}
 use Rattle.ts_engine.proofs.WalkBounds.{few-around}

@@ -10,14 +10,14 @@ use Rattle.ts_spec.specs.Sample.{Point, between}
 use Rattle.ts_range.specs.Query.{buckets_of, query_of, row_of}
 use Rattle.ts_range.specs.Walking.{lets, rows_chosen}
 use Rattle.ts_engine.proofs.Handing.{for-each-key}
-use Rattle.ts_engine.proofs.walked_back.rows_from.Goals as goal
+use Rattle.ts_engine.proofs.shares_back.rows_between.Goals as goal
 
 pub returns-clause-rows : goal.returns-clause-rows
 returns-clause-rows g c =
     let bs = option_map buckets_of c.args.query.now.buckets in
     let walk = c.new-walk.result in
     let test = is_let_through (query_of c.args.query.now) in
-    let chosen : Key → List Point = λ key. between c.args.from c.args.query.now.to (kept_asked c.args.db.now.keys c.args.latest key) in
+    let chosen : Key → List Point = λ key. between c.args.from c.args.to (kept_asked c.args.db.now.keys c.args.latest key) in
     for-each-key c.into_rows.result (λ key. get key c.args.db.now.ids ≡ Some c.args.id)
     (λ key found. map row_of found.items ≡ rows_chosen bs (kept_asked c.args.db.now.keys c.args.latest key) (filter test (chosen key)))
     (λ key at.
