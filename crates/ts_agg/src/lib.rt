@@ -15,6 +15,3 @@ pub use names::{is_name, name, named, read_aggregator};
 pub use running::Running;
 pub use tally::Tally;
 pub use ts_spec::Aggregator;
-
-#[cfg(test)]
-mod tests;

@@ -5,6 +5,3 @@ mod grid;
 
 pub use grid::{Grid, LONGEST};
 pub use ts_spec::Stamp;
-
-#[cfg(test)]
-mod tests;

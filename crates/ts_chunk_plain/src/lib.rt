@@ -6,6 +6,3 @@ mod chunk;
 mod piece;
 
 pub use chunk::PlainChunk;
-
-#[cfg(test)]
-mod tests;

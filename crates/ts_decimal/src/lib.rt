@@ -18,6 +18,3 @@ pub use printing::{print, put_value};
 pub use reading::parse;
 pub use rounding::{clamp, div_round};
 pub use ts_spec::ValueFault;
-
-#[cfg(test)]
-mod tests;

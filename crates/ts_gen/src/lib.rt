@@ -9,6 +9,3 @@ mod workload;
 
 pub use laws::a_workload_reads_back;
 pub use workload::script;
-
-#[cfg(test)]
-mod tests;

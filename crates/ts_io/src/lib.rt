@@ -38,6 +38,3 @@ pub use std_source::StdSource;
 pub use system_clock::SystemClock;
 pub use tcp_net::TcpNet;
 pub use tcp_reader::TcpReader;
-
-#[cfg(test)]
-mod tests;

@@ -39,6 +39,3 @@ pub use stretch::Stretch;
 pub use take::Take;
 pub use walk::Walk;
 pub use walked::turned;
-
-#[cfg(test)]
-mod tests;

@@ -22,6 +22,3 @@ pub use reader::{Next, Reader};
 pub use reply::{Reply, begin_array, encode, put, size_of};
 pub use ts_spec::{Kind, WireLimits};
 pub use word::Word;
-
-#[cfg(test)]
-mod tests;

@@ -22,6 +22,3 @@ pub use open::latest;
 pub use plan::RulePlan;
 pub use planned::{plan_delete, plan_put};
 pub use rule::Rule;
-
-#[cfg(test)]
-mod tests;

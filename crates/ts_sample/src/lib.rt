@@ -24,6 +24,3 @@ pub use sample::{MAX_TIME, Sample};
 pub use steps::Steps;
 pub use units::Units;
 pub use visit::Visit;
-
-#[cfg(test)]
-mod tests;

@@ -15,6 +15,3 @@ pub use link_lines::{LinkEnd, link_line};
 pub use mode::Mode;
 pub use status::Status;
 pub use summaries::summary;
-
-#[cfg(test)]
-mod tests;

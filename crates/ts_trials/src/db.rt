@@ -1,0 +1,3 @@
+// A database: the series that a refusal names.
+mod call;
+mod full;

@@ -1,0 +1,85 @@
+// Series that have as many samples as they may: which one it is that a refusal names, by the number of its key.
+ghost use Rattle.std.specs.Prelude.{◌≡◌, ◌<◌};
+
+use crate::db::call::{Call, Came, run};
+use std::alloc::{AllocError, Global};
+use std::marker::Brand;
+use std::sync::ledger::{Blank, Ledger};
+use std::test::Fail;
+use ts_db::Db;
+use ts_sample::Steps;
+use ts_spec::Limits;
+
+// The first of the calls that came to something else, in a database with 3 samples a key.
+fn wrong<L: Ledger>(
+    alloc: Global,
+    blank: Blank,
+    calls: &[(Call, Came)],
+) -> Result<Option<usize>, AllocError>
+    requires name { blank.name ≡ L.name }
+    requires parts { blank.parts ≡ L.parts }
+    requires some { 0 < blank.parts }
+{
+    let limits = Limits {
+        samples: 3,
+        ..Limits::usual()
+    };
+    let mut steps = Steps::<L>::new(blank);
+    let mut db = Db::new(alloc, limits);
+    for (i, (call, came)) in calls.iter().enumerate() {
+        if run(alloc, &mut db, *call, &mut steps)? != *came {
+            return Ok(Some(i));
+        }
+    }
+    Ok(None)
+}
+
+#[test]
+fn the_written_series_or_its_destination_is_full(rt: HostRuntime) -> Result<(), Fail> {
+    let calls = [
+        (Call::Create(b'a'), Came::Done),
+        (Call::Create(b'c'), Came::Done),
+        (Call::Put(b'c', 1), Came::Number(1)),
+        (Call::Put(b'c', 2), Came::Number(2)),
+        (Call::Put(b'c', 3), Came::Number(3)),
+        (Call::Put(b'c', 4), Came::Full(1, true)),
+        (Call::Add(b'c', 4), Came::Full(1, true)),
+        (Call::Incr(b'c', 4), Came::Full(1, true)),
+        (Call::Make(b'a', b'c'), Came::Done),
+        (Call::Put(b'a', 11), Came::Number(11)),
+        (Call::Put(b'a', 21), Came::Full(1, false)),
+        (Call::Add(b'a', 21), Came::Full(1, false)),
+        (Call::Incr(b'a', 21), Came::Full(1, false)),
+        (Call::Put(b'a', 12), Came::Number(12)),
+        (Call::Put(b'a', 13), Came::Number(13)),
+        (Call::Put(b'a', 21), Came::Full(0, true)),
+        (Call::End(b'a', b'c'), Came::Done),
+        (Call::Delete(b'c', 1, 2), Came::Number(2)),
+        (Call::Make(b'c', b'a'), Came::Done),
+        (Call::Put(b'c', 4), Came::Number(4)),
+        (Call::Put(b'c', 14), Came::Full(0, false)),
+        (Call::Put(b'c', 5), Came::Number(5)),
+        (Call::Put(b'c', 14), Came::Full(1, true)),
+    ];
+    assert_eq!(rt; wrong::<Brand>(rt.alloc(), Blank::new(1), &calls)?, None);
+    Ok(())
+}
+
+#[test]
+fn a_deletion_fills_a_destination(rt: HostRuntime) -> Result<(), Fail> {
+    let calls = [
+        (Call::Create(b'a'), Came::Done),
+        (Call::Create(b'c'), Came::Done),
+        (Call::Make(b'a', b'c'), Came::Done),
+        (Call::Put(b'a', 1), Came::Number(1)),
+        (Call::Put(b'a', 2), Came::Number(2)),
+        (Call::Put(b'a', 11), Came::Number(11)),
+        (Call::Delete(b'c', 0, 0), Came::Number(1)),
+        (Call::Put(b'c', 100), Came::Number(100)),
+        (Call::Put(b'c', 200), Came::Number(200)),
+        (Call::Put(b'c', 300), Came::Number(300)),
+        (Call::Delete(b'a', 2, 2), Came::Full(1, false)),
+    ];
+    assert_eq!(rt; wrong::<Brand>(rt.alloc(), Blank::new(1), &calls)?, None);
+    Ok(())
+}

@@ -1,0 +1,45 @@
+// Adapters over readers and writers of std, and over its clock.
+use crate::io::calls::{read_two, time_of, write_once};
+use crate::io::flaky::Flaky;
+use std::test::Fail;
+use ts_io::{Failed, StdSink, StdSource, SystemClock};
+
+#[test]
+fn a_reader_of_std_is_a_source(rt: HostRuntime) {
+    let mut source = StdSource::new(b"abc".as_slice());
+    assert_eq!(rt; read_two(&mut source), Ok((2, *b"ab")));
+    assert_eq!(rt; read_two(&mut source), Ok((1, *b"c\0")));
+    assert_eq!(rt; read_two(&mut source), Ok((0, *b"\0\0")));
+}
+
+#[test]
+fn a_reader_that_fails_is_asked_again(rt: HostRuntime) {
+    let mut source = StdSource::new(Flaky { fails: true });
+    assert_eq!(rt; read_two(&mut source), Err(Failed));
+    assert_eq!(rt; read_two(&mut source), Ok((2, *b"\0\0")));
+}
+
+#[test]
+fn a_writer_of_std_is_a_sink(rt: HostRuntime) {
+    let mut written = Vec::new(rt.alloc());
+    let mut sink = StdSink::new(&mut written);
+    assert_eq!(rt; write_once(&mut sink, b"abc"), Ok(3));
+    assert_eq!(rt; write_once(&mut sink, b"de"), Ok(2));
+    assert_eq!(rt; written.as_slice(), b"abcde".as_slice());
+}
+
+#[test]
+fn a_write_that_is_not_flushed_has_failed(rt: HostRuntime) {
+    let mut sink = StdSink::new(Flaky { fails: true });
+    assert_eq!(rt; write_once(&mut sink, b"abc"), Err(Failed));
+    assert_eq!(rt; sink.unacknowledged(), 3);
+    assert_eq!(rt; write_once(&mut sink, b"abc"), Ok(3));
+    assert_eq!(rt; sink.unacknowledged(), 3);
+}
+
+#[test]
+fn the_system_tells_the_time(rt: HostRuntime) -> Result<(), Fail> {
+    let mut clock = SystemClock::new(rt.clone()?);
+    assert!(rt; time_of(&mut clock) > 0);
+    Ok(())
+}

@@ -1,0 +1,32 @@
+//! Tests of the libraries below the engine, with ample memory, a module for each. In a crate of their own they begin with
+//! what is proved of the libraries, and these are not proved again with them.
+#![tactic(auto)]
+
+#[cfg(test)]
+mod agg;
+#[cfg(test)]
+mod bucket;
+#[cfg(test)]
+mod chunk_plain;
+#[cfg(test)]
+mod db;
+#[cfg(test)]
+mod decimal;
+#[cfg(test)]
+mod io;
+#[cfg(test)]
+mod multi;
+#[cfg(test)]
+mod range;
+#[cfg(test)]
+mod resp;
+#[cfg(test)]
+mod rules;
+#[cfg(test)]
+mod sample;
+#[cfg(test)]
+mod series;
+#[cfg(test)]
+mod words;
+#[cfg(test)]
+mod workload;

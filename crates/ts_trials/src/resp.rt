@@ -1,0 +1,3 @@
+// Requests and replies: worked examples.
+mod replies;
+mod streams;

@@ -1,0 +1,147 @@
+// A change of a source, and what it comes to for a rule of it. Each rule tells the sum of ten milliseconds.
+ghost use Rattle.std.specs.Prelude.{◌≡◌, ◌≤◌, length, IfSome};
+ghost use Rattle.ts_rules.specs.Plans.{IsForDest};
+
+use std::alloc::Global;
+use std::sync::ledger::Ledger;
+use ts_agg::{Aggregator, Running};
+use ts_bucket::Grid;
+use ts_rules::Rule;
+use ts_sample::{Gathered, Id, MAX_TIME, Sample, Steps, Units};
+use ts_series::{Encoding, Merge, Options, Policy, Series, SeriesPlan};
+
+// What is done to the source.
+#[derive(Clone, Copy)]
+pub(crate) enum Change {
+    Write(u64, i128),
+    Delete(u64, u64),
+}
+
+// Times and millionths: of the source before the rule was made and since then, of the open bucket, and of the
+// destination; then those of the destination and of its latest sample after the change, under a limit.
+#[derive(Clone, Copy)]
+pub(crate) struct Case {
+    pub(crate) earlier: &'static [(u64, i128)],
+    pub(crate) source: &'static [(u64, i128)],
+    pub(crate) current: Option<u64>,
+    pub(crate) counted: &'static [i128],
+    pub(crate) dest: &'static [(u64, i128)],
+    pub(crate) limit: u32,
+    pub(crate) change: Change,
+    pub(crate) comes: Came,
+}
+
+#[derive(Clone, Copy)]
+pub(crate) enum Came {
+    Shown(&'static [(u64, i128)], Option<(u64, i128)>),
+    Full,
+}
+
+pub(crate) const EMPTY: Case = Case {
+    earlier: &[],
+    source: &[],
+    current: None,
+    counted: &[],
+    dest: &[],
+    limit: 4,
+    change: Change::Write(1, 5),
+    comes: Came::Shown(&[], Some((0, 5))),
+};
+
+pub(crate) fn sample(time: u64, value: i128) -> Option<Sample> {
+    if time > MAX_TIME {
+        return None;
+    }
+    let value = Units::new(value)?;
+    Some(Sample {
+        time,
+        value,
+        made: 1,
+    })
+}
+
+// A rule whose open bucket counts these.
+pub(crate) fn rule(current: Option<u64>, counted: &[i128]) -> Option<Rule>
+    requires { length counted.now ≤ 100 }
+    ensures { IfSome result (λ rule. rule.running.count ≤ 100) }
+{
+    let current = current.filter(|time| *time <= MAX_TIME);
+    let mut running = Running::new();
+    for millionths in counted {
+        running.push(&sample(0, *millionths)?);
+    }
+    Some(Rule {
+        dest: Id(7),
+        agg: Aggregator::Sum,
+        grid: Grid::new(0, 10)?,
+        made: 1,
+        current,
+        running,
+    })
+}
+
+pub(crate) fn write<L: Ledger>(
+    series: &mut Series,
+    samples: &[(u64, i128)],
+    steps: &mut Steps<L>,
+) -> Option<()> {
+    for (time, value) in samples {
+        let sample = sample(*time, *value)?;
+        let plan = series
+            .put(sample.time, sample.value, Merge::Set, 100, steps)
+            .ok()?;
+        series.commit(plan);
+    }
+    Some(())
+}
+
+pub(crate) fn empty(alloc: Global) -> Series {
+    Series::new(
+        alloc,
+        Options {
+            retention: 0,
+            encoding: Encoding::Compressed,
+            chunk_size: 4096,
+            policy: Policy::Block,
+        },
+    )
+}
+
+fn is_at(sample: Sample, (time, value): (u64, i128)) -> bool {
+    sample.time == time && sample.value.get() == value
+}
+
+pub(crate) fn is_latest(sample: Option<Sample>, wanted: Option<(u64, i128)>) -> bool {
+    match (sample, wanted) {
+        (None, None) => true,
+        (Some(sample), Some(wanted)) => is_at(sample, wanted),
+        _ => false,
+    }
+}
+
+// Whether a series shows these.
+pub(crate) fn is_shown<L: Ledger>(
+    alloc: Global,
+    series: &Series,
+    wanted: &[(u64, i128)],
+    steps: &mut Steps<L>,
+) -> Option<bool> {
+    let mut gathered = Gathered::with_room(alloc, series.room_for(0, MAX_TIME)).ok()?;
+    series.scan(0, MAX_TIME, &mut gathered, steps);
+    let samples = gathered.into_samples();
+    for (sample, wanted) in samples.iter().zip(wanted) {
+        if !is_at(*sample, *wanted) {
+            return Some(false);
+        }
+    }
+    Some(samples.len() == wanted.len())
+}
+
+pub(crate) fn commit(dest: &mut Series, plan: Option<SeriesPlan>)
+    requires { IsForDest plan dest.old }
+{
+    match plan {
+        None => {}
+        Some(plan) => dest.commit(plan),
+    }
+}

@@ -1,0 +1,159 @@
+// How the samples of a series lie in its chunks.
+ghost use Rattle.std.specs.Prelude.{◌≡◌, ◌<◌};
+
+use std::alloc::Global;
+use std::marker::Brand;
+use std::sync::ledger::{Blank, Ledger};
+use ts_sample::{Steps, Units};
+use ts_series::{Series, SeriesPlan};
+use ts_spec::{Encoding, Merge, Options, Policy};
+
+// Writes a sample at a time of at most 1,000.
+fn put<L: Ledger>(series: &mut Series, time: u64, steps: &mut Steps<L>) {
+    let time = time.min(1000);
+    if let Ok(plan) = series.put(time, Units::ZERO, Merge::Set, 100, steps) {
+        series.commit(plan);
+    }
+}
+
+// A series with samples at 10, 20 and so on up to 90, in chunks of so many bytes.
+fn nine<L: Ledger>(alloc: Global, chunk_size: u32, steps: &mut Steps<L>) -> Series {
+    let options = Options {
+        retention: 0,
+        encoding: Encoding::Uncompressed,
+        chunk_size,
+        policy: Policy::Block,
+    };
+    let mut series = Series::new(alloc, options);
+    for time in 1..10 {
+        put(&mut series, 10 * time, steps);
+    }
+    series
+}
+
+// The times at which the first nine chunks end, with 1,000 after the last of them, and then 0: from the end of a
+// chunk on, one sample more is there at the end of the next.
+fn ends(series: &Series) -> [u64; 9] {
+    let mut ends = [0; 9];
+    let mut from = 0;
+    for end in &mut ends {
+        if from <= 1000 {
+            *end = series.time_for(from, 1000, 1);
+            from = end.saturating_add(1);
+        }
+    }
+    ends
+}
+
+// How nine samples lie in chunks of 48 bytes, of 88 and of the greatest size.
+fn sizes<L: Ledger>(alloc: Global, blank: Blank) -> [[u64; 9]; 3]
+    requires name { blank.name ≡ L.name }
+    requires parts { blank.parts ≡ L.parts }
+    requires some { 0 < blank.parts }
+{
+    let mut steps = Steps::<L>::new(blank);
+    [
+        ends(&nine(alloc, 48, &mut steps)),
+        ends(&nine(alloc, 88, &mut steps)),
+        ends(&nine(alloc, 1_048_576, &mut steps)),
+    ]
+}
+
+#[test]
+fn sizes_of_chunks(rt: HostRuntime) {
+    const ENDS: [[u64; 9]; 3] = [
+        [10, 20, 30, 40, 50, 60, 70, 80, 90],
+        [30, 60, 90, 1000, 0, 0, 0, 0, 0],
+        [90, 1000, 0, 0, 0, 0, 0, 0, 0],
+    ];
+    assert_eq!(rt; sizes::<Brand>(rt.alloc(), Blank::new(1)), ENDS);
+}
+
+// How nine samples in chunks of 88 bytes lie with one more at 15, without those from 20 to 80, then with those
+// of the last 30 milliseconds alone, and with one that is so much later that no other stays. A chunk that is left
+// in part is not cut, and its end is not seen.
+fn changes<L: Ledger>(alloc: Global, blank: Blank) -> Option<[[u64; 9]; 4]>
+    requires name { blank.name ≡ L.name }
+    requires parts { blank.parts ≡ L.parts }
+    requires some { 0 < blank.parts }
+{
+    let mut steps = Steps::<L>::new(blank);
+    let mut late = nine(alloc, 88, &mut steps);
+    put(&mut late, 15, &mut steps);
+    let mut left = nine(alloc, 88, &mut steps);
+    let Ok(plan) = left.cut(20, 80, &mut steps) else {
+        return None;
+    };
+    left.commit(plan);
+    let mut short = nine(alloc, 88, &mut steps);
+    let Ok(plan) = short.alter(Some(30), None, None, &mut steps) else {
+        return None;
+    };
+    short.commit(plan);
+    let shortened = ends(&short);
+    put(&mut short, 1000, &mut steps);
+    Some([ends(&late), ends(&left), shortened, ends(&short)])
+}
+
+#[test]
+fn changes_of_chunks(rt: HostRuntime) {
+    const ENDS: [[u64; 9]; 4] = [
+        [15, 30, 60, 90, 1000, 0, 0, 0, 0],
+        [10, 90, 1000, 0, 0, 0, 0, 0, 0],
+        [90, 1000, 0, 0, 0, 0, 0, 0, 0],
+        [1000, 0, 0, 0, 0, 0, 0, 0, 0],
+    ];
+    let found = changes::<Brand>(rt.alloc(), Blank::new(1));
+    assert_eq!(rt; found, Some(ENDS));
+}
+
+// Times up to which nine samples in chunks of three have so many of them, in an interval.
+fn times<L: Ledger>(alloc: Global, blank: Blank) -> [u64; 5]
+    requires name { blank.name ≡ L.name }
+    requires parts { blank.parts ≡ L.parts }
+    requires some { 0 < blank.parts }
+{
+    let mut steps = Steps::<L>::new(blank);
+    let series = nine(alloc, 88, &mut steps);
+    [
+        series.time_for(0, 1000, 1),
+        series.time_for(0, 1000, 4),
+        series.time_for(15, 1000, 1),
+        series.time_for(0, 20, 1),
+        series.time_for(0, 1000, 10),
+    ]
+}
+
+#[test]
+fn times_for_so_many(rt: HostRuntime) {
+    const TIMES: [u64; 5] = [30, 60, 60, 20, 1000];
+    assert_eq!(rt; times::<Brand>(rt.alloc(), Blank::new(1)), TIMES);
+}
+
+// Times from which on nine samples in chunks of three have so many of them, in an interval.
+fn begins<L: Ledger>(alloc: Global, blank: Blank) -> [u64; 5]
+    requires name { blank.name ≡ L.name }
+    requires parts { blank.parts ≡ L.parts }
+    requires some { 0 < blank.parts }
+{
+    let mut steps = Steps::<L>::new(blank);
+    let series = nine(alloc, 88, &mut steps);
+    [
+        series.time_from(0, 1000, 1),
+        series.time_from(0, 1000, 4),
+        series.time_from(0, 85, 1),
+        series.time_from(80, 1000, 1),
+        series.time_from(0, 1000, 10),
+    ]
+}
+
+#[test]
+fn times_from_so_many(rt: HostRuntime) {
+    const TIMES: [u64; 5] = [70, 40, 40, 80, 0];
+    assert_eq!(rt; begins::<Brand>(rt.alloc(), Blank::new(1)), TIMES);
+}
+
+#[test]
+fn a_plan_is_small(rt: HostRuntime) {
+    assert!(rt; size_of::<SeriesPlan>() <= 320);
+}

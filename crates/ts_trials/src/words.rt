@@ -1,0 +1,87 @@
+// The words of the command line and the lines of the program, by tables.
+use std::alloc::AllocError;
+use std::test::Fail;
+use ts_words::{LinkEnd, Mode, Status, line, link_line, summary};
+
+// The mode that the words of this line ask for, which stand between spaces.
+fn mode_of_line(rt: &HostRuntime, line: &str) -> Result<Option<Mode>, AllocError> {
+    let mut words = Vec::new(rt.alloc());
+    for word in line.split(' ') {
+        words.push(word.to_string(rt.alloc())?)?;
+    }
+    Ok(Mode::read(&words))
+}
+
+#[test]
+fn words_ask_for_a_mode(rt: HostRuntime) -> Result<(), Fail> {
+    assert_eq!(rt; mode_of_line(&rt, "pipe")?, Some(Mode::Pipe));
+    assert_eq!(rt;
+        mode_of_line(&rt, "serve localhost:7379 4294967295")?,
+        Some(Mode::Serve(u32::MAX))
+    );
+    assert_eq!(rt;
+        mode_of_line(&rt, "gen 18446744073709551615 1000000")?,
+        Some(Mode::Gen(u64::MAX, 1_000_000))
+    );
+    assert_eq!(rt;
+        mode_of_line(&rt, "gen 007 00000000000000000000")?,
+        Some(Mode::Gen(7, 0))
+    );
+    Ok(())
+}
+
+#[test]
+fn other_words_ask_for_none(rt: HostRuntime) -> Result<(), Fail> {
+    assert_eq!(rt; Mode::read(&[]), None);
+    for line in [
+        "",
+        "PIPE",
+        "pipe pipe",
+        "serve x",
+        "serve x 0",
+        "serve x 4294967296",
+        "serve  1",
+        "serve -x 1",
+        "serve x 1 1",
+        "gen 1 1000001",
+        "gen -1 1",
+        "gen +1 1",
+        "gen 18446744073709551616 1",
+        "gen 1 000000000000000000001",
+    ] {
+        assert_eq!(rt; mode_of_line(&rt, line)?, None);
+    }
+    Ok(())
+}
+
+#[test]
+fn lines_of_endings(rt: HostRuntime) {
+    let mut room = [0; 160];
+    assert_eq!(rt;
+        line(Some(Mode::Pipe), Status::Ended, 7, &mut room),
+        b"".as_slice()
+    );
+    assert_eq!(rt;
+        line(Some(Mode::Pipe), Status::Protocol, 18, &mut room),
+        b"tsd: protocol fault at byte 18\n".as_slice()
+    );
+    assert_eq!(rt;
+        line(None, Status::Usage, 0, &mut room),
+        b"usage: tsd pipe | tsd serve <address> <connections> | tsd gen <seed> <n>\n".as_slice()
+    );
+    assert_eq!(rt; Status::Budget.code(), 8);
+}
+
+#[test]
+fn lines_of_connections_and_workloads(rt: HostRuntime) {
+    let mut room = [0; 80];
+    assert_eq!(rt;
+        link_line(2, 10, LinkEnd::ReadFault, &mut room),
+        b"link 2 executed 10 read-fault\n".as_slice()
+    );
+    let mut room = [0; 192];
+    assert_eq!(rt;
+        summary(&[21, 1674, 3, 0, u64::MAX, 5], &mut room),
+        b"requests 21\nin 1674\nout 3\nerrors 0\nkeys 18446744073709551615\nsamples 5\n".as_slice()
+    );
+}
