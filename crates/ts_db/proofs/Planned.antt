@@ -1,6 +1,6 @@
 -- The plan for one rule of a source.
-use Rattle.std.proofs.Common.{◌≡◌, ◌<◌, ℕ, List, [], ◌∷◌, ◌++◌, refl, ap, subst}
-use Rattle.std.specs.Prelude.{None, Some, Result, Ok, length, filter}
+use Rattle.std.proofs.Common.{◌≡◌, ℕ, List, [], ◌∷◌, ◌++◌, refl, ap, subst}
+use Rattle.std.specs.Prelude.{None, Some, Result, Ok, Err, IfOk, IfErr, filter}
 use Rattle.slab.specs.Slab as slab
 use Rattle.ts_spec.specs.Sample.{Point, between, outside}
 use Rattle.ts_spec.specs.Bucket.{starts}
@@ -10,20 +10,26 @@ use Rattle.ts_series.specs.History.{History, list_of}
 use Rattle.ts_rules.specs.declared.rule.Rule.{Rule}
 use Rattle.ts_rules.specs.declared.plan.RulePlan.{RulePlan}
 use Rattle.ts_rules.specs.declared.fault.RuleFault.{RuleFault}
+use Rattle.ts_rules.specs.declared.fault.RuleFault.TheVariants.{Full, Memory}
 use Rattle.ts_rules.specs.Rules.{kept_as, IsChanged}
-use Rattle.ts_rules.specs.Plans.{IsPlanned, mended_list}
+use Rattle.ts_rules.specs.Plans.{IsPlanned, HidesNothing}
 use Rattle.ts_rules.specs.PlansOfDeletions.{IsPlanOfDeletion}
 use Rattle.ts_db.specs.declared.node.Node.{Node}
 use Rattle.ts_db.specs.declared.work.Work.{Work}
-use Rattle.ts_db.specs.declared.work.Work.TheVariants.{Delete}
+use Rattle.ts_db.specs.declared.work.Work.TheVariants.{Write, Delete}
 use Rattle.ts_db.specs.Store.{Nodes, key_in}
-use Rattle.ts_db.specs.Planning.{kept_rule_in, changed_by, gone_by, rows_by_work, IsFedBy, first_full}
+use Rattle.ts_db.specs.Planning.{changed_by, gone_by, rows_by_work, IsFedBy, first_full, TellsFull, IsRuleUnplanned}
 use Rattle.ts_db.proofs.Plans.{fits-one, full-one}
 
 -- the rows of buckets do not tell the key of a destination
 rows-named : (left : List Point) (born : ℕ) (k : Key) (r : Rule) (bs : List ℕ) → rows_of left born (kept_as [] r) bs ≡ rows_of left born (kept_as k r) bs
 rows-named left born k r [] = refl
 rows-named left born k r (b ∷ bs) = ap (λ (rows : List Point). bucket_row r.agg born b (counted_anew (kept_as k r) b left) ++ rows) (rows-named left born k r bs)
+
+-- what follows from what is so of a write
+pub tells-then : (work : Work) {X Y : Type 0} → (X → Y) → TellsFull work X → TellsFull work Y
+tells-then (Write p) follows x = follows x
+tells-then (Delete from to) follows x = tt
 
 -- the plan of a deletion, by any key of the destination
 pub deletion-named : (limit : ℕ) (k : Key) (r : Rule) (source : History) (from to : ℕ) (dest : History) (result : Result RulePlan RuleFault) → IsPlanOfDeletion limit r source from to dest result
@@ -38,20 +44,29 @@ module _ (limit : ℕ) (nodes : Nodes) (work : Work) (source : History) (r : Rul
   abbrev pub IsPlan : Result RulePlan RuleFault → Type 0
   IsPlan result = (k : Key) → IsPlanned limit (changed_by work source) (gone_by work source (kept_as k r)) (rows_by_work work source n.series.born (kept_as k r)) r n.series result
 
-  pub planned-changed : (x : RulePlan) → IsPlan (Ok x) → IsChanged (changed_by work source) r x.rule
-  planned-changed x p = (p []).0
+  pub planned-changed : (result : Result RulePlan RuleFault) → IsPlan result → IfOk result (λ x. IsChanged (changed_by work source) r x.rule)
+  planned-changed (Ok x) p = (p []).0
+  planned-changed (Err fault) p = tt
 
-  pub planned-fed : (x : RulePlan) → IsPlan (Ok x) → IsFedBy limit nodes (rows_by_work work source) (gone_by work source) r x
-  planned-fed x p = record {
+  pub planned-fed : (result : Result RulePlan RuleFault) → IsPlan result → IfOk result (λ x. IsFedBy limit nodes (rows_by_work work source) (gone_by work source) r x)
+  planned-fed (Ok x) p = record {
     dest = (p []).0.dest;
     node = n;
     there = is;
     mended = (p (key_in nodes r.dest)).1;
   }
+  planned-fed (Err fault) p = tt
 
-  pub planned-fits : (x : RulePlan) → IsPlan (Ok x) → first_full limit nodes (rows_by_work work source) (gone_by work source) (r ∷ []) ≡ None
-  planned-fits x p = fits-one limit nodes (rows_by_work work source) (gone_by work source) r n is (p (key_in nodes r.dest)).1.fits
+  pub planned-fits : (result : Result RulePlan RuleFault) → IsPlan result → IfOk result (λ x. first_full limit nodes (rows_by_work work source) (gone_by work source) (r ∷ []) ≡ None)
+  planned-fits (Ok x) p = fits-one limit nodes (rows_by_work work source) (gone_by work source) r n is (p (key_in nodes r.dest)).1.fits
+  planned-fits (Err fault) p = tt
 
-  pub planned-full : limit < length (mended_list (gone_by work source (kept_rule_in nodes r)) (rows_by_work work source n.series.born (kept_rule_in nodes r)) n.series)
-      → first_full limit nodes (rows_by_work work source) (gone_by work source) (r ∷ []) ≡ Some r.dest
-  planned-full = full-one limit nodes (rows_by_work work source) (gone_by work source) r n is
+  -- want of memory does not hide that the destination of a write would be full
+  abbrev pub IsTold : Result RulePlan RuleFault → Type 0
+  IsTold result = (k : Key) → TellsFull work (IfErr result (HidesNothing limit (gone_by work source (kept_as k r)) (rows_by_work work source n.series.born (kept_as k r)) n.series))
+
+  pub planned-refused : (result : Result RulePlan RuleFault) → IsPlan result → IsTold result → IfErr result (IsRuleUnplanned work r (first_full limit nodes (rows_by_work work source) (gone_by work source) (r ∷ [])))
+  planned-refused (Ok x) p told = tt
+  planned-refused (Err Full) p told = full-one limit nodes (rows_by_work work source) (gone_by work source) r n is (p (key_in nodes r.dest))
+  planned-refused (Err (Memory e)) p told =
+      tells-then work (λ few. fits-one limit nodes (rows_by_work work source) (gone_by work source) r n is few) (told (key_in nodes r.dest))

@@ -20,9 +20,9 @@ use Rattle.ts_spec.proofs.Tidy.{some-same}
 use Rattle.ts_sample.specs.declared.id.Id.{Id}
 use Rattle.ts_series.specs.History.{History, list_of, low, IsKept}
 use Rattle.ts_series.specs.Plan.{Plan, after}
-use Rattle.ts_series.specs.Put.{Answers, Writes, Fits, IsWrite, IsFullFault, met, sample_of, list_after, refusal_of as put_refusal}
+use Rattle.ts_series.specs.Put.{Answers, Writes, Fits, IsWrite, IsFullFault, met, sample_of, list_after, unwritten_of, refusal_of as put_refusal}
 use Rattle.ts_series.specs.declared.plan.PutFault.{PutFault}
-use Rattle.ts_series.specs.declared.plan.PutFault.TheVariants.{TooOld, Duplicate, OutOfRange, Full, Memory}
+use Rattle.ts_series.specs.declared.plan.PutFault.TheVariants.{TooOld, Duplicate, OutOfRange, Full, Unwritten, Memory}
 use Rattle.ts_series.proofs.Counting.{length-after}
 use Rattle.ts_rules.specs.declared.rule.Rule.{Rule}
 use Rattle.ts_db.specs.declared.fault.DbFault.{DbFault}
@@ -39,7 +39,7 @@ use Rattle.ts_db.proofs.Applying.{there}
 use Rattle.ts_db.proofs.Fed.{written-fed}
 use Rattle.ts_db.proofs.Fitting.{keys_fed, own-fed, destinations-tested}
 use Rattle.ts_db.proofs.Known.{links}
-use Rattle.ts_db.proofs.Unplanned.{unless-full-yields, destination-refused}
+use Rattle.ts_db.proofs.Unplanned.{none-full-yields, destination-refused}
 use Rattle.ts_db.proofs.Working.{changed-rules}
 
 -- what a plan writes where it writes this sample
@@ -73,6 +73,28 @@ written-sample plan (To v) limit t h p a is = record {
   sets = refl;
   sample = some-same p (sample_of t v h) (is ∙ ap first_of a.0.wrote);
   writes = a;
+}
+
+-- the sample of a write that fits and for which there was no memory
+pub record IsUnwritten (limit : ℕ) (what : Merged) (t : ℕ) (h : History) (p : Point) : Type 0 where
+  pub value : ℤ
+  pub sets : what ≡ To value
+  pub sample : p ≡ sample_of t value h
+  pub fits : Fits limit (sample_of t value h) h
+
+pub unwritten-sample : (fault : PutFault) (what : Merged) (limit t : ℕ) (h : History) (p : Point) → Answers what limit t h (Err fault) → unwritten_of fault ≡ Some p → IsUnwritten limit what t h p
+unwritten-sample TooOld what limit t h p a is = absurd (cc is)
+unwritten-sample Duplicate what limit t h p a is = absurd (cc is)
+unwritten-sample OutOfRange what limit t h p a is = absurd (cc is)
+unwritten-sample Full what limit t h p a is = absurd (cc is)
+unwritten-sample (Memory e) what limit t h p a is = absurd (cc is)
+unwritten-sample (Unwritten q) (Refuse r) limit t h p a is = let none : None ≡ Some r = a in absurd (cc none)
+unwritten-sample (Unwritten q) Keep limit t h p a is = absurd a
+unwritten-sample (Unwritten q) (To v) limit t h p a is = record {
+  value = v;
+  sets = refl;
+  sample = some-same p (sample_of t v h) (sym is ∙ ap (λ (x : Point). Some x) a.1);
+  fits = a.0;
 }
 
 module _ (s : Store) (db : IsDb s) (key : Key) (id : Id) (n : Node) (holds : Holds s key id n) where
@@ -131,33 +153,34 @@ module _ (s : Store) (db : IsDb s) (key : Key) (id : Id) (n : Node) (holds : Hol
       (sym (ap (λ (x : Contents). x.keys) is
       ∙ ap (λ (x : Kept). keep_fed (rows t v) (gone t v) (rules_by (key_in s.nodes) n.rules.items) (with_key key x (stock_of s).keys)) same))
 
-  -- one that a destination refuses
-  pub unplanned-answers : (plan : Plan) (fault : DbFault) (t : ℕ) (v : ℤ) → IsWrite s.limits.samples (sample_of t v n.series) n.series (Ok plan) → IsUnplanned (full_by t v) fault
+  -- one that a destination refuses, or for which there was no memory and that no destination refuses
+  pub unplanned-answers : (fault : DbFault) (t : ℕ) (v : ℤ) → Fits s.limits.samples (sample_of t v n.series) n.series → IsUnplanned (Write (sample_of t v n.series)) (full_by t v) fault
       → IsKeptAnswer (refusal_of (stock_of s).ids fault) (stock_of s).keys (kept_write_merged s.limits (stock_of s).keys key t (To v))
-  unplanned-answers plan fault t v a x =
-      subst (IsKeptAnswer (refusal_of (stock_of s).ids fault) (stock_of s).keys) (sym (write-fits t v (short t v a.1)))
-      (destination-refused s db.store n.rules.items (rows t v) (gone t v) (db.store.live id.0 n holds.node).rules fault (record { keys = after_keys t v; response = Count t }) tt x)
+  unplanned-answers fault t v few x =
+      let done : KeptOutcome = record { keys = after_keys t v; response = Count t } in
+      subst (IsKeptAnswer (refusal_of (stock_of s).ids fault) (stock_of s).keys) (sym (write-fits t v (short t v few)))
+      (destination-refused s db.store n.rules.items (rows t v) (gone t v) (db.store.live id.0 n holds.node).rules (Write (sample_of t v n.series)) YieldsToMemory fault done
+      (λ none. none-full-yields (key_in s.nodes) (stock_of s).keys (full_by t v) done none tt) x)
 
-  -- a write that was not planned
-  pub refused-answers : (fault : PutFault) (o : Option Refusal) (what : Merged) (t : ℕ) → o ≡ put_refusal fault → Answers what s.limits.samples t n.series (Err fault)
+  -- a write that was not planned, and not for want of memory
+  pub refused-answers : (fault : PutFault) (o : Option Refusal) (what : Merged) (t : ℕ) → unwritten_of fault ≡ None → o ≡ put_refusal fault → Answers what s.limits.samples t n.series (Err fault)
       → IsKeptAnswer o (stock_of s).keys (kept_write_merged s.limits (stock_of s).keys key t what)
-  refused-answers fault o (Refuse r) t is a = subst (λ (x : Option Refusal). IsKeptAnswer x (stock_of s).keys (kept_refused (stock_of s).keys r)) (sym (is ∙ a)) refl
-  refused-answers fault o Keep t is a = absurd a
-  refused-answers fault o (To v) t is a =
-      subst (λ (x : Option Refusal). IsKeptAnswer x (stock_of s).keys (kept_write_merged s.limits (stock_of s).keys key t (To v))) (sym is) (full fault a)
+  refused-answers fault o (Refuse r) t other is a = subst (λ (x : Option Refusal). IsKeptAnswer x (stock_of s).keys (kept_refused (stock_of s).keys r)) (sym (is ∙ a)) refl
+  refused-answers fault o Keep t other is a = absurd a
+  refused-answers fault o (To v) t other is a =
+      subst (λ (x : Option Refusal). IsKeptAnswer x (stock_of s).keys (kept_write_merged s.limits (stock_of s).keys key t (To v))) (sym is) (full fault other a)
     where
-      full : (f : PutFault) → IsFullFault s.limits.samples (sample_of t v n.series) n.series f → IsKeptAnswer (put_refusal f) (stock_of s).keys (kept_write_merged s.limits (stock_of s).keys key t (To v))
-      full TooOld x = absurd x
-      full Duplicate x = absurd x
-      full OutOfRange x = absurd x
-      full Full x =
+      full : (f : PutFault) → unwritten_of f ≡ None → IsFullFault s.limits.samples (sample_of t v n.series) n.series f → IsKeptAnswer (put_refusal f) (stock_of s).keys (kept_write_merged s.limits (stock_of s).keys key t (To v))
+      full TooOld none x = absurd x
+      full Duplicate none x = absurd x
+      full OutOfRange none x = absurd x
+      full Full none x =
           write-to t v
           ∙ ap (λ b. if b then kept_refused (stock_of s).keys refusal.SamplesFull
           else kept_unless_full (stock_of s).keys (option_map (key_in s.nodes) (full_by t v)) (record { keys = after_keys t v; response = Count t }))
           (lt-ltb s.limits.samples (length (list_after (sample_of t v n.series) n.series)) x.longer)
-      full (Memory e) x =
-          subst (λ (o : KeptOutcome). YieldsToMemory o.response) (sym (write-fits t v (short t v x)))
-          (unless-full-yields (stock_of s).keys (option_map (key_in s.nodes) (full_by t v)) (record { keys = after_keys t v; response = Count t }) tt)
+      full (Unwritten p) none x = absurd (cc none)
+      full (Memory e) none x = absurd x
 
 -- what a write comes to, by what is kept and by the series
 pub write-met : (m : Keeping) (s : Store) (key : Key) (n : Node) (how : Merge) (t : ℕ) (v : ℤ) → kept_write s.limits m key (kept_at s.nodes n) how t v ≡ kept_write_merged s.limits m key t (met how t v n.series)

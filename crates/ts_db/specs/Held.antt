@@ -54,20 +54,29 @@ pub record Leads (stock : Stock) (P : Held → Type 0) : Type 0 where
 abbrev pub Carries : (old new : Stock) → (Held → Held → Type 0) → Type 0
 Carries old new P = (from : Held) → Stands old from → Leads new (P from)
 
--- a refusal that want of memory may hide: there was none to find out that a destination would be full
+-- want of memory may be told in the place of this answer: it is no refusal
+abbrev pub YieldsToMemory : Response → Type 0
+YieldsToMemory (Refused refusal) = ⊥
+YieldsToMemory response = ⊤
+
+-- the refusal of a deletion that want of memory may hide: there was none to find out that a destination would be full
 abbrev pub MayBeHidden : Refusal → Type 0
 MayBeHidden (DestinationFull key) = ⊤
 MayBeHidden refusal = ⊥
 
--- want of memory may be told in the place of this answer: it is no refusal, or one that may be hidden
-abbrev pub YieldsToMemory : Response → Type 0
-YieldsToMemory (Refused refusal) = MayBeHidden refusal
-YieldsToMemory response = ⊤
+-- want of memory may be told in the place of this answer to a deletion: it is no refusal, or that one
+abbrev pub DeletionYields : Response → Type 0
+DeletionYields (Refused refusal) = MayBeHidden refusal
+DeletionYields response = ⊤
 
 -- a refusal is the step's answer; want of memory is told only where the step's answer yields to it
+abbrev pub IsAnswerBy : (yields : Response → Type 0) → Option Refusal → State → Outcome → Type 0
+IsAnswerBy yields None m step = yields step.response
+IsAnswerBy yields (Some refusal) m step = step ≡ refused m refusal
+
+-- the same of any call but a deletion
 abbrev pub IsAnswer : Option Refusal → State → Outcome → Type 0
-IsAnswer None m step = YieldsToMemory step.response
-IsAnswer (Some refusal) m step = step ≡ refused m refusal
+IsAnswer o m step = IsAnswerBy YieldsToMemory o m step
 
 -- the step answers so, and the database stands for the state after it
 pub record IsDone (response : Response) (limits : Limits) (step : Outcome) (new : Stock) : Type 0 where
@@ -76,9 +85,13 @@ pub record IsDone (response : Response) (limits : Limits) (step : Outcome) (new 
 
 -- For each state that the database stood for: an answer is that of the step, after which it stands for the step's state; or it is the
 -- step's refusal, or want of memory where the step's answer yields to it, and nothing has changed.
+abbrev pub AnswersBy : (yields : Response → Type 0) → {T : Type 0} → (T → Response) → (old : Stock) → (Held → Outcome) → Result T DbFault → (new : Stock) → Type 0
+AnswersBy yields response old step (Ok x) new = (from : Held) → Stands old from → IsDone (response x) from.limits (step from) new
+AnswersBy yields response old step (Err fault) new = ((from : Held) → Stands old from → IsAnswerBy yields (refusal_of old.ids fault) from.state (step from)) × (new ≡ old)
+
+-- the same of any call but a deletion
 abbrev pub Answers : {T : Type 0} → (T → Response) → (old : Stock) → (Held → Outcome) → Result T DbFault → (new : Stock) → Type 0
-Answers response old step (Ok x) new = (from : Held) → Stands old from → IsDone (response x) from.limits (step from) new
-Answers response old step (Err fault) new = ((from : Held) → Stands old from → IsAnswer (refusal_of old.ids fault) from.state (step from)) × (new ≡ old)
+Answers response old step result new = AnswersBy YieldsToMemory response old step result new
 
 -- a call that answers nothing, and one that answers a time, or how many
 abbrev pub AnswersDone : (old : Stock) → (Held → Outcome) → Result (Unit {0}) DbFault → (new : Stock) → Type 0
@@ -86,6 +99,10 @@ AnswersDone old step result new = Answers (λ x. Done) old step result new
 
 abbrev pub AnswersNumber : (old : Stock) → (Held → Outcome) → Result ℕ DbFault → (new : Stock) → Type 0
 AnswersNumber old step result new = Answers (λ t. Count t) old step result new
+
+-- a deletion, which answers how many
+abbrev pub AnswersDeleted : (old : Stock) → (Held → Outcome) → Result ℕ DbFault → (new : Stock) → Type 0
+AnswersDeleted old step result new = AnswersBy DeletionYields (λ n. Count n) old step result new
 
 -- The number is that of a key.
 pub record IsLive (ids : Keyed Id) (id : Id) : Type 0 where

@@ -9,6 +9,9 @@ use Rattle.ts_sample.specs.declared.id.Id.{Id}
 use Rattle.ts_series.specs.History.{History, list_of}
 use Rattle.ts_rules.specs.declared.rule.Rule.{Rule}
 use Rattle.ts_rules.specs.declared.plan.RulePlan.{RulePlan}
+use Rattle.ts_rules.specs.declared.fault.RuleFault.{RuleFault}
+use Rattle.ts_rules.specs.declared.fault.RuleFault.TheVariants as rule_fault
+use Rattle.ts_rules.specs.declared.fault.RuleFault.TheVariants.{Full}
 use Rattle.ts_rules.specs.Rules.{kept_as, IsChanged, TakesAppended}
 use Rattle.ts_rules.specs.Writes.{rule_after}
 use Rattle.ts_rules.specs.Deletions.{rule_left}
@@ -91,11 +94,21 @@ abbrev pub first_full : (limit : ℕ) → Nodes → Rows → Gone → List Rule 
 first_full limit nodes rows gone [] = None
 first_full limit nodes rows gone (r ∷ rs) = if nat_lt limit (length (fed_list nodes rows gone r)) then Some r.dest else first_full limit nodes rows gone rs
 
--- no plan is made where the destination of that rule would be full, or for want of memory
-abbrev pub IsUnplanned : Option Id → DbFault → Type 0
-IsUnplanned full (SamplesFull id written) = (written ≡ false) × (full ≡ Some id)
-IsUnplanned full (Memory e) = ⊤
-IsUnplanned full fault = ⊥
+-- what is so of a write; of a deletion nothing is said, since it may find no memory to tell whether a destination would be full
+abbrev pub TellsFull : Work → Type 0 → Type 0
+TellsFull (Write p) X = X
+TellsFull (Delete from to) X = ⊤
+
+-- no plan is made for a rule where its destination would be full, or for want of memory, which does not hide that of a write
+abbrev pub IsRuleUnplanned : Work → Rule → (full : Option Id) → RuleFault → Type 0
+IsRuleUnplanned work r full Full = full ≡ Some r.dest
+IsRuleUnplanned work r full (rule_fault.Memory e) = TellsFull work (full ≡ None)
+
+-- nor for all rules where the destination of that one would be full, or for want of memory, which does not hide that of a write
+abbrev pub IsUnplanned : Work → (full : Option Id) → DbFault → Type 0
+IsUnplanned work full (SamplesFull id written) = (written ≡ false) × (full ≡ Some id)
+IsUnplanned work full (Memory e) = TellsFull work (full ≡ None)
+IsUnplanned work full fault = ⊥
 
 -- ---- the plans of destinations, for a store
 

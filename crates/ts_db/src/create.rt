@@ -136,7 +136,7 @@ fn begun<L: Ledger>(
             series.commit(plan);
             Ok(series)
         }
-        Err(PutFault::Memory(fault)) => Err(fault),
+        Err(PutFault::Unwritten(_)) => Err(AllocError),
         Err(_) => unreachable!(),
     }
 }

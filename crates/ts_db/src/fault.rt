@@ -80,6 +80,7 @@ pub(crate) fn fault_at(id: Id, fault: PutFault) -> DbFault
         PutFault::Duplicate => DbFault::Duplicate,
         PutFault::OutOfRange => DbFault::OutOfRange,
         PutFault::Full => DbFault::SamplesFull { id, written: true },
+        PutFault::Unwritten(_) => DbFault::Memory(AllocError),
         PutFault::Memory(fault) => DbFault::Memory(fault),
     }
 }

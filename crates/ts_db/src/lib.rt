@@ -32,6 +32,7 @@ mod ruling;
 mod selection;
 mod store;
 mod total;
+mod unwritten;
 mod work;
 mod write;
 

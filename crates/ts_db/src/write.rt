@@ -108,7 +108,12 @@ impl Store {
         }
         let plan = match node.series.put(time, value, how, limit, steps) {
             Ok(plan) => plan,
-            Err(fault) => return Err(fault_at(id, fault)),
+            Err(fault) => {
+                let Some(lost) = fault.sample() else {
+                    return Err(fault_at(id, fault));
+                };
+                return Err(self.unwritten(&node.rules, &node.series, &lost, steps));
+            }
         };
         let Some(wrote) = plan.wrote() else {
             drop(plan);

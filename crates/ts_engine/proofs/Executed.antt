@@ -9,7 +9,7 @@ use Rattle.ts_spec.specs.Step.{Outcome, step}
 use Rattle.ts_spec.specs.Text.{Reply, text}
 use Rattle.ts_db.specs.Held.{Held, Stock, Stands, Carries, YieldsToMemory}
 use Rattle.ts_engine.specs.Answering.{IsTextOrLost}
-use Rattle.ts_engine.specs.Turn.{IsStep, IsOutOfMemory, StepOrMemory, IsAnswered, MayBeLost, Executes, WritesAll, takes_memory}
+use Rattle.ts_engine.specs.Turn.{IsStep, IsOutOfMemory, StepOrMemory, StepOrMemoryBy, IsAnswered, MayBeLost, Executes, WritesAll, takes_memory}
 use Rattle.ts_engine.proofs.Carried.{carries_none, carries_as}
 
 -- the answer of the step of a command
@@ -54,17 +54,22 @@ writes_execute reading triples old new written carries =
     (λ from to all. record { reply = all.reply; its_text = all.its_text; done = inl all.all }) carries
 
 -- a command of one series
-pub step_executes : (reading : ℕ) (command : Command) (one : Held → Outcome) (old new : Stock) (reply : Reply) (written : List ℕ) → IsTrue (takes_memory command)
-    → ((from : Held) → YieldsToMemory (one from).response → MayBeLost command (response_of reading command from)) → ((from to : Held) → IsStep (one from) from reply to → IsAnswered reading command from reply to)
-    → Carries old new (λ from to. StepOrMemory (one from) from reply to) → written ≡ text reply → Carries old new (λ from to. Executes reading command from written to)
-step_executes reading command one old new reply written may lose answers carries is =
-    carries_as old new (λ from to. StepOrMemory (one from) from reply to) (λ from to. Executes reading command from written to)
+pub step_executes_by : (yields : Response → Type 0) (reading : ℕ) (command : Command) (one : Held → Outcome) (old new : Stock) (reply : Reply) (written : List ℕ) → IsTrue (takes_memory command)
+    → ((from : Held) → yields (one from).response → MayBeLost command (response_of reading command from)) → ((from to : Held) → IsStep (one from) from reply to → IsAnswered reading command from reply to)
+    → Carries old new (λ from to. StepOrMemoryBy yields (one from) from reply to) → written ≡ text reply → Carries old new (λ from to. Executes reading command from written to)
+step_executes_by yields reading command one old new reply written may lose answers carries is =
+    carries_as old new (λ from to. StepOrMemoryBy yields (one from) from reply to) (λ from to. Executes reading command from written to)
     (λ from to done. record {
       reply = reply;
       its_text = is;
       done = ⊎_elim (λ (s : IsStep (one from) from reply to). inl (answers from to s))
-          (λ (lost : YieldsToMemory (one from).response × IsOutOfMemory from reply to). inr (record { may = may; yields = lose from lost.0; out_of_memory = lost.1 })) done;
+          (λ (lost : yields (one from).response × IsOutOfMemory from reply to). inr (record { may = may; yields = lose from lost.0; out_of_memory = lost.1 })) done;
     }) carries
+
+pub step_executes : (reading : ℕ) (command : Command) (one : Held → Outcome) (old new : Stock) (reply : Reply) (written : List ℕ) → IsTrue (takes_memory command)
+    → ((from : Held) → YieldsToMemory (one from).response → MayBeLost command (response_of reading command from)) → ((from to : Held) → IsStep (one from) from reply to → IsAnswered reading command from reply to)
+    → Carries old new (λ from to. StepOrMemory (one from) from reply to) → written ≡ text reply → Carries old new (λ from to. Executes reading command from written to)
+step_executes reading command one old new reply written may lose answers carries is = step_executes_by YieldsToMemory reading command one old new reply written may lose answers carries is
 
 -- a command that takes no memory
 pub sure_executes : (reading : ℕ) (command : Command) (old new : Stock) (reply : Reply) (written : List ℕ)

@@ -38,6 +38,11 @@ abbrev pub IsUnplanned : (limit : ℕ) → (gone : ℕ → Bool) → (rows : Lis
 IsUnplanned limit gone rows h Full = limit < length (mended_list gone rows h)
 IsUnplanned limit gone rows h (Memory e) = ⊤
 
+-- want of memory is told only where the destination would show no more than the limit
+abbrev pub HidesNothing : (limit : ℕ) → (gone : ℕ → Bool) → (rows : List Point) → History → RuleFault → Type 0
+HidesNothing limit gone rows h Full = ⊤
+HidesNothing limit gone rows h (Memory e) = length (mended_list gone rows h) ≤ limit
+
 -- the answer to a mending of a destination
 abbrev pub IsMending : (limit : ℕ) → (gone : ℕ → Bool) → (rows : List Point) → History → Result (Option Plan) RuleFault → Type 0
 IsMending limit gone rows h (Ok plan) = IsMendedBy limit gone rows h plan

@@ -1,7 +1,9 @@
 // The two public calls that plan a change of a source for a rule.
-ghost use Rattle.std.specs.Prelude.{◌≡◌, ◌≤◌, ◌+◌, None, length};
+ghost use Rattle.std.specs.Prelude.{◌≡◌, ◌≤◌, ◌+◌, false, None, length, IfErr};
 ghost use Rattle.ts_series.specs.History.{list_of};
 ghost use Rattle.ts_rules.specs.Rules.{TakesAppended};
+ghost use Rattle.ts_rules.specs.Writes.{row_for_dest};
+ghost use Rattle.ts_rules.specs.Plans.{HidesNothing};
 ghost use Rattle.ts_rules.specs.PlansOfWrites.{IsPlanOfWrite};
 ghost use Rattle.ts_rules.specs.PlansOfDeletions.{IsPlanOfDeletion};
 ghost use Rattle.ts_rules.specs.Shares.{write_share, deletion_share, IsEasyWrite};
@@ -20,7 +22,8 @@ use ts_sample::{MAX_TIME, Sample, Steps};
 use ts_series::Series;
 
 /// Plans what a write to the source of a rule comes to for the rule and for its destination. The source is as it is
-/// before the write, and the destination shows at most `limit` samples, and after the plan too.
+/// before the write, and the destination shows at most `limit` samples, and after the plan too. Want of memory does not
+/// hide that these would be too many.
 pub fn plan_put<L: Ledger>(
     rule: &Rule,
     source: &Series,
@@ -32,6 +35,7 @@ pub fn plan_put<L: Ledger>(
     requires append { TakesAppended rule.now source.now wrote.now }
     requires fits { length (list_of dest.now) ≤ limit }
     ensures planned { IsPlanOfWrite limit rule.now source.now wrote.now dest.now result }
+    ensures memory { IfErr result (HidesNothing limit (λ t. false) (row_for_dest source.now wrote.now dest.now.born rule.now) dest.now) }
     ensures counted { steps.old ≤ steps.new }
     ensures bounded { steps.new ≤ steps.old + write_share rule.now source.now wrote.now dest.now }
     ensures easy { IsEasyWrite limit rule.now source.now wrote.now dest.now → steps.new ≡ steps.old }

@@ -1,5 +1,5 @@
 -- What a mending of a series comes to: rows take the place of the samples of an interval.
-use Rattle.std.specs.Prelude.{◌≡◌, ℕ, ◌+◌, ◌<◌, ◌≤◌, ⊤, List, length, Result, Ok, Err}
+use Rattle.std.specs.Prelude.{◌≡◌, ℕ, ◌+◌, ◌<◌, ◌≤◌, List, length, Result, Ok, Err}
 use Rattle.ts_spec.specs.Sample.{Point, is_within, last_of}
 use Rattle.ts_spec.specs.Mending.{mended, high_with}
 use Rattle.ts_sample.specs.Chunk.{IsPast}
@@ -19,10 +19,10 @@ pub record Mends (from to : ℕ) (rows : List Point) (limit : ℕ) (h : History)
   pub options : (after plan h).options ≡ h.options
   pub fits : length (mended_list from to rows h) ≤ limit
 
--- the series would have more samples than the limit, or there is no memory
+-- the series would have more samples than the limit, or there is no memory; where one row is put at its time, it stays within the limit then
 abbrev pub IsUnmended : (from to : ℕ) → (rows : List Point) → (limit : ℕ) → History → PutFault → Type 0
 IsUnmended from to rows limit h Full = limit < length (mended_list from to rows h)
-IsUnmended from to rows limit h (Memory e) = ⊤
+IsUnmended from to rows limit h (Memory e) = from ≡ to → length rows ≡ 1 → length (mended_list from to rows h) ≤ limit
 IsUnmended from to rows limit h fault = ⊥
 
 -- the answer to a mending

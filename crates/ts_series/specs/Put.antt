@@ -8,7 +8,7 @@ use Rattle.ts_spec.specs.Refusal.{Refusal}
 use Rattle.ts_spec.specs.Rules.{Merged, Refuse, Keep, To, merge}
 use Rattle.ts_spec.specs.Step.{value_at}
 use Rattle.ts_series.specs.declared.plan.PutFault.{PutFault}
-use Rattle.ts_series.specs.declared.plan.PutFault.TheVariants.{TooOld, Duplicate, OutOfRange, Full, Memory}
+use Rattle.ts_series.specs.declared.plan.PutFault.TheVariants.{TooOld, Duplicate, OutOfRange, Full, Unwritten, Memory}
 use Rattle.ts_series.specs.History.{History, list_of, low}
 use Rattle.ts_series.specs.Held.{no_change}
 use Rattle.ts_series.specs.Plan.{Plan, after, writes_one}
@@ -23,7 +23,13 @@ refusal_of TooOld = Some refusal.TooOld
 refusal_of Duplicate = Some refusal.Duplicate
 refusal_of OutOfRange = Some refusal.OutOfRange
 refusal_of Full = Some refusal.SamplesFull
+refusal_of (Unwritten p) = None
 refusal_of (Memory e) = None
+
+-- the sample for which there was no memory, if that is why
+abbrev pub unwritten_of : PutFault → Option Point
+unwritten_of (Unwritten p) = Some p
+unwritten_of fault = None
 
 -- the sample of a write to a series
 abbrev pub sample_of : (time : ℕ) → (value : ℤ) → History → Point
@@ -63,10 +69,10 @@ abbrev pub IsNothing : Result Plan PutFault → Type 0
 IsNothing (Ok plan) = plan ≡ nothing_in plan.encoding
 IsNothing (Err fault) = ⊥
 
--- the series is full, or there is no memory for a write that fits
+-- the series is full, or there is no memory for a write that fits, and its sample is told
 abbrev pub IsFullFault : ℕ → Point → History → PutFault → Type 0
 IsFullFault limit p h Full = IsFull limit p h
-IsFullFault limit p h (Memory e) = Fits limit p h
+IsFullFault limit p h (Unwritten q) = Fits limit p h × (q ≡ p)
 IsFullFault limit p h fault = ⊥
 
 abbrev pub IsWrite : ℕ → Point → History → Result Plan PutFault → Type 0

@@ -19,7 +19,8 @@ use ts_sample::{Chunk, Sample, Steps, place_of};
 
 impl<C: Chunk> Line<C> {
     // Plans that rows take the place of the samples from one time to another, in milliseconds, both included,
-    // if the series then has at most `limit` samples. Each row lies between these times.
+    // if the series then has at most `limit` samples. Each row lies between these times. Want of memory for one row at
+    // its time does not hide that the samples would be too many.
     pub(crate) fn mend<L: Ledger>(
         &self,
         from: u64,
@@ -45,7 +46,16 @@ impl<C: Chunk> Line<C> {
                 }
                 Ok(plan)
             }
-            Err(fault) => Err(PutFault::Memory(fault)),
+            Err(fault) => {
+                if from != to || rows.len() != 1 {
+                    return Err(PutFault::Memory(fault));
+                }
+                let removed = self.chunks.count_at(from, steps);
+                if self.exceeds(limit, from, to, rows, removed, steps) {
+                    return Err(PutFault::Full);
+                }
+                Err(PutFault::Memory(fault))
+            }
         }
     }
 
@@ -67,6 +77,7 @@ impl<C: Chunk> Line<C> {
         ensures removed { IfOk result (λ r. r.1 ≡ length (between from to (points self.now.held))) }
         ensures counted { steps.old ≤ steps.new }
         ensures bounded { steps.new ≤ steps.old + 2 * reach self.now }
+        ensures row { from ≡ to → length rows.now ≡ 1 → steps.new ≤ steps.old + reach self.now }
         ensures easy { (limit : ℕ) → IsRowPast from to rows.now limit self.now → steps.new ≡ steps.old }
     {
         let size = new_limit(self.options.chunk_size);

@@ -34,6 +34,7 @@ impl<C: Chunk> Chunks<C> {
         ensures removed { IfOk result (λ r. r.1 ≡ length (between from to (points self.now))) }
         ensures counted { steps.old ≤ steps.new }
         ensures bounded { steps.new ≤ steps.old + 2 * longest self.now.pieces }
+        ensures row { from ≡ to → length rows.now ≡ 1 → steps.new ≤ steps.old + longest self.now.pieces }
         ensures easy { from ≡ to → length rows.now ≡ 1 → IsPast (last_of (points self.now)) from → steps.new ≡ steps.old }
     {
         if from == to {

@@ -26,9 +26,26 @@ pub enum PutFault {
     /// The series would have too many samples.
     #[error("too many samples")]
     Full,
+    /// There was no memory to write this sample, for which the series has room.
+    #[error("no memory for a sample")]
+    Unwritten(Sample),
     /// There was no memory.
     #[error(transparent)]
     Memory(AllocError),
+}
+
+impl PutFault {
+    ghost use Rattle.ts_series.specs.Put.{unwritten_of};
+
+    /// The sample for which there was no memory, if that is why.
+    pub fn sample(&self) -> Option<Sample>
+        ensures { result ≡ unwritten_of self.now }
+    {
+        match self {
+            PutFault::Unwritten(sample) => Some(*sample),
+            _ => None,
+        }
+    }
 }
 
 /// A change of a series that can be committed: it has the memory that it takes.

@@ -110,7 +110,7 @@ impl<C: Chunk> Line<C> {
     {
         match self.with_sample(sample, steps) {
             Ok(plan) => Ok(plan),
-            Err(fault) => Err(PutFault::Memory(fault)),
+            Err(_) => Err(PutFault::Unwritten(sample)),
         }
     }
 

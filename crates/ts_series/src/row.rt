@@ -1,5 +1,5 @@
 // One row at its time, among chunks.
-ghost use Rattle.std.specs.Prelude.{◌≡◌, ◌≤◌, ◌+◌, ◌*◌, true, false, None, length, IfOk};
+ghost use Rattle.std.specs.Prelude.{◌≡◌, ◌≤◌, ◌+◌, true, false, None, length, IfOk};
 ghost use Rattle.ts_spec.specs.Sample.{between, last_of, put};
 ghost use Rattle.ts_sample.specs.Chunk.{IsLimit, IsPast, joined};
 ghost use Rattle.ts_series.specs.Held.{points, longest, pieces_after, IsReady, HasLimits, IsUpTo};
@@ -26,7 +26,7 @@ impl<C: Chunk> Chunks<C> {
         ensures list { IfOk result (λ r. joined (pieces_after r.0 self.now.pieces) ≡ put row.now (points self.now)) }
         ensures removed { IfOk result (λ r. r.1 ≡ length (between row.now.time row.now.time (points self.now))) }
         ensures counted { steps.old ≤ steps.new }
-        ensures bounded { steps.new ≤ steps.old + 2 * longest self.now.pieces }
+        ensures bounded { steps.new ≤ steps.old + longest self.now.pieces }
         ensures easy { IsPast (last_of (points self.now)) row.now.time → steps.new ≡ steps.old }
     {
         // Does nothing: where a field is read, the order of the chunks is known.
@@ -70,6 +70,24 @@ impl<C: Chunk> Chunks<C> {
         match self.last() {
             None => false,
             Some(last) => time <= last.time,
+        }
+    }
+
+    // How many samples there are at a time: one or none.
+    pub(crate) fn count_at<L: Ledger>(&self, time: u64, steps: &mut Steps<L>) -> usize
+        ensures count { result ≡ length (between time time (points self.now)) }
+        ensures counted { steps.old ≤ steps.new }
+        ensures bounded { steps.new ≤ steps.old + longest self.now.pieces }
+        ensures easy { IsPast (last_of (points self.now)) time → steps.new ≡ steps.old }
+    {
+        // Does nothing: where a field is read, the order of the chunks is known.
+        let _ = &self.chunks;
+        if !self.is_late(time) {
+            return 0;
+        }
+        match self.at(time, steps) {
+            None => 0,
+            Some(_) => 1,
         }
     }
 

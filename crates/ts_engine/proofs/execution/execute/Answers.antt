@@ -15,9 +15,9 @@ use Rattle.ts_spec.specs.Key.{Key}
 use Rattle.ts_spec.specs.Replies.{number}
 use Rattle.ts_spec.specs.Response.{Word}
 use Rattle.ts_spec.specs.Step.{time_of, create, alter_at, add_at, incr_at, delete_at, create_rule, drop_keys, count_there}
-use Rattle.ts_db.specs.Held.{Held, Stands, Carries, YieldsToMemory}
+use Rattle.ts_db.specs.Held.{Held, Stands, Carries, YieldsToMemory, DeletionYields}
 use Rattle.ts_engine.specs.Turn.{IsStep, StepOrMemory, takes_memory}
-use Rattle.ts_engine.proofs.Executed.{alone, step_executes, sure_executes, executes_with, asks_execute, asks_surely, pings_execute}
+use Rattle.ts_engine.proofs.Executed.{alone, step_executes, step_executes_by, sure_executes, executes_with, asks_execute, asks_surely, pings_execute}
 use Rattle.std.specs.Prelude.{sum_by, ⊤, IsTrue}
 use Rattle.ts_spec.specs.KeptQuestions.{kept_selection}
 use Rattle.ts_db.specs.Bounds.{selection_steps}
@@ -54,7 +54,7 @@ returns-in-Incr-clause-executes g c =
 
 pub returns-in-DelRange-clause-executes : goal.returns-in-DelRange-clause-executes
 returns-in-DelRange-clause-executes g c =
-    rw c.in-DelRange.is (step_executes c.args.reading (DelRange c.in-DelRange.key c.in-DelRange.from c.in-DelRange.to) (λ (h : Held). delete_at h.limits h.state c.in-DelRange.key c.in-DelRange.from c.in-DelRange.to (get c.in-DelRange.key h.state)) c.args.db.now c.delete.new.db (reply_of c.delete.result)
+    rw c.in-DelRange.is (step_executes_by DeletionYields c.args.reading (DelRange c.in-DelRange.key c.in-DelRange.from c.in-DelRange.to) (λ (h : Held). delete_at h.limits h.state c.in-DelRange.key c.in-DelRange.from c.in-DelRange.to (get c.in-DelRange.key h.state)) c.args.db.now c.delete.new.db (reply_of c.delete.result)
     c.put-in-DelRange.new.out.bytes refl (λ from y. y) (λ from to is. is) c.delete.ensures.answer (alone (reply_of c.delete.result) c.clear.new.self.bytes c.put-in-DelRange.new.out.bytes c.put-in-DelRange.ensures.bytes c.clear.ensures.empty))
 
 pub returns-in-CreateRule-clause-executes : goal.returns-in-CreateRule-clause-executes

@@ -36,7 +36,7 @@ pub returns-in-Err-plan_rules-clause-own : goal.returns-in-Err-plan_rules-clause
 returns-in-Err-plan_rules-clause-own g c key is =
     let node : Node = c.in-Some.node.now in
     let work = Delete c.args.from c.args.to in
-    destination-own c.args.self.now c.requires.db.store node.rules.items (rows_by_work work node.series) (gone_by work node.series) (c.requires.db.store.live c.args.id.0 node (sym c.in-Some.ensures)).rules key c.in-Err-plan_rules.fault
+    destination-own c.args.self.now c.requires.db.store node.rules.items (rows_by_work work node.series) (gone_by work node.series) (c.requires.db.store.live c.args.id.0 node (sym c.in-Some.ensures)).rules work key c.in-Err-plan_rules.fault
     (unplanned-for c.args.self.now work work node node c.deref.result.now c.in-Err-plan_rules.fault refl refl c.deref.ensures.value c.in-Err-plan_rules.ensures.refused)
 
 pub apply-requires-clause-ready : goal.apply-requires-clause-ready

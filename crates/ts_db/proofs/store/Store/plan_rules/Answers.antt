@@ -1,9 +1,13 @@
-use Rattle.std.proofs.Common.{◌≡◌, ◌+◌, ℕ, List, [], ◌∷◌, ◌++◌, take, drop, sym, ◌∙◌, ap, subst, arith}
-use Rattle.std.proofs.lemmas.List.{take_more, drop_more}
+use Rattle.std.proofs.Common.{◌≡◌, ◌+◌, ◌-◌, ℕ, length, List, [], ◌∷◌, ◌++◌, take, drop, sym, ◌∙◌, ap, subst, arith}
+use Rattle.std.proofs.lemmas.List.{take_more, drop_more, take_all, length-drop}
+use Rattle.std.specs.Prelude.{Option, None}
+use Rattle.ts_sample.specs.declared.id.Id.{Id}
+use Rattle.ts_rules.specs.declared.fault.RuleFault.TheVariants.{Memory}
 use Rattle.ts_rules.specs.declared.rule.Rule.{Rule}
 use Rattle.ts_rules.specs.declared.plan.RulePlan.{RulePlan}
 use Rattle.ts_db.specs.Store.{AreLive}
-use Rattle.ts_db.specs.Planning.{changed_by, gone_by, rows_by_work, AllTake, AreChanged, AreFedBy, first_full, shares_of, AreEasyOf}
+use Rattle.ts_db.specs.Planning.{changed_by, gone_by, rows_by_work, AllTake, AreChanged, AreFedBy, first_full, IsRuleUnplanned, shares_of, AreEasyOf}
+use Rattle.ts_db.proofs.Planned.{tells-then}
 use Rattle.ts_db.proofs.Plans.{full-past, fed-more, changed-more}
 use Rattle.ts_db.proofs.store.Store.plan_rules.Goals as goal
 
@@ -28,18 +32,18 @@ loop-rule-preserved g c =
     record {
       changed = subst (λ (rs : List Rule). AreChanged (changed_by work source) rs c.push_reserved.new.self.items) (sym so_far)
           (subst (λ (xs : List Rule). AreChanged (changed_by work source) (take i all ++ r ∷ []) xs) (sym c.push_reserved.ensures.items)
-          (changed-more (changed_by work source) (take i all) c.loop-rule.changed.items r c.in_ok-plan.plan.rule c.loop-rule.invariant.changed c.in_ok-plan.ensures.changed));
-      fed = subst (λ (rs : List Rule). AreFedBy limit nodes (rows_by_work work source) (gone_by work source) rs c.push_reserved-in-loop-rule.new.self.items) (sym so_far)
-          (subst (λ (xs : List RulePlan). AreFedBy limit nodes (rows_by_work work source) (gone_by work source) (take i all ++ r ∷ []) xs) (sym c.push_reserved-in-loop-rule.ensures.items)
-          (fed-more limit nodes (rows_by_work work source) (gone_by work source) (take i all) c.loop-rule.plans.items r c.in_ok-plan.plan c.loop-rule.invariant.fed c.in_ok-plan.ensures.fed));
+          (changed-more (changed_by work source) (take i all) c.loop-rule.changed.items r c.in-Ok-plan_rule.plan.rule c.loop-rule.invariant.changed c.in-Ok-plan_rule.ensures.changed));
+      fed = subst (λ (rs : List Rule). AreFedBy limit nodes (rows_by_work work source) (gone_by work source) rs c.push_reserved-in-Ok-plan_rule.new.self.items) (sym so_far)
+          (subst (λ (xs : List RulePlan). AreFedBy limit nodes (rows_by_work work source) (gone_by work source) (take i all ++ r ∷ []) xs) (sym c.push_reserved-in-Ok-plan_rule.ensures.items)
+          (fed-more limit nodes (rows_by_work work source) (gone_by work source) (take i all) c.loop-rule.plans.items r c.in-Ok-plan_rule.plan c.loop-rule.invariant.fed c.in-Ok-plan_rule.ensures.fed));
       fit = sym (ap (first_full limit nodes (rows_by_work work source) (gone_by work source)) left
-          ∙ full-past limit nodes (rows_by_work work source) (gone_by work source) r (drop (i + 1) all) c.in_ok-plan.ensures.fits) ∙ c.loop-rule.invariant.fit;
+          ∙ full-past limit nodes (rows_by_work work source) (gone_by work source) r (drop (i + 1) all) c.in-Ok-plan_rule.ensures.fits) ∙ c.loop-rule.invariant.fit;
       live = (subst (AreLive nodes) left c.loop-rule.invariant.live).1;
       takes = (subst (AllTake work source) left c.loop-rule.invariant.takes).1;
       many_changed = omega (arith, c.push_reserved.ensures.len, c.loop-rule.invariant.many_changed);
-      many = omega (arith, c.push_reserved-in-loop-rule.ensures.len, c.loop-rule.invariant.many);
+      many = omega (arith, c.push_reserved-in-Ok-plan_rule.ensures.len, c.loop-rule.invariant.many);
       room_changed = omega (arith, c.push_reserved.ensures.capacity, c.loop-rule.invariant.room_changed);
-      room = omega (arith, c.push_reserved-in-loop-rule.ensures.capacity, c.loop-rule.invariant.room);
+      room = omega (arith, c.push_reserved-in-Ok-plan_rule.ensures.capacity, c.loop-rule.invariant.room);
       counted = omega (arith, c.plan_rule.ensures.counted, c.loop-rule.invariant.counted);
       steps = omega (arith, c.plan_rule.ensures.steps, c.loop-rule.invariant.steps, ap (shares_of nodes work source) left);
       easy = λ all_easy. (
@@ -47,3 +51,22 @@ loop-rule-preserved g c =
         (subst (AreEasyOf limit nodes work source) left (c.loop-rule.invariant.easy all_easy).1).1,
       );
     }
+
+pub returns-in-Err-Memory-clause-refused : goal.returns-in-Err-Memory-clause-refused
+returns-in-Err-Memory-clause-refused g c =
+    let work = c.args.work.now in
+    let source = c.args.source.now in
+    let all = c.args.rules.now in
+    let i : ℕ = c.loop-rule.rule-index in
+    let r : Rule = c.rule-item.result in
+    let left : drop i all ≡ r ∷ drop (i + 1) all = drop_more all i r c.loop-rule-test.true ∙ ap (λ (x : Rule). x ∷ drop (i + 1) all) (sym c.rule-item.is) in
+    let so_far : c.len.result ≡ i = omega (arith, c.len.ensures, c.loop-rule.invariant.many) in
+    let first : List Rule → Option Id = first_full c.args.self.now.limits.samples c.args.self.now.nodes (rows_by_work work source) (gone_by work source) in
+    let told : IsRuleUnplanned work r (first (r ∷ [])) (Memory c.in-Err-Memory.field-0-0) =
+    subst (IsRuleUnplanned work r (first (r ∷ []))) c.in-Err-Memory.field-0-is c.in-Err-Memory.ensures.refused in
+    c.unplanned-in-Err-Memory.ensures.refused (first all)
+    (tells-then work
+    (λ (none : first (r ∷ []) ≡ None). sym c.loop-rule.invariant.fit ∙ ap first left
+    ∙ full-past c.args.self.now.limits.samples c.args.self.now.nodes (rows_by_work work source) (gone_by work source) r (drop (i + 1) all) none
+    ∙ ap (λ k. first (drop (k + 1) all)) (sym so_far)
+    ∙ ap first (sym (take_all (length all - (c.len.result + 1)) (drop (c.len.result + 1) all) (omega (arith, length-drop (c.len.result + 1) all))))) told)

@@ -20,7 +20,7 @@ use Rattle.ts_db.proofs.Owning.{own-fault}
 use Rattle.ts_db.proofs.StayingOpen.{open-for, open-room, no_plans, none-fed, none-full, fed-nothing, grown-after}
 use Rattle.ts_db.proofs.Unplanned.{destination-own}
 use Rattle.ts_db.proofs.Working.{ArePlanned, planned-for, unplanned-for, changed-live, changed-grids, is-feed, still-fed, worked}
-use Rattle.ts_db.proofs.Writing.{IsWritten, writes-after, within-planned, written-sample, planned-answers, unplanned-answers, refused-answers}
+use Rattle.ts_db.proofs.Writing.{IsWritten, IsUnwritten, unwritten-sample, writes-after, within-planned, written-sample, planned-answers, unplanned-answers, refused-answers}
 use Rattle.ts_spec.specs.Key.{Key}
 use Rattle.ts_sample.specs.declared.id.Id.{Id}
 use Rattle.ts_series.specs.History.{reach}
@@ -31,16 +31,45 @@ use Rattle.ts_db.proofs.Reaches.{reach-held}
 use Rattle.ts_db.proofs.EasyWrites.{write-total, easy-rules, few-own, last-own}
 use Rattle.ts_db.proofs.store.Store.write.Goals as goal
 
-pub returns-in-Err-clause-written : goal.returns-in-Err-clause-written
-returns-in-Err-clause-written g c key n holds =
+pub returns-in_default-sample-clause-written : goal.returns-in_default-sample-clause-written
+returns-in_default-sample-clause-written g c key n holds =
     let it : c.in-Some.node.now ≡ n = some-same c.in-Some.node.now n (c.in-Some.ensures ∙ holds.node) in (
-      refused-answers c.args.self.now c.requires.db key c.args.id n holds c.in-Err.fault (refusal_of (stock_of c.args.self.now).ids c.fault_at.result) (met c.args.how c.args.time c.args.value n.series) c.args.time (c.fault_at.ensures.refusal (stock_of c.args.self.now).ids)
+      refused-answers c.args.self.now c.requires.db key c.args.id n holds c.in-Err.fault (refusal_of (stock_of c.args.self.now).ids c.fault_at.result) (met c.args.how c.args.time c.args.value n.series) c.args.time (sym c.in_default-sample.ensures) (c.fault_at.ensures.refusal (stock_of c.args.self.now).ids)
           (subst (λ (x : Node). Answers (met c.args.how c.args.time c.args.value x.series) c.args.self.now.limits.samples c.args.time x.series (Err c.in-Err.fault)) it c.in-Err.ensures.answer),
       refl,
     )
 
+pub returns-in_default-sample-clause-own : goal.returns-in_default-sample-clause-own
+returns-in_default-sample-clause-own g c key is = own-fault c.args.self.now key c.args.id c.fault_at.result is c.fault_at.ensures.own
+
+-- there was no memory for a sample
+
+pub unwritten-requires-clause-room : goal.unwritten-requires-clause-room
+unwritten-requires-clause-room g c =
+    subst (AllTake (Write c.in-Some-sample.lost) c.in-Some.node.now.series) (sym c.deref-in-Err.ensures.value)
+    (takes c.args.self.now c.requires.db c.requires.there.key c.args.id c.in-Some.node.now (record { number = c.requires.there.holds.number; node = sym c.in-Some.ensures }) c.in-Some-sample.lost)
+
+pub returns-in-Err-clause-written : goal.returns-in-Err-clause-written
+returns-in-Err-clause-written g c key n holds =
+    let it : c.in-Some.node.now ≡ n = some-same c.in-Some.node.now n (c.in-Some.ensures ∙ holds.node) in
+    let lost = c.in-Some-sample.lost in
+    let p : IsUnwritten c.args.self.now.limits.samples (met c.args.how c.args.time c.args.value n.series) c.args.time n.series lost =
+    unwritten-sample c.in-Err.fault (met c.args.how c.args.time c.args.value n.series) c.args.self.now.limits.samples c.args.time n.series lost
+    (subst (λ (x : Node). Answers (met c.args.how c.args.time c.args.value x.series) c.args.self.now.limits.samples c.args.time x.series (Err c.in-Err.fault)) it c.in-Err.ensures.answer) (sym c.in-Some-sample.ensures) in (
+      subst (λ (what : Merged). IsKeptAnswer (refusal_of (stock_of c.args.self.now).ids c.unwritten.result) (stock_of c.args.self.now).keys (kept_write_merged c.args.self.now.limits (stock_of c.args.self.now).keys key c.args.time what)) (sym p.sets)
+          (unplanned-answers c.args.self.now c.requires.db key c.args.id n holds c.unwritten.result c.args.time p.value p.fits
+          (unplanned-for c.args.self.now (Write lost) (Write (sample_of c.args.time p.value n.series)) c.in-Some.node.now n c.deref-in-Err.result.now c.unwritten.result (ap (λ (q : Point). Write q) p.sample) it c.deref-in-Err.ensures.value c.unwritten.ensures.refused)),
+      refl,
+    )
+
 pub returns-in-Err-clause-own : goal.returns-in-Err-clause-own
-returns-in-Err-clause-own g c key is = own-fault c.args.self.now key c.args.id c.fault_at.result is c.fault_at.ensures.own
+returns-in-Err-clause-own g c key is =
+    let node : Node = c.in-Some.node.now in
+    let work = Write c.in-Some-sample.lost in
+    destination-own c.args.self.now c.requires.db.store node.rules.items (rows_by_work work node.series) (gone_by work node.series) (c.requires.db.store.live c.args.id.0 node (sym c.in-Some.ensures)).rules work key c.unwritten.result
+    (unplanned-for c.args.self.now work work node node c.deref-in-Err.result.now c.unwritten.result refl refl c.deref-in-Err.ensures.value c.unwritten.ensures.refused)
+
+-- the destinations are planned for
 
 pub plan_rules-requires-clause-room : goal.plan_rules-requires-clause-room
 plan_rules-requires-clause-room g c =
@@ -54,7 +83,7 @@ returns-in-Err-plan_rules-clause-written g c key n holds =
     written-sample c.in-Ok.plan (met c.args.how c.args.time c.args.value n.series) c.args.self.now.limits.samples c.args.time n.series c.in-Some-wrote.wrote
     (subst (λ (x : Node). Answers (met c.args.how c.args.time c.args.value x.series) c.args.self.now.limits.samples c.args.time x.series (Ok c.in-Ok.plan)) it c.in-Ok.ensures.answer) c.in-Some-wrote.ensures in (
       subst (λ (what : Merged). IsKeptAnswer (refusal_of (stock_of c.args.self.now).ids c.in-Err-plan_rules.fault) (stock_of c.args.self.now).keys (kept_write_merged c.args.self.now.limits (stock_of c.args.self.now).keys key c.args.time what)) (sym p.sets)
-          (unplanned-answers c.args.self.now c.requires.db key c.args.id n holds c.in-Ok.plan c.in-Err-plan_rules.fault c.args.time p.value p.writes
+          (unplanned-answers c.args.self.now c.requires.db key c.args.id n holds c.in-Err-plan_rules.fault c.args.time p.value p.writes.1
           (unplanned-for c.args.self.now (Write c.in-Some-wrote.wrote) (Write (sample_of c.args.time p.value n.series)) c.in-Some.node.now n c.deref-2.result.now c.in-Err-plan_rules.fault (ap (λ (q : Point). Write q) p.sample) it c.deref-2.ensures.value c.in-Err-plan_rules.ensures.refused)),
       refl,
     )
@@ -63,7 +92,7 @@ pub returns-in-Err-plan_rules-clause-own : goal.returns-in-Err-plan_rules-clause
 returns-in-Err-plan_rules-clause-own g c key is =
     let node : Node = c.in-Some.node.now in
     destination-own c.args.self.now c.requires.db.store node.rules.items (rows_by_work (Write c.in-Some-wrote.wrote) node.series) (gone_by (Write c.in-Some-wrote.wrote) node.series)
-    (c.requires.db.store.live c.args.id.0 node (sym c.in-Some.ensures)).rules key c.in-Err-plan_rules.fault
+    (c.requires.db.store.live c.args.id.0 node (sym c.in-Some.ensures)).rules (Write c.in-Some-wrote.wrote) key c.in-Err-plan_rules.fault
     (unplanned-for c.args.self.now (Write c.in-Some-wrote.wrote) (Write c.in-Some-wrote.wrote) node node c.deref-2.result.now c.in-Err-plan_rules.fault refl refl c.deref-2.ensures.value c.in-Err-plan_rules.ensures.refused)
 
 pub apply-requires-clause-ready : goal.apply-requires-clause-ready
@@ -183,15 +212,34 @@ module _ (s : Store) (db : IsDb s) (key : Key) (id : Id) (n : Node) (holds : Hol
 least : (s : Store) (key : Key) (id : Id) (n : Node) → Holds s key id n → (time : ℕ) → 3 * reach n.series ≤ write_steps (stock_of s) key time
 least s key id n holds time = omega (arith, reach-held s key id n holds)
 
-pub returns-in-Err-clause-steps : goal.returns-in-Err-clause-steps
-returns-in-Err-clause-steps g c key number =
+pub returns-in_default-sample-clause-steps : goal.returns-in_default-sample-clause-steps
+returns-in_default-sample-clause-steps g c key number =
     let holds : Holds c.args.self.now key c.args.id c.in-Some.node.now = record { number = number; node = sym c.in-Some.ensures } in
     omega (arith, c.put.ensures.bounded, least c.args.self.now key c.args.id c.in-Some.node.now holds c.args.time)
 
-pub returns-in-Err-clause-easy : goal.returns-in-Err-clause-easy
-returns-in-Err-clause-easy g c key number e =
+pub returns-in_default-sample-clause-easy : goal.returns-in_default-sample-clause-easy
+returns-in_default-sample-clause-easy g c key number e =
     let holds : Holds c.args.self.now key c.args.id c.in-Some.node.now = record { number = number; node = sym c.in-Some.ensures } in
     c.put.ensures.easy (few-own c.args.self.now c.requires.db key c.args.id c.in-Some.node.now holds c.args.time e) (last-own c.args.self.now c.requires.db key c.args.id c.in-Some.node.now holds c.args.time e)
+
+pub returns-in-Err-clause-steps : goal.returns-in-Err-clause-steps
+returns-in-Err-clause-steps g c key number =
+    let node : Node = c.in-Some.node.now in
+    let holds : Holds c.args.self.now key c.args.id node = record { number = number; node = sym c.in-Some.ensures } in
+    let lost = c.in-Some-sample.lost in
+    let time : lost.time ≡ c.args.time =
+    ap (λ (q : Point). q.time) (unwritten-sample c.in-Err.fault (met c.args.how c.args.time c.args.value node.series) c.args.self.now.limits.samples c.args.time node.series lost c.in-Err.ensures.answer (sym c.in-Some-sample.ensures)).sample in
+    omega (arith, c.put.ensures.bounded, c.unwritten.ensures.steps, total c.args.self.now c.requires.db key c.args.id node holds lost c.args.time time c.deref-in-Err.result.now c.deref-in-Err.ensures.value)
+
+pub returns-in-Err-clause-easy : goal.returns-in-Err-clause-easy
+returns-in-Err-clause-easy g c key number e =
+    let node : Node = c.in-Some.node.now in
+    let holds : Holds c.args.self.now key c.args.id node = record { number = number; node = sym c.in-Some.ensures } in
+    let lost = c.in-Some-sample.lost in
+    let time : lost.time ≡ c.args.time =
+    ap (λ (q : Point). q.time) (unwritten-sample c.in-Err.fault (met c.args.how c.args.time c.args.value node.series) c.args.self.now.limits.samples c.args.time node.series lost c.in-Err.ensures.answer (sym c.in-Some-sample.ensures)).sample in
+    c.unwritten.ensures.easy (easy c.args.self.now c.requires.db key c.args.id node holds lost c.args.time time c.deref-in-Err.result.now c.deref-in-Err.ensures.value e)
+    ∙ c.put.ensures.easy (few-own c.args.self.now c.requires.db key c.args.id node holds c.args.time e) (last-own c.args.self.now c.requires.db key c.args.id node holds c.args.time e)
 
 pub returns-in_default-wrote-clause-steps : goal.returns-in_default-wrote-clause-steps
 returns-in_default-wrote-clause-steps g c key number =

@@ -52,3 +52,19 @@ returns-in_err-wrote-clause-easy g c = λ limit h. (
     let inside = history_of c.self.inside.options c.self.inside.high c.self.inside.born c.self.inside.chunks in
     let row : IsRowPast c.args.from c.args.to c.args.rows.now limit inside = subst (IsRowPast c.args.from c.args.to c.args.rows.now limit) (sym c.self.view_is) h in
     c.mended.ensures.easy row.here row.one (past-chunks {format = g.C.Chunk.format} inside refl c.self.invariant c.args.from row.past))
+
+pub returns-clause-row : goal.returns-clause-row
+returns-clause-row g c = λ here one.
+    omega (arith, c.in_ok-change.ensures.row here one, within-reach g.met.C.Chunk.at_least c.self.invariant c.self.view_is)
+
+pub returns-in_err-change-clause-row : goal.returns-in_err-change-clause-row
+returns-in_err-change-clause-row g c = λ here one.
+    omega (arith, c.mended.ensures.row here one, within-reach g.met.C.Chunk.at_least c.self.invariant c.self.view_is)
+
+pub returns-in_err-larger-clause-row : goal.returns-in_err-larger-clause-row
+returns-in_err-larger-clause-row g c = λ here one.
+    omega (arith, c.mended.ensures.row here one, within-reach g.met.C.Chunk.at_least c.self.invariant c.self.view_is)
+
+pub returns-in_err-wrote-clause-row : goal.returns-in_err-wrote-clause-row
+returns-in_err-wrote-clause-row g c = λ here one.
+    omega (arith, c.mended.ensures.row here one, within-reach g.met.C.Chunk.at_least c.self.invariant c.self.view_is)
