@@ -37,8 +37,8 @@ fn main(rt: HostRuntime) -> io::Result<()> {
     for line in rt.lines(alloc) {
         let line = line?;
         if line.as_str().is_empty() {
-            if let Some(told) = talk.told()? {
-                println!(rt; "{told}")?;
+            if let Some(outcome) = talk.outcome()? {
+                println!(rt; "{outcome}")?;
             }
             talk = Talk::new(alloc);
         } else {

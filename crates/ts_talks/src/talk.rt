@@ -72,18 +72,18 @@ impl Talk {
     }
 
     // What is told of it, if it has a name.
-    pub(crate) fn told(&self) -> Result<Option<String>, AllocError> {
+    pub(crate) fn outcome(&self) -> Result<Option<String>, AllocError> {
         let Some(name) = &self.name else {
             return Ok(None);
         };
-        let told = if !self.readable {
+        let outcome = if !self.readable {
             format!(in self.alloc; "{name}: NOT READ")?
         } else if self.is_answered()? {
             format!(in self.alloc; "{name}")?
         } else {
             format!(in self.alloc; "{name}: OTHER REPLIES")?
         };
-        Ok(Some(told))
+        Ok(Some(outcome))
     }
 
     // Whether the requests have these replies, with a word of each length.

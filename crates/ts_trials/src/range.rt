@@ -1,5 +1,5 @@
 // Answers to questions over one series.
+mod bucket_rows;
 mod empty;
 mod question;
 mod single;
-mod told;
