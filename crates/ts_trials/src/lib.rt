@@ -1,4 +1,4 @@
-//! Tests of the libraries below the engine, with ample memory, a module for each. In a crate of their own they begin with
+//! Tests of the libraries below the series, with ample memory, a module for each. In a crate of their own they begin with
 //! what is proved of the libraries, and these are not proved again with them.
 #![tactic(auto)]
 
@@ -9,11 +9,7 @@ mod bucket;
 #[cfg(test)]
 mod chunk_plain;
 #[cfg(test)]
-mod db;
-#[cfg(test)]
 mod decimal;
-#[cfg(test)]
-mod io;
 #[cfg(test)]
 mod multi;
 #[cfg(test)]
@@ -21,11 +17,7 @@ mod range;
 #[cfg(test)]
 mod resp;
 #[cfg(test)]
-mod rules;
-#[cfg(test)]
 mod sample;
-#[cfg(test)]
-mod series;
 #[cfg(test)]
 mod words;
 #[cfg(test)]
