@@ -1,8 +1,12 @@
 // Why a name is no aggregator's.
+ghost use Rattle.std.specs.Prelude.{Some};
+ghost use Rattle.ts_agg.specs.FaultNames.{name_of};
+
+use std::fmt;
 use thiserror::Error;
 
 /// Why a name names no aggregator of this server.
-#[derive(Clone, Copy, Debug, PartialEq, Eq, Error)]
+#[derive(Clone, Copy, PartialEq, Eq, Error)]
 pub enum AggFault {
     /// It is one that is left out: twa, std.p, std.s, var.p or var.s.
     #[error("aggregator not supported")]
@@ -10,4 +14,15 @@ pub enum AggFault {
     /// It is not known at all.
     #[error("unknown aggregator")]
     Unknown,
+}
+
+impl fmt::Debug for AggFault {
+    ghost debug_output = { λ fault. Some (name_of fault) };
+
+    fn fmt<W: fmt::Write>(&self, f: &mut fmt::Formatter<W>) -> fmt::Result {
+        f.write_str(match self {
+            AggFault::NotInProfile => "NotInProfile",
+            AggFault::Unknown => "Unknown",
+        })
+    }
 }

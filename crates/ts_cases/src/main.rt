@@ -1,7 +1,7 @@
 //! Rows that try `ts_command`: each line of the input is a request, its words between single blanks, and is answered
-//! by a line with the message of the first fault in it, or with `ok` and what the command says. After `in place ` TS.ADD is
-//! read where its words stand, if it can be. The rows stand here because tests are proved as code is, and lines of a file
-//! are not.
+//! by a line with the message of the first fault in it and the fault's own text, or with `ok` and what the command says.
+//! After `in place ` TS.ADD is read where its words stand, if it can be. The rows stand here because tests are proved as
+//! code is, and lines of a file are not.
 #![tactic(auto)]
 
 mod questions;
@@ -30,7 +30,10 @@ fn answer(alloc: Global, line: &str) -> Result<String, AllocError> {
     match read(words(alloc, line)?) {
         Ok(command) => line_of(alloc, &command),
         Err(CommandFault::Memory(error)) => Err(error),
-        Err(fault) => String::from_str(alloc, fault.message()),
+        Err(fault) => {
+            let message = fault.message();
+            format!(in alloc; "{message} ({fault})")
+        }
     }
 }
 

@@ -1,5 +1,6 @@
 pub mod Addition
 pub mod Answers
+pub mod FaultNames
 pub mod Faults
 pub mod Forms
 pub mod Given

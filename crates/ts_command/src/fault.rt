@@ -1,13 +1,15 @@
 // The faults that words may have, each with its message, so that no caller words one of its own.
-ghost use Rattle.std.specs.Prelude.{◌≡◌};
+ghost use Rattle.std.specs.Prelude.{◌≡◌, Some};
+ghost use Rattle.ts_command.specs.FaultNames.{name_of};
 ghost use Rattle.ts_command.specs.Faults.{message};
 
 use std::alloc::AllocError;
+use std::fmt;
 use thiserror::Error;
 use ts_spec::ValueFault;
 
 /// Why the words of a request are no command.
-#[derive(Clone, Copy, Debug, PartialEq, Eq, Error)]
+#[derive(Clone, Copy, PartialEq, Eq, Error)]
 pub enum CommandFault {
     /// The first word is no command.
     #[error("unknown command")]
@@ -57,6 +59,32 @@ pub enum CommandFault {
     /// There was no memory.
     #[error(transparent)]
     Memory(AllocError),
+}
+
+impl fmt::Debug for CommandFault {
+    ghost debug_output = { λ fault. Some (name_of fault) };
+
+    fn fmt<W: fmt::Write>(&self, f: &mut fmt::Formatter<W>) -> fmt::Result {
+        f.write_str(match self {
+            CommandFault::UnknownCommand => "UnknownCommand",
+            CommandFault::Arity => "Arity",
+            CommandFault::BadTimestamp => "BadTimestamp",
+            CommandFault::BadValue(ValueFault::NotANumber) => "BadValue(NotANumber)",
+            CommandFault::BadValue(ValueFault::OutOfRange) => "BadValue(OutOfRange)",
+            CommandFault::BadOption => "BadOption",
+            CommandFault::RepeatedOption => "RepeatedOption",
+            CommandFault::BadLabels => "BadLabels",
+            CommandFault::BadChunkSize => "BadChunkSize",
+            CommandFault::BadPolicy => "BadPolicy",
+            CommandFault::BadEncoding => "BadEncoding",
+            CommandFault::UnknownAggregator => "UnknownAggregator",
+            CommandFault::AggregatorNotInProfile => "AggregatorNotInProfile",
+            CommandFault::BadDuration => "BadDuration",
+            CommandFault::BadFilter => "BadFilter",
+            CommandFault::NoPositiveFilter => "NoPositiveFilter",
+            CommandFault::Memory(_) => "Memory(AllocError)",
+        })
+    }
 }
 
 impl CommandFault {

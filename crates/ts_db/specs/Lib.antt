@@ -1,5 +1,6 @@
 pub mod Answering
 pub mod Bounds
+pub mod FaultNames
 pub mod Faults
 pub mod Feeding
 pub mod Growing

@@ -1,17 +1,19 @@
 // Why a call of the database is refused.
-ghost use Rattle.std.specs.Prelude.{◌≡◌};
+ghost use Rattle.std.specs.Prelude.{◌≡◌, Some};
 ghost use Rattle.ts_spec.specs.Keyed.{Keyed};
 ghost use Rattle.ts_sample.specs.declared.id.Id.{Id as TheId};
 ghost use Rattle.ts_series.specs.Put.{refusal_of as put_refusal};
+ghost use Rattle.ts_db.specs.FaultNames.{name_of};
 ghost use Rattle.ts_db.specs.Faults.{refusal_of, IsFaultAt};
 
 use std::alloc::AllocError;
+use std::fmt;
 use thiserror::Error;
 use ts_sample::Id;
 use ts_series::PutFault;
 
 /// Why the database refuses a command. It is then as it was.
-#[derive(Debug, Drop, Error)]
+#[derive(Drop, Error)]
 pub enum DbFault {
     /// The key is there already.
     #[error("key already exists")]
@@ -68,6 +70,33 @@ pub enum DbFault {
     /// There was no memory.
     #[error(transparent)]
     Memory(AllocError),
+}
+
+impl fmt::Debug for DbFault {
+    ghost debug_output = { λ fault. Some (name_of fault) };
+
+    fn fmt<W: fmt::Write>(&self, f: &mut fmt::Formatter<W>) -> fmt::Result {
+        f.write_str(match self {
+            DbFault::KeyExists => "KeyExists",
+            DbFault::NoKey => "NoKey",
+            DbFault::KeysFull => "KeysFull",
+            DbFault::LabelsFull => "LabelsFull",
+            DbFault::TooOld => "TooOld",
+            DbFault::Duplicate => "Duplicate",
+            DbFault::OutOfRange => "OutOfRange",
+            DbFault::BeforeLast => "BeforeLast",
+            DbFault::SamplesFull { .. } => "SamplesFull",
+            DbFault::DeleteBeyondRetention => "DeleteBeyondRetention",
+            DbFault::SameKey => "SameKey",
+            DbFault::SourceIsDest => "SourceIsDest",
+            DbFault::DestIsSource => "DestIsSource",
+            DbFault::DestHasSource => "DestHasSource",
+            DbFault::RulesSpent => "RulesSpent",
+            DbFault::RulesFull => "RulesFull",
+            DbFault::NoRule => "NoRule",
+            DbFault::Memory(_) => "Memory(AllocError)",
+        })
+    }
 }
 
 // The same fault of the series with this number.

@@ -1,3 +1,4 @@
 // A database: the series that a refusal names.
 mod call;
+mod faults;
 mod full;

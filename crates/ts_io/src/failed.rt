@@ -6,8 +6,16 @@ use std::error::Error;
 use std::fmt;
 
 /// A call on the outside failed, and the count of faults of what it was asked of rose.
-#[derive(Clone, Copy, Debug, PartialEq, Eq)]
+#[derive(Clone, Copy, PartialEq, Eq)]
 pub struct Failed;
+
+impl fmt::Debug for Failed {
+    ghost debug_output = { λ _. Some (codes "Failed") };
+
+    fn fmt<W: fmt::Write>(&self, f: &mut fmt::Formatter<W>) -> fmt::Result {
+        f.write_str("Failed")
+    }
+}
 
 impl fmt::Display for Failed {
     ghost output = { λ _. Some (codes "reading, writing or listening failed") };

@@ -3,4 +3,5 @@ pub mod Labels
 pub mod Asks
 pub mod Filter
 pub mod Faults
+pub mod FaultNames
 pub mod Show

@@ -1,16 +1,18 @@
 // Filters as texts: `label=value`, `label!=value`, and lists of values.
-ghost use Rattle.std.specs.Prelude.{◌≡◌, ⊤, [], ◌∷◌, ◌++◌, Ok, option_map, IfOk, IfErr, OnOk};
+ghost use Rattle.std.specs.Prelude.{◌≡◌, ⊤, [], ◌∷◌, ◌++◌, Some, Ok, option_map, IfOk, IfErr, OnOk};
 ghost use Rattle.std.specs.Option.{option_copied};
 ghost use Rattle.ts_spec.specs.FilterText.{filter_of, of_label, values_of, cut_at, before_last, comma, pieces, has_empty};
+ghost use Rattle.ts_labels.specs.FaultNames.{name_of};
 ghost use Rattle.ts_labels.specs.Faults.{IsFaultOf, IsMemory, listed};
 
 use crate::filter::Filter;
 use std::alloc::{AllocError, Global};
+use std::fmt;
 use thiserror::Error;
 use ts_resp::Word;
 
 /// Why a text is no filter.
-#[derive(Clone, Copy, Debug, PartialEq, Eq, Error)]
+#[derive(Clone, Copy, PartialEq, Eq, Error)]
 pub enum FilterFault {
     /// There is no `=` in it.
     #[error("a filter without `=`")]
@@ -24,6 +26,19 @@ pub enum FilterFault {
     /// There was no memory.
     #[error(transparent)]
     Memory(AllocError),
+}
+
+impl fmt::Debug for FilterFault {
+    ghost debug_output = { λ fault. Some (name_of fault) };
+
+    fn fmt<W: fmt::Write>(&self, f: &mut fmt::Formatter<W>) -> fmt::Result {
+        f.write_str(match self {
+            FilterFault::NoOperator => "NoOperator",
+            FilterFault::EmptyLabel => "EmptyLabel",
+            FilterFault::EmptyList => "EmptyList",
+            FilterFault::Memory(_) => "Memory(AllocError)",
+        })
+    }
 }
 
 impl Filter {

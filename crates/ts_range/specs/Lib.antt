@@ -1,6 +1,7 @@
 pub mod BucketRows
 pub mod Cutting
 pub mod Empty
+pub mod FaultNames
 pub mod Filling
 pub mod Filters
 pub mod LastValues

@@ -1,11 +1,13 @@
 // Where and why a stream of requests is broken, and what is answered then.
-ghost use Rattle.std.specs.Prelude.{◌≡◌};
+ghost use Rattle.std.specs.Prelude.{◌≡◌, ◌++◌, Some, codes};
+ghost use Rattle.std.specs.Fmt.{decimal};
 ghost use Rattle.ts_spec.specs.Text.{fault_words};
 
+use std::fmt;
 use ts_spec::Kind;
 
 /// Where a stream of requests is broken, and why.
-#[derive(Clone, Copy, Debug, PartialEq, Eq)]
+#[derive(Clone, Copy, PartialEq, Eq)]
 pub struct Protocol {
     pub kind: Kind,
     /// The place of the byte that can't continue the stream, counted from 0.
@@ -24,5 +26,13 @@ impl Protocol {
             Kind::Crlf => "ERR Protocol error: expected CRLF",
             Kind::TooLarge => "ERR Protocol error: request too large",
         }
+    }
+}
+
+impl fmt::Debug for Protocol {
+    ghost debug_output = { λ p. Some (fault_words p.kind ++ codes " at byte " ++ decimal p.place) };
+
+    fn fmt<W: fmt::Write>(&self, f: &mut fmt::Formatter<W>) -> fmt::Result {
+        write!(f, "{} at byte {}", self.message(), self.place)
     }
 }

@@ -1,6 +1,7 @@
 // A word of a request: bytes of any kind, which it owns.
 ghost use Rattle.std.specs.Prelude.{◌≡◌, ◌<◌, ◌≤◌, length, take, slice_range, nat_eq, refl, Some, IfOk, IfSome, OnErr};
 ghost use Rattle.std.specs.Ordering.{nat_cmp};
+ghost use Rattle.std.specs.Fmt.{debug_list, decimal};
 ghost use Rattle.std.specs.Hash as fed;
 ghost use Rattle.std.specs.Cmp.Lexicographic.{pointwise, slice_cmp, nat_list_eq_equiv, nat_list_cmp_total, texts_ties, texts_po};
 ghost use Rattle.std.specs.Cmp.{partial_equiv_from_equiv};
@@ -176,6 +177,8 @@ impl Hash for Word {
 }
 
 impl fmt::Debug for Word {
+    ghost debug_output = { debug_list (λ byte. Some (decimal byte)) };
+
     fn fmt<W: fmt::Write>(&self, f: &mut fmt::Formatter<W>) -> fmt::Result {
         self.bytes().fmt(f)
     }

@@ -8,3 +8,4 @@ pub mod PlansOfDeletions
 pub mod States
 pub mod Shares
 pub mod Lost
+pub mod FaultNames

@@ -1,4 +1,5 @@
 pub mod Encoded
+pub mod FaultNames
 pub mod Held
 pub mod History
 pub mod Mend

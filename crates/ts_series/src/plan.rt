@@ -1,10 +1,12 @@
 // A planned change of a series, and why there is none.
-ghost use Rattle.std.specs.Prelude.{◌≡◌};
+ghost use Rattle.std.specs.Prelude.{◌≡◌, Some};
 ghost use Rattle.ts_spec.specs.Sample.{first_of};
 ghost use Rattle.ts_spec.specs.declared.series.Encoding.TheVariants.{Compressed, Uncompressed};
+ghost use Rattle.ts_series.specs.FaultNames.{name_of};
 
 use crate::line_plan::LinePlan;
 use std::alloc::AllocError;
+use std::fmt;
 use std::marker::Model;
 use thiserror::Error;
 use ts_chunk_packed::PackedChunk;
@@ -12,7 +14,7 @@ use ts_chunk_plain::PlainChunk;
 use ts_sample::Sample;
 
 /// Why a write is not planned.
-#[derive(Debug, Drop, Error)]
+#[derive(Drop, Error)]
 pub enum PutFault {
     /// The time is before the edge of the series.
     #[error("the time is before the retention")]
@@ -32,6 +34,21 @@ pub enum PutFault {
     /// There was no memory.
     #[error(transparent)]
     Memory(AllocError),
+}
+
+impl fmt::Debug for PutFault {
+    ghost debug_output = { λ fault. Some (name_of fault) };
+
+    fn fmt<W: fmt::Write>(&self, f: &mut fmt::Formatter<W>) -> fmt::Result {
+        f.write_str(match self {
+            PutFault::TooOld => "TooOld",
+            PutFault::Duplicate => "Duplicate",
+            PutFault::OutOfRange => "OutOfRange",
+            PutFault::Full => "Full",
+            PutFault::Unwritten(_) => "Unwritten",
+            PutFault::Memory(_) => "Memory(AllocError)",
+        })
+    }
 }
 
 impl PutFault {

@@ -4,6 +4,7 @@ pub mod Bucket
 pub mod Command
 pub mod Counting
 pub mod Encoded
+pub mod FaultNames
 pub mod Filter
 pub mod FilterText
 pub mod Grammar

@@ -11,6 +11,8 @@ mod chunk_plain;
 #[cfg(test)]
 mod decimal;
 #[cfg(test)]
+mod faults;
+#[cfg(test)]
 mod multi;
 #[cfg(test)]
 mod range;

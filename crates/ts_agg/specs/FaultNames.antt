@@ -1,0 +1,9 @@
+-- The names of faults, as Debug prints them.
+use Rattle.std.specs.Prelude.{ℕ, List, codes}
+use Rattle.ts_agg.specs.declared.fault.AggFault.{AggFault}
+use Rattle.ts_agg.specs.declared.fault.AggFault.TheVariants.{NotInProfile, Unknown}
+
+-- the name of a fault
+abbrev pub name_of : AggFault → List ℕ
+name_of NotInProfile = codes "NotInProfile"
+name_of Unknown = codes "Unknown"

@@ -1,0 +1,9 @@
+-- The names of faults, as Debug prints them.
+use Rattle.std.specs.Prelude.{ℕ, List, codes}
+use Rattle.ts_spec.specs.declared.value.ValueFault.{ValueFault}
+use Rattle.ts_spec.specs.declared.value.ValueFault.TheVariants.{NotANumber, OutOfRange}
+
+-- the name of a fault
+abbrev pub name_of : ValueFault → List ℕ
+name_of NotANumber = codes "NotANumber"
+name_of OutOfRange = codes "OutOfRange"
