@@ -48,7 +48,7 @@ ends_of : (s : State) (p : Point) (ps : List Point) → (state_from s (p ∷ ps)
 ends_of s p [] = refl
 ends_of s p (q ∷ ps) = ends_of (next s p) q ps
 
-begun_of : (s : State) (p : Point) (ps : List Point) → (state_from s (p ∷ ps)).begun ≡ true
+pub begun_of : (s : State) (p : Point) (ps : List Point) → (state_from s (p ∷ ps)).begun ≡ true
 begun_of s p [] = refl
 begun_of s p (q ∷ ps) = begun_of (next s p) q ps
 

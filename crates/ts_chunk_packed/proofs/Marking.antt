@@ -16,7 +16,7 @@ alike ps qs m same within is = record {
 }
 
 -- where the list goes on
-mark_on : (ps qs : List Point) (m : Marked) → IsMark ps m → IsMark (ps ++ qs) m
+pub mark_on : (ps qs : List Point) (m : Marked) → IsMark ps m → IsMark (ps ++ qs) m
 mark_on ps qs m is = alike ps (ps ++ qs) m (take-append-le m.count ps qs is.within) (omega (arith, is.within, length-append ps qs)) is
 
 pub marks_on : (ps qs : List Point) (ms : List Marked) → AreMarks ps ms → AreMarks (ps ++ qs) ms

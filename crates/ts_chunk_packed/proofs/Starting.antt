@@ -1,6 +1,6 @@
 -- Samples from a mark on, and what is asked of them.
 use Rattle.std.proofs.Common.{◌≡◌, ℕ, ◌-◌, ◌<◌, ◌≤◌, true, false, List, [], ◌∷◌, ◌++◌, length, take, drop, refl, sym, ap, ◌∙◌, subst, append_assoc, arith, length-append}
-use Rattle.std.specs.Prelude.{Option, not, nat_lt, nat_le}
+use Rattle.std.specs.Prelude.{Option, None, Some, IfSome, IfNone, not, nat_lt, nat_le}
 use Rattle.std.proofs.lemmas.Bool.Decides.{nat_tests}
 use Rattle.std.proofs.lemmas.List.{take_all, take-append-drop, drop_at, length-drop}
 use Rattle.std.proofs.lemmas.List.Filters.{length-filter_both}
@@ -11,7 +11,7 @@ use Rattle.ts_chunk_packed.specs.Laws.{IsKnown}
 use Rattle.ts_chunk_packed.specs.Marks.{Marked, IsMark, AreMarks}
 use Rattle.ts_chunk_packed.specs.Packed.{State, begin, next, packed_from, packed, state_from, samples_of}
 use Rattle.ts_chunk_packed.specs.Reading.{StartsFrom}
-use Rattle.ts_chunk_packed.specs.Rest.{Left, IsLeft, IsRestOf, IsRestFrom, AreBefore, samples_from}
+use Rattle.ts_chunk_packed.specs.Rest.{Left, IsLeft, IsRestOf, IsRestPast, IsRestFrom, AreBefore, samples_from}
 use Rattle.ts_chunk_packed.proofs.Appending.{packed-append, state-append, fine-front, fine-back, ascending-front, ascending-back}
 use Rattle.ts_chunk_packed.proofs.Listing.{all_known, past_before}
 use Rattle.ts_chunk_packed.proofs.Joining.{past-before, list_is, written_is, count_is, fine, rises}
@@ -135,25 +135,44 @@ module _ (all : List Point) (m : Marked) (is : IsMark all m) (written : List ℕ
         (ascending-back front back rises_both)
         (subst (λ (x : State). StartsFrom x.before.time back) (sym there) (starts back rises_both))
 
-    pub rest_from : (time : ℕ) → m.state.before.time < time → (r : Left) → r.state ≡ s → r.list ≡ samples_from s (many - m.count) left → IsRestFrom time all r
-    rest_from time early r known list = record {
-      rest = record {
-        front = front;
-        whole = sym parts ∙ ap (λ (l : List Point). front ++ l) (sym (list ∙ samples_are s (many - m.count) left back left_count left_are));
-        state = known ∙ there;
-      };
-      before = early_from begin front time (ascending-front front back rises_both) (subst (λ (x : State). x.before.time < time) is.state early);
-    }
+    pub rest_past : (r : Left) → r.state ≡ s → r.list ≡ samples_from s (many - m.count) left → IsRestPast m.count all r
+    rest_past r known list = record { within = is.within; list = list ∙ samples_are s (many - m.count) left back left_count left_are; state = known ∙ there }
 
--- from the first sample on
-pub rest_from_first : (time : ℕ) (all : List Point) (r : Left) → r.state ≡ begin → r.list ≡ all → IsRestFrom time all r
-rest_from_first time all r known list = record { rest = record { front = []; whole = sym list; state = known }; before = tt }
+-- what stands past some of the samples is the rest of them
+module _ (all : List Point) (n : ℕ) (r : Left) (past : IsRestPast n all r) where
+  abbrev pub rest_of : IsRestOf all r
+  rest_of = record {
+    front = take n all;
+    whole = sym (take-append-drop n all) ∙ ap (λ (l : List Point). take n all ++ l) (sym past.list);
+    state = past.state;
+  }
+
+  pub rest_from : (time : ℕ) → IsAscending all → (state_from begin (take n all)).before.time < time → IsRestFrom time all r
+  rest_from time up early = record {
+    rest = rest_of;
+    before = early_from begin (take n all) time (ascending-front (take n all) (drop n all) (subst IsAscending (sym (take-append-drop n all)) up)) early;
+  }
+
+-- what holds anyhow holds where there is no mark
+pub where_none : {X : Type 0} {P : Type 0} (o : Option X) → P → IfNone o P
+where_none None p = p
+where_none (Some x) p = tt
+
+-- from a mark on, or from the first sample on
+pub rest_either : {X : Type 0} (mark : X → Marked) (time : ℕ) (all : List Point) (r : Left) → IsAscending all → (o : Option X)
+    → IfSome o (λ x. IsMark all (mark x)) → IfSome o (λ x. (mark x).state.before.time < time) → IfNone o (IsRestPast 0 all r) → IfSome o (λ x. IsRestPast (mark x).count all r) → IsRestFrom time all r
+rest_either mark time all r up None is early none past = record { rest = rest_of all 0 r none; before = tt }
+rest_either mark time all r up (Some x) is early none past =
+    rest_from all (mark x).count r past time up (subst (λ (s : State). s.before.time < time) is.state early)
 
 -- the same of a chunk's fields
 module _ (limit capacity : ℕ) (written : List ℕ) (many far : ℕ) (begins : Point) (ends : Option Point) (places : List Marked) (was : IsMarked limit capacity written many far begins ends places) (now : Samples)
     (is : (record { limit = limit; list = samples_of many written }) ≡ now) where
   list_here : samples_of many written ≡ now.list
   list_here = list_is limit capacity written many far begins ends was.packed now is
+
+  pub list_rises : IsAscending now.list
+  list_rises = rises limit capacity written many far begins ends was.packed now is
 
   pub marks_are : AreMarks now.list places
   marks_are = subst (λ (l : List Point). AreMarks l places) list_here was.marks
@@ -187,9 +206,9 @@ module _ (limit capacity : ℕ) (written : List ℕ) (many far : ℕ) (begins : 
             subst (λ (n : ℕ). IsLeft s (many - n) (take (length all - at) (drop at all))) (sym count_same)
             (left_of now.list m mark written many bytes_here count_here fine_here rises_here s (take (length all - at) (drop at all)) state slice)
 
-        pub mark_rest : (time : ℕ) → m.state.before.time < time → (r : Left) → r.state ≡ s → r.list ≡ samples_from s (many - count) (take (length all - at) (drop at all)) → IsRestFrom time now.list r
-        mark_rest time early r known list =
-            rest_from now.list m mark written many bytes_here count_here fine_here rises_here s (take (length all - at) (drop at all)) state slice time early r known
+        pub mark_rest : (r : Left) → r.state ≡ s → r.list ≡ samples_from s (many - count) (take (length all - at) (drop at all)) → IsRestPast m.count now.list r
+        mark_rest r known list =
+            rest_past now.list m mark written many bytes_here count_here fine_here rises_here s (take (length all - at) (drop at all)) state slice r known
             (list ∙ ap (λ (n : ℕ). samples_from s (many - n) (take (length all - at) (drop at all))) count_same)
 
   -- and of all its samples
@@ -198,9 +217,12 @@ module _ (limit capacity : ℕ) (written : List ℕ) (many far : ℕ) (begins : 
     first_left =
         subst (λ (l : List ℕ). IsLeft s many l) (sym all_bytes) (all_left s many written first was.packed.bytes was.packed.chunk.ascending was.packed.chunk.fine)
 
-    pub first_rest : (time : ℕ) (r : Left) → r.state ≡ s → r.list ≡ samples_from s many all → IsRestFrom time now.list r
-    first_rest time r known list =
-        rest_from_first time now.list r (known ∙ first) (list ∙ (λ i. samples_from (first i) many (all_bytes i)) ∙ all_are many written ∙ list_here)
+    pub first_rest : (r : Left) → r.state ≡ s → r.list ≡ samples_from s many all → IsRestPast 0 now.list r
+    first_rest r known list = record {
+      within = omega arith;
+      list = list ∙ (λ i. samples_from (first i) many (all_bytes i)) ∙ all_are many written ∙ list_here;
+      state = known ∙ first;
+    }
 
 -- ---- what is asked of them
 

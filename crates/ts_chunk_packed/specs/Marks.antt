@@ -1,5 +1,5 @@
 -- Places in a chunk where decoding may begin.
-use Rattle.std.specs.Prelude.{◌≡◌, ℕ, ◌≤◌, List, [], Option, None, Some, take, length, All}
+use Rattle.std.specs.Prelude.{◌≡◌, ℕ, ◌≤◌, ⊤, List, [], Option, None, Some, take, length, All}
 use Rattle.std.specs.Global.{Box}
 use Rattle.ts_spec.specs.Sample.{Point}
 use Rattle.ts_chunk_packed.specs.Packed.{State, begin, packed, state_from}
@@ -18,7 +18,17 @@ pub record IsMark (ps : List Point) (m : Marked) : Type 0 where
   pub state : m.state ≡ state_from begin (take m.count ps)
   pub bytes : m.at ≡ length (packed (take m.count ps))
 
--- and so do all of them
+-- how many samples are before a place, which is the beginning where there is no mark
+abbrev pub passed : Option Marked → ℕ
+passed None = 0
+passed (Some m) = m.count
+
+-- the place is one among these samples
+abbrev pub IsPlace : List Point → Option Marked → Type 0
+IsPlace ps None = ⊤
+IsPlace ps (Some m) = IsMark ps m
+
+-- each of the marks stands after some of the samples
 abbrev pub AreMarks : List Point → List Marked → Type 0
 AreMarks ps ms = All (IsMark ps) ms
 

@@ -1,5 +1,5 @@
 -- What is left of a chunk.
-use Rattle.std.specs.Prelude.{◌≡◌, ℕ, ◌<◌, ⊤, List, [], ◌∷◌, ◌++◌}
+use Rattle.std.specs.Prelude.{◌≡◌, ℕ, ◌<◌, ◌≤◌, ⊤, List, [], ◌∷◌, ◌++◌, take, drop, length}
 use Rattle.ts_spec.specs.Sample.{Point, IsAscending}
 use Rattle.ts_sample.specs.Chunk.{AreFine}
 use Rattle.ts_chunk_packed.specs.Laws.{IsKnown}
@@ -29,6 +29,12 @@ pub record IsRestOf (all : List Point) (left : Left) : Type 0 where
   pub front : List Point
   pub whole : all ≡ front ++ left.list
   pub state : left.state ≡ state_from begin front
+
+-- what is left is what stands past the first so many of these samples
+pub record IsRestPast (count : ℕ) (all : List Point) (left : Left) : Type 0 where
+  pub within : count ≤ length all
+  pub list : left.list ≡ drop count all
+  pub state : left.state ≡ state_from begin (take count all)
 
 -- each sample is before this time
 abbrev pub AreBefore : ℕ → List Point → Type 0

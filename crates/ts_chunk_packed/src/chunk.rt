@@ -6,7 +6,7 @@ mod parts;
 use crate::coding::{WIDEST, encode, width_of};
 use crate::context::no_sample;
 use crate::late_marks::LateMarks;
-use crate::mark::Place;
+use crate::mark::{Mark, Place};
 use crate::splicing::take_over;
 use crate::walk::walk;
 use std::alloc::{AllocError, Global};
@@ -40,6 +40,7 @@ impl Model for PackedChunk {
 
 impl Chunk for PackedChunk {
     ghost use Rattle.ts_chunk_packed.specs.Laws.{three_or_more, no_fewer, one_within};
+    ghost use Rattle.ts_chunk_packed.specs.Marks.{IsPlace, passed};
     ghost use Rattle.ts_chunk_packed.specs.Packed.{packed};
 
     ghost list = { λ c. c.list };
@@ -47,6 +48,13 @@ impl Chunk for PackedChunk {
     ghost most = { λ c. c.limit };
 
     ghost format = { packed };
+
+    // A mark past the samples before it: none before the first sample.
+    type Place = Option<Mark>;
+
+    ghost passed = { passed };
+
+    ghost is_place = { IsPlace };
 
     fn new(alloc: Global, limit: u32) -> Result<PackedChunk, AllocError> {
         Ok(PackedChunk {
@@ -93,6 +101,28 @@ impl Chunk for PackedChunk {
 
     fn scan<V: Visit, L: Ledger>(&self, from: u64, to: u64, visit: &mut V, steps: &mut Steps<L>) {
         walk(self.rest_from(from), from, to, visit, steps);
+    }
+
+    fn start() -> Option<Mark> {
+        None
+    }
+
+    fn place_from<L: Ledger>(&self, time: u64, steps: &mut Steps<L>) -> Option<Mark> {
+        self.known();
+        let mut rest = self.rest_from(time);
+        let count = rest.len();
+        rest.pass_before(time);
+        let unread = rest.len().saturating_sub(1);
+        steps.add((count - unread) as u64);
+        self.place_before(&rest)
+    }
+
+    fn read<L: Ledger>(&self, place: &mut Option<Mark>, steps: &mut Steps<L>) -> Option<Sample> {
+        let mut rest = self.rest_at(place.as_ref());
+        let sample = rest.next()?;
+        steps.tick();
+        *place = self.place_before(&rest);
+        Some(sample)
     }
 
     fn fits(&self, sample: &Sample) -> bool {

@@ -1,5 +1,5 @@
 // A place in a chunk where decoding may begin.
-ghost use Rattle.std.specs.Prelude.{◌≡◌, ◌+◌, ◌≤◌, IfSome};
+ghost use Rattle.std.specs.Prelude.{◌≡◌, ◌+◌, ◌≤◌, false, IfNone, IfSome};
 
 use crate::context::Context;
 use std::marker::Model;
@@ -38,6 +38,7 @@ impl Mark {
         ensures state { IfSome result (λ m. m.state ≡ context.now) }
         ensures at { IfSome result (λ m. m.at ≡ place.at) }
         ensures count { IfSome result (λ m. m.count ≡ place.count) }
+        ensures none { IfNone result (context.now.begun ≡ false) }
     {
         context.known();
         let last = context.last()?;

@@ -1,11 +1,11 @@
 // A chunk that keeps each sample in 28 bytes, so that none has to be decoded to find another.
-ghost use Rattle.std.specs.Prelude.{◌≡◌, ◌+◌, ◌≤◌, nat_lt, nat_le, List, [], ◌∷◌, ◌++◌, map, take, drop, length, IfOk, vec_capacity};
-ghost use Rattle.ts_chunk_plain.specs.Plain.{bytes_of, plain, sample_of};
+ghost use Rattle.std.specs.Prelude.{◌≡◌, ◌≤◌, ⊤, [], ◌∷◌, ◌++◌, map, take, drop, length};
+ghost use Rattle.ts_chunk_plain.specs.Plain.{plain, sample_of};
 ghost use Rattle.ts_sample.specs.Chunk.{AreFine};
-ghost use Rattle.ts_sample.specs.Visit.{visited};
-ghost use Rattle.ts_spec.specs.Sample.{Point, IsAscending, at_times, first_of, last_of};
+ghost use Rattle.ts_spec.specs.Sample.{IsAscending, first_of, last_of};
 
-use crate::piece::{WIDTH, decode, encode, time_of};
+use crate::piece::{WIDTH, decode, encode};
+use crate::pieces::{joined, place_of, place_past, walk};
 use std::alloc::{AllocError, Global};
 use std::marker::Model;
 use std::sync::ledger::Ledger;
@@ -40,6 +40,13 @@ impl Chunk for PlainChunk {
     ghost most = { λ c. c.limit };
 
     ghost format = { plain };
+
+    // How many samples are before it.
+    type Place = usize;
+
+    ghost passed = { λ place. place };
+
+    ghost is_place = { λ _ _. ⊤ };
 
     fn new(alloc: Global, limit: u32) -> Result<PlainChunk, AllocError> {
         Ok(PlainChunk {
@@ -82,6 +89,21 @@ impl Chunk for PlainChunk {
         let pieces = self.pieces();
         let start = place_of(pieces, from);
         walk(&pieces[start..], to, visit, steps);
+    }
+
+    fn start() -> usize {
+        0
+    }
+
+    fn place_from<L: Ledger>(&self, time: u64, _steps: &mut Steps<L>) -> usize {
+        place_of(self.pieces(), time)
+    }
+
+    fn read<L: Ledger>(&self, place: &mut usize, steps: &mut Steps<L>) -> Option<Sample> {
+        let piece = self.pieces().get(*place)?;
+        steps.tick();
+        *place += 1;
+        Some(decode(piece))
     }
 
     fn fits(&self, _sample: &Sample) -> bool {
@@ -177,60 +199,5 @@ impl PlainChunk {
         } else {
             self.last
         }
-    }
-}
-
-// The bytes of a sample between other bytes, with room for a limit.
-fn joined(
-    alloc: Global,
-    limit: u32,
-    before: &[u8],
-    sample: &Sample,
-    after: &[u8],
-) -> Result<Vec<u8>, AllocError>
-    ensures items { IfOk result (λ v. v.items ≡ before.now ++ (bytes_of sample.now ++ after.now)) }
-    ensures room { IfOk result (λ v. limit ≤ vec_capacity v) }
-{
-    let mut bytes = Vec::with_capacity(alloc, limit as usize)?;
-    bytes.extend_from_slice(before)?;
-    bytes.extend_from_slice(&encode(sample))?;
-    bytes.extend_from_slice(after)?;
-    Ok(bytes)
-}
-
-// How many of the samples are before this time. It reads times alone.
-fn place_of(pieces: &[[u8; WIDTH]], time: u64) -> usize
-    requires { IsAscending (map sample_of pieces.now) }
-    ensures within { result ≤ length pieces.now }
-    ensures before { map sample_of (take result pieces.now) ≡ at_times (λ t. nat_lt t time) (map sample_of pieces.now) }
-    ensures after { map sample_of (drop result pieces.now) ≡ at_times (nat_le time) (map sample_of pieces.now) }
-{
-    pieces.partition_point(|piece| time_of(piece) < time)
-}
-
-// How many of the samples are up to this time. It reads times alone.
-fn place_past(pieces: &[[u8; WIDTH]], time: u64) -> usize
-    requires { IsAscending (map sample_of pieces.now) }
-    ensures within { result ≤ length pieces.now }
-    ensures past { map sample_of (drop result pieces.now) ≡ at_times (nat_lt time) (map sample_of pieces.now) }
-{
-    pieces.partition_point(|piece| time_of(piece) <= time)
-}
-
-// Takes a visitor over the samples up to a time.
-fn walk<V: Visit, L: Ledger>(pieces: &[[u8; WIDTH]], to: u64, visit: &mut V, steps: &mut Steps<L>)
-    requires ascending { IsAscending (map sample_of pieces.now) }
-    requires fine { AreFine (map sample_of pieces.now) }
-    requires room { length (at_times (λ t. nat_le t to) (map sample_of pieces.now)) ≤ V.room visit.old }
-    ensures visited { visit.new ≡ visited V.step visit.old (at_times (λ t. nat_le t to) (map sample_of pieces.now)) }
-    ensures counted { steps.old + length (at_times (λ t. nat_le t to) (map sample_of pieces.now)) ≤ steps.new }
-    ensures bounded { steps.new ≤ steps.old + length pieces.now }
-{
-    for piece in pieces {
-        steps.tick();
-        if time_of(piece) > to {
-            return;
-        }
-        visit.sample(&decode(piece));
     }
 }

@@ -4,5 +4,6 @@
 
 mod chunk;
 mod piece;
+mod pieces;
 
 pub use chunk::PlainChunk;

@@ -1,6 +1,6 @@
 // What every kind of chunk can do, and what holds of it.
-ghost use Rattle.std.specs.Prelude.{◌≡◌, ℕ, ◌+◌, ◌*◌, ◌<◌, ◌≤◌, nat_le, if◌then◌else◌, List, [], ◌∷◌, ◌++◌, length, map, IfOk, IfSome, IfNone};
-ghost use Rattle.ts_spec.specs.Sample.{Point, between, outside, put, first_of, last_of};
+ghost use Rattle.std.specs.Prelude.{◌≡◌, ℕ, ◌+◌, ◌*◌, ◌<◌, ◌≤◌, nat_le, if◌then◌else◌, List, [], ◌∷◌, ◌++◌, take, drop, length, map, IfOk, IfSome, IfNone};
+ghost use Rattle.ts_spec.specs.Sample.{Point, between, at_times, outside, put, first_of, last_of};
 ghost use Rattle.ts_sample.specs.Chunk.{IsLimit, IsChunk, IsPast, IsCut, HaveLimit, least_limit};
 ghost use Rattle.ts_sample.specs.Sample.{IsFine};
 ghost use Rattle.ts_sample.specs.Visit.{visited};
@@ -22,6 +22,15 @@ pub trait Chunk: Drop {
 
     // The bytes that its format gives for a list.
     ghost format: { List Point → List ℕ };
+
+    // A place among its samples, from which they are read on.
+    type Place: Drop;
+
+    // How many samples are before a place.
+    ghost passed: { Self.Place → ℕ };
+
+    // It is a place among these samples.
+    ghost is_place: { List Point → Self.Place → Type 0 };
 
     /// A chunk without samples, of 48 to 1,048,576 bytes, all of which are reserved.
     fn new(alloc: Global, limit: u32) -> Result<Self, AllocError>
@@ -64,6 +73,29 @@ pub trait Chunk: Drop {
         ensures visited { visit.new ≡ visited V.step visit.old (between from to (list self.now)) }
         ensures counted { steps.old + length (between from to (list self.now)) ≤ steps.new }
         ensures bounded { steps.new ≤ steps.old + length (list self.now) };
+
+    /// The place before the first sample of any chunk.
+    fn start() -> Self::Place
+        ensures place { (ps : List Point) → is_place ps result }
+        ensures passed { passed result ≡ 0 };
+
+    /// The place before the first sample from a time on, in milliseconds. Each sample that is decoded to find it is
+    /// a step.
+    fn place_from<L: Ledger>(&self, time: u64, steps: &mut Steps<L>) -> Self::Place
+        ensures place { is_place (list self.now) result }
+        ensures left { drop (passed result) (list self.now) ≡ at_times (nat_le time) (list self.now) }
+        ensures within { passed result ≤ length (list self.now) }
+        ensures counted { steps.old ≤ steps.new }
+        ensures bounded { steps.new ≤ steps.old + length (list self.now) };
+
+    /// Reads the sample at a place, which is a step, and moves the place past it. Where no sample is left, there is
+    /// none, and the place stays.
+    fn read<L: Ledger>(&self, place: &mut Self::Place, steps: &mut Steps<L>) -> Option<Sample>
+        requires { is_place (list self.now) place.old }
+        ensures next { result ≡ first_of (drop (passed place.old) (list self.now)) }
+        ensures place { is_place (list self.now) place.new }
+        ensures passed { passed place.new ≡ passed place.old + length (take 1 (drop (passed place.old) (list self.now))) }
+        ensures counted { steps.new ≡ steps.old + length (take 1 (drop (passed place.old) (list self.now))) };
 
     /// Whether a sample past the last one would fit. It decodes nothing.
     fn fits(&self, sample: &Sample) -> bool

@@ -26,7 +26,7 @@ get-past i [] le = refl
 get-past zero (ps ∷ pss) le = absurd (omega arith)
 get-past (suc i) (ps ∷ pss) le = get-past i pss (omega arith)
 
-take-past : (i : ℕ) (pss : List (List Point)) → length pss ≤ i → take i pss ≡ pss
+pub take-past : (i : ℕ) (pss : List (List Point)) → length pss ≤ i → take i pss ≡ pss
 take-past zero [] le = refl
 take-past zero (ps ∷ pss) le = absurd (omega arith)
 take-past (suc i) [] le = refl
@@ -62,7 +62,7 @@ piece format list most cs room count h view kept i x less there =
     let here : list x ≡ get_or (map list cs) i [] = ap list there ∙ sym (map-at list i cs x [] less) in
     record { within = within; here = here; chunk = subst (λ (ps : List Point). IsChunk format (get_or (map most cs) i 0) ps) (sym here) (chunk-at format i (map list cs) (map most cs) kept.chunks within) })
 
-rest-past : (t i : ℕ) (pss : List (List Point)) → IsAscending (joined pss) → IsTrimmed t (drop i pss) → IsAfter t (joined (drop (suc i) pss))
+pub rest-past : (t i : ℕ) (pss : List (List Point)) → IsAscending (joined pss) → IsTrimmed t (drop i pss) → IsAfter t (joined (drop (suc i) pss))
 rest-past t i [] h trimmed = _
 rest-past t zero (ps ∷ pss) h trimmed = after-some t ps (joined pss) h trimmed
 rest-past t (suc i) (ps ∷ pss) h trimmed = rest-past t i pss (ascending-right ps (joined pss) h) trimmed
@@ -124,7 +124,7 @@ module _ (t i : ℕ) (pss : List (List Point)) (rises : IsAscending (joined pss)
       ap last_of before-pieces ∙ last-append (joined (take i pss)) (at_times (λ u. nat_lt u t) (get_or pss i []))
       ∙ ap (λ (o : Option Point). option_or o (last_of (joined (take i pss)))) (sym is) ∙ ap (option_or here) (sym was)
 
-  late-pieces : at_times (nat_le t) (joined pss) ≡ at_times (nat_le t) (get_or pss i []) ++ at_times (nat_le t) (joined (drop (suc i) pss))
+  pub late-pieces : at_times (nat_le t) (joined pss) ≡ at_times (nat_le t) (get_or pss i []) ++ at_times (nat_le t) (joined (drop (suc i) pss))
   late-pieces =
       ap (at_times (nat_le t)) (parts-at i pss)
       ∙ times-append (nat_le t) (joined (take i pss)) (get_or pss i [] ++ joined (drop (suc i) pss))

@@ -28,6 +28,14 @@ module _ (edge : ℕ) (ps : List Point) where
       both : (t : ℕ) → is_within (max start edge) to t ≡ (nat_le edge t && is_within start to t)
       both t = grind (arith, nat_tests)
 
+  pub times-from : (start : ℕ) → at_times (nat_le (max start edge)) ps ≡ at_times (nat_le start) (at_times (nat_le edge) ps)
+  times-from start =
+      filter_alike (λ (p : Point). nat_le (max start edge) p.time) (λ (p : Point). nat_le edge p.time && nat_le start p.time) (λ p. later p.time) ps
+      ∙ sym (filter-filter (λ (p : Point). nat_le start p.time) (λ (p : Point). nat_le edge p.time) ps)
+    where
+      later : (t : ℕ) → nat_le (max start edge) t ≡ (nat_le edge t && nat_le start t)
+      later t = grind (arith, nat_tests)
+
   -- those before the edge and those from it on are all
   pub length-from : length (at_times (λ t. nat_lt t edge) ps) + length (at_times (nat_le edge) ps) ≡ length ps
   length-from = length-filter_both (λ (p : Point). nat_lt p.time edge) (λ (p : Point). nat_le edge p.time) (λ p. other p.time) ps
@@ -66,3 +74,8 @@ module _ {o : Options} {high : Option ℕ} {born : ℕ} {held : Held} {h : Histo
   -- and those of them in an interval
   pub between-shown : (from to : ℕ) {start : ℕ} → start ≡ max from edge → between start to (points held) ≡ between from to (list_of h)
   between-shown from to later = ap (λ s. between s to (points held)) later ∙ between-from edge (points held) from to ∙ ap (between from to) shown
+
+  -- and those of them from a time on
+  pub from-shown : (from : ℕ) {start : ℕ} → start ≡ max from edge → at_times (nat_le start) (points held) ≡ at_times (nat_le from) (list_of h)
+  from-shown from later =
+      ap (λ s. at_times (nat_le s) (points held)) later ∙ times-from edge (points held) from ∙ ap (at_times (nat_le from)) shown

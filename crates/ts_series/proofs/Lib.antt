@@ -26,6 +26,7 @@ pub mod FirstUpTo
 pub mod Effects
 pub mod Reach
 pub mod EdgeQuestions
+pub mod ReadingOn
 pub mod Ready
 pub mod Putting
 pub mod TakenFromEdge

@@ -1,3 +1,4 @@
+pub mod Cursor
 pub mod Encoded
 pub mod FaultNames
 pub mod Held
@@ -5,4 +6,5 @@ pub mod History
 pub mod Mend
 pub mod Plan
 pub mod Put
+pub mod Reading
 pub mod Seams

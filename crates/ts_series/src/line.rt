@@ -1,6 +1,8 @@
 // A series of one kind of chunk.
 ghost use Rattle.std.specs.Prelude.{◌≡◌, ◌<◌, ◌+◌, ◌-◌, ◌^◌, [], None};
-ghost use Rattle.ts_spec.specs.Sample.{last_of};
+ghost use Rattle.ts_spec.specs.Mending.{high_with};
+ghost use Rattle.ts_spec.specs.Sample.{IsAscending, last_of};
+ghost use Rattle.ts_spec.specs.State.{edge_of};
 ghost use Rattle.ts_series.specs.History.{list_of, low, IsKeptIn, KeepsLimits, KeepsReach};
 ghost use Rattle.ts_series.specs.Plan.{after, IsForIn};
 
@@ -76,6 +78,14 @@ impl<C: Chunk> Line<C> {
         ensures { result ≡ low self.now }
     {
         edge_at(self.options.retention, self.high)
+    }
+
+    // The earliest time that it would keep with these rows too, in milliseconds.
+    pub(crate) fn edge_with(&self, rows: &[Sample]) -> u64
+        requires { IsAscending rows.now }
+        ensures { result ≡ edge_of self.now.options.retention (high_with rows.now self.now.high) }
+    {
+        edge_at(self.options.retention, high_after(rows, self.high))
     }
 
     // Its last sample.

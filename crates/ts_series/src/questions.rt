@@ -1,5 +1,5 @@
 // Questions about a series of one kind of chunk.
-ghost use Rattle.std.specs.Prelude.{◌≡◌, ◌≤◌, ◌+◌, ◌*◌, ℕ, suc, nat_lt, length};
+ghost use Rattle.std.specs.Prelude.{◌≡◌, ◌≤◌, ◌+◌, ◌*◌, ℕ, suc, nat_lt, nat_le, length};
 ghost use Rattle.ts_spec.specs.Sample.{MAX_TIME, at, at_times, between, first_of, last_of};
 ghost use Rattle.ts_sample.specs.Visit.{visited};
 ghost use Rattle.ts_spec.specs.Valid.{Every};
@@ -7,6 +7,7 @@ ghost use Rattle.ts_series.specs.History.{list_of, reach, IsKeptIn};
 ghost use Rattle.ts_series.specs.Seams.{IsSeamed, Around};
 
 use crate::line::Line;
+use crate::line_cursor::LineCursor;
 use crate::room::new_limit;
 use std::sync::ledger::Ledger;
 use ts_sample::{Chunk, Sample, Steps, Visit};
@@ -59,6 +60,24 @@ impl<C: Chunk> Line<C> {
         ensures bounded { steps.new ≤ steps.old + reach self.now }
     {
         self.chunks.len() - self.chunks.count_before(self.edge(), steps)
+    }
+
+    // How many samples it has from a time on, in milliseconds.
+    pub(crate) fn count_from<L: Ledger>(&self, time: u64, steps: &mut Steps<L>) -> usize
+        ensures count { result ≡ length (at_times (nat_le time) (list_of self.now)) }
+        ensures counted { steps.old ≤ steps.new }
+        ensures bounded { steps.new ≤ steps.old + reach self.now }
+    {
+        self.chunks.len() - self.chunks.count_before(time.max(self.edge()), steps)
+    }
+
+    // Begins to read its samples from a time on, in milliseconds.
+    pub(crate) fn read_from<L: Ledger>(&self, from: u64, steps: &mut Steps<L>) -> LineCursor<'_, C>
+        ensures left { result ≡ at_times (nat_le from) (list_of self.now) }
+        ensures counted { steps.old ≤ steps.new }
+        ensures bounded { steps.new ≤ steps.old + reach self.now }
+    {
+        self.chunks.read_from(from.max(self.edge()), steps)
     }
 
     // Its sample at this time, in milliseconds.

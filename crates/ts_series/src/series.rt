@@ -1,6 +1,8 @@
 // A series as its callers see it.
 ghost use Rattle.std.specs.Prelude.{◌≡◌, ◌<◌, ◌+◌, ◌-◌, ◌^◌, [], None};
-ghost use Rattle.ts_spec.specs.Sample.{last_of};
+ghost use Rattle.ts_spec.specs.Mending.{high_with};
+ghost use Rattle.ts_spec.specs.Sample.{IsAscending, last_of};
+ghost use Rattle.ts_spec.specs.State.{edge_of};
 ghost use Rattle.ts_series.specs.History.{list_of, low, IsKept, KeepsLimits, KeepsReach};
 ghost use Rattle.ts_series.specs.Plan.{after, IsFor};
 
@@ -90,6 +92,17 @@ impl Series {
         match &self.lines {
             Lines::Plain(line) => line.edge(),
             Lines::Packed(line) => line.edge(),
+        }
+    }
+
+    /// The earliest time that it would keep with these rows too, in milliseconds. They are in ascending time.
+    pub fn edge_with(&self, rows: &[Sample]) -> u64
+        requires { IsAscending rows.now }
+        ensures { result ≡ edge_of self.now.options.retention (high_with rows.now self.now.high) }
+    {
+        match &self.lines {
+            Lines::Plain(line) => line.edge_with(rows),
+            Lines::Packed(line) => line.edge_with(rows),
         }
     }
 

@@ -1,14 +1,14 @@
-// Parts of a chunk: what is left of it from a time on, what stands before, and the rest of another.
-ghost use Rattle.std.specs.Prelude.{◌≡◌, ◌<◌, nat_lt, nat_le, if◌then◌else◌, ◌++◌, length, IfOk};
+// Parts of a chunk: what is left of it from a time or a place on, what stands before, and the rest of another.
+ghost use Rattle.std.specs.Prelude.{◌≡◌, ◌+◌, ◌<◌, nat_lt, nat_le, if◌then◌else◌, ◌++◌, length, IfOk, IfSome, IfNone};
 ghost use Rattle.ts_spec.specs.Sample.{IsAscending, at_times};
-ghost use Rattle.ts_chunk_packed.specs.Marks.{AreMarks, EndsAt};
+ghost use Rattle.ts_chunk_packed.specs.Marks.{AreMarks, IsMark, IsPlace, EndsAt, passed};
 ghost use Rattle.ts_chunk_packed.specs.Packed.{begin, state_from, packed};
-ghost use Rattle.ts_chunk_packed.specs.Rest.{IsRestOf, IsRestFrom};
+ghost use Rattle.ts_chunk_packed.specs.Rest.{IsRestOf, IsRestFrom, IsRestPast};
 
 use super::PackedChunk;
 use crate::context::Context;
 use crate::late_marks::LateMarks;
-use crate::mark::Place;
+use crate::mark::{Mark, Place};
 use crate::rest::Rest;
 use std::alloc::{AllocError, Global};
 
@@ -24,11 +24,29 @@ impl PackedChunk {
     pub(super) fn rest_from(&self, time: u64) -> Rest<'_>
         ensures { IsRestFrom time self.now.list result }
     {
-        let Some(mark) = self.marks.before(time) else {
+        self.rest_at(self.marks.before(time))
+    }
+
+    // The samples past a mark, or all of them where there is none.
+    pub(super) fn rest_at(&self, mark: Option<&Mark>) -> Rest<'_>
+        requires { IfSome mark (λ m. IsMark self.now.list m.now) }
+        ensures all { IfNone mark.entry (IsRestPast 0 self.now.list result) }
+        ensures past { IfSome mark.entry (λ m. IsRestPast m.now.count self.now.list result) }
+    {
+        let Some(mark) = mark else {
             return Rest::new(Context::new(None, 0), &self.bytes, self.count);
         };
         let bytes = &self.bytes[mark.at() as usize..];
         Rest::new(mark.context(), bytes, self.count - mark.count())
+    }
+
+    // The place before the samples that are left of it.
+    pub(super) fn place_before(&self, rest: &Rest<'_>) -> Option<Mark>
+        requires { IsRestOf self.now.list rest.now }
+        ensures place { IsPlace self.now.list result }
+        ensures passed { passed result + length rest.now.list ≡ length self.now.list }
+    {
+        Mark::after(rest.context(), self.place_of(rest))
     }
 
     // Passes the samples before a time, and gives all that are before it in a chunk of the same limit.

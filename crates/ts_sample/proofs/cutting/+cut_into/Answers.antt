@@ -26,7 +26,7 @@ cut_into-requires g t c κs within =
     let some = c.in-Some.ensures.item in
     let more : 2 ≤ length ps =
     two g.C.Chunk.format g.met.C.Chunk.one_fits c.args.limit c.requires.limit ps c.in-Some.first.now c.known-2.ensures some.3.0 some.1 full in
-    (shorter-front _ ps t (omega arith) (omega arith), (within, (c.requires.limit, ascending-take _ ps c.requires.ascending)))
+    (shorter-front _ ps t (omega arith) (omega arith), (within.0, (within.1, (c.requires.limit, ascending-take _ ps c.requires.ascending))))
 
 pub cut_into-requires-2 : goal.cut_into-requires-2
 cut_into-requires-2 g t c κs within =
@@ -35,7 +35,7 @@ cut_into-requires-2 g t c κs within =
     let some = c.in-Some.ensures.item in
     let more : 2 ≤ length ps =
     two g.C.Chunk.format g.met.C.Chunk.one_fits c.args.limit c.requires.limit ps c.in-Some.first.now c.known-2.ensures some.3.0 some.1 full in
-    (shorter-rest _ _ ps t (omega arith) (omega arith) (omega arith), (within, (c.requires.limit, ascending-take _ _ (ascending-drop _ ps c.requires.ascending))))
+    (shorter-rest _ _ ps t (omega arith) (omega arith) (omega arith), (within.0, (within.1, (c.requires.limit, ascending-take _ _ (ascending-drop _ ps c.requires.ascending)))))
 
 pub returns-clause-cut : goal.returns-clause-cut
 returns-clause-cut g t c =

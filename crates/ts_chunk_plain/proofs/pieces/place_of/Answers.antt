@@ -3,7 +3,7 @@ use Rattle.std.specs.Prelude.{nat_lt}
 use Rattle.std.proofs.lemmas.List.Sorted.{IsPartitionedBy-ltb, IsPartitionPoint-from_clause}
 use Rattle.ts_chunk_plain.specs.Plain.{sample_of}
 use Rattle.ts_chunk_plain.proofs.Walking.{rising_of, before_place, from_place}
-use Rattle.ts_chunk_plain.proofs.chunk.place_of.Goals as goal
+use Rattle.ts_chunk_plain.proofs.pieces.place_of.Goals as goal
 
 pub returns-clause-after : goal.returns-clause-after
 returns-clause-after c =

@@ -1,7 +1,7 @@
 use Rattle.std.proofs.Common.{map, drop}
 use Rattle.ts_chunk_plain.specs.Plain.{sample_of}
 use Rattle.ts_chunk_plain.proofs.Walking.{Walked}
-use Rattle.ts_chunk_plain.proofs.chunk.walk.Given as goal
+use Rattle.ts_chunk_plain.proofs.pieces.walk.Given as goal
 
 abbrev pub invariant-loop-piece : goal.invariant-loop-piece
 invariant-loop-piece g l =

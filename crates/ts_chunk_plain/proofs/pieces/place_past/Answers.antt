@@ -3,7 +3,7 @@ use Rattle.std.specs.Prelude.{nat_le}
 use Rattle.std.proofs.lemmas.List.Sorted.{IsPartitionedBy-leb, IsPartitionPoint-from_clause}
 use Rattle.ts_chunk_plain.specs.Plain.{sample_of}
 use Rattle.ts_chunk_plain.proofs.Walking.{rising_of, past_place}
-use Rattle.ts_chunk_plain.proofs.chunk.place_past.Goals as goal
+use Rattle.ts_chunk_plain.proofs.pieces.place_past.Goals as goal
 
 pub returns-clause-past : goal.returns-clause-past
 returns-clause-past c =

@@ -2,7 +2,7 @@ use Rattle.std.proofs.Common.{◌<◌, sym, ap, ◌∙◌, get_or, length, [], a
 use Rattle.ts_sample.specs.Visit.{visited}
 use Rattle.ts_chunk_plain.specs.Plain.{sample_of}
 use Rattle.ts_chunk_plain.proofs.Walking.{none_left}
-use Rattle.ts_chunk_plain.proofs.chunk.walk.Goals as goal
+use Rattle.ts_chunk_plain.proofs.pieces.walk.Goals as goal
 
 pub returns-then-time_of-to-clause-visited : goal.returns-then-time_of-to-clause-visited
 returns-then-time_of-to-clause-visited g c =

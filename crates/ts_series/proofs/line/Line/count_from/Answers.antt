@@ -1,0 +1,21 @@
+use Rattle.std.proofs.Common.{length, ap, arith}
+use Rattle.ts_series.specs.Held.{points}
+use Rattle.ts_series.proofs.EdgeQuestions.{from-shown, length-from}
+use Rattle.ts_series.proofs.Reach.{within-reach}
+use Rattle.ts_series.proofs.line.Line.count_from.Goals as goal
+
+pub overflow_sub-result : goal.overflow_sub-result
+overflow_sub-result g c = omega (arith, c.len.ensures, c.count_before.ensures.count, length-from c.max.result (points c.self.inside.chunks))
+
+pub returns-clause-count : goal.returns-clause-count
+returns-clause-count g c =
+    omega (
+      arith,
+      c.len.ensures,
+      c.count_before.ensures.count,
+      length-from c.max.result (points c.self.inside.chunks),
+      ap length (from-shown c.self.view_is c.edge.ensures c.args.time c.max.ensures),
+    )
+
+pub returns-clause-bounded : goal.returns-clause-bounded
+returns-clause-bounded g c = omega (arith, c.count_before.ensures.bounded, within-reach g.met.C.Chunk.at_least c.self.invariant c.self.view_is)

@@ -1,0 +1,77 @@
+// Reading on over the samples of a series, of either encoding.
+ghost use Rattle.std.specs.Prelude.{◌≡◌, ◌≤◌, ◌+◌, nat_le, length, drop};
+ghost use Rattle.ts_spec.specs.Sample.{at_times, first_of};
+ghost use Rattle.ts_series.specs.History.{list_of, reach};
+
+use crate::line_cursor::LineCursor;
+use crate::series::{Lines, Series};
+use std::marker::Model;
+use std::sync::ledger::Ledger;
+use ts_chunk_packed::PackedChunk;
+use ts_chunk_plain::PlainChunk;
+use ts_sample::{Sample, Steps};
+
+/// The samples of a series from a time on that were not read yet, in their order.
+#[derive(Drop)]
+pub struct Cursor<'a> {
+    cursors: Cursors<'a>,
+}
+
+// Of either encoding.
+#[derive(Drop)]
+enum Cursors<'a> {
+    Plain(LineCursor<'a, PlainChunk>),
+    Packed(LineCursor<'a, PackedChunk>),
+}
+
+impl<'a> Model for Cursor<'a> {
+    ghost use Rattle.std.specs.Prelude.{List};
+    ghost use Rattle.ts_spec.specs.Sample.{Point};
+    ghost use Rattle.ts_series.specs.Cursor.{left_in};
+
+    ghost Value = { List Point };
+
+    ghost view = { λ c. left_in c.cursors };
+}
+
+impl<'a> Cursor<'a> {
+    /// Takes the next sample, which is a step.
+    pub fn next<L: Ledger>(&mut self, steps: &mut Steps<L>) -> Option<Sample>
+        ensures next { result ≡ first_of self.old }
+        ensures left { self.new ≡ drop 1 self.old }
+        ensures counted { steps.old ≤ steps.new }
+        ensures bounded { steps.new ≤ steps.old + 1 }
+    {
+        match &mut self.cursors {
+            Cursors::Plain(line) => line.next(steps),
+            Cursors::Packed(line) => line.next(steps),
+        }
+    }
+}
+
+impl Series {
+    /// Begins to read its samples from a time on, in milliseconds. It takes no memory.
+    pub fn read_from<L: Ledger>(&self, from: u64, steps: &mut Steps<L>) -> Cursor<'_>
+        ensures left { result ≡ at_times (nat_le from) (list_of self.now) }
+        ensures counted { steps.old ≤ steps.new }
+        ensures bounded { steps.new ≤ steps.old + reach self.now }
+    {
+        let cursors = match &self.lines {
+            Lines::Plain(line) => Cursors::Plain(line.read_from(from, steps)),
+            Lines::Packed(line) => Cursors::Packed(line.read_from(from, steps)),
+        };
+        Cursor { cursors }
+    }
+
+    /// How many samples it has from a time on, in milliseconds.
+    pub fn count_from<L: Ledger>(&self, time: u64, steps: &mut Steps<L>) -> usize
+        ensures count { result ≡ length (at_times (nat_le time) (list_of self.now)) }
+        ensures counted { steps.old ≤ steps.new }
+        ensures bounded { steps.new ≤ steps.old + reach self.now }
+    {
+        match &self.lines {
+            Lines::Plain(line) => line.count_from(time, steps),
+            Lines::Packed(line) => line.count_from(time, steps),
+        }
+    }
+}

@@ -1,0 +1,110 @@
+// Reading on over the samples of chunks. Each sample that is read is decoded once for it.
+ghost use Rattle.std.specs.Prelude.{◌≡◌, ◌≢◌, ◌+◌, ◌<◌, ◌≤◌, nat_le, [], length, take, drop, slice_index_or};
+ghost use Rattle.ts_spec.specs.Sample.{at_times, first_of};
+ghost use Rattle.ts_series.specs.Held.{points, longest};
+
+use crate::chunks::Chunks;
+use std::marker::Model;
+use std::sync::ledger::Ledger;
+use ts_sample::{Chunk, Sample, Steps};
+
+// The samples of chunks that were not read yet.
+#[derive(Drop)]
+pub(crate) struct LineCursor<'a, C: Chunk> {
+    chunks: &'a Chunks<C>,
+    // Which chunk is at hand.
+    at: usize,
+    // How far it is read.
+    place: C::Place,
+}
+
+impl<'a, C: Chunk> Model for LineCursor<'a, C> {
+    ghost use Rattle.std.specs.Prelude.{List};
+    ghost use Rattle.ts_spec.specs.Sample.{Point};
+    ghost use Rattle.ts_series.specs.Reading.{left_at, IsReading};
+
+    ghost Value = { List Point };
+
+    ghost view = { λ c. left_at c.at (C.passed c.place) c.chunks.now.pieces };
+
+    ghost invariant = { λ c. IsReading (λ ps. C.is_place ps c.place) c.chunks.now.pieces c.at (C.passed c.place) };
+}
+
+impl<'a, C: Chunk> LineCursor<'a, C> {
+    // Takes the next sample, which is a step.
+    pub(crate) fn next<L: Ledger>(&mut self, steps: &mut Steps<L>) -> Option<Sample>
+        ensures next { result ≡ first_of self.old }
+        ensures left { self.new ≡ drop 1 self.old }
+        ensures counted { steps.old ≤ steps.new }
+        ensures bounded { steps.new ≤ steps.old + 1 }
+    {
+        let next = self.chunks.read_at(self.at, &mut self.place, steps);
+        if next.is_some() {
+            return next;
+        }
+        if self.at == self.chunks.chunk_count() {
+            return None;
+        }
+        self.at += 1;
+        self.place = C::start();
+        self.chunks.read_at(self.at, &mut self.place, steps)
+    }
+}
+
+impl<C: Chunk> Chunks<C> {
+    // Begins to read the samples from a time on.
+    pub(crate) fn read_from<L: Ledger>(&self, time: u64, steps: &mut Steps<L>) -> LineCursor<'_, C>
+        ensures left { result ≡ at_times (nat_le time) (points self.now) }
+        ensures counted { steps.old ≤ steps.new }
+        ensures bounded { steps.new ≤ steps.old + longest self.now.pieces }
+    {
+        // Does nothing: where a field is read, the order of the chunks is known.
+        let _ = &self.chunks;
+        let at = self.before(time);
+        let place = self.place_from(at, time, steps);
+        LineCursor {
+            chunks: self,
+            at,
+            place,
+        }
+    }
+
+    // The place before the first sample from a time on in the chunk that stands there, if there is one.
+    fn place_from<L: Ledger>(&self, at: usize, time: u64, steps: &mut Steps<L>) -> C::Place
+        ensures place { C.is_place (slice_index_or self.now.pieces at []) result }
+        ensures left { drop (C.passed result) (slice_index_or self.now.pieces at []) ≡ at_times (nat_le time) (slice_index_or self.now.pieces at []) }
+        ensures within { C.passed result ≤ length (slice_index_or self.now.pieces at []) }
+        ensures counted { steps.old ≤ steps.new }
+        ensures bounded { steps.new ≤ steps.old + longest self.now.pieces }
+    {
+        match self.chunks.get(at) {
+            None => C::start(),
+            Some(chunk) => chunk.place_from(time, steps),
+        }
+    }
+
+    // Reads the sample at a place in the chunk that stands there, and moves the place past it.
+    fn read_at<L: Ledger>(
+        &self,
+        at: usize,
+        place: &mut C::Place,
+        steps: &mut Steps<L>,
+    ) -> Option<Sample>
+        requires { C.is_place (slice_index_or self.now.pieces at []) place.old }
+        ensures next { result ≡ first_of (drop (C.passed place.old) (slice_index_or self.now.pieces at [])) }
+        ensures place { C.is_place (slice_index_or self.now.pieces at []) place.new }
+        ensures passed { C.passed place.new ≡ C.passed place.old + length (take 1 (drop (C.passed place.old) (slice_index_or self.now.pieces at []))) }
+        ensures counted { steps.new ≡ steps.old + length (take 1 (drop (C.passed place.old) (slice_index_or self.now.pieces at []))) }
+        ensures filled { at < length self.now.pieces → slice_index_or self.now.pieces at [] ≢ [] }
+    {
+        let chunk = self.chunks.get(at)?;
+        chunk.read(place, steps)
+    }
+
+    // How many chunks there are.
+    fn chunk_count(&self) -> usize
+        ensures { result ≡ length self.now.pieces }
+    {
+        self.chunks.len()
+    }
+}
