@@ -23,15 +23,15 @@ use Rattle.ts_db.specs.declared.store.Store.{Store}
 use Rattle.ts_db.specs.declared.work.Work.TheVariants.{Delete}
 use Rattle.ts_db.specs.Faults.{refusal_of}
 use Rattle.ts_db.specs.Feeding.{Rows, Gone, keep_fed}
-use Rattle.ts_db.specs.Held.{DeletionYields}
+use Rattle.ts_db.specs.Held.{YieldsToMemory}
 use Rattle.ts_db.specs.Planning.{changed_by, gone_by, rows_by_work, AreChanged, first_full, IsUnplanned}
 use Rattle.ts_db.specs.Store.{kept_of, rules_by, key_in, kept_by, kept_at, stock_of, contents_of, Contents, IsInOrder, IsDb, Holds}
-use Rattle.ts_db.specs.Answering.{node_after, IsKeptAnswerBy}
+use Rattle.ts_db.specs.Answering.{node_after, IsKeptAnswer}
 use Rattle.ts_db.proofs.Applying.{there}
 use Rattle.ts_db.proofs.Fed.{deleted-fed}
 use Rattle.ts_db.proofs.Fitting.{keys_fed, destinations-tested}
 use Rattle.ts_db.proofs.Known.{links}
-use Rattle.ts_db.proofs.Unplanned.{unless-full-yields, destination-refused}
+use Rattle.ts_db.proofs.Destinations.{none-full-yields, destination-refused}
 use Rattle.ts_db.proofs.Working.{changed-rules}
 
 -- a plan of a deletion leaves what is outside the interval
@@ -138,20 +138,13 @@ module _ (s : Store) (db : IsDb s) (key : Key) (id : Id) (n : Node) (holds : Hol
       ∙ ap (λ (d : Kept). keep_fed rows gone (rules_by (key_in s.nodes) n.rules.items) (with_key key d (stock_of s).keys)) (cuts-after (key_in s.nodes) n plan rules from to many k is changed)))
       ∙ ap (λ (j : ℕ). record { keys = new.keys; response = Count j }) (sym (count ∙ ap (λ (p : Plan). p.removed) is))
 
-  -- one that a destination refuses
-  pub undeleted-answers : (fault : DbFault) → IsUnplanned (Delete from to) full_without fault
-      → IsKeptAnswerBy DeletionYields (refusal_of (stock_of s).ids fault) (stock_of s).keys
+  -- one that a destination refuses, or for which there was no memory and that no destination refuses
+  pub undeleted-answers : (fault : DbFault) → IsUnplanned full_without fault
+      → IsKeptAnswer (refusal_of (stock_of s).ids fault) (stock_of s).keys
       (kept_within_destinations s.limits (stock_of s).keys key (record { keys = keep_deleted key from to (stock_of s).keys; response = Count (length (between from to (list_of n.series))) }))
   undeleted-answers fault x =
       let many : ℕ = length (between from to (list_of n.series)) in
       let done : KeptOutcome = record { keys = after_keys; response = Count many } in
-      subst (IsKeptAnswerBy DeletionYields (refusal_of (stock_of s).ids fault) (stock_of s).keys) (sym (delete-from many))
-      (destination-refused s db.store n.rules.items rows gone (db.store.live id.0 n holds.node).rules (Delete from to) DeletionYields fault done
-      (λ lost. unless-full-yields (stock_of s).keys (option_map (key_in s.nodes) full_without) done tt) x)
-
-  -- one for which there was no memory: but for a destination it is not refused
-  pub uncut-yields : DeletionYields (kept_within_destinations s.limits (stock_of s).keys key (record { keys = keep_deleted key from to (stock_of s).keys; response = Count (length (between from to (list_of n.series))) })).response
-  uncut-yields =
-      let many : ℕ = length (between from to (list_of n.series)) in
-      subst (λ (o : KeptOutcome). DeletionYields o.response) (sym (delete-from many))
-      (unless-full-yields (stock_of s).keys (option_map (key_in s.nodes) full_without) (record { keys = after_keys; response = Count many }) tt)
+      subst (IsKeptAnswer (refusal_of (stock_of s).ids fault) (stock_of s).keys) (sym (delete-from many))
+      (destination-refused s db.store n.rules.items rows gone (db.store.live id.0 n holds.node).rules fault done
+      (λ none. none-full-yields (key_in s.nodes) (stock_of s).keys full_without done none tt) x)

@@ -28,10 +28,10 @@ use Rattle.ts_spec.proofs.KeysGo.{valid-dropped}
 use Rattle.ts_spec.proofs.KeptMaps.{get-kept, some-kept, count-kept}
 use Rattle.ts_spec.proofs.KeptAsked.{asked-kept, info-kept}
 use Rattle.ts_db.specs.declared.fault.DbFault.{DbFault}
-use Rattle.ts_db.specs.Held.{Held, Stock, Stands, Leads, AnswersDone, AnswersNumber, AnswersDeleted, DeletionYields, Drops, Finds}
-use Rattle.ts_db.specs.Answering.{KeptDone, KeptNumber, KeptDeleted}
+use Rattle.ts_db.specs.Held.{Held, Stock, Stands, Leads, AnswersDone, AnswersNumber, Drops, Finds}
+use Rattle.ts_db.specs.Answering.{KeptDone, KeptNumber}
 use Rattle.ts_db.proofs.Refusing.{create-refuses, alter-refuses, add-refuses, put-refuses, incr-refuses, delete-refuses, create_rule-refuses, delete_rule-refuses}
-use Rattle.ts_db.proofs.Lifting.{at-limits, lifted, lifted-by, finds-state}
+use Rattle.ts_db.proofs.Lifting.{at-limits, lifted, finds-state}
 
 module _ (old new : Stock) (room : 1 ≤ old.limits.samples) where
   pub create-law : (key : Key) (spec : Spec) (r : Result (Unit {0}) DbFault) → KeptDone old (kept_create old.limits old.keys key spec) r new
@@ -59,10 +59,10 @@ module _ (old new : Stock) (room : 1 ≤ old.limits.samples) where
   incr-law key x t spec = lifted old new (λ h. incr_at h.limits h.state key x t spec (get key h.state)) (kept_incr_at old.limits old.keys key x t spec (get key old.keys))
       (λ m st. record { is_step = incr-step old.limits old.keys m key x t spec room st; refuses = incr-refuses old.limits m key x t spec (get key m) }) (λ x. Count x)
 
-  pub delete-law : (key : Key) (from to : ℕ) (r : Result ℕ DbFault) → KeptDeleted old (kept_delete_at old.limits old.keys key from to (get key old.keys)) r new
-      → AnswersDeleted old (λ h. delete_at h.limits h.state key from to (get key h.state)) r new
-  delete-law key from to = lifted-by old new (λ h. delete_at h.limits h.state key from to (get key h.state)) (kept_delete_at old.limits old.keys key from to (get key old.keys))
-      (λ m st. record { is_step = delete-step old.limits old.keys m key from to st; refuses = delete-refuses old.limits m key from to (get key m) }) DeletionYields (λ x. Count x)
+  pub delete-law : (key : Key) (from to : ℕ) (r : Result ℕ DbFault) → KeptNumber old (kept_delete_at old.limits old.keys key from to (get key old.keys)) r new
+      → AnswersNumber old (λ h. delete_at h.limits h.state key from to (get key h.state)) r new
+  delete-law key from to = lifted old new (λ h. delete_at h.limits h.state key from to (get key h.state)) (kept_delete_at old.limits old.keys key from to (get key old.keys))
+      (λ m st. record { is_step = delete-step old.limits old.keys m key from to st; refuses = delete-refuses old.limits m key from to (get key m) }) (λ x. Count x)
 
   pub create_rule-law : (source dest : Key) (agg : Aggregator) (grid : Grid) (r : Result (Unit {0}) DbFault) → KeptDone old (kept_create_rule old.limits old.keys source dest agg grid) r new
       → AnswersDone old (λ h. create_rule h.limits h.state source dest agg grid) r new

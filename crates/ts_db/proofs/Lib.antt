@@ -15,7 +15,7 @@ pub mod Planned
 pub mod Grown
 pub mod Known
 pub mod Fitting
-pub mod Unplanned
+pub mod Destinations
 pub mod Working
 pub mod StayingOpen
 pub mod GrownNode

@@ -10,8 +10,8 @@ use Rattle.ts_spec.specs.KeptStep.{KeptOutcome}
 use Rattle.ts_spec.specs.Stands.{StandsFor, IsStepOf}
 use Rattle.ts_db.specs.declared.fault.DbFault.{DbFault}
 use Rattle.ts_db.specs.Faults.{refusal_of}
-use Rattle.ts_db.specs.Held.{Held, Stock, Stands, Leads, YieldsToMemory, IsAnswerBy, IsDone, Answers, AnswersBy, Finds}
-use Rattle.ts_db.specs.Answering.{IsKeptAnswerBy, KeptAnswers, KeptAnswersBy}
+use Rattle.ts_db.specs.Held.{Held, Stock, Stands, Leads, YieldsToMemory, IsAnswer, IsDone, Answers, Finds}
+use Rattle.ts_db.specs.Answering.{IsKeptAnswer, KeptAnswers}
 use Rattle.ts_db.proofs.Refusing.{Refuses}
 
 -- what is told of keys and of a state for each that they are stood for
@@ -38,28 +38,20 @@ module _ (old new : Stock) (step : Held → Outcome) (kept_step : KeptOutcome)
         };
       })
 
-  refusal : (yields : Response → Type 0) (o : Option Refusal) → IsKeptAnswerBy yields o old.keys kept_step → (from : Held) → Stands old from → IsAnswerBy yields o from.state (step from)
-  refusal yields None a = at-limits old (λ from. IsAnswerBy yields None from.state (step from)) (λ m s. subst yields (sym (law m s).is_step.response) a)
-  refusal yields (Some r) a = at-limits old (λ from. IsAnswerBy yields (Some r) from.state (step from)) (λ m s.
+  refusal : (o : Option Refusal) → IsKeptAnswer o old.keys kept_step → (from : Held) → Stands old from → IsAnswer o from.state (step from)
+  refusal None a = at-limits old (λ from. IsAnswer None from.state (step from)) (λ m s. subst YieldsToMemory (sym (law m s).is_step.response) a)
+  refusal (Some r) a = at-limits old (λ from. IsAnswer (Some r) from.state (step from)) (λ m s.
       let both = law m s in both.refuses r (both.is_step.response ∙ ap (λ (o : KeptOutcome). o.response) a))
 
   -- the answers of each state
-  pub lifted-by : (yields : Response → Type 0) {T : Type 0} (response : T → Response) (r : Result T DbFault) → KeptAnswersBy yields response old kept_step r new
-      → AnswersBy yields response old step r new
-  lifted-by yields response (Ok x) a = done (response x) a
-  lifted-by yields response (Err fault) a = (refusal yields (refusal_of old.ids fault) a.0, a.1)
-
   pub lifted : {T : Type 0} (response : T → Response) (r : Result T DbFault) → KeptAnswers response old kept_step r new → Answers response old step r new
-  lifted response r a = lifted-by YieldsToMemory response r a
+  lifted response (Ok x) a = done (response x) a
+  lifted response (Err fault) a = (refusal (refusal_of old.ids fault) a.0, a.1)
 
 -- where there was a state that was stood for there is one after that
-pub leads-by : (yields : Response → Type 0) {T : Type 0} (response : T → Response) (old new : Stock) (step : Held → Outcome) (r : Result T DbFault) → AnswersBy yields response old step r new
-    → Leads old (λ held. ⊤) → Leads new (λ held. ⊤)
-leads-by yields response old new step (Ok x) a w = record { to = record { limits = w.to.limits; state = (step w.to).state }; done = tt; stands = (a w.to w.stands).stands }
-leads-by yields response old new step (Err fault) a w = subst (λ (s : Stock). Leads s (λ held. ⊤)) (sym a.1) w
-
 pub leads-on : {T : Type 0} (response : T → Response) (old new : Stock) (step : Held → Outcome) (r : Result T DbFault) → Answers response old step r new → Leads old (λ held. ⊤) → Leads new (λ held. ⊤)
-leads-on response old new step r a w = leads-by YieldsToMemory response old new step r a w
+leads-on response old new step (Ok x) a w = record { to = record { limits = w.to.limits; state = (step w.to).state }; done = tt; stands = (a w.to w.stands).stands }
+leads-on response old new step (Err fault) a w = subst (λ (s : Stock). Leads s (λ held. ⊤)) (sym a.1) w
 
 -- a question about what is kept, and one about the state
 pub finds-state : {X Y T : Type 0} (f : X → Y) (o : Option X) (what : T → Type 0) (r : Result T DbFault) → Finds (option_map f o) what r → Finds o what r

@@ -22,7 +22,7 @@ use Rattle.ts_db.specs.Latest.{rule_among}
 use Rattle.ts_db.specs.Store.{rules_by, key_at, key_in, kept_at, stock_of, number_of, IsLive, AreLive, IsLiveSource, IsInOrder, Holds}
 use Rattle.ts_db.proofs.Applying.{there}
 use Rattle.ts_db.proofs.Known.{named}
-use Rattle.ts_db.proofs.Unplanned.{live-number}
+use Rattle.ts_db.proofs.Destinations.{live-number}
 
 module _ (s : Store) (store : IsInOrder s) (key : Key) (id : Id) (n : Node) (holds : Holds s key id n) where
   -- without the open bucket

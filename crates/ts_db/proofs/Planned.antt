@@ -12,24 +12,19 @@ use Rattle.ts_rules.specs.declared.plan.RulePlan.{RulePlan}
 use Rattle.ts_rules.specs.declared.fault.RuleFault.{RuleFault}
 use Rattle.ts_rules.specs.declared.fault.RuleFault.TheVariants.{Full, Memory}
 use Rattle.ts_rules.specs.Rules.{kept_as, IsChanged}
-use Rattle.ts_rules.specs.Plans.{IsPlanned, HidesNothing}
+use Rattle.ts_rules.specs.Plans.{IsPlanned}
 use Rattle.ts_rules.specs.PlansOfDeletions.{IsPlanOfDeletion}
 use Rattle.ts_db.specs.declared.node.Node.{Node}
 use Rattle.ts_db.specs.declared.work.Work.{Work}
 use Rattle.ts_db.specs.declared.work.Work.TheVariants.{Write, Delete}
 use Rattle.ts_db.specs.Store.{Nodes, key_in}
-use Rattle.ts_db.specs.Planning.{changed_by, gone_by, rows_by_work, IsFedBy, first_full, TellsFull, IsRuleUnplanned}
+use Rattle.ts_db.specs.Planning.{changed_by, gone_by, rows_by_work, IsFedBy, first_full, IsRuleUnplanned}
 use Rattle.ts_db.proofs.Plans.{fits-one, full-one}
 
 -- the rows of buckets do not tell the key of a destination
 rows-named : (left : List Point) (born : ℕ) (k : Key) (r : Rule) (bs : List ℕ) → rows_of left born (kept_as [] r) bs ≡ rows_of left born (kept_as k r) bs
 rows-named left born k r [] = refl
 rows-named left born k r (b ∷ bs) = ap (λ (rows : List Point). bucket_row r.agg born b (counted_anew (kept_as k r) b left) ++ rows) (rows-named left born k r bs)
-
--- what follows from what is so of a write
-pub tells-then : (work : Work) {X Y : Type 0} → (X → Y) → TellsFull work X → TellsFull work Y
-tells-then (Write p) follows x = follows x
-tells-then (Delete from to) follows x = tt
 
 -- the plan of a deletion, by any key of the destination
 pub deletion-named : (limit : ℕ) (k : Key) (r : Rule) (source : History) (from to : ℕ) (dest : History) (result : Result RulePlan RuleFault) → IsPlanOfDeletion limit r source from to dest result
@@ -61,12 +56,7 @@ module _ (limit : ℕ) (nodes : Nodes) (work : Work) (source : History) (r : Rul
   planned-fits (Ok x) p = fits-one limit nodes (rows_by_work work source) (gone_by work source) r n is (p (key_in nodes r.dest)).1.fits
   planned-fits (Err fault) p = tt
 
-  -- want of memory does not hide that the destination of a write would be full
-  abbrev pub IsTold : Result RulePlan RuleFault → Type 0
-  IsTold result = (k : Key) → TellsFull work (IfErr result (HidesNothing limit (gone_by work source (kept_as k r)) (rows_by_work work source n.series.born (kept_as k r)) n.series))
-
-  pub planned-refused : (result : Result RulePlan RuleFault) → IsPlan result → IsTold result → IfErr result (IsRuleUnplanned work r (first_full limit nodes (rows_by_work work source) (gone_by work source) (r ∷ [])))
-  planned-refused (Ok x) p told = tt
-  planned-refused (Err Full) p told = full-one limit nodes (rows_by_work work source) (gone_by work source) r n is (p (key_in nodes r.dest))
-  planned-refused (Err (Memory e)) p told =
-      tells-then work (λ few. fits-one limit nodes (rows_by_work work source) (gone_by work source) r n is few) (told (key_in nodes r.dest))
+  pub planned-refused : (result : Result RulePlan RuleFault) → IsPlan result → IfErr result (IsRuleUnplanned r (first_full limit nodes (rows_by_work work source) (gone_by work source) (r ∷ [])))
+  planned-refused (Ok x) p = tt
+  planned-refused (Err Full) p = full-one limit nodes (rows_by_work work source) (gone_by work source) r n is (p (key_in nodes r.dest))
+  planned-refused (Err (Memory e)) p = fits-one limit nodes (rows_by_work work source) (gone_by work source) r n is (p (key_in nodes r.dest))

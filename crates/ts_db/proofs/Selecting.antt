@@ -20,7 +20,7 @@ use Rattle.ts_spec.specs.KeptQuestions.{kept_selected_in, kept_selection}
 use Rattle.ts_spec.proofs.Keys.{before-irrefl}
 use Rattle.ts_sample.specs.declared.id.Id.{Id}
 use Rattle.ts_db.specs.declared.node.Node.{Node}
-use Rattle.ts_db.specs.Held.{AreNumbersOf}
+use Rattle.ts_db.specs.Held.{AreEntriesOf, AreNumbersOf}
 use Rattle.ts_db.specs.Store.{Nodes, Numbers, kept_at, kept_in, with_found, collected, number_of}
 
 -- the order of a map's keys is that of the definitions
@@ -132,6 +132,19 @@ all-there nodes all [] stored each = tt
 all-there nodes all (e ∷ es) stored each =
     (stored e.0 e.1 (All-head (λ (d : Key × Id). number_of d.0 all ≡ Some d.1) e es each), all-there nodes all es stored (All-tail (λ (d : Key × Id). number_of d.0 all ≡ Some d.1) e es each))
 
+-- The entries of a map are those of all that is kept, each with its number.
+entries-listed : (nodes : Nodes) (ids : Keyed Id) (es : Numbers) → HaveNodes nodes es → AreFound ids es → AreEntriesOf ids (listing nodes es) es
+entries-listed nodes ids [] there found = tt
+entries-listed nodes ids (e ∷ es) there found = go (kept_in nodes e.1) (ap (option_map (kept_at nodes)) there.0.1) (entries-listed nodes ids es there.1 found.1)
+  where
+    go : (o : Option Kept) → o ≡ Some (kept_at nodes there.0.0) → AreEntriesOf ids (listing nodes es) es → AreEntriesOf ids (onto e.0 o (listing nodes es)) (e ∷ es)
+    go None is rest = absurd (cc is)
+    go (Some d) is rest = ((refl, found.0), rest)
+
+pub entries-kept : (nodes : Nodes) (ids : Keyed Id) (es : Numbers) → IsStrictlySortedBy (slice_cmp nat_cmp) (keys_of es) → HaveNodes nodes es → AreFound ids es
+    → AreEntriesOf ids (collected nodes es).entries es
+entries-kept nodes ids es sorted there found = subst (λ (l : List (Entry Kept)). AreEntriesOf ids l es) (sym (listing-entries nodes es sorted there)) (entries-listed nodes ids es there found)
+
 module _ (nodes : Nodes) (fs : List Filter) (k : Key) (id : Id) (n : Node) (rest es : Numbers) (so_far next total : List Id) (split : rest ≡ (k, id) ∷ es)
     (at : slab.get nodes id.0 ≡ Some n) (goes : so_far ++ chosen nodes fs rest ≡ total) where
   -- a number whose labels pass is taken
@@ -160,6 +173,10 @@ pub fewer-left : (fs : ℕ) (rest es : Numbers) (e : Key × Id) (a b most : ℕ)
 fewer-left fs rest es e a b most split all one =
     let more : fs * length rest ≡ fs * length es + fs = ap (λ (l : Numbers). fs * length l) split ∙ mul-suc fs (length es) in
     omega (arith, more, all, one)
+
+-- there is room for one more, and then for those that are left
+pub room-left : (rest es : Numbers) (e : Key × Id) (len capacity : ℕ) → rest ≡ e ∷ es → len + length rest ≤ capacity → (len < capacity) × (len + 1 + length es ≤ capacity)
+room-left rest es e len capacity split room = let more : length rest ≡ suc (length es) = ap length split in (omega (arith, more, room), omega (arith, more, room))
 
 -- as many keys are kept as have numbers
 pub as-many : (nodes : Nodes) (es : Numbers) → HaveNodes nodes es → length (listing nodes es) ≡ length es

@@ -68,11 +68,11 @@ planned-for s work to x y rs planned plans same it items p =
     subst (λ (X : Type 0). X) (λ i. ArePlanned s (same i) (it i).series (all i) planned plans) p
 
 pub unplanned-for : (s : Store) (work to : Work) (x y : Node) (rs : List Rule) (fault : DbFault) → work ≡ to → x ≡ y → rs ≡ x.rules.items
-    → IsUnplanned work (first_full s.limits.samples s.nodes (rows_by_work work x.series) (gone_by work x.series) rs) fault
-    → IsUnplanned to (first_full s.limits.samples s.nodes (rows_by_work to y.series) (gone_by to y.series) y.rules.items) fault
+    → IsUnplanned (first_full s.limits.samples s.nodes (rows_by_work work x.series) (gone_by work x.series) rs) fault
+    → IsUnplanned (first_full s.limits.samples s.nodes (rows_by_work to y.series) (gone_by to y.series) y.rules.items) fault
 unplanned-for s work to x y rs fault same it items p =
     let all : rs ≡ y.rules.items = items ∙ ap (λ (n : Node). n.rules.items) it in
-    subst (λ (X : Type 0). X) (λ i. IsUnplanned (same i) (first_full s.limits.samples s.nodes (rows_by_work (same i) (it i).series) (gone_by (same i) (it i).series) (all i)) fault) p
+    subst (λ (X : Type 0). X) (λ i. IsUnplanned (first_full s.limits.samples s.nodes (rows_by_work (same i) (it i).series) (gone_by (same i) (it i).series) (all i)) fault) p
 
 -- ---- the destinations
 

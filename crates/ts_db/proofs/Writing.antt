@@ -39,7 +39,7 @@ use Rattle.ts_db.proofs.Applying.{there}
 use Rattle.ts_db.proofs.Fed.{written-fed}
 use Rattle.ts_db.proofs.Fitting.{keys_fed, own-fed, destinations-tested}
 use Rattle.ts_db.proofs.Known.{links}
-use Rattle.ts_db.proofs.Unplanned.{none-full-yields, destination-refused}
+use Rattle.ts_db.proofs.Destinations.{none-full-yields, destination-refused}
 use Rattle.ts_db.proofs.Working.{changed-rules}
 
 -- what a plan writes where it writes this sample
@@ -154,12 +154,12 @@ module _ (s : Store) (db : IsDb s) (key : Key) (id : Id) (n : Node) (holds : Hol
       ∙ ap (λ (x : Kept). keep_fed (rows t v) (gone t v) (rules_by (key_in s.nodes) n.rules.items) (with_key key x (stock_of s).keys)) same))
 
   -- one that a destination refuses, or for which there was no memory and that no destination refuses
-  pub unplanned-answers : (fault : DbFault) (t : ℕ) (v : ℤ) → Fits s.limits.samples (sample_of t v n.series) n.series → IsUnplanned (Write (sample_of t v n.series)) (full_by t v) fault
+  pub unplanned-answers : (fault : DbFault) (t : ℕ) (v : ℤ) → Fits s.limits.samples (sample_of t v n.series) n.series → IsUnplanned (full_by t v) fault
       → IsKeptAnswer (refusal_of (stock_of s).ids fault) (stock_of s).keys (kept_write_merged s.limits (stock_of s).keys key t (To v))
   unplanned-answers fault t v few x =
       let done : KeptOutcome = record { keys = after_keys t v; response = Count t } in
       subst (IsKeptAnswer (refusal_of (stock_of s).ids fault) (stock_of s).keys) (sym (write-fits t v (short t v few)))
-      (destination-refused s db.store n.rules.items (rows t v) (gone t v) (db.store.live id.0 n holds.node).rules (Write (sample_of t v n.series)) YieldsToMemory fault done
+      (destination-refused s db.store n.rules.items (rows t v) (gone t v) (db.store.live id.0 n holds.node).rules fault done
       (λ none. none-full-yields (key_in s.nodes) (stock_of s).keys (full_by t v) done none tt) x)
 
   -- a write that was not planned, and not for want of memory

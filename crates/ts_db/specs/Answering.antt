@@ -18,27 +18,19 @@ use Rattle.ts_db.specs.declared.fault.DbFault.{DbFault}
 use Rattle.ts_db.specs.declared.node.Node.{Node}
 use Rattle.ts_db.specs.declared.store.Store.{Store}
 use Rattle.ts_db.specs.Faults.{refusal_of}
-use Rattle.ts_db.specs.Held.{Stock, YieldsToMemory, DeletionYields}
+use Rattle.ts_db.specs.Held.{Stock, YieldsToMemory}
 use Rattle.ts_db.specs.Store.{key_in, kept_at, stock_of, contents_of, AreLive, HaveGrids, Holds}
 
--- a refusal is the step's answer; want of memory is told only where the step's answer yields to it
-abbrev pub IsKeptAnswerBy : (yields : Response → Type 0) → Option Refusal → Keeping → KeptOutcome → Type 0
-IsKeptAnswerBy yields None m step = yields step.response
-IsKeptAnswerBy yields (Some refusal) m step = step ≡ kept_refused m refusal
-
--- the same of any call but a deletion
+-- a refusal is the step's answer; want of memory is told only where the step refuses nothing
 abbrev pub IsKeptAnswer : Option Refusal → Keeping → KeptOutcome → Type 0
-IsKeptAnswer o m step = IsKeptAnswerBy YieldsToMemory o m step
+IsKeptAnswer None m step = YieldsToMemory step.response
+IsKeptAnswer (Some refusal) m step = step ≡ kept_refused m refusal
 
--- An answer is that of the step over what is kept, and so is what is kept then; or it is the step's refusal, or want of memory where its
--- answer yields to it, and nothing has changed.
-abbrev pub KeptAnswersBy : (yields : Response → Type 0) → {T : Type 0} → (T → Response) → (old : Stock) → KeptOutcome → Result T DbFault → (new : Stock) → Type 0
-KeptAnswersBy yields response old step (Ok x) new = (step ≡ record { keys = new.keys; response = response x }) × (new.limits ≡ old.limits)
-KeptAnswersBy yields response old step (Err fault) new = IsKeptAnswerBy yields (refusal_of old.ids fault) old.keys step × (new ≡ old)
-
--- the same of any call but a deletion
+-- An answer is that of the step over what is kept, and so is what is kept then; or it is the step's refusal, or want of memory where the
+-- step refuses nothing, and nothing has changed.
 abbrev pub KeptAnswers : {T : Type 0} → (T → Response) → (old : Stock) → KeptOutcome → Result T DbFault → (new : Stock) → Type 0
-KeptAnswers response old step result new = KeptAnswersBy YieldsToMemory response old step result new
+KeptAnswers response old step (Ok x) new = (step ≡ record { keys = new.keys; response = response x }) × (new.limits ≡ old.limits)
+KeptAnswers response old step (Err fault) new = IsKeptAnswer (refusal_of old.ids fault) old.keys step × (new ≡ old)
 
 -- a node after a plan of its series, with these labels and these rules, where they are given
 abbrev pub node_after : Plan → Option (List Label) → Option (Vec Rule Global) → Node → Node
@@ -73,7 +65,3 @@ KeptDone old step result new = KeptAnswers (λ x. Done) old step result new
 
 abbrev pub KeptNumber : (old : Stock) → KeptOutcome → Result ℕ DbFault → (new : Stock) → Type 0
 KeptNumber old step result new = KeptAnswers (λ t. Count t) old step result new
-
--- a deletion, which answers how many
-abbrev pub KeptDeleted : (old : Stock) → KeptOutcome → Result ℕ DbFault → (new : Stock) → Type 0
-KeptDeleted old step result new = KeptAnswersBy DeletionYields (λ n. Count n) old step result new

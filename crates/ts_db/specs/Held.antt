@@ -4,13 +4,13 @@ use Rattle.std.specs.Option.{unwrap_or}
 use Rattle.ts_spec.specs.Sample.{Point, MAX_TIME, last_of, later_or}
 use Rattle.ts_spec.specs.declared.limits.Limits.{Limits}
 use Rattle.ts_spec.specs.Key.{Key}
-use Rattle.ts_spec.specs.Keyed.{Keyed, get}
-use Rattle.ts_spec.specs.Refusal.{Refusal, DestinationFull}
+use Rattle.ts_spec.specs.Keyed.{Keyed, Entry, get}
+use Rattle.ts_spec.specs.Refusal.{Refusal}
 use Rattle.ts_spec.specs.State.{State}
 use Rattle.ts_spec.specs.Rules.{dropped}
 use Rattle.ts_spec.specs.Step.{Outcome, refused}
 use Rattle.ts_spec.specs.Response.{Response, Done, Count, Refused}
-use Rattle.ts_spec.specs.Kept.{Keeping}
+use Rattle.ts_spec.specs.Kept.{Kept, Keeping}
 use Rattle.ts_spec.specs.Stands.{StandsFor}
 use Rattle.ts_sample.specs.declared.id.Id.{Id}
 use Rattle.ts_db.specs.declared.fault.DbFault.{DbFault}
@@ -59,24 +59,10 @@ abbrev pub YieldsToMemory : Response → Type 0
 YieldsToMemory (Refused refusal) = ⊥
 YieldsToMemory response = ⊤
 
--- the refusal of a deletion that want of memory may hide: there was none to find out that a destination would be full
-abbrev pub MayBeHidden : Refusal → Type 0
-MayBeHidden (DestinationFull key) = ⊤
-MayBeHidden refusal = ⊥
-
--- want of memory may be told in the place of this answer to a deletion: it is no refusal, or that one
-abbrev pub DeletionYields : Response → Type 0
-DeletionYields (Refused refusal) = MayBeHidden refusal
-DeletionYields response = ⊤
-
--- a refusal is the step's answer; want of memory is told only where the step's answer yields to it
-abbrev pub IsAnswerBy : (yields : Response → Type 0) → Option Refusal → State → Outcome → Type 0
-IsAnswerBy yields None m step = yields step.response
-IsAnswerBy yields (Some refusal) m step = step ≡ refused m refusal
-
--- the same of any call but a deletion
+-- a refusal is the step's answer; want of memory is told only where the step refuses nothing
 abbrev pub IsAnswer : Option Refusal → State → Outcome → Type 0
-IsAnswer o m step = IsAnswerBy YieldsToMemory o m step
+IsAnswer None m step = YieldsToMemory step.response
+IsAnswer (Some refusal) m step = step ≡ refused m refusal
 
 -- the step answers so, and the database stands for the state after it
 pub record IsDone (response : Response) (limits : Limits) (step : Outcome) (new : Stock) : Type 0 where
@@ -84,14 +70,10 @@ pub record IsDone (response : Response) (limits : Limits) (step : Outcome) (new 
   pub stands : Stands new (record { limits = limits; state = step.state })
 
 -- For each state that the database stood for: an answer is that of the step, after which it stands for the step's state; or it is the
--- step's refusal, or want of memory where the step's answer yields to it, and nothing has changed.
-abbrev pub AnswersBy : (yields : Response → Type 0) → {T : Type 0} → (T → Response) → (old : Stock) → (Held → Outcome) → Result T DbFault → (new : Stock) → Type 0
-AnswersBy yields response old step (Ok x) new = (from : Held) → Stands old from → IsDone (response x) from.limits (step from) new
-AnswersBy yields response old step (Err fault) new = ((from : Held) → Stands old from → IsAnswerBy yields (refusal_of old.ids fault) from.state (step from)) × (new ≡ old)
-
--- the same of any call but a deletion
+-- step's refusal, or want of memory where the step refuses nothing, and nothing has changed.
 abbrev pub Answers : {T : Type 0} → (T → Response) → (old : Stock) → (Held → Outcome) → Result T DbFault → (new : Stock) → Type 0
-Answers response old step result new = AnswersBy YieldsToMemory response old step result new
+Answers response old step (Ok x) new = (from : Held) → Stands old from → IsDone (response x) from.limits (step from) new
+Answers response old step (Err fault) new = ((from : Held) → Stands old from → IsAnswer (refusal_of old.ids fault) from.state (step from)) × (new ≡ old)
 
 -- a call that answers nothing, and one that answers a time, or how many
 abbrev pub AnswersDone : (old : Stock) → (Held → Outcome) → Result (Unit {0}) DbFault → (new : Stock) → Type 0
@@ -99,10 +81,6 @@ AnswersDone old step result new = Answers (λ x. Done) old step result new
 
 abbrev pub AnswersNumber : (old : Stock) → (Held → Outcome) → Result ℕ DbFault → (new : Stock) → Type 0
 AnswersNumber old step result new = Answers (λ t. Count t) old step result new
-
--- a deletion, which answers how many
-abbrev pub AnswersDeleted : (old : Stock) → (Held → Outcome) → Result ℕ DbFault → (new : Stock) → Type 0
-AnswersDeleted old step result new = AnswersBy DeletionYields (λ n. Count n) old step result new
 
 -- The number is that of a key.
 pub record IsLive (ids : Keyed Id) (id : Id) : Type 0 where
@@ -146,3 +124,10 @@ AreNumbersOf ids [] [] = ⊤
 AreNumbersOf ids [] (n ∷ ns) = ⊥
 AreNumbersOf ids (k ∷ ks) [] = ⊥
 AreNumbersOf ids (k ∷ ks) (n ∷ ns) = (get k ids ≡ Some n) × AreNumbersOf ids ks ns
+
+-- these keys with their numbers are those of the entries, in their order
+abbrev pub AreEntriesOf : Keyed Id → List (Entry Kept) → List (Key × Id) → Type 0
+AreEntriesOf ids [] [] = ⊤
+AreEntriesOf ids [] (n ∷ ns) = ⊥
+AreEntriesOf ids (e ∷ es) [] = ⊥
+AreEntriesOf ids (e ∷ es) (n ∷ ns) = ((n.0 ≡ e.key) × (get e.key ids ≡ Some n.1)) × AreEntriesOf ids es ns

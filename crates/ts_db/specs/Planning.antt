@@ -94,21 +94,16 @@ abbrev pub first_full : (limit : ℕ) → Nodes → Rows → Gone → List Rule 
 first_full limit nodes rows gone [] = None
 first_full limit nodes rows gone (r ∷ rs) = if nat_lt limit (length (fed_list nodes rows gone r)) then Some r.dest else first_full limit nodes rows gone rs
 
--- what is so of a write; of a deletion nothing is said, since it may find no memory to tell whether a destination would be full
-abbrev pub TellsFull : Work → Type 0 → Type 0
-TellsFull (Write p) X = X
-TellsFull (Delete from to) X = ⊤
+-- no plan is made for a rule where its destination would be full; or it would not, and there is no memory
+abbrev pub IsRuleUnplanned : Rule → (full : Option Id) → RuleFault → Type 0
+IsRuleUnplanned r full Full = full ≡ Some r.dest
+IsRuleUnplanned r full (rule_fault.Memory e) = full ≡ None
 
--- no plan is made for a rule where its destination would be full, or for want of memory, which does not hide that of a write
-abbrev pub IsRuleUnplanned : Work → Rule → (full : Option Id) → RuleFault → Type 0
-IsRuleUnplanned work r full Full = full ≡ Some r.dest
-IsRuleUnplanned work r full (rule_fault.Memory e) = TellsFull work (full ≡ None)
-
--- nor for all rules where the destination of that one would be full, or for want of memory, which does not hide that of a write
-abbrev pub IsUnplanned : Work → (full : Option Id) → DbFault → Type 0
-IsUnplanned work full (SamplesFull id written) = (written ≡ false) × (full ≡ Some id)
-IsUnplanned work full (Memory e) = TellsFull work (full ≡ None)
-IsUnplanned work full fault = ⊥
+-- nor for all rules where the destination of that one would be full; or none would, and there is no memory
+abbrev pub IsUnplanned : (full : Option Id) → DbFault → Type 0
+IsUnplanned full (SamplesFull id written) = (written ≡ false) × (full ≡ Some id)
+IsUnplanned full (Memory e) = full ≡ None
+IsUnplanned full fault = ⊥
 
 -- ---- the plans of destinations, for a store
 

@@ -5,7 +5,7 @@ ghost use Rattle.ts_spec.specs.Keyed.{get};
 ghost use Rattle.ts_spec.specs.Step.{create, alter_at, add_at, put_at, incr_at, delete_at, create_rule, delete_rule_at};
 ghost use Rattle.ts_labels.specs.Spec.{spec_of, change_of};
 ghost use Rattle.ts_db.specs.Faults.{IsRefusal};
-ghost use Rattle.ts_db.specs.Held.{Held, Stands, AnswersDone, AnswersNumber, AnswersDeleted, IsOwn, Drops, reach_at};
+ghost use Rattle.ts_db.specs.Held.{Held, Stands, AnswersDone, AnswersNumber, IsOwn, Drops, reach_at};
 ghost use Rattle.ts_db.specs.PutBy.{put_by};
 ghost use Rattle.ts_db.specs.Bounds.{write_steps, IsEasyAppend, deletion_steps};
 
@@ -140,7 +140,7 @@ impl Db {
         steps: &mut Steps<L>,
     ) -> Result<u64, DbFault>
         requires time { from ≤ MAX_TIME }
-        ensures deleted { AnswersDeleted self.old (λ h. delete_at h.limits h.state key.now from to (get key.now h.state)) result self.new }
+        ensures deleted { AnswersNumber self.old (λ h. delete_at h.limits h.state key.now from to (get key.now h.state)) result self.new }
         ensures bounded { IfOk result (λ n. n ≤ MAX_TIME) }
         ensures limits { self.new.limits ≡ self.old.limits }
         ensures own { IfErr result (IsOwn self.old key.now) }

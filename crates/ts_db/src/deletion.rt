@@ -10,7 +10,7 @@ ghost use Rattle.ts_series.specs.History.{list_of};
 ghost use Rattle.ts_db.specs.declared.node.Node.{Node as TheNode};
 ghost use Rattle.ts_db.specs.Held.{IsOwn};
 ghost use Rattle.ts_db.specs.Store.{rules_by, stock_of, number_of, IsInOrder, IsDb, IsThere, Holds};
-ghost use Rattle.ts_db.specs.Answering.{KeptDeleted};
+ghost use Rattle.ts_db.specs.Answering.{KeptNumber};
 ghost use Rattle.ts_db.specs.Bounds.{deletion_steps};
 
 use crate::fault::DbFault;
@@ -33,7 +33,7 @@ impl Store {
     ) -> Result<u64, DbFault>
         requires time { from ≤ MAX_TIME }
         requires db { IsDb self.old }
-        ensures deleted { KeptDeleted (stock_of self.old) (kept_delete_at self.old.limits (stock_of self.old).keys key.now from to (get key.now (stock_of self.old).keys)) result (stock_of self.new) }
+        ensures deleted { KeptNumber (stock_of self.old) (kept_delete_at self.old.limits (stock_of self.old).keys key.now from to (get key.now (stock_of self.old).keys)) result (stock_of self.new) }
         ensures bounded { IfOk result (λ n. n ≤ MAX_TIME) }
         ensures own { IfErr result (IsOwn (stock_of self.old) key.now) }
         ensures store { IsInOrder self.new }
@@ -66,7 +66,7 @@ impl Store {
     ) -> Result<u64, DbFault>
         requires db { IsDb self.old }
         requires there { IsThere self.old id }
-        ensures deleted { (key : Key) (n : TheNode) → Holds self.old key id n → KeptDeleted (stock_of self.old)
+        ensures deleted { (key : Key) (n : TheNode) → Holds self.old key id n → KeptNumber (stock_of self.old)
             (kept_within_destinations self.old.limits (stock_of self.old).keys key (record { keys = keep_deleted key from to (stock_of self.old).keys; response = Count (length (between from to (list_of n.series))) }))
             result (stock_of self.new) }
         ensures bounded { IfOk result (λ n. n ≤ MAX_TIME) }
@@ -78,12 +78,12 @@ impl Store {
         let Some(node) = self.nodes.get(id.0) else {
             unreachable!();
         };
+        let work = Work::Delete(from, to);
         let plan = match node.series.cut(from, to, steps) {
             Ok(plan) => plan,
-            Err(fault) => return Err(DbFault::Memory(fault)),
+            Err(_) => return Err(self.unplanned(&node.rules, &node.series, &work, steps)),
         };
         let removed = plan.removed();
-        let work = Work::Delete(from, to);
         let planned = match self.plan_rules(&node.rules, &node.series, &work, steps) {
             Ok(planned) => planned,
             Err(fault) => return Err(fault),

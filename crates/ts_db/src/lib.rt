@@ -32,7 +32,7 @@ mod ruling;
 mod selection;
 mod store;
 mod total;
-mod unwritten;
+mod unplanned;
 mod work;
 mod write;
 

@@ -1,34 +1,55 @@
 // Keys by their numbers, for questions over many series.
-ghost use Rattle.std.specs.Prelude.{◌≡◌, ◌≤◌, ◌^◌, ◌⊎◌, ℕ, suc, false, nat_lt, length, is_some, Some, IfOk, ◌+◌, ◌*◌};
+ghost use Rattle.std.specs.Prelude.{◌≡◌, ◌≤◌, ◌^◌, ◌⊎◌, ℕ, suc, false, nat_lt, length, is_some, Some, IfOk, OnErr, ◌+◌, ◌*◌};
 ghost use Rattle.ts_sample.specs.Visit.{visited};
 ghost use Rattle.std.specs.Option.{ForSome};
+ghost use Rattle.ts_spec.specs.Filter.{all_hold};
 ghost use Rattle.ts_spec.specs.Key.{Key};
 ghost use Rattle.ts_spec.specs.Keyed.{get};
 ghost use Rattle.ts_spec.specs.KeptQuestions.{kept_asked, kept_labels_at, kept_selection};
 ghost use Rattle.ts_spec.specs.Sample.{IsAscending, at_times, between, last_of};
 ghost use Rattle.ts_series.specs.Seams.{IsSeam, IsSeamed, EndsNear, Around};
-ghost use Rattle.ts_db.specs.Held.{IsLive, AreNumbersOf, AreTimes, ends_of, reach_at, pieces_at};
+ghost use Rattle.ts_db.specs.Held.{IsLive, AreEntriesOf, AreNumbersOf, AreTimes, ends_of, reach_at, pieces_at};
 ghost use Rattle.ts_db.specs.Totals.{total_of};
 ghost use Rattle.ts_db.specs.Bounds.{reach_of_all, walk_steps, selection_steps};
 
 use crate::db::Db;
 use std::alloc::AllocError;
+use std::collections::btree_map::Iter;
 use std::sync::ledger::Ledger;
 use ts_labels::{Filter, Labels};
 use ts_resp::Word;
 use ts_sample::{Id, Sample, Steps, Visit};
 
 impl Db {
-    /// The numbers of the keys whose labels pass all filters, in ascending order of the bytes of the keys.
+    /// The numbers of the keys whose labels pass all filters, in ascending order of the bytes of the keys. An Err comes
+    /// before a filter is tried.
     pub fn select<L: Ledger>(
         &self,
         filters: &[Filter],
         steps: &mut Steps<L>,
     ) -> Result<Vec<Id>, AllocError>
         ensures numbers { IfOk result (λ ids. AreNumbersOf self.now.ids (kept_selection self.now.keys filters.now) ids.items) }
+        ensures unspent { OnErr result (steps.new ≡ steps.old) }
         ensures steps { steps.new ≤ steps.old + selection_steps self.now filters.now }
     {
         self.store.select(filters, steps)
+    }
+
+    /// All keys in ascending order of their bytes, each with its number. Takes no memory.
+    pub fn entries(&self) -> Iter<'_, Word, Id>
+        ensures entries { AreEntriesOf self.now.ids self.now.keys.entries result }
+    {
+        self.store.entries()
+    }
+
+    /// Whether the labels of the key of a number pass all filters. Takes no memory.
+    pub fn passes<L: Ledger>(&self, id: Id, filters: &[Filter], steps: &mut Steps<L>) -> bool
+        requires { IsLive self.now.ids id }
+        ensures passes { (key : Key) → get key self.now.ids ≡ Some id
+            → result ≡ all_hold filters.now (kept_labels_at (get key self.now.keys)) }
+        ensures steps { steps.new ≤ steps.old + length filters.now }
+    {
+        self.store.passes(id, filters, steps)
     }
 
     /// The number of a key, if the key is there. Takes no memory.

@@ -1,19 +1,18 @@
 // The plans for all rules of a source, which are made before anything is changed.
-ghost use Rattle.std.specs.Prelude.{◌≡◌, ◌≤◌, [], ◌∷◌, Option, None, length, IfOk, IfErr, ◌+◌};
+ghost use Rattle.std.specs.Prelude.{◌≡◌, ◌≤◌, [], ◌∷◌, None, length, IfOk, IfErr, ◌+◌};
 ghost use Rattle.slab.specs.Slab as slab;
 ghost use Rattle.ts_series.specs.History.{list_of};
 ghost use Rattle.ts_rules.specs.Rules.{kept_as, IsChanged};
-ghost use Rattle.ts_rules.specs.Plans.{HidesNothing, IsPlanned as IsPlannedSo};
+ghost use Rattle.ts_rules.specs.Plans.{IsPlanned as IsPlannedSo};
 ghost use Rattle.ts_spec.specs.Key.{Key};
-ghost use Rattle.ts_sample.specs.declared.id.Id.{Id as TheId};
-ghost use Rattle.ts_db.specs.Planning.{changed_by, gone_by, rows_by_work, Takes, AllTake, AreChanged, IsFedBy, AreFedBy, first_full, TellsFull, IsRuleUnplanned, IsUnplanned, share_of, share_at, shares_of, IsEasyOf, IsEasyAt, AreEasyOf};
+ghost use Rattle.ts_db.specs.Planning.{changed_by, gone_by, rows_by_work, Takes, AllTake, AreChanged, IsFedBy, AreFedBy, first_full, IsRuleUnplanned, IsUnplanned, share_of, share_at, shares_of, IsEasyOf, IsEasyAt, AreEasyOf};
 ghost use Rattle.ts_db.specs.Store.{IsInOrder, IsLive, AreLive};
 
 use crate::fault::DbFault;
 use crate::store::Store;
-use crate::unwritten::full_at;
+use crate::unplanned::full_at;
 use crate::work::Work;
-use std::alloc::{AllocError, Global};
+use std::alloc::Global;
 use std::sync::ledger::Ledger;
 use ts_rules::{Rule, RuleFault, RulePlan, plan_delete, plan_put};
 use ts_sample::Steps;
@@ -42,7 +41,7 @@ impl Store {
         ensures rules { IfOk result (λ planned. AreChanged (changed_by work.now source.now) rules.now planned.rules.items) }
         ensures fed { IfOk result (λ planned. AreFedBy self.now.limits.samples self.now.nodes (rows_by_work work.now source.now) (gone_by work.now source.now) rules.now planned.plans.items) }
         ensures fit { IfOk result (λ planned. first_full self.now.limits.samples self.now.nodes (rows_by_work work.now source.now) (gone_by work.now source.now) rules.now ≡ None) }
-        ensures refused { IfErr result (IsUnplanned work.now (first_full self.now.limits.samples self.now.nodes (rows_by_work work.now source.now) (gone_by work.now source.now) rules.now)) }
+        ensures refused { IfErr result (IsUnplanned (first_full self.now.limits.samples self.now.nodes (rows_by_work work.now source.now) (gone_by work.now source.now) rules.now)) }
         ensures counted { steps.old ≤ steps.new }
         ensures steps { steps.new ≤ steps.old + shares_of self.now.nodes work.now source.now rules.now }
         ensures easy { AreEasyOf self.now.limits.samples self.now.nodes work.now source.now rules.now → steps.new ≡ steps.old }
@@ -75,29 +74,6 @@ impl Store {
         })
     }
 
-    // What is told where there was no memory to plan work for a source or for a rule of it, and these rules are left: of
-    // a write, that the destination of one of them would be full, or else want of memory.
-    fn unplanned<L: Ledger>(
-        &self,
-        rules: &[Rule],
-        source: &Series,
-        work: &Work,
-        steps: &mut Steps<L>,
-    ) -> DbFault
-        requires store { IsInOrder self.now }
-        requires live { AreLive self.now.nodes rules.now }
-        requires room { AllTake work.now source.now rules.now }
-        ensures refused { (full : Option TheId) → TellsFull work.now (full ≡ first_full self.now.limits.samples self.now.nodes (rows_by_work work.now source.now) (gone_by work.now source.now) rules.now) → IsUnplanned work.now full result }
-        ensures counted { steps.old ≤ steps.new }
-        ensures steps { steps.new ≤ steps.old + shares_of self.now.nodes work.now source.now rules.now }
-        ensures easy { AreEasyOf self.now.limits.samples self.now.nodes work.now source.now rules.now → steps.new ≡ steps.old }
-    {
-        match work {
-            Work::Write(wrote) => self.unwritten(rules, source, wrote, steps),
-            Work::Delete(..) => DbFault::Memory(AllocError),
-        }
-    }
-
     // Plans what work on a source comes to for a rule of it and for the rule's destination.
     pub(crate) fn plan_rule<L: Ledger>(
         &self,
@@ -112,7 +88,7 @@ impl Store {
         ensures changed { IfOk result (λ plan. IsChanged (changed_by work source.now) rule.now plan.rule) }
         ensures fed { IfOk result (λ plan. IsFedBy self.now.limits.samples self.now.nodes (rows_by_work work source.now) (gone_by work source.now) rule.now plan) }
         ensures fits { IfOk result (λ _. first_full self.now.limits.samples self.now.nodes (rows_by_work work source.now) (gone_by work source.now) (rule.now ∷ []) ≡ None) }
-        ensures refused { IfErr result (IsRuleUnplanned work rule.now (first_full self.now.limits.samples self.now.nodes (rows_by_work work source.now) (gone_by work source.now) (rule.now ∷ []))) }
+        ensures refused { IfErr result (IsRuleUnplanned rule.now (first_full self.now.limits.samples self.now.nodes (rows_by_work work source.now) (gone_by work source.now) (rule.now ∷ []))) }
         ensures counted { steps.old ≤ steps.new }
         ensures steps { steps.new ≤ steps.old + share_at work source.now rule.now (slab.get self.now.nodes rule.now.dest.0) }
         ensures easy { IsEasyAt self.now.limits.samples work source.now rule.now (slab.get self.now.nodes rule.now.dest.0) → steps.new ≡ steps.old }
@@ -144,7 +120,6 @@ fn made_plan<L: Ledger>(
 ) -> Result<RulePlan, RuleFault>
     requires room { Takes work source.now rule.now }
     requires fits { length (list_of dest.now) ≤ limit }
-    ensures memory { (k : Key) → TellsFull work (IfErr result (HidesNothing limit (gone_by work source.now (kept_as k rule.now)) (rows_by_work work source.now dest.now.born (kept_as k rule.now)) dest.now)) }
     ensures planned { (k : Key) → IsPlannedSo limit (changed_by work source.now) (gone_by work source.now (kept_as k rule.now)) (rows_by_work work source.now dest.now.born (kept_as k rule.now)) rule.now dest.now result }
     ensures counted { steps.old ≤ steps.new }
     ensures steps { steps.new ≤ steps.old + share_of work source.now rule.now dest.now }

@@ -112,7 +112,7 @@ impl Store {
                 let Some(lost) = fault.sample() else {
                     return Err(fault_at(id, fault));
                 };
-                return Err(self.unwritten(&node.rules, &node.series, &lost, steps));
+                return Err(self.unplanned(&node.rules, &node.series, &Work::Write(lost), steps));
             }
         };
         let Some(wrote) = plan.wrote() else {

@@ -10,10 +10,10 @@ use Rattle.ts_spec.specs.Text.{Reply, Error}
 use Rattle.ts_sample.specs.declared.id.Id.{Id}
 use Rattle.ts_spec.specs.Keyed.{Keyed}
 use Rattle.ts_db.specs.Faults.{refusal_of, IsRefusal}
-use Rattle.ts_db.specs.Held.{Held, Stock, Stands, Leads, Carries, Answers, AnswersBy, IsAnswer, IsAnswerBy, YieldsToMemory}
+use Rattle.ts_db.specs.Held.{Held, Stock, Stands, Leads, Carries, Answers, IsAnswer}
 use Rattle.ts_db.specs.declared.fault.DbFault.{DbFault}
 use Rattle.ts_engine.specs.Answering.{message_of, reply_of_result}
-use Rattle.ts_engine.specs.Turn.{IsStep, StepOrMemory, StepOrMemoryBy}
+use Rattle.ts_engine.specs.Turn.{IsStep, StepOrMemory}
 use Rattle.ts_engine.proofs.Refusals.{is_refused}
 
 -- nothing has changed
@@ -37,33 +37,29 @@ carries_then old mid new P Q R both one two = λ from stands.
 -- ---- what the database answers, as it is replied
 
 -- a refusal of the step, or want of memory, is replied
-refused_or_memory : (yields : Response → Type 0) (o : Option Refusal) (from : Held) (step : Outcome) → IsAnswerBy yields o from.state step → StepOrMemoryBy yields step from (Error (message_of o)) from
-refused_or_memory yields None from step is = inr (is, record { says = refl; same = refl })
-refused_or_memory yields (Some r) from step is = inl (record {
+refused_or_memory : (o : Option Refusal) (from : Held) (step : Outcome) → IsAnswer o from.state step → StepOrMemory step from (Error (message_of o)) from
+refused_or_memory None from step is = inr (is, record { says = refl; same = refl })
+refused_or_memory (Some r) from step is = inl (record {
   says = ap (λ (s : Outcome). reply_to s.response) (sym is);
   state = ap (λ (s : Outcome). s.state) (sym is);
   limits = refl;
 })
 
 -- a command of one series is answered as its step
-pub answered_by : (yields : Response → Type 0) {T : Type 0} (response : T → Response) (old new : Stock) (step : Held → Outcome) (result : Result T DbFault) (reply : Reply)
-    → ((ids : Keyed Id) → reply ≡ reply_of_result ids response result) → AnswersBy yields response old step result new → Carries old new (λ from to. StepOrMemoryBy yields (step from) from reply to)
-answered_by yields response old new step (Ok x) reply is answers = λ from stands.
+pub answered : {T : Type 0} (response : T → Response) (old new : Stock) (step : Held → Outcome) (result : Result T DbFault) (reply : Reply)
+    → ((ids : Keyed Id) → reply ≡ reply_of_result ids response result) → Answers response old step result new → Carries old new (λ from to. StepOrMemory (step from) from reply to)
+answered response old new step (Ok x) reply is answers = λ from stands.
     let a = answers from stands in
     record {
       to = record { limits = from.limits; state = (step from).state };
       done = inl (record { says = is old.ids ∙ ap reply_to (sym a.says); state = refl; limits = refl });
       stands = a.stands;
     }
-answered_by yields response old new step (Err fault) reply is answers = λ from stands. record {
+answered response old new step (Err fault) reply is answers = λ from stands. record {
   to = from;
-  done = subst (λ (r : Reply). StepOrMemoryBy yields (step from) from r from) (sym (is old.ids)) (refused_or_memory yields (refusal_of old.ids fault) from (step from) (answers.0 from stands));
+  done = subst (λ (r : Reply). StepOrMemory (step from) from r from) (sym (is old.ids)) (refused_or_memory (refusal_of old.ids fault) from (step from) (answers.0 from stands));
   stands = subst (λ (s : Stock). Stands s from) (sym answers.1) stands;
 }
-
-pub answered : {T : Type 0} (response : T → Response) (old new : Stock) (step : Held → Outcome) (result : Result T DbFault) (reply : Reply)
-    → ((ids : Keyed Id) → reply ≡ reply_of_result ids response result) → Answers response old step result new → Carries old new (λ from to. StepOrMemory (step from) from reply to)
-answered response old new step result reply is answers = answered_by YieldsToMemory response old new step result reply is answers
 
 -- a refusal of the step is replied
 refused_surely : (o : Option Refusal) (from : Held) (step : Outcome) (reply : Reply) → is_some o ≡ true → reply ≡ Error (message_of o) → IsAnswer o from.state step → IsStep step from reply from

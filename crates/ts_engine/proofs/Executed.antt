@@ -9,7 +9,7 @@ use Rattle.ts_spec.specs.Step.{Outcome, step}
 use Rattle.ts_spec.specs.Text.{Reply, text}
 use Rattle.ts_db.specs.Held.{Held, Stock, Stands, Carries, YieldsToMemory}
 use Rattle.ts_engine.specs.Answering.{IsTextOrLost}
-use Rattle.ts_engine.specs.Turn.{IsStep, IsOutOfMemory, StepOrMemory, StepOrMemoryBy, IsAnswered, MayBeLost, Executes, WritesAll, takes_memory}
+use Rattle.ts_engine.specs.Turn.{IsStep, IsOutOfMemory, StepOrMemory, IsAnswered, Executes, WritesAll, takes_memory}
 use Rattle.ts_engine.proofs.Carried.{carries_none, carries_as}
 
 -- the answer of the step of a command
@@ -17,20 +17,20 @@ abbrev response_of : (reading : ℕ) → Command → Held → Response
 response_of reading command held = (step held.limits held.state reading command).response
 
 -- want of memory, for a command that takes some
-out_of_memory : (reading : ℕ) (command : Command) (held : Held) (written : List ℕ) → IsTrue (takes_memory command) → MayBeLost command (response_of reading command held) → written ≡ text memory_reply
+out_of_memory : (reading : ℕ) (command : Command) (held : Held) (written : List ℕ) → IsTrue (takes_memory command) → YieldsToMemory (response_of reading command held) → written ≡ text memory_reply
     → Executes reading command held written held
 out_of_memory reading command held written may yields is =
     record { reply = memory_reply; its_text = is; done = inr (record { may = may; yields = yields; out_of_memory = record { says = refl; same = refl } }) }
 
 -- a question
-asked : (reading : ℕ) (command : Command) (held : Held) (written : List ℕ) (response : Response) (may : Type 0) → (may → IsTrue (takes_memory command) × MayBeLost command (response_of reading command held))
+asked : (reading : ℕ) (command : Command) (held : Held) (written : List ℕ) (response : Response) (may : Type 0) → (may → IsTrue (takes_memory command) × YieldsToMemory (response_of reading command held))
     → IsAnswered reading command held (reply_to response) held → IsTextOrLost may response written → Executes reading command held written held
 asked reading command held written response may lose answered told =
     ⊎_elim (λ (is : written ≡ text (reply_to response)). record { reply = reply_to response; its_text = is; done = inl answered })
     (λ (lost : may × (written ≡ text memory_reply)). let why = lose lost.0 in out_of_memory reading command held written why.0 why.1 lost.1) told
 
 -- PING takes memory only to send a long word back
-pings_lose : (reading : ℕ) (word : Option (List ℕ)) (held : Held) → IsTrue (takes_memory (Ping word)) → IsTrue (takes_memory (Ping word)) × MayBeLost (Ping word) (response_of reading (Ping word) held)
+pings_lose : (reading : ℕ) (word : Option (List ℕ)) (held : Held) → IsTrue (takes_memory (Ping word)) → IsTrue (takes_memory (Ping word)) × YieldsToMemory (response_of reading (Ping word) held)
 pings_lose reading None held may = absurd (cc may)
 pings_lose reading (Some word) held may = (may, tt)
 
@@ -41,7 +41,7 @@ pub alone : (reply : Reply) (before written : List ℕ) → written ≡ before +
 alone reply before written is none = is ∙ ap (λ (l : List ℕ). l ++ text reply) none
 
 -- want of memory, for a command that takes some
-pub wants_memory : (reading : ℕ) (command : Command) (stock : Stock) (written : List ℕ) → IsTrue (takes_memory command) → ((from : Held) → MayBeLost command (response_of reading command from))
+pub wants_memory : (reading : ℕ) (command : Command) (stock : Stock) (written : List ℕ) → IsTrue (takes_memory command) → ((from : Held) → YieldsToMemory (response_of reading command from))
     → written ≡ text memory_reply → Carries stock stock (λ from to. Executes reading command from written to)
 wants_memory reading command stock written may yields is =
     carries_none stock (λ from to. Executes reading command from written to) (λ from stands. out_of_memory reading command from written may (yields from) is)
@@ -54,22 +54,17 @@ writes_execute reading triples old new written carries =
     (λ from to all. record { reply = all.reply; its_text = all.its_text; done = inl all.all }) carries
 
 -- a command of one series
-pub step_executes_by : (yields : Response → Type 0) (reading : ℕ) (command : Command) (one : Held → Outcome) (old new : Stock) (reply : Reply) (written : List ℕ) → IsTrue (takes_memory command)
-    → ((from : Held) → yields (one from).response → MayBeLost command (response_of reading command from)) → ((from to : Held) → IsStep (one from) from reply to → IsAnswered reading command from reply to)
-    → Carries old new (λ from to. StepOrMemoryBy yields (one from) from reply to) → written ≡ text reply → Carries old new (λ from to. Executes reading command from written to)
-step_executes_by yields reading command one old new reply written may lose answers carries is =
-    carries_as old new (λ from to. StepOrMemoryBy yields (one from) from reply to) (λ from to. Executes reading command from written to)
+pub step_executes : (reading : ℕ) (command : Command) (one : Held → Outcome) (old new : Stock) (reply : Reply) (written : List ℕ) → IsTrue (takes_memory command)
+    → ((from : Held) → YieldsToMemory (one from).response → YieldsToMemory (response_of reading command from)) → ((from to : Held) → IsStep (one from) from reply to → IsAnswered reading command from reply to)
+    → Carries old new (λ from to. StepOrMemory (one from) from reply to) → written ≡ text reply → Carries old new (λ from to. Executes reading command from written to)
+step_executes reading command one old new reply written may lose answers carries is =
+    carries_as old new (λ from to. StepOrMemory (one from) from reply to) (λ from to. Executes reading command from written to)
     (λ from to done. record {
       reply = reply;
       its_text = is;
       done = ⊎_elim (λ (s : IsStep (one from) from reply to). inl (answers from to s))
-          (λ (lost : yields (one from).response × IsOutOfMemory from reply to). inr (record { may = may; yields = lose from lost.0; out_of_memory = lost.1 })) done;
+          (λ (lost : YieldsToMemory (one from).response × IsOutOfMemory from reply to). inr (record { may = may; yields = lose from lost.0; out_of_memory = lost.1 })) done;
     }) carries
-
-pub step_executes : (reading : ℕ) (command : Command) (one : Held → Outcome) (old new : Stock) (reply : Reply) (written : List ℕ) → IsTrue (takes_memory command)
-    → ((from : Held) → YieldsToMemory (one from).response → MayBeLost command (response_of reading command from)) → ((from to : Held) → IsStep (one from) from reply to → IsAnswered reading command from reply to)
-    → Carries old new (λ from to. StepOrMemory (one from) from reply to) → written ≡ text reply → Carries old new (λ from to. Executes reading command from written to)
-step_executes reading command one old new reply written may lose answers carries is = step_executes_by YieldsToMemory reading command one old new reply written may lose answers carries is
 
 -- a command that takes no memory
 pub sure_executes : (reading : ℕ) (command : Command) (old new : Stock) (reply : Reply) (written : List ℕ)
@@ -86,7 +81,7 @@ executes_with reading command stock reply written answered is =
 
 -- a question
 pub asks_execute : (reading : ℕ) (command : Command) (stock : Stock) (written : List ℕ) (response : Held → Response) (may : Held → Type 0)
-    → ((from : Held) → may from → IsTrue (takes_memory command) × MayBeLost command (response_of reading command from))
+    → ((from : Held) → may from → IsTrue (takes_memory command) × YieldsToMemory (response_of reading command from))
     → ((from : Held) → IsAnswered reading command from (reply_to (response from)) from) → ((from : Held) → Stands stock from → IsTextOrLost (may from) (response from) written)
     → Carries stock stock (λ from to. Executes reading command from written to)
 asks_execute reading command stock written response may lose answered told =

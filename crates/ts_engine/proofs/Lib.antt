@@ -38,3 +38,4 @@ pub mod WalkBounds
 pub mod MemberBounds
 pub mod Yielding
 pub mod MissingKey
+pub mod Searching

@@ -1,7 +1,7 @@
 -- What is told over many series is the answer of the definitions.
-use Rattle.std.proofs.Common.{◌≡◌, Bool, ℕ, List, [], ◌∷◌, ◌++◌, map, inl, refl, sym, ap, subst, ◌∙◌}
+use Rattle.std.proofs.Common.{◌≡◌, Bool, true, false, ℕ, List, [], ◌∷◌, ◌++◌, map, inl, inr, refl, sym, ap, subst, ◌∙◌}
 use Rattle.std.proofs.lemmas.Simd.{map-map}
-use Rattle.std.specs.Prelude.{⊤, Option, None, Some, option_map}
+use Rattle.std.specs.Prelude.{Option, None, Some, is_none, option_map}
 use Rattle.ts_spec.specs.declared.limits.Limits.{Limits}
 use Rattle.ts_spec.specs.Answer.{Row, answer}
 use Rattle.ts_spec.specs.Command.{Show, Query}
@@ -11,17 +11,21 @@ use Rattle.ts_spec.specs.Kept.{Keeping, kept}
 use Rattle.ts_spec.specs.KeptQuestions.{kept_asked, kept_member, kept_member_then, kept_members_of, kept_last_member, kept_selection}
 use Rattle.ts_spec.specs.Questions.{members_of, members_response}
 use Rattle.ts_spec.specs.Refusal.{EmptyRows}
-use Rattle.ts_spec.specs.Replies.{member_reply, last_member_reply, array, refusal_reply, reply_to}
+use Rattle.ts_spec.specs.Replies.{member_reply, last_member_reply, array, memory_reply, refusal_reply, reply_to}
 use Rattle.ts_spec.specs.Response.{Member, Response, Refused, Keys, LastRows}
 use Rattle.ts_spec.specs.Text.{Reply, Bulk, text}
 use Rattle.ts_spec.proofs.KeptAsked.{members-kept, last_members-kept, selection-kept}
 use Rattle.ts_labels.specs.Show.{show_of}
 use Rattle.ts_range.specs.Query.{query_of}
-use Rattle.ts_db.specs.Held.{Held, Stock, Stands}
+use Rattle.ts_db.specs.Held.{Held, Stock, Stands, YieldsToMemory}
 use Rattle.ts_engine.specs.declared.wanted.Wanted.{Wanted}
 use Rattle.ts_engine.specs.declared.wanted.Wanted.TheVariants as wanted
-use Rattle.ts_engine.specs.Answering.{IsTextOrLost}
-use Rattle.ts_engine.specs.Members.{rows_at, reply_at, replies_then, replies_of, AreAdded, many_response}
+use Rattle.ts_engine.specs.Answering.{IsReplyText}
+use Rattle.ts_engine.specs.Members.{rows_at, reply_at, replies_then, replies_of, can_be_refused, AreAddedOrLost, many_response}
+
+-- the text of an array of replies was added
+abbrev AreAdded : Option (List Reply) → (before after : List ℕ) → Type 0
+AreAdded o before after = AreAddedOrLost false o before after
 
 -- the response to what is wanted of keys, by what is kept of them
 abbrev kept_many : Limits → Keeping → Wanted → List Key → Response
@@ -50,7 +54,7 @@ module _ (limits : Limits) (m : Keeping) (latest : Bool) (show : Show) (q : Quer
 
 text-added : (replies : List Reply) (o : Option (List Reply)) (before after : List ℕ) → o ≡ Some replies → before ≡ [] → AreAdded o before after → after ≡ text (array replies)
 text-added replies o before after is empty added =
-    subst (λ (p : Option (List Reply)). AreAdded p before after) is added ∙ ap (λ (l : List ℕ). l ++ text (array replies)) empty
+    subst (λ (p : Option (List Reply)). AreAdded p before after) is added refl ∙ ap (λ (l : List ℕ). l ++ text (array replies)) empty
 
 -- the text that was written is that of the response
 kept-told : (limits : Limits) (m : Keeping) (w : Wanted) (ks : List Key) (before after : List ℕ) → before ≡ [] → AreAdded (replies_of (reply_at limits m w) ks) before after
@@ -66,7 +70,7 @@ kept-told limits m (wanted.Rows latest show query) ks before after empty added =
   where
     go : (o : Option (List Member)) → AreAdded (option_map (map member_reply) o) before after → after ≡ text (reply_to (members_response o))
     go None is = absurd is
-    go (Some members) is = is ∙ ap (λ (l : List ℕ). l ++ text (array (map member_reply members))) empty
+    go (Some members) is = is refl ∙ ap (λ (l : List ℕ). l ++ text (array (map member_reply members))) empty
 
 -- where there is nothing to tell of one key, it is that its rows are too many
 kept-none : (limits : Limits) (m : Keeping) (w : Wanted) (ks : List Key) → replies_of (reply_at limits m w) ks ≡ None → kept_many limits m w ks ≡ Refused EmptyRows
@@ -94,11 +98,54 @@ kept-stands stock w fs from stands =
         ∙ ap (λ (l : Limits). members_response (members_of l from.state latest (show_of show) (query_of query) (selection from.state fs))) (sym stands.limits)
 
 pub many-told : (stock : Stock) (w : Wanted) (fs : List Filter) (before after : List ℕ) → before ≡ [] → AreAdded (replies_of (reply_at stock.limits stock.keys w) (kept_selection stock.keys fs)) before after
-    → (from : Held) → Stands stock from → IsTextOrLost ⊤ (many_response from w fs) after
+    → (from : Held) → Stands stock from → IsReplyText (many_response from w fs) after
 many-told stock w fs before after empty added from stands =
     inl (kept-told stock.limits stock.keys w (kept_selection stock.keys fs) before after empty added ∙ ap (λ r. text (reply_to r)) (kept-stands stock w fs from stands))
 
 pub many-refused : (stock : Stock) (w : Wanted) (fs : List Filter) (after : List ℕ) → replies_of (reply_at stock.limits stock.keys w) (kept_selection stock.keys fs) ≡ None
-    → after ≡ text (refusal_reply EmptyRows) → (from : Held) → Stands stock from → IsTextOrLost ⊤ (many_response from w fs) after
+    → after ≡ text (refusal_reply EmptyRows) → (from : Held) → Stands stock from → IsReplyText (many_response from w fs) after
 many-refused stock w fs after none is from stands =
     inl (is ∙ ap (λ r. text (reply_to r)) (sym (kept-none stock.limits stock.keys w (kept_selection stock.keys fs) none) ∙ kept-stands stock w fs from stands))
+
+-- where there is something to tell of each key, the response yields to want of memory
+kept-yields : (limits : Limits) (m : Keeping) (w : Wanted) (ks : List Key) → is_none (replies_of (reply_at limits m w) ks) ≡ false → YieldsToMemory (kept_many limits m w ks)
+kept-yields limits m wanted.Key ks told = tt
+kept-yields limits m (wanted.Last latest show) ks told = tt
+kept-yields limits m (wanted.Rows latest show query) ks told =
+    go (kept_members_of limits m latest (show_of show) (query_of query) ks)
+    (subst (λ (p : Option (List Reply)). is_none p ≡ false) (rows-replied limits m latest (show_of show) (query_of query) ks) told)
+  where
+    go : (o : Option (List Member)) → is_none (option_map (map member_reply) o) ≡ false → YieldsToMemory (members_response o)
+    go None is = absurd (cc is)
+    go (Some members) is = tt
+
+pub many-lost : (stock : Stock) (w : Wanted) (fs : List Filter) (after : List ℕ) → is_none (replies_of (reply_at stock.limits stock.keys w) (kept_selection stock.keys fs)) ≡ false
+    → after ≡ text memory_reply → (from : Held) → Stands stock from → IsReplyText (many_response from w fs) after
+many-lost stock w fs after told is from stands =
+    inr (subst YieldsToMemory (kept-stands stock w fs from stands) (kept-yields stock.limits stock.keys w (kept_selection stock.keys fs) told), is)
+
+-- in place of what was lost there was something to tell of each
+some-lost : (o : Option (List Reply)) (before after : List ℕ) → AreAddedOrLost true o before after → is_none o ≡ false
+some-lost None before after is = absurd is
+some-lost (Some replies) before after is = refl
+
+-- what was written stays, or want of memory is told in its place
+pub many-settled : (stock : Stock) (w : Wanted) (fs : List Filter) (before mid after : List ℕ) (lost : Bool) → before ≡ []
+    → AreAddedOrLost lost (replies_of (reply_at stock.limits stock.keys w) (kept_selection stock.keys fs)) before mid → (lost ≡ false → after ≡ mid) → (lost ≡ true → after ≡ text memory_reply)
+    → (from : Held) → Stands stock from → IsReplyText (many_response from w fs) after
+many-settled stock w fs before mid after false empty added kept said =
+    subst (λ (l : List ℕ). (from : Held) → Stands stock from → IsReplyText (many_response from w fs) l) (sym (kept refl)) (many-told stock w fs before mid empty added)
+many-settled stock w fs before mid after true empty added kept said =
+    many-lost stock w fs after (some-lost (replies_of (reply_at stock.limits stock.keys w) (kept_selection stock.keys fs)) before mid added) (said refl)
+
+-- whether there is none, by cases
+pub none-by : {T : Type 0} (o : Option T) → is_none o ≡ true → o ≡ None
+none-by None is = refl
+none-by (Some x) is = absurd (cc is)
+
+-- what can't be too much is told of each key
+pub never-refused : (limits : Limits) (m : Keeping) (w : Wanted) (ks : List Key) → can_be_refused w ≡ false → is_none (replies_of (reply_at limits m w) ks) ≡ false
+never-refused limits m wanted.Key ks can = ap (λ (o : Option (List Reply)). is_none o) (each-replied (λ k. Bulk k) ks)
+never-refused limits m (wanted.Last latest show) ks can =
+    ap (λ (o : Option (List Reply)). is_none o) (each-replied (λ k. last_member_reply (kept_last_member m latest (show_of show) k)) ks)
+never-refused limits m (wanted.Rows latest show query) ks can = absurd (cc can)

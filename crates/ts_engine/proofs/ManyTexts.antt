@@ -1,15 +1,15 @@
 -- Members that are written one after another.
-use Rattle.std.proofs.Common.{◌≡◌, ◌+◌, ℕ, suc, List, [], ◌∷◌, ◌++◌, All, length, refl, sym, ap, subst, ◌∙◌, append_assoc, append-nil, arith, length-append}
+use Rattle.std.proofs.Common.{◌≡◌, ◌+◌, ℕ, suc, List, [], ◌∷◌, ◌++◌, Bool, true, false, All, length, refl, sym, ap, subst, ◌∙◌, append_assoc, append-nil, arith, length-append}
 use Rattle.std.proofs.lemmas.List.Elements.{All-nil, All-cons}
 use Rattle.std.specs.Fmt.{decimal}
-use Rattle.std.specs.Prelude.{Option, None, Some}
+use Rattle.std.specs.Prelude.{Option, None, Some, is_none}
 use Rattle.ts_spec.specs.Key.{Key}
 use Rattle.ts_spec.specs.Keyed.{Keyed, get}
 use Rattle.ts_spec.specs.Replies.{listed}
 use Rattle.ts_spec.specs.Text.{Reply, line_text, text, texts}
 use Rattle.ts_sample.specs.declared.id.Id.{Id}
 use Rattle.ts_db.specs.Held.{IsLive, AreNumbersOf}
-use Rattle.ts_engine.specs.Members.{replies_then, replies_of, IsAdded, AreAdded}
+use Rattle.ts_engine.specs.Members.{replies_then, replies_of, IsAdded, IsAddedOrLost, AreAddedOrLost}
 use Rattle.ts_engine.proofs.Items.{count-listed, texts-append}
 
 -- each of these numbers is that of a key
@@ -30,13 +30,13 @@ abbrev onto_all : List Reply → Option (List Reply) → Option (List Reply)
 onto_all done None = None
 onto_all done (Some others) = Some (done ++ others)
 
--- the replies so far are those of the first keys, and the numbers that are left are those of the others
-pub record SoFar (reply : Key → Option Reply) (ids : Keyed Id) (keys : List Key) (rest : List Id) (start now : List ℕ) : Type 0 where
+-- the replies so far are those of the first keys, and the numbers that are left are those of the others; they are written, unless memory was lost
+pub record SoFar (reply : Key → Option Reply) (ids : Keyed Id) (keys : List Key) (rest : List Id) (start now : List ℕ) (lost : Bool) : Type 0 where
   pub done : List Reply
   pub left : List Key
   pub numbers : AreNumbersOf ids left rest
   pub all : replies_of reply keys ≡ onto_all done (replies_of reply left)
-  pub bytes : now ≡ start ++ texts (listed done)
+  pub bytes : lost ≡ false → now ≡ start ++ texts (listed done)
   pub count : length done + length left ≡ length keys
 
 onto-none : (o : Option (List Reply)) → o ≡ onto_all [] o
@@ -45,13 +45,13 @@ onto-none (Some others) = refl
 
 module _ (reply : Key → Option Reply) (ids : Keyed Id) (keys : List Key) where
   -- nothing is told yet
-  pub so-far-none : (ns : List Id) (start : List ℕ) → AreNumbersOf ids keys ns → SoFar reply ids keys ns start start
-  so-far-none ns start are = record {
+  pub so-far-none : (ns : List Id) (start now : List ℕ) (lost : Bool) → AreNumbersOf ids keys ns → (lost ≡ false → now ≡ start) → SoFar reply ids keys ns start now lost
+  so-far-none ns start now lost are begun = record {
     done = [];
     left = keys;
     numbers = are;
     all = onto-none (replies_of reply keys);
-    bytes = sym (append-nil start);
+    bytes = λ kept. begun kept ∙ sym (append-nil start);
     count = omega arith;
   }
 
@@ -64,47 +64,56 @@ module _ (reply : Key → Option Reply) (ids : Keyed Id) (keys : List Key) where
       more ∙ ap (λ (l : List ℕ). l ++ text r) is ∙ append_assoc start (texts (listed done)) (text r)
       ∙ ap (λ (l : List ℕ). start ++ l) (ap (λ (l : List ℕ). texts (listed done) ++ l) (sym (append-nil (text r))) ∙ sym (texts-append done (r ∷ [])))
 
-  -- one more member was written
-  pub so-far-more : (id : Id) (rest more : List Id) (start now next : List ℕ) → rest ≡ id ∷ more → SoFar reply ids keys rest start now
-      → ((key : Key) → get key ids ≡ Some id → IsAdded (reply key) now next) → SoFar reply ids keys more start next
-  so-far-more id rest more start now next split so_far added = pick so_far.left (subst (AreNumbersOf ids so_far.left) split so_far.numbers) so_far.all so_far.count
+  -- one more member was written, unless memory was lost
+  pub so-far-more : (id : Id) (rest more : List Id) (start now next : List ℕ) (lost later : Bool) → rest ≡ id ∷ more → SoFar reply ids keys rest start now lost → (later ≡ false → lost ≡ false)
+      → ((key : Key) → get key ids ≡ Some id → IsAddedOrLost later (reply key) now next) → SoFar reply ids keys more start next later
+  so-far-more id rest more start now next lost later split so_far stays added = pick so_far.left (subst (AreNumbersOf ids so_far.left) split so_far.numbers) so_far.all so_far.count
     where
-      told : (k : Key) (ks : List Key) (o : Option Reply) → IsAdded o now next → AreNumbersOf ids ks more → replies_of reply keys ≡ onto_all so_far.done (replies_then o (replies_of reply ks))
-          → length so_far.done + length (k ∷ ks) ≡ length keys → SoFar reply ids keys more start next
+      told : (k : Key) (ks : List Key) (o : Option Reply) → IsAddedOrLost later o now next → AreNumbersOf ids ks more → replies_of reply keys ≡ onto_all so_far.done (replies_then o (replies_of reply ks))
+          → length so_far.done + length (k ∷ ks) ≡ length keys → SoFar reply ids keys more start next later
       told k ks None is are all count = absurd is
       told k ks (Some r) is are all count = record {
         done = so_far.done ++ r ∷ [];
         left = ks;
         numbers = are;
         all = all ∙ onto-more so_far.done r (replies_of reply ks);
-        bytes = texts-more start now next so_far.done r so_far.bytes is;
+        bytes = λ kept. texts-more start now next so_far.done r (so_far.bytes (stays kept)) (is kept);
         count = omega (arith, count, length-append so_far.done (r ∷ []));
       }
 
       pick : (left : List Key) → AreNumbersOf ids left (id ∷ more) → replies_of reply keys ≡ onto_all so_far.done (replies_of reply left)
-          → length so_far.done + length left ≡ length keys → SoFar reply ids keys more start next
+          → length so_far.done + length left ≡ length keys → SoFar reply ids keys more start next later
       pick [] are all count = absurd are
       pick (k ∷ ks) are all count = told k ks (reply k) (added k are.0) are.1 all count
 
   -- there is nothing to tell of one key
-  pub none-told : (id : Id) (rest more : List Id) (start now : List ℕ) → rest ≡ id ∷ more → SoFar reply ids keys rest start now
+  pub none-told : (id : Id) (rest more : List Id) (start now : List ℕ) (lost : Bool) → rest ≡ id ∷ more → SoFar reply ids keys rest start now lost
       → ((key : Key) → get key ids ≡ Some id → reply key ≡ None) → replies_of reply keys ≡ None
-  none-told id rest more start now split so_far none = pick so_far.left (subst (AreNumbersOf ids so_far.left) split so_far.numbers) so_far.all
+  none-told id rest more start now lost split so_far none = pick so_far.left (subst (AreNumbersOf ids so_far.left) split so_far.numbers) so_far.all
     where
       pick : (left : List Key) → AreNumbersOf ids left (id ∷ more) → replies_of reply keys ≡ onto_all so_far.done (replies_of reply left) → replies_of reply keys ≡ None
       pick [] are all = absurd are
       pick (k ∷ ks) are all = all ∙ ap (λ (o : Option Reply). onto_all so_far.done (replies_then o (replies_of reply ks))) (none k are.0)
 
   -- all were
-  pub all-told : (ns rest : List Id) (before start now : List ℕ) → AreNumbersOf ids keys ns → rest ≡ [] → start ≡ before ++ line_text 42 (decimal (length ns)) → SoFar reply ids keys rest start now
-      → AreAdded (replies_of reply keys) before now
-  all-told ns rest before start now are none begun so_far = pick so_far.left (subst (AreNumbersOf ids so_far.left) none so_far.numbers) so_far.all so_far.count
+  pub all-told : (ns rest : List Id) (before start now : List ℕ) (lost : Bool) → AreNumbersOf ids keys ns → rest ≡ [] → start ≡ before ++ line_text 42 (decimal (length ns)) → SoFar reply ids keys rest start now lost
+      → AreAddedOrLost lost (replies_of reply keys) before now
+  all-told ns rest before start now lost are none begun so_far = pick so_far.left (subst (AreNumbersOf ids so_far.left) none so_far.numbers) so_far.all so_far.count
     where
       pick : (left : List Key) → AreNumbersOf ids left [] → replies_of reply keys ≡ onto_all so_far.done (replies_of reply left) → length so_far.done + length left ≡ length keys
-          → AreAdded (replies_of reply keys) before now
+          → AreAddedOrLost lost (replies_of reply keys) before now
       pick (k ∷ ks) are2 all count = absurd are2
       pick [] are2 all count =
           let size : length ns ≡ length so_far.done = omega (arith, numbers-length ids keys ns are, count) in
-          subst (λ (o : Option (List Reply)). AreAdded o before now) (sym (all ∙ ap (λ (l : List Reply). Some l) (append-nil so_far.done)))
-          (so_far.bytes ∙ ap (λ (l : List ℕ). l ++ texts (listed so_far.done)) begun ∙ append_assoc before (line_text 42 (decimal (length ns))) (texts (listed so_far.done))
+          subst (λ (o : Option (List Reply)). AreAddedOrLost lost o before now) (sym (all ∙ ap (λ (l : List Reply). Some l) (append-nil so_far.done)))
+          (λ kept. so_far.bytes kept ∙ ap (λ (l : List ℕ). l ++ texts (listed so_far.done)) begun ∙ append_assoc before (line_text 42 (decimal (length ns))) (texts (listed so_far.done))
           ∙ ap (λ n. before ++ (line_text 42 (decimal n) ++ texts (listed so_far.done))) (size ∙ sym (count-listed so_far.done)))
+
+-- a member that was written, and one that is not too much where memory was lost
+pub added-kept : (o : Option Reply) (before after : List ℕ) → IsAdded o before after → IsAddedOrLost false o before after
+added-kept None before after is = is
+added-kept (Some reply) before after is = λ kept. is
+
+pub told-lost : (o : Option Reply) (before after : List ℕ) → is_none o ≡ false → IsAddedOrLost true o before after
+told-lost None before after told = absurd (cc told)
+told-lost (Some reply) before after told = λ kept. absurd (cc kept)

@@ -1,10 +1,11 @@
 -- How many steps a question takes at most, by what contracts see of a database. Each sample that is decoded is a step, and so is each filter
 -- that is asked whether the labels of a key pass it.
-use Rattle.std.specs.Prelude.{ℕ, ◌+◌, ◌*◌, ◌≤◌, ⊤, List, sum_by}
+use Rattle.std.specs.Prelude.{ℕ, ◌+◌, ◌*◌, ◌≤◌, ⊤, if◌then◌else◌, List, length, sum_by}
 use Rattle.ts_spec.specs.Command.{Command, Range, MRange}
-use Rattle.ts_spec.specs.Filter.{Filter}
+use Rattle.ts_spec.specs.Filter.{Filter, all_hold}
 use Rattle.ts_spec.specs.Key.{Key}
-use Rattle.ts_spec.specs.KeptQuestions.{kept_selection}
+use Rattle.ts_spec.specs.Keyed.{get}
+use Rattle.ts_spec.specs.KeptQuestions.{kept_labels_at, kept_selection}
 use Rattle.ts_db.specs.Bounds.{walk_steps, selection_steps}
 use Rattle.ts_db.specs.Held.{Stock, reach_at}
 use Rattle.ts_engine.specs.declared.wanted.Wanted.{Wanted}
@@ -23,6 +24,10 @@ abbrev pub wanted_steps : Stock → Wanted → Key → ℕ
 wanted_steps stock wanted.Key key = 0
 wanted_steps stock (wanted.Last latest show) key = 0
 wanted_steps stock (wanted.Rows latest show query) key = question_steps stock key query.from query.to
+
+-- to see whether a key passes filters, and whether what is told of it is too much
+abbrev pub tried_steps : Stock → List Filter → Wanted → Key → ℕ
+tried_steps stock filters w key = length filters + (if all_hold filters (kept_labels_at (get key stock.keys)) then wanted_steps stock w key else 0)
 
 -- a command that asks for the samples of an interval takes no more steps than its question
 abbrev pub IsBounded : Stock → Command → (old new : ℕ) → Type 0

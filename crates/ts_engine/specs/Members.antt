@@ -1,22 +1,23 @@
 -- Answers over many series, member by member.
-use Rattle.std.specs.Prelude.{◌≡◌, Bool, ℕ, List, [], ◌∷◌, ◌++◌, map, Option, None, Some, option_map, Result, Ok, Err}
+use Rattle.std.specs.Prelude.{◌≡◌, ◌&&◌, is_none, Bool, true, false, ℕ, List, [], ◌∷◌, ◌++◌, map, Option, None, Some, option_map, Result, Ok, Err}
 use Rattle.std.specs.declared.alloc.AllocError.{AllocError}
 use Rattle.ts_spec.specs.declared.limits.Limits.{Limits}
 use Rattle.ts_spec.specs.Key.{Key}
+use Rattle.ts_spec.specs.Keyed.{get}
 use Rattle.ts_spec.specs.Command.{Show, Query}
-use Rattle.ts_spec.specs.Filter.{Filter, selection}
+use Rattle.ts_spec.specs.Filter.{Filter, all_hold, selection}
 use Rattle.ts_spec.specs.Answer.{answer}
 use Rattle.ts_spec.specs.Response.{Response, Keys, LastRows}
 use Rattle.ts_spec.specs.Replies.{member_reply, last_member_reply, array}
 use Rattle.ts_spec.specs.Text.{Reply, Bulk, text}
 use Rattle.ts_spec.specs.Kept.{Keeping}
-use Rattle.ts_spec.specs.KeptQuestions.{kept_asked, kept_member, kept_last_member}
+use Rattle.ts_spec.specs.KeptQuestions.{kept_asked, kept_labels_at, kept_member, kept_last_member}
 use Rattle.ts_spec.specs.Questions.{members_of, members_response, last_member}
 use Rattle.ts_labels.specs.Show.{show_of}
 use Rattle.ts_range.specs.Query.{query_of}
 use Rattle.ts_range.specs.declared.fault.RangeFault.{RangeFault}
 use Rattle.ts_range.specs.declared.fault.RangeFault.TheVariants.{Memory}
-use Rattle.ts_db.specs.Held.{Held}
+use Rattle.ts_db.specs.Held.{Held, Stock}
 use Rattle.ts_engine.specs.declared.wanted.Wanted.{Wanted}
 use Rattle.ts_engine.specs.declared.wanted.Wanted.TheVariants as wanted
 
@@ -45,14 +46,30 @@ abbrev pub replies_of : (Key → Option Reply) → List Key → Option (List Rep
 replies_of reply [] = Some []
 replies_of reply (k ∷ ks) = replies_then (reply k) (replies_of reply ks)
 
--- the text of a reply was added, or of an array of replies
+-- the text of a reply was added
 abbrev pub IsAdded : Option Reply → (before after : List ℕ) → Type 0
 IsAdded None before after = ⊥
 IsAdded (Some reply) before after = after ≡ before ++ text reply
 
-abbrev pub AreAdded : Option (List Reply) → (before after : List ℕ) → Type 0
-AreAdded None before after = ⊥
-AreAdded (Some replies) before after = after ≡ before ++ text (array replies)
+-- the text of a reply was added, unless memory was lost; in either case there is one
+abbrev pub IsAddedOrLost : (lost : Bool) → Option Reply → (before after : List ℕ) → Type 0
+IsAddedOrLost lost None before after = ⊥
+IsAddedOrLost lost (Some reply) before after = lost ≡ false → after ≡ before ++ text reply
+
+-- the same of an array of replies
+abbrev pub AreAddedOrLost : (lost : Bool) → Option (List Reply) → (before after : List ℕ) → Type 0
+AreAddedOrLost lost None before after = ⊥
+AreAddedOrLost lost (Some replies) before after = lost ≡ false → after ≡ before ++ text (array replies)
+
+-- whether a key passes filters, and there is nothing to tell of it
+abbrev pub is_refused_at : Stock → List Filter → Wanted → Key → Bool
+is_refused_at stock fs w k = all_hold fs (kept_labels_at (get k stock.keys)) && is_none (reply_at stock.limits stock.keys w k)
+
+-- whether something of a kind can be too much
+abbrev pub can_be_refused : Wanted → Bool
+can_be_refused wanted.Key = false
+can_be_refused (wanted.Last latest show) = false
+can_be_refused (wanted.Rows latest show query) = true
 
 -- the response over the series that pass filters
 abbrev pub many_response : Held → Wanted → List Filter → Response

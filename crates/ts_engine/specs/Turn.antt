@@ -1,8 +1,8 @@
 -- One turn: what a request is answered, and what it does to the database.
-use Rattle.std.specs.Prelude.{◌≡◌, ◌⊎◌, ◌<◌, ◌^◌, ℕ, ⊤, nat_lt, Bool, true, false, ◌&&◌, length, List, [], ◌∷◌, map, Option, None, Some, option_map, Result, Ok, Err, IsTrue}
+use Rattle.std.specs.Prelude.{◌≡◌, ◌⊎◌, ◌<◌, ◌^◌, ℕ, nat_lt, Bool, true, false, ◌&&◌, length, List, [], ◌∷◌, map, Option, None, Some, option_map, Result, Ok, Err, IsTrue}
 use Rattle.std.specs.Result.{is_ok}
 use Rattle.ts_io.specs.Clocks.{reading_of, readings_after}
-use Rattle.ts_spec.specs.Command.{Triple, Command, Madd, DelRange, DeleteRule, MRange, Get, Ping, Echo, Quit, Drop, Exists}
+use Rattle.ts_spec.specs.Command.{Triple, Command, Madd, DeleteRule, Get, Ping, Echo, Quit, Drop, Exists}
 use Rattle.ts_spec.specs.Grammar.{command, makes_list, needs_clock}
 use Rattle.ts_spec.specs.Refusal.{Fault}
 use Rattle.ts_spec.specs.Replies.{array, fault_reply, memory_reply, item_reply, reply_to}
@@ -12,7 +12,7 @@ use Rattle.ts_spec.specs.Step.{Outcome, step, triple_step, item_of}
 use Rattle.ts_spec.specs.Text.{Reply, text}
 use Rattle.ts_spec.specs.Wire.{Request}
 use Rattle.ts_spec.specs.declared.limits.Limits.{Limits}
-use Rattle.ts_db.specs.Held.{Held, YieldsToMemory, DeletionYields}
+use Rattle.ts_db.specs.Held.{Held, YieldsToMemory}
 
 -- the database, and the readings of the clock that are left, where they are told
 pub record World : Type 0 where
@@ -33,12 +33,8 @@ pub record IsOutOfMemory (old : Held) (reply : Reply) (new : Held) : Type 0 wher
   pub same : new ≡ old
 
 -- the answer of the definitions, or want of memory, to which that answer yields
-abbrev pub StepOrMemoryBy : (yields : Response → Type 0) → Outcome → Held → Reply → Held → Type 0
-StepOrMemoryBy yields step old reply new = IsStep step old reply new ⊎ (yields step.response × IsOutOfMemory old reply new)
-
--- the same of any command but a deletion
 abbrev pub StepOrMemory : Outcome → Held → Reply → Held → Type 0
-StepOrMemory step old reply new = StepOrMemoryBy YieldsToMemory step old reply new
+StepOrMemory step old reply new = IsStep step old reply new ⊎ (YieldsToMemory step.response × IsOutOfMemory old reply new)
 
 -- ---- TS.MADD
 
@@ -115,17 +111,10 @@ takes_memory (Drop keys) = false
 takes_memory (Exists keys) = false
 takes_memory other = true
 
--- want of memory may be told in the place of this answer of a command: the rows of a question over many series may be too many then, and
--- a destination full after a deletion
-abbrev pub MayBeLost : Command → Response → Type 0
-MayBeLost (MRange latest show filters query) response = ⊤
-MayBeLost (DelRange key from to) response = DeletionYields response
-MayBeLost command response = YieldsToMemory response
-
--- want of memory is said of a command that may find none, in the place of such an answer, and nothing is changed
+-- want of memory is said of a command that may find none, in the place of an answer that refuses nothing, and nothing is changed
 pub record IsLost (reading : ℕ) (command : Command) (old : Held) (reply : Reply) (new : Held) : Type 0 where
   pub may : IsTrue (takes_memory command)
-  pub yields : MayBeLost command (step old.limits old.state reading command).response
+  pub yields : YieldsToMemory (step old.limits old.state reading command).response
   pub out_of_memory : IsOutOfMemory old reply new
 
 -- what `execute` writes of a command: the text of its answer, or of want of memory

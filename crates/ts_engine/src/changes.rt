@@ -6,9 +6,9 @@ ghost use Rattle.ts_spec.specs.Settings.{IsTime};
 ghost use Rattle.ts_spec.specs.Step.{time_of, create, alter_at, add_at, incr_at, delete_at};
 ghost use Rattle.ts_labels.specs.Spec.{spec_of, change_of};
 ghost use Rattle.ts_resp.specs.Replies.{reply_of};
-ghost use Rattle.ts_db.specs.Held.{Carries, DeletionYields};
+ghost use Rattle.ts_db.specs.Held.{Carries};
 ghost use Rattle.ts_engine.specs.Answering.{IsShort};
-ghost use Rattle.ts_engine.specs.Turn.{StepOrMemory, StepOrMemoryBy};
+ghost use Rattle.ts_engine.specs.Turn.{StepOrMemory};
 
 use crate::answers::{done_reply, number_reply};
 use std::sync::ledger::Ledger;
@@ -83,7 +83,7 @@ pub(crate) fn delete<L: Ledger>(
     steps: &mut Steps<L>,
 ) -> Reply
     requires time { from ≤ MAX_TIME }
-    ensures answer { Carries db.old db.new (λ h h'. StepOrMemoryBy DeletionYields (delete_at h.limits h.state key.now from to (get key.now h.state))
+    ensures answer { Carries db.old db.new (λ h h'. StepOrMemory (delete_at h.limits h.state key.now from to (get key.now h.state))
         h (reply_of result) h') }
     ensures short { IsShort (reply_of result) }
 {

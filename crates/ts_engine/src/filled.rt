@@ -1,5 +1,5 @@
 // A question that tells of empty buckets, answered by one walk over the samples.
-ghost use Rattle.std.specs.Prelude.{◌≡◌, ◌≢◌, ◌+◌, ◌*◌, ◌≤◌, ℕ, List, [], length, map, false, None, Some, IfErr, IfNone, IfOk, IfSome};
+ghost use Rattle.std.specs.Prelude.{◌≡◌, ◌≢◌, ◌+◌, ◌*◌, ◌≤◌, ℕ, List, [], length, map, false, None, Some, is_none, IfErr, IfNone, IfOk, IfSome};
 ghost use Rattle.ts_spec.specs.declared.bucket.Aggregator.TheVariants.{Last};
 ghost use Rattle.ts_spec.specs.Sample.{Point, between};
 ghost use Rattle.ts_spec.specs.Answer.{Row as TheRow, is_let_through, answer as spec_answer, rows, turned as spec_turned};
@@ -29,6 +29,23 @@ use ts_range::{
 };
 use ts_resp::Out;
 use ts_sample::{Sample, Steps};
+
+/// Whether the rows of the key of a number are too many. Takes no memory.
+pub(crate) fn has_too_many_rows<L: Ledger>(
+    db: &Db,
+    id: Id,
+    latest: bool,
+    query: &Query,
+    steps: &mut Steps<L>,
+) -> bool
+    requires { IsLive db.now.ids id }
+    ensures many { (key : Key) → get key db.now.ids ≡ Some id
+        → result ≡ is_none (spec_answer db.now.limits.empty_rows (query_of query.now) (kept_asked db.now.keys latest key)) }
+    ensures steps { (key : Key) → get key db.now.ids ≡ Some id → steps.new ≤ steps.old + reach_at db.now key }
+{
+    let ends = db.ends_of(id, latest, steps);
+    are_too_many(query, ends, db.limits().empty_rows)
+}
 
 /// The stretch of buckets that is told of the key of a number, if a row is wanted, unless the rows are too many.
 pub(crate) fn stretch_of<L: Ledger>(

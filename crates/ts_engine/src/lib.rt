@@ -26,6 +26,7 @@ mod row_lists;
 mod rows;
 mod rules;
 mod running;
+mod search;
 mod serving;
 mod session;
 mod shares;

@@ -1,5 +1,5 @@
 // One series in an answer over many. After an Err there may be a part of its text.
-ghost use Rattle.std.specs.Prelude.{◌≡◌, ◌+◌, ◌≤◌, ◌++◌, length, None, Some, option_map, OnOk, IfErr};
+ghost use Rattle.std.specs.Prelude.{◌≡◌, ◌≢◌, ◌+◌, ◌≤◌, ◌++◌, false, length, is_none, None, Some, option_map, OnOk, IfErr};
 ghost use Rattle.ts_spec.specs.Answer.{row_of as row_of_sample};
 ghost use Rattle.ts_spec.specs.Key.{Key};
 ghost use Rattle.ts_spec.specs.Keyed.{get};
@@ -13,6 +13,7 @@ ghost use Rattle.ts_db.specs.Held.{IsLive};
 ghost use Rattle.ts_engine.specs.Bounds.{question_steps, wanted_steps};
 ghost use Rattle.ts_engine.specs.Members.{reply_at, rows_at, IsAdded, in_memory};
 
+use crate::filled::has_too_many_rows;
 use crate::row_lists::rows_of;
 use crate::wanted::Wanted;
 use std::alloc::AllocError;
@@ -35,6 +36,7 @@ pub(crate) fn add_member<L: Ledger>(
     requires { IsLive db.now.ids id }
     ensures added { OnOk result ((key : Key) → get key db.now.ids ≡ Some id → IsAdded (reply_at db.now.limits db.now.keys wanted.now key) out.old.bytes out.new.bytes) }
     ensures refused { IfErr result (λ fault. fault ≡ EmptyRows → (key : Key) → get key db.now.ids ≡ Some id → reply_at db.now.limits db.now.keys wanted.now key ≡ None) }
+    ensures lost { IfErr result (λ fault. fault ≢ EmptyRows → (key : Key) → get key db.now.ids ≡ Some id → is_none (reply_at db.now.limits db.now.keys wanted.now key) ≡ false) }
     ensures room { length out.old.bytes + out.old.spare ≤ length out.new.bytes + out.new.spare }
     ensures steps { (key : Key) → get key db.now.ids ≡ Some id → steps.new ≤ steps.old + wanted_steps db.now wanted.now key }
 {
@@ -46,6 +48,19 @@ pub(crate) fn add_member<L: Ledger>(
             show,
             query,
         } => add_rows(db, id, *latest, show, query, out, steps),
+    }
+}
+
+/// Whether what is told of the key of a number is too much. Takes no memory.
+pub(crate) fn is_refused<L: Ledger>(db: &Db, id: Id, wanted: &Wanted, steps: &mut Steps<L>) -> bool
+    requires { IsLive db.now.ids id }
+    ensures refused { (key : Key) → get key db.now.ids ≡ Some id → result ≡ is_none (reply_at db.now.limits db.now.keys wanted.now key) }
+    ensures steps { (key : Key) → get key db.now.ids ≡ Some id → steps.new ≤ steps.old + wanted_steps db.now wanted.now key }
+{
+    match wanted {
+        Wanted::Key => false,
+        Wanted::Last { .. } => false,
+        Wanted::Rows { latest, query, .. } => has_too_many_rows(db, id, *latest, query, steps),
     }
 }
 
@@ -104,6 +119,8 @@ fn add_rows<L: Ledger>(
         → IsAdded (rows_at db.now.limits db.now.keys latest (show_of show.now) (query_of query.now) key) out.old.bytes out.new.bytes) }
     ensures refused { IfErr result (λ fault. fault ≡ EmptyRows → (key : Key) → get key db.now.ids ≡ Some id
         → rows_at db.now.limits db.now.keys latest (show_of show.now) (query_of query.now) key ≡ None) }
+    ensures lost { IfErr result (λ fault. fault ≢ EmptyRows → (key : Key) → get key db.now.ids ≡ Some id
+        → is_none (rows_at db.now.limits db.now.keys latest (show_of show.now) (query_of query.now) key) ≡ false) }
     ensures room { length out.old.bytes + out.old.spare ≤ length out.new.bytes + out.new.spare }
     ensures steps { (key : Key) → get key db.now.ids ≡ Some id → steps.new ≤ steps.old + question_steps db.now key query.now.from query.now.to }
 {

@@ -1,17 +1,21 @@
 // The answers over many series.
-ghost use Rattle.std.specs.Prelude.{◌≡◌, ◌+◌, ◌≤◌, ◌++◌, ⊤, All, List, [], length, sum_by, None, OnOk, IfErr};
+ghost use Rattle.std.specs.Prelude.{◌≡◌, ◌+◌, ◌≤◌, ◌++◌, All, List, [], true, false, length, sum_by, None, Some, IfErr, IfOk};
+ghost use Rattle.std.specs.Fmt.{decimal};
 ghost use Rattle.ts_spec.specs.Key.{Key};
-ghost use Rattle.ts_range.specs.declared.fault.RangeFault.TheVariants.{EmptyRows};
+ghost use Rattle.ts_spec.specs.Keyed.{get};
 ghost use Rattle.ts_spec.specs.KeptQuestions.{kept_selection};
+ghost use Rattle.ts_spec.specs.Replies.{memory_reply};
+ghost use Rattle.ts_spec.specs.Text.{line_text, text};
 ghost use Rattle.ts_db.specs.Bounds.{selection_steps};
 ghost use Rattle.ts_db.specs.Held.{Held, Stands, IsLive, AreNumbersOf};
-ghost use Rattle.ts_engine.specs.Answering.{IsTextOrLost};
+ghost use Rattle.ts_engine.specs.Answering.{IsReplyText};
 ghost use Rattle.ts_engine.specs.Bounds.{wanted_steps};
-ghost use Rattle.ts_engine.specs.Members.{reply_at, replies_of, AreAdded, many_response};
+ghost use Rattle.ts_engine.specs.Members.{reply_at, replies_of, IsAddedOrLost, AreAddedOrLost, many_response};
 
 use crate::answers::too_many_rows;
-use crate::member::add_member;
+use crate::member::{add_member, is_refused};
 use crate::room::put_no_memory;
+use crate::search::put_unselected;
 use crate::wanted::Wanted;
 use std::sync::ledger::Ledger;
 use ts_db::{Db, Id};
@@ -21,7 +25,7 @@ use ts_resp::{Out, encode_count, put};
 use ts_sample::Steps;
 
 /// Writes what is told of each series that passes filters, one after another in the order of their keys. Where the
-/// rows of one are too many, that alone is said.
+/// rows of one are too many, that alone is said, also where there is no memory for the others.
 pub(crate) fn put_members<L: Ledger>(
     db: &Db,
     filters: &[Filter],
@@ -31,49 +35,97 @@ pub(crate) fn put_members<L: Ledger>(
 )
     requires empty { out.old.bytes ≡ [] }
     requires room { 128 ≤ out.old.spare }
-    ensures reply { (from : Held) → Stands db.now from → IsTextOrLost ⊤ (many_response from wanted.now filters.now) out.new.bytes }
+    ensures reply { (from : Held) → Stands db.now from → IsReplyText (many_response from wanted.now filters.now) out.new.bytes }
     ensures room { 128 ≤ length out.new.bytes + out.new.spare }
     ensures steps { steps.new ≤ steps.old + (selection_steps db.now filters.now + sum_by (wanted_steps db.now wanted.now) (kept_selection db.now.keys filters.now)) }
 {
     let Ok(ids) = db.select(filters, steps) else {
-        put_no_memory(out);
+        put_unselected(db, filters, wanted, out, steps);
         return;
     };
     match add_members(db, &ids, wanted, out, steps) {
-        Ok(()) => {}
-        Err(RangeFault::EmptyRows) => {
+        Ok(lost) => settle(lost, out),
+        Err(_) => {
             out.clear();
             put(&too_many_rows(), out);
-        }
-        Err(RangeFault::Memory(_)) => {
-            out.clear();
-            put_no_memory(out);
         }
     }
 }
 
-// Adds an array of what is told of the keys of these numbers. After an Err there may be a part of it.
+// Says that there is no memory in the place of what was written, where memory was lost.
+fn settle(lost: bool, out: &mut Out)
+    requires { 128 ≤ length out.old.bytes + out.old.spare }
+    ensures kept { lost ≡ false → out.new.bytes ≡ out.old.bytes }
+    ensures said { lost ≡ true → out.new.bytes ≡ text memory_reply }
+    ensures room { 128 ≤ length out.new.bytes + out.new.spare }
+{
+    if lost {
+        out.clear();
+        put_no_memory(out);
+    }
+}
+
+// Adds an array of what is told of the keys of these numbers, unless what is told of one is too much. Answers whether
+// memory was lost: then there may be a part of it, as there may be after an Err.
 fn add_members<L: Ledger>(
     db: &Db,
     ids: &[Id],
     wanted: &Wanted,
     out: &mut Out,
     steps: &mut Steps<L>,
-) -> Result<(), RangeFault>
+) -> Result<bool, RangeFault>
     requires { All (IsLive db.now.ids) ids.now }
-    ensures added { OnOk result ((keys : List Key) → AreNumbersOf db.now.ids keys ids.now
-        → AreAdded (replies_of (reply_at db.now.limits db.now.keys wanted.now) keys) out.old.bytes out.new.bytes) }
-    ensures refused { IfErr result (λ fault. fault ≡ EmptyRows → (keys : List Key) → AreNumbersOf db.now.ids keys ids.now
+    ensures added { IfOk result (λ lost. (keys : List Key) → AreNumbersOf db.now.ids keys ids.now
+        → AreAddedOrLost lost (replies_of (reply_at db.now.limits db.now.keys wanted.now) keys) out.old.bytes out.new.bytes) }
+    ensures refused { IfErr result (λ fault. (keys : List Key) → AreNumbersOf db.now.ids keys ids.now
         → replies_of (reply_at db.now.limits db.now.keys wanted.now) keys ≡ None) }
     ensures room { length out.old.bytes + out.old.spare ≤ length out.new.bytes + out.new.spare }
     ensures steps { (keys : List Key) → AreNumbersOf db.now.ids keys ids.now → steps.new ≤ steps.old + sum_by (wanted_steps db.now wanted.now) keys }
 {
-    match encode_count(ids.len(), out) {
-        Ok(()) => {}
-        Err(fault) => return Err(RangeFault::Memory(fault)),
-    }
+    let mut lost = begin_members(ids.len(), out);
     for id in ids {
-        add_member(db, *id, wanted, out, steps)?;
+        lost = add_next(db, *id, wanted, lost, out, steps)?;
     }
-    Ok(())
+    Ok(lost)
+}
+
+// Begins an array of so many. Answers whether there was no memory for that.
+fn begin_members(count: usize, out: &mut Out) -> bool
+    ensures begun { result ≡ false → out.new.bytes ≡ out.old.bytes ++ line_text 42 (decimal count) }
+    ensures room { length out.old.bytes + out.old.spare ≤ length out.new.bytes + out.new.spare }
+{
+    match encode_count(count, out) {
+        Ok(()) => false,
+        Err(_) => true,
+    }
+}
+
+// Adds what is told of the key of a number, unless memory was lost or is lost now, and answers whether it was. What is
+// told may be too much in either case.
+fn add_next<L: Ledger>(
+    db: &Db,
+    id: Id,
+    wanted: &Wanted,
+    lost: bool,
+    out: &mut Out,
+    steps: &mut Steps<L>,
+) -> Result<bool, RangeFault>
+    requires { IsLive db.now.ids id }
+    ensures added { IfOk result (λ now. (key : Key) → get key db.now.ids ≡ Some id → IsAddedOrLost now (reply_at db.now.limits db.now.keys wanted.now key) out.old.bytes out.new.bytes) }
+    ensures stays { IfOk result (λ now. now ≡ false → lost ≡ false) }
+    ensures refused { IfErr result (λ fault. (key : Key) → get key db.now.ids ≡ Some id → reply_at db.now.limits db.now.keys wanted.now key ≡ None) }
+    ensures room { length out.old.bytes + out.old.spare ≤ length out.new.bytes + out.new.spare }
+    ensures steps { (key : Key) → get key db.now.ids ≡ Some id → steps.new ≤ steps.old + wanted_steps db.now wanted.now key }
+{
+    if lost {
+        if is_refused(db, id, wanted, steps) {
+            return Err(RangeFault::EmptyRows);
+        }
+        return Ok(true);
+    }
+    match add_member(db, id, wanted, out, steps) {
+        Ok(()) => Ok(false),
+        Err(RangeFault::Memory(_)) => Ok(true),
+        Err(RangeFault::EmptyRows) => Err(RangeFault::EmptyRows),
+    }
 }

@@ -1,13 +1,14 @@
 // The rows of a question over one series, in a list.
-ghost use Rattle.std.specs.Prelude.{◌≡◌, ◌+◌, ◌*◌, ◌≤◌, false, Some, None, map, IfOk, IfErr};
+ghost use Rattle.std.specs.Prelude.{◌≡◌, ◌≢◌, ◌+◌, ◌*◌, ◌≤◌, false, Some, None, map, IfOk, IfErr};
 ghost use Rattle.ts_spec.specs.Answer.{answer as spec_answer, tells_empty, rows};
 ghost use Rattle.ts_spec.specs.Key.{Key};
 ghost use Rattle.ts_spec.specs.Keyed.{get};
 ghost use Rattle.ts_spec.specs.KeptQuestions.{kept_asked};
+ghost use Rattle.ts_spec.specs.Questions.{rows_response};
 ghost use Rattle.ts_range.specs.Query.{query_of, row_of};
 ghost use Rattle.ts_range.specs.declared.fault.RangeFault.TheVariants.{EmptyRows};
 ghost use Rattle.ts_series.specs.Seams.{IsSeamed};
-ghost use Rattle.ts_db.specs.Held.{IsLive, pieces_at, reach_at};
+ghost use Rattle.ts_db.specs.Held.{IsLive, YieldsToMemory, pieces_at, reach_at};
 ghost use Rattle.ts_engine.specs.Bounds.{question_steps};
 
 use crate::filled::rows_filled;
@@ -32,6 +33,8 @@ pub(crate) fn rows_of<L: Ledger>(
         → spec_answer db.now.limits.empty_rows (query_of query.now) (kept_asked db.now.keys latest key) ≡ Some (map row_of found.items)) }
     ensures refused { IfErr result (λ fault. fault ≡ EmptyRows → (key : Key) → get key db.now.ids ≡ Some id
         → spec_answer db.now.limits.empty_rows (query_of query.now) (kept_asked db.now.keys latest key) ≡ None) }
+    ensures lost { IfErr result (λ fault. fault ≢ EmptyRows → (key : Key) → get key db.now.ids ≡ Some id
+        → YieldsToMemory (rows_response (spec_answer db.now.limits.empty_rows (query_of query.now) (kept_asked db.now.keys latest key)))) }
     ensures steps { (key : Key) → get key db.now.ids ≡ Some id → steps.new ≤ steps.old + question_steps db.now key query.now.from query.now.to }
 {
     db.seams_of(id);

@@ -1,4 +1,7 @@
 // What is told of each of many series.
+ghost use Rattle.std.specs.Prelude.{◌≡◌};
+ghost use Rattle.ts_engine.specs.Members.{can_be_refused};
+
 use ts_labels::Show;
 use ts_range::Query;
 
@@ -18,4 +21,16 @@ pub(crate) enum Wanted {
         show: Show,
         query: Query,
     },
+}
+
+impl Wanted {
+    /// Whether it can be too much of some series.
+    pub(crate) fn can_be_refused(&self) -> bool
+        ensures { result ≡ can_be_refused self.now }
+    {
+        match self {
+            Wanted::Rows { .. } => true,
+            _ => false,
+        }
+    }
 }

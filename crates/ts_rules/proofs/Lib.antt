@@ -1,6 +1,8 @@
 pub mod Times
 pub mod Around
+pub mod Walks
 pub mod Sizes
+pub mod Meeting
 pub mod Counts
 pub mod CountWritten
 pub mod EndsLeft
@@ -8,10 +10,13 @@ pub mod Losing
 pub mod Listed
 pub mod Written
 pub mod EasyWrites
+pub mod TouchedEnds
+pub mod FullAfter
 pub mod Mended
 pub mod Stays
 pub mod Left
 pub mod Spanned
+pub mod Rooms
 pub mod DestLeft
 pub mod Clamped
 pub mod States

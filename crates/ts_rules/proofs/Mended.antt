@@ -1,6 +1,6 @@
 -- One mending of a destination in the place of another.
 use Rattle.std.proofs.Common.{◌≡◌, ℕ, ◌<◌, ◌≤◌, Bool, true, false, not, ◌==◌, nat_le, if◌then◌else◌, List, [], ◌∷◌, length, Option, Some, None, refl, sym, ap, ◌∙◌, subst, arith, eq-eqb}
-use Rattle.std.specs.Prelude.{Result, Ok, Err, IfErr}
+use Rattle.std.specs.Prelude.{Result, Ok, Err}
 use Rattle.std.proofs.lemmas.Bool.{false≢true}
 use Rattle.ts_spec.specs.Sample.{Point, at, at_times, is_within, outside, put}
 use Rattle.ts_spec.specs.State.{edge_of}
@@ -11,7 +11,7 @@ use Rattle.ts_series.specs.History.{History, IsKept, list_of}
 use Rattle.ts_series.specs.Plan.{Plan}
 use Rattle.ts_rules.specs.declared.fault.RuleFault.{RuleFault}
 use Rattle.ts_rules.specs.declared.fault.RuleFault.TheVariants.{Full, Memory}
-use Rattle.ts_rules.specs.Plans.{mended_list, IsMendedBy, HidesNothing, IsUnplanned, IsMending}
+use Rattle.ts_rules.specs.Plans.{mended_list, IsMendedBy, IsUnplanned, IsMending}
 use Rattle.ts_rules.proofs.Times.{within-from, within-to}
 
 -- The answer to a mending is one to another that comes to the same.
@@ -28,7 +28,7 @@ mending-same limit gone other rows others h e f (Err fault) x = unplanned fault 
   where
     unplanned : (fault : RuleFault) → IsUnplanned limit gone rows h fault → IsUnplanned limit other others h fault
     unplanned Full y = subst (λ (ps : List Point). limit < length ps) e y
-    unplanned (Memory m) y = tt
+    unplanned (Memory m) y = subst (λ (ps : List Point). length ps ≤ limit) e y
 
 -- ---- without a row
 
@@ -83,13 +83,3 @@ one-row t p h kept e =
 pub mending-row : (limit : ℕ) (t : ℕ) (p : Point) (h : History) → IsKept h → t ≡ p.time → (result : Result (Option Plan) RuleFault) →
     IsMending limit (is_within t t) (p ∷ []) h result → IsMending limit (λ u. false) (p ∷ []) h result
 mending-row limit t p h kept e result x = mending-same limit (is_within t t) (λ u. false) (p ∷ []) (p ∷ []) h (one-row t p h kept e) refl result x
-
--- So does want of memory.
-pub hides-row : (limit : ℕ) (t : ℕ) (p : Point) (h : History) → IsKept h → t ≡ p.time → (fault : RuleFault) → HidesNothing limit (is_within t t) (p ∷ []) h fault → HidesNothing limit (λ u. false) (p ∷ []) h fault
-hides-row limit t p h kept e Full x = tt
-hides-row limit t p h kept e (Memory m) x = subst (λ (ps : List Point). length ps ≤ limit) (one-row t p h kept e) x
-
-pub hides-one : (limit : ℕ) (t : ℕ) (p : Point) (h : History) → IsKept h → t ≡ p.time → (result : Result (Option Plan) RuleFault) → IfErr result (HidesNothing limit (is_within t t) (p ∷ []) h)
-    → IfErr result (HidesNothing limit (λ u. false) (p ∷ []) h)
-hides-one limit t p h kept e (Ok plan) x = tt
-hides-one limit t p h kept e (Err fault) x = hides-row limit t p h kept e fault x

@@ -11,11 +11,11 @@ use Rattle.ts_rules.proofs.Times.{within, within-from, within-to, span-from, spa
 -- ---- tests
 
 -- one, if the test passes
-abbrev one : Bool → ℕ
+abbrev pub one : Bool → ℕ
 one true = 1
 one false = 0
 
-counted : (x : Bool) (p : Point) (ps : List Point) → length (cond x (p ∷ ps) ps) ≡ one x + length ps
+pub counted : (x : Bool) (p : Point) (ps : List Point) → length (cond x (p ∷ ps) ps) ≡ one x + length ps
 counted true p ps = omega arith
 counted false p ps = omega arith
 

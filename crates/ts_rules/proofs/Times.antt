@@ -1,6 +1,6 @@
 -- Samples picked by their times.
 use Rattle.std.proofs.Common.{◌≡◌, ℕ, ◌<◌, ◌≤◌, Bool, true, false, not, ◌&&◌, nat_lt, nat_le, cond, List, [], ◌∷◌, ◌++◌, ◌⊎◌, inl, inr, refl, sym, ap, ◌∙◌, arith, ltb-true, lt-ltb, leb-true, le-leb}
-use Rattle.std.proofs.lemmas.Bool.{cases_lt, and_parts, and_from}
+use Rattle.std.proofs.lemmas.Bool.{cases_lt, false≢true, and_parts, and_from}
 use Rattle.ts_spec.specs.Sample.{Point, IsAfter, IsAscending, at_times, is_within}
 use Rattle.ts_rules.specs.Spans.{from_until}
 
@@ -19,6 +19,13 @@ not-true false h = refl
 pub true-unless : (x : Bool) → (x ≡ true → ⊥) → x ≡ false
 true-unless true h = absurd (h refl)
 true-unless false h = refl
+
+pub not-past : (t u : ℕ) → nat_lt t u ≡ false → u ≤ t
+not-past t u e = go (cases_lt t u)
+  where
+    go : (t < u) ⊎ (u ≤ t) → u ≤ t
+    go (inl x) = absurd (false≢true (sym e ∙ lt-ltb t u x))
+    go (inr x) = x
 
 pub within : (from to t : ℕ) → from ≤ t → t ≤ to → is_within from to t ≡ true
 within from to t h k = and_from (nat_le from t) (nat_le t to) (le-leb from t h) (le-leb t to k)
@@ -67,7 +74,7 @@ times-both a b (p ∷ ps) = go (b p.time) (times-both a b ps)
     go false ih = ih
 
 -- a test that fails past a time takes no later samples
-none-past : (test : ℕ → Bool) (u : ℕ) (ps : List Point) → IsAfter u ps → ((t : ℕ) → u < t → test t ≡ false) → at_times test ps ≡ []
+pub none-past : (test : ℕ → Bool) (u : ℕ) (ps : List Point) → IsAfter u ps → ((t : ℕ) → u < t → test t ≡ false) → at_times test ps ≡ []
 none-past test u [] a h = refl
 none-past test u (p ∷ ps) a h = ap (λ (x : Bool). cond x (p ∷ at_times test ps) (at_times test ps)) (h p.time a.0) ∙ none-past test u ps a.1 h
 

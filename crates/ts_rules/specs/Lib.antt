@@ -1,11 +1,14 @@
+pub mod Room
 pub mod Rules
 pub mod Spans
 pub mod Writes
 pub mod Plans
 pub mod PlansOfWrites
 pub mod Deletions
+pub mod Ends
 pub mod PlansOfDeletions
 pub mod States
 pub mod Shares
 pub mod Lost
 pub mod FaultNames
+pub mod Walks

@@ -1,5 +1,5 @@
 -- The starts of the buckets that hold one of some samples, as a visitor of these samples keeps them.
-use Rattle.std.specs.Prelude.{ℕ, ◌+◌, ◌-◌, ◌≤◌, Bool, true, false, ◌==◌, if◌then◌else◌, List, [], ◌∷◌, ◌++◌, Option, None, Some}
+use Rattle.std.specs.Prelude.{◌≡◌, ℕ, ◌+◌, ◌-◌, ◌≤◌, Bool, true, false, ◌==◌, if◌then◌else◌, List, [], ◌∷◌, ◌++◌, Option, None, Some}
 use Rattle.std.proofs.Common.{arith}
 use Rattle.ts_spec.specs.Sample.{Point}
 use Rattle.ts_spec.specs.Bucket.{Grid, start}
@@ -10,6 +10,13 @@ pub record Losing : Type 0 where
   pub last : Option ℕ
   pub starts : List ℕ
   pub room : ℕ
+
+-- there is room for so many starts of this grid, and none is there yet
+pub record HasStartRoom (g : Grid) (count : ℕ) (l : Losing) : Type 0 where
+  pub grid : l.grid ≡ g
+  pub last : l.last ≡ None
+  pub empty : l.starts ≡ []
+  pub room : count ≤ l.room
 
 -- whether there is a last start, and it is this one
 abbrev pub is_last : Option ℕ → ℕ → Bool

@@ -33,15 +33,10 @@ pub record IsMendedBy (limit : ℕ) (gone : ℕ → Bool) (rows : List Point) (h
   pub options : (after_plan plan h).options ≡ h.options
   pub fits : length (mended_list gone rows h) ≤ limit
 
--- the destination would show more than the limit, or there is no memory
+-- the destination would show more than the limit; or it would not, and there is no memory
 abbrev pub IsUnplanned : (limit : ℕ) → (gone : ℕ → Bool) → (rows : List Point) → History → RuleFault → Type 0
 IsUnplanned limit gone rows h Full = limit < length (mended_list gone rows h)
-IsUnplanned limit gone rows h (Memory e) = ⊤
-
--- want of memory is told only where the destination would show no more than the limit
-abbrev pub HidesNothing : (limit : ℕ) → (gone : ℕ → Bool) → (rows : List Point) → History → RuleFault → Type 0
-HidesNothing limit gone rows h Full = ⊤
-HidesNothing limit gone rows h (Memory e) = length (mended_list gone rows h) ≤ limit
+IsUnplanned limit gone rows h (Memory e) = length (mended_list gone rows h) ≤ limit
 
 -- the answer to a mending of a destination
 abbrev pub IsMending : (limit : ℕ) → (gone : ℕ → Bool) → (rows : List Point) → History → Result (Option Plan) RuleFault → Type 0

@@ -4,16 +4,21 @@
 
 mod count;
 mod deletion;
+mod ends;
 mod fault;
+mod full;
 mod laws;
+mod losses;
 mod lost;
 mod mending;
 mod open;
 mod plan;
 mod planned;
+mod room;
 mod rule;
 mod span;
 mod touched;
+mod walk;
 mod write;
 
 pub use fault::RuleFault;

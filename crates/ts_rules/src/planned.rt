@@ -1,19 +1,21 @@
 // The two public calls that plan a change of a source for a rule.
-ghost use Rattle.std.specs.Prelude.{◌≡◌, ◌≤◌, ◌+◌, false, None, length, IfErr};
+ghost use Rattle.std.specs.Prelude.{◌≡◌, ◌≤◌, ◌+◌, None, length};
+ghost use Rattle.ts_spec.specs.Sample.{MAX_TIME, between};
 ghost use Rattle.ts_series.specs.History.{list_of};
 ghost use Rattle.ts_rules.specs.Rules.{TakesAppended};
-ghost use Rattle.ts_rules.specs.Writes.{row_for_dest};
-ghost use Rattle.ts_rules.specs.Plans.{HidesNothing};
 ghost use Rattle.ts_rules.specs.PlansOfWrites.{IsPlanOfWrite};
 ghost use Rattle.ts_rules.specs.PlansOfDeletions.{IsPlanOfDeletion};
+ghost use Rattle.ts_rules.specs.Lost.{HasStartRoom};
+ghost use Rattle.ts_rules.specs.Room.{HasRoom, count_touched};
 ghost use Rattle.ts_rules.specs.Shares.{write_share, deletion_share, IsEasyWrite};
 
 use crate::count::ends_left;
 use crate::deletion::Deletion;
 use crate::fault::RuleFault;
-use crate::lost::lost_buckets;
+use crate::full::is_full;
 use crate::mending::with_row;
 use crate::plan::RulePlan;
+use crate::room::Room;
 use crate::rule::Rule;
 use crate::write::written;
 use std::alloc::Global;
@@ -35,7 +37,6 @@ pub fn plan_put<L: Ledger>(
     requires append { TakesAppended rule.now source.now wrote.now }
     requires fits { length (list_of dest.now) ≤ limit }
     ensures planned { IsPlanOfWrite limit rule.now source.now wrote.now dest.now result }
-    ensures memory { IfErr result (HidesNothing limit (λ t. false) (row_for_dest source.now wrote.now dest.now.born rule.now) dest.now) }
     ensures counted { steps.old ≤ steps.new }
     ensures bounded { steps.new ≤ steps.old + write_share rule.now source.now wrote.now dest.now }
     ensures easy { IsEasyWrite limit rule.now source.now wrote.now dest.now → steps.new ≡ steps.old }
@@ -47,7 +48,7 @@ pub fn plan_put<L: Ledger>(
 
 /// Plans what a deletion of the samples from one time to another, both included, on the source of a rule comes to
 /// for the rule and for its destination. The source is as it is before the deletion, and the destination shows at
-/// most `limit` samples, and after the plan too.
+/// most `limit` samples, and after the plan too. Want of memory does not hide that these would be too many.
 pub fn plan_delete<L: Ledger>(
     alloc: Global,
     rule: &Rule,
@@ -69,10 +70,40 @@ pub fn plan_delete<L: Ledger>(
     if to < from {
         return Ok(unchanged(rule));
     }
-    let lost = match lost_buckets(alloc, rule.grid, source, from, to, steps) {
-        Ok(lost) => lost,
-        Err(fault) => return Err(RuleFault::Memory(fault)),
-    };
+    match Room::new(alloc, rule, source, from, to, dest) {
+        Ok(room) => planned_in(room, rule, source, from, to, dest, limit, steps),
+        Err(fault) => {
+            if is_full(rule, source, from, to, dest, limit, steps) {
+                return Err(RuleFault::Full);
+            }
+            Err(RuleFault::Memory(fault))
+        }
+    }
+}
+
+// The same, in the room that was taken for it.
+fn planned_in<L: Ledger>(
+    room: Room,
+    rule: &Rule,
+    source: &Series,
+    from: u64,
+    to: u64,
+    dest: &Series,
+    limit: u32,
+    steps: &mut Steps<L>,
+) -> Result<RulePlan, RuleFault>
+    requires order { from ≤ to }
+    requires time { to ≤ MAX_TIME }
+    requires fits { length (list_of dest.now) ≤ limit }
+    requires lost { HasStartRoom rule.now.grid (length (between from to (list_of source.now))) room.lost }
+    requires shown { HasRoom (count_touched rule.now from to dest.now) room.shown }
+    requires rows { HasRoom (count_touched rule.now from to dest.now + 2) room.rows }
+    ensures planned { IsPlanOfDeletion limit rule.now source.now from to dest.now result }
+    ensures counted { steps.old ≤ steps.new }
+    ensures bounded { steps.new ≤ steps.old + deletion_share rule.now source.now from to dest.now }
+{
+    dest.known();
+    let lost = room.lost.starts(source, from, to, steps);
     if lost.is_empty() {
         return Ok(unchanged(rule));
     }
@@ -86,7 +117,7 @@ pub fn plan_delete<L: Ledger>(
         first,
         last,
     };
-    let dest = deletion.dest_left(alloc, dest, limit, steps)?;
+    let dest = deletion.dest_left(room.shown, room.rows, dest, limit, steps)?;
     let rule = deletion.rule_left();
     Ok(RulePlan { rule, dest })
 }

@@ -1,7 +1,8 @@
 // What is kept of a rule.
-ghost use Rattle.std.specs.Prelude.{◌≤◌};
+ghost use Rattle.std.specs.Prelude.{◌≡◌, ◌≤◌};
 ghost use Rattle.std.specs.Option.{ForSome};
 ghost use Rattle.ts_spec.specs.Sample.{MAX_TIME};
+ghost use Rattle.ts_spec.specs.Rules.{is_past};
 
 use ts_agg::Running;
 use ts_bucket::Grid;
@@ -23,4 +24,16 @@ pub struct Rule {
     /// What it counts in its open bucket.
     pub running: Running,
     pub ghost in_time: { ForSome current (λ t. t ≤ MAX_TIME) },
+}
+
+impl Rule {
+    // Whether the bucket that starts there is before the open one.
+    pub(crate) fn is_closed(&self, start: u64) -> bool
+        ensures { result ≡ is_past self.now.current start }
+    {
+        match self.current {
+            None => false,
+            Some(open) => start < open,
+        }
+    }
 }

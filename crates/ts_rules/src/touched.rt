@@ -1,7 +1,6 @@
 // The buckets of a rule that a deletion on its source touches.
 ghost use Rattle.std.specs.Prelude.{◌≡◌, ◌≤◌, true, []};
 ghost use Rattle.ts_spec.specs.Sample.{MAX_TIME};
-ghost use Rattle.ts_spec.specs.Rules.{is_past};
 ghost use Rattle.ts_spec.specs.Mending.{counted_anew, lies_in};
 ghost use Rattle.ts_rules.specs.Rules.{kept_as, one_of, IsChanged};
 ghost use Rattle.ts_rules.specs.Deletions.{gone_of, is_lost, left_of, row_left, rule_left};
@@ -58,17 +57,7 @@ impl Deletion<'_> {
     pub(crate) fn loses(&self, start: u64) -> bool
         ensures { result ≡ is_lost self.now.rule.now self.now.source.now self.now.from self.now.to start }
     {
-        self.is_closed(start) && self.touches(start)
-    }
-
-    // Whether the bucket that starts there is before the open one.
-    pub(crate) fn is_closed(&self, start: u64) -> bool
-        ensures { result ≡ is_past self.now.rule.now.current start }
-    {
-        match self.rule.current {
-            None => false,
-            Some(open) => start < open,
-        }
+        self.rule.is_closed(start) && self.touches(start)
     }
 
     // Whether a bucket starts there that holds a sample that goes.

@@ -1,5 +1,5 @@
 -- Lists that are joined, and the one at a place among them.
-use Rattle.std.proofs.Common.{◌≡◌, ◌≢◌, ℕ, zero, suc, ◌<◌, ◌≤◌, List, [], ◌∷◌, ◌++◌, length, get_or, take, drop, map, refl, sym, ◌∙◌, ap, arith, append_assoc}
+use Rattle.std.proofs.Common.{◌≡◌, ◌≢◌, ℕ, zero, suc, ◌<◌, ◌≤◌, List, [], ◌∷◌, ◌++◌, length, get_or, take, drop, map, refl, sym, ◌∙◌, ap, subst, arith, append_assoc}
 use Rattle.ts_spec.specs.Sample.{Point, IsAfter, IsAscending}
 use Rattle.ts_sample.specs.Chunk.{IsChunk, joined}
 use Rattle.ts_series.specs.Held.{AreChunks, longest}
@@ -36,6 +36,25 @@ ascending-left (p ∷ ps) qs h = (after-left p.time ps qs h.0, ascending-left ps
 pub ascending-right : (ps qs : List Point) → IsAscending (ps ++ qs) → IsAscending qs
 ascending-right [] qs h = h
 ascending-right (p ∷ ps) qs h = ascending-right ps qs h.1
+
+after-ends : (t : ℕ) (ps qs rs : List Point) → IsAfter t (ps ++ (qs ++ rs)) → IsAfter t (ps ++ rs)
+after-ends t [] qs rs h = after-right t qs rs h
+after-ends t (p ∷ ps) qs rs h = (h.0, after-ends t ps qs rs h.1)
+
+ascending-ends : (ps qs rs : List Point) → IsAscending (ps ++ (qs ++ rs)) → IsAscending (ps ++ rs)
+ascending-ends [] qs rs h = ascending-right qs rs h
+ascending-ends (p ∷ ps) qs rs h = (after-ends p.time ps qs rs h.0, ascending-ends ps qs rs h.1)
+
+-- so are one and a later one of the lists that it is joined of
+pub ascending-two : (i j : ℕ) (pss : List (List Point)) → i < j → j < length pss → IsAscending (joined pss) → IsAscending (get_or pss i [] ++ get_or pss j [])
+ascending-two i j [] less within h = absurd (omega arith)
+ascending-two i zero (ps ∷ pss) less within h = absurd (omega arith)
+ascending-two zero (suc j) (ps ∷ pss) less within h =
+    let later : List Point = get_or pss j [] in
+    let rest : List Point = joined (drop (suc j) pss) in
+    let all : IsAscending (ps ++ (joined (take j pss) ++ (later ++ rest))) = subst (λ (l : List Point). IsAscending (ps ++ l)) (joined-at j pss (omega arith)) h in
+    ascending-left (ps ++ later) rest (subst IsAscending (sym (append_assoc ps later rest)) (ascending-ends ps (joined (take j pss)) (later ++ rest) all))
+ascending-two (suc i) (suc j) (ps ∷ pss) less within h = ascending-two i j pss (omega arith) (omega arith) (ascending-right ps (joined pss) h)
 
 pub longest-at : (i : ℕ) (pss : List (List Point)) → length (get_or pss i []) ≤ longest pss
 longest-at i [] = omega arith

@@ -2,6 +2,7 @@ pub mod Placing
 pub mod Counting
 pub mod Cutting
 pub mod Edges
+pub mod IntervalCount
 pub mod Joined
 pub mod Keeping
 pub mod Latest

@@ -41,6 +41,12 @@ fine-append : (ps qs : List Point) → AreFine ps → AreFine qs → AreFine (ps
 fine-append [] qs h k = k
 fine-append (p ∷ ps) qs h k = (h.0, fine-append ps qs h.1 k)
 
+-- the samples of all chunks are
+pub fine-joined : (format : List Point → List ℕ) (pss : List (List Point)) (ns : List ℕ) → AreChunks format pss ns → AreFine (joined pss)
+fine-joined format [] ns h = tt
+fine-joined format (ps ∷ pss) [] h = absurd h
+fine-joined format (ps ∷ pss) (n ∷ ns) h = fine-append ps (joined pss) h.0.fine (fine-joined format pss ns h.1.1)
+
 pub fine-times : (test : ℕ → Bool) (ps : List Point) → AreFine ps → AreFine (at_times test ps)
 fine-times test [] h = tt
 fine-times test (p ∷ ps) h = go (test p.time) (fine-times test ps h.1)

@@ -19,10 +19,10 @@ pub record Mends (from to : ℕ) (rows : List Point) (limit : ℕ) (h : History)
   pub options : (after plan h).options ≡ h.options
   pub fits : length (mended_list from to rows h) ≤ limit
 
--- the series would have more samples than the limit, or there is no memory; where one row is put at its time, it stays within the limit then
+-- the series would have more samples than the limit; or it would not, and there is no memory
 abbrev pub IsUnmended : (from to : ℕ) → (rows : List Point) → (limit : ℕ) → History → PutFault → Type 0
 IsUnmended from to rows limit h Full = limit < length (mended_list from to rows h)
-IsUnmended from to rows limit h (Memory e) = from ≡ to → length rows ≡ 1 → length (mended_list from to rows h) ≤ limit
+IsUnmended from to rows limit h (Memory e) = length (mended_list from to rows h) ≤ limit
 IsUnmended from to rows limit h fault = ⊥
 
 -- the answer to a mending

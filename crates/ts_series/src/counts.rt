@@ -1,20 +1,34 @@
-// How many samples chunks have. Nothing is decoded.
+// How many samples chunks have.
 ghost use Rattle.std.specs.Prelude.{◌≡◌, ◌≤◌, ◌<◌, ◌+◌, ◌*◌, ◌^◌, length, map, slice_range};
 ghost use Rattle.ts_spec.specs.Sample.{between};
 ghost use Rattle.ts_sample.specs.Chunk.{joined};
 ghost use Rattle.ts_series.specs.Held.{points, longest};
 
 use crate::chunks::Chunks;
-use ts_sample::Chunk;
+use std::sync::ledger::Ledger;
+use ts_sample::{Chunk, Steps};
 
 impl<C: Chunk> Chunks<C> {
-    // At least as many samples as an interval has: those of all chunks that may have some of them.
+    // At least as many samples as an interval has: those of all chunks that may have some of them. Nothing is decoded.
     pub(crate) fn count_near(&self, from: u64, to: u64) -> usize
         ensures least { length (between from to (points self.now)) ≤ result }
         ensures most { result ≤ length (between from to (points self.now)) + 2 * longest self.now.pieces }
     {
         let places = self.meeting(from, to);
         self.count_of(places.start, places.end)
+    }
+
+    // How many samples an interval has. That takes no memory.
+    pub(crate) fn count_between<L: Ledger>(&self, from: u64, to: u64, steps: &mut Steps<L>) -> usize
+        ensures count { result ≡ length (between from to (points self.now)) }
+        ensures counted { steps.old ≤ steps.new }
+        ensures bounded { steps.new ≤ steps.old + 2 * longest self.now.pieces }
+    {
+        // Does nothing: where a field is read, the bounds of the samples are known.
+        let _ = &self.chunks;
+        let upto = self.count_before(to.saturating_add(1), steps);
+        let before = self.count_before(from, steps);
+        upto.saturating_sub(before)
     }
 
     // How many samples the chunks from one place up to another have.

@@ -1,5 +1,5 @@
 // The samples that chunks keep when those of an interval go, and rows that take the place of these.
-ghost use Rattle.std.specs.Prelude.{◌≡◌, ◌≤◌, ◌+◌, ◌*◌, nat_le, length, IfOk, slice_range};
+ghost use Rattle.std.specs.Prelude.{◌≡◌, ◌≤◌, ◌+◌, ◌*◌, ◌++◌, nat_le, length, IfOk, IfErr, slice_range};
 ghost use Rattle.ts_spec.specs.Sample.{IsAfter, IsAscending, at_times, outside, put_all};
 ghost use Rattle.ts_sample.specs.Chunk.{joined};
 ghost use Rattle.ts_series.specs.Held.{longest, IsMeeting};
@@ -12,6 +12,7 @@ use ts_sample::{Chunk, Gathered, MAX_TIME, Sample, Steps, place_of, places_betwe
 
 impl<C: Chunk> Chunks<C> {
     // The samples of the chunks that meet an interval, without its own. Only the first and the last chunk have any.
+    // Where there is no memory, none is decoded.
     pub(crate) fn samples_left<L: Ledger>(
         &self,
         alloc: Global,
@@ -23,19 +24,18 @@ impl<C: Chunk> Chunks<C> {
     ) -> Result<Vec<Sample>, AllocError>
         requires { IsMeeting from to self.now.pieces start end }
         ensures list { IfOk result (λ v. v.items ≡ outside from to (joined (slice_range self.now.pieces start end))) }
+        ensures unread { IfErr result (λ _. steps.new ≡ steps.old) }
         ensures counted { steps.old ≤ steps.new }
         ensures bounded { steps.new ≤ steps.old + 2 * longest self.now.pieces }
     {
         if start == end {
             return Ok(Vec::new(alloc));
         }
-        let mut samples = left_of(&self.chunks[start], alloc, from, to, steps)?;
+        let (first, last) = (&self.chunks[start], &self.chunks[end - 1]);
         if start + 1 == end {
-            return Ok(samples);
+            return left_of(first, alloc, from, to, steps);
         }
-        let mut rest = left_of(&self.chunks[end - 1], alloc, from, to, steps)?;
-        samples.append(&mut rest)?;
-        Ok(samples)
+        left_of_both(first, last, alloc, from, to, steps)
     }
 }
 
@@ -48,12 +48,38 @@ fn left_of<C: Chunk, L: Ledger>(
     steps: &mut Steps<L>,
 ) -> Result<Vec<Sample>, AllocError>
     ensures list { IfOk result (λ v. v.items ≡ outside from to (C.list chunk.now)) }
+    ensures unread { IfErr result (λ _. steps.new ≡ steps.old) }
     ensures counted { steps.old ≤ steps.new }
     ensures bounded { steps.new ≤ steps.old + length (C.list chunk.now) }
 {
     chunk.known();
     let mut gathered = Gathered::with_room(alloc, chunk.len())?;
     chunk.scan(0, MAX_TIME, &mut gathered, steps);
+    let mut samples = gathered.into_samples();
+    take_out(&mut samples, from, to);
+    Ok(samples)
+}
+
+// The same of two chunks, one after the other. Room for both is taken before one is decoded.
+fn left_of_both<C: Chunk, L: Ledger>(
+    first: &C,
+    last: &C,
+    alloc: Global,
+    from: u64,
+    to: u64,
+    steps: &mut Steps<L>,
+) -> Result<Vec<Sample>, AllocError>
+    requires { IsAscending (C.list first.now ++ C.list last.now) }
+    ensures list { IfOk result (λ v. v.items ≡ outside from to (C.list first.now ++ C.list last.now)) }
+    ensures unread { IfErr result (λ _. steps.new ≡ steps.old) }
+    ensures counted { steps.old ≤ steps.new }
+    ensures bounded { steps.new ≤ steps.old + length (C.list first.now) + length (C.list last.now) }
+{
+    first.known();
+    last.known();
+    let mut gathered = Gathered::with_room(alloc, first.len() + last.len())?;
+    first.scan(0, MAX_TIME, &mut gathered, steps);
+    last.scan(0, MAX_TIME, &mut gathered, steps);
     let mut samples = gathered.into_samples();
     take_out(&mut samples, from, to);
     Ok(samples)

@@ -1,12 +1,14 @@
 // Rows in the place of the samples of an interval, by which rules mend their destinations.
-ghost use Rattle.std.specs.Prelude.{◌≡◌, ℕ, ◌≤◌, ◌+◌, ◌*◌, nat_lt, nat_le, length, IfOk};
-ghost use Rattle.ts_spec.specs.Sample.{IsAscending, at_times, between, outside};
+ghost use Rattle.std.specs.Prelude.{◌≡◌, ◌≤◌, ◌+◌, ◌*◌, nat_lt, nat_le, length, IfOk};
+ghost use Rattle.ts_spec.specs.Sample.{IsAscending, at_times, between, outside, put_all};
 ghost use Rattle.ts_spec.specs.Mending.{high_with};
-ghost use Rattle.ts_series.specs.Held.{points};
-ghost use Rattle.ts_series.specs.History.{list_of, reach};
+ghost use Rattle.ts_sample.specs.Chunk.{joined};
+ghost use Rattle.ts_series.specs.Held.{points, pieces_after, IsReady, HasLimits};
+ghost use Rattle.ts_series.specs.History.{list_of, limit_for, reach};
 ghost use Rattle.ts_series.specs.Plan.{AreWithin, AreMade, IsForIn, after};
 ghost use Rattle.ts_series.specs.Mend.{IsMend, IsRowPast, mended_list};
 
+use crate::change::Change;
 use crate::edge::{edge_at, high_after};
 use crate::edit::{Interval, Rows};
 use crate::line::Line;
@@ -19,8 +21,8 @@ use ts_sample::{Chunk, Sample, Steps, place_of};
 
 impl<C: Chunk> Line<C> {
     // Plans that rows take the place of the samples from one time to another, in milliseconds, both included,
-    // if the series then has at most `limit` samples. Each row lies between these times. Want of memory for one row at
-    // its time does not hide that the samples would be too many.
+    // if the series then has at most `limit` samples. Each row lies between these times. Want of memory does not hide
+    // that the samples would be too many.
     pub(crate) fn mend<L: Ledger>(
         &self,
         from: u64,
@@ -38,53 +40,42 @@ impl<C: Chunk> Line<C> {
         ensures bounded { steps.new ≤ steps.old + 3 * reach self.now }
         ensures easy { IsRowPast from to rows.now limit self.now → steps.new ≡ steps.old }
     {
-        match self.mended(from, to, rows, steps) {
-            Ok((plan, removed)) => {
-                if self.exceeds(limit, from, to, rows, removed, steps) {
-                    drop(plan);
-                    return Err(PutFault::Full);
-                }
-                Ok(plan)
-            }
-            Err(fault) => {
-                if from != to || rows.len() != 1 {
-                    return Err(PutFault::Memory(fault));
-                }
-                let removed = self.chunks.count_at(from, steps);
-                if self.exceeds(limit, from, to, rows, removed, steps) {
-                    return Err(PutFault::Full);
-                }
-                Err(PutFault::Memory(fault))
-            }
+        let size = new_limit(self.options.chunk_size);
+        let (mended, removed) = self.chunks.mended(self.alloc, from, to, rows, size, steps);
+        if self.exceeds(limit, from, to, rows, removed, steps) {
+            return Err(PutFault::Full);
+        }
+        let change = match mended {
+            Ok(change) => change,
+            Err(fault) => return Err(PutFault::Memory(fault)),
+        };
+        match self.with_change(from, to, rows, change) {
+            Ok(plan) => Ok(plan),
+            Err(fault) => Err(PutFault::Memory(fault)),
         }
     }
 
-    // Plans the mending, whatever the number of samples, and tells how many the interval has.
-    fn mended<L: Ledger>(
+    // The plan of a mending that changes the chunks so.
+    fn with_change(
         &self,
         from: u64,
         to: u64,
         rows: &[Sample],
-        steps: &mut Steps<L>,
-    ) -> Result<(LinePlan<C>, usize), AllocError>
+        change: Change<C>,
+    ) -> Result<LinePlan<C>, AllocError>
         requires ascending { IsAscending rows.now }
-        requires within { AreWithin from to rows.now }
         requires made { AreMade self.now.born rows.now }
-        ensures planned { IfOk result (λ r. IsForIn C.format r.0 self.now) }
-        ensures list { IfOk result (λ r. list_of (after r.0 self.now) ≡ mended_list from to rows.now self.now) }
-        ensures high { IfOk result (λ r. (after r.0 self.now).high ≡ high_with rows.now self.now.high) }
-        ensures options { IfOk result (λ r. (after r.0 self.now).options ≡ self.now.options) }
-        ensures removed { IfOk result (λ r. r.1 ≡ length (between from to (points self.now.held))) }
-        ensures counted { steps.old ≤ steps.new }
-        ensures bounded { steps.new ≤ steps.old + 2 * reach self.now }
-        ensures row { from ≡ to → length rows.now ≡ 1 → steps.new ≤ steps.old + reach self.now }
-        ensures easy { (limit : ℕ) → IsRowPast from to rows.now limit self.now → steps.new ≡ steps.old }
+        requires ready { IsReady C.format self.now.held change }
+        requires limits { HasLimits (limit_for self.now.options.chunk_size) self.now.held.limits change }
+        requires list { joined (pieces_after change self.now.held.pieces) ≡ put_all rows.now (outside from to (points self.now.held)) }
+        ensures planned { IfOk result (λ plan. IsForIn C.format plan self.now) }
+        ensures list { IfOk result (λ plan. list_of (after plan self.now) ≡ mended_list from to rows.now self.now) }
+        ensures high { IfOk result (λ plan. (after plan self.now).high ≡ high_with rows.now self.now.high) }
+        ensures options { IfOk result (λ plan. (after plan self.now).options ≡ self.now.options) }
     {
-        let size = new_limit(self.options.chunk_size);
-        let (change, removed) = self.chunks.mended(self.alloc, from, to, rows, size, steps)?;
         let larger = self.chunks.larger(&change, self.alloc)?;
         let wrote = Rows::of(self.alloc, rows)?;
-        let plan = LinePlan {
+        Ok(LinePlan {
             cut: Some(Interval { from, to }),
             removed: 0,
             encoding: self.options.encoding,
@@ -92,8 +83,7 @@ impl<C: Chunk> Line<C> {
             options: None,
             change,
             larger,
-        };
-        Ok((plan, removed))
+        })
     }
 
     // Whether the series would have more samples than the limit with the rows in the place of the interval's, so many.

@@ -15,7 +15,8 @@ use std::sync::ledger::Ledger;
 use ts_sample::{Chunk, Sample, Steps};
 
 impl<C: Chunk> Chunks<C> {
-    // The rows in the place of the samples of an interval, in which they lie, and how many samples these are.
+    // The rows in the place of the samples of an interval, in which they lie, if there is memory, and how many samples
+    // these are.
     pub(crate) fn mended<L: Ledger>(
         &self,
         alloc: Global,
@@ -24,17 +25,16 @@ impl<C: Chunk> Chunks<C> {
         rows: &[Sample],
         chunk_size: u32,
         steps: &mut Steps<L>,
-    ) -> Result<(Change<C>, usize), AllocError>
+    ) -> (Result<Change<C>, AllocError>, usize)
         requires size { IsLimit chunk_size }
         requires ascending { IsAscending rows.now }
         requires within { AreWithin from to rows.now }
-        ensures ready { IfOk result (λ r. IsReady C.format self.now r.0) }
-        ensures limits { IfOk result (λ r. HasLimits chunk_size self.now.limits r.0) }
-        ensures list { IfOk result (λ r. joined (pieces_after r.0 self.now.pieces) ≡ put_all rows.now (outside from to (points self.now))) }
-        ensures removed { IfOk result (λ r. r.1 ≡ length (between from to (points self.now))) }
+        ensures ready { IfOk result.0 (λ c. IsReady C.format self.now c) }
+        ensures limits { IfOk result.0 (λ c. HasLimits chunk_size self.now.limits c) }
+        ensures list { IfOk result.0 (λ c. joined (pieces_after c self.now.pieces) ≡ put_all rows.now (outside from to (points self.now))) }
+        ensures removed { result.1 ≡ length (between from to (points self.now)) }
         ensures counted { steps.old ≤ steps.new }
         ensures bounded { steps.new ≤ steps.old + 2 * longest self.now.pieces }
-        ensures row { from ≡ to → length rows.now ≡ 1 → steps.new ≤ steps.old + longest self.now.pieces }
         ensures easy { from ≡ to → length rows.now ≡ 1 → IsPast (last_of (points self.now)) from → steps.new ≡ steps.old }
     {
         if from == to {
@@ -54,25 +54,32 @@ impl<C: Chunk> Chunks<C> {
         rows: &[Sample],
         chunk_size: u32,
         steps: &mut Steps<L>,
-    ) -> Result<(Change<C>, usize), AllocError>
+    ) -> (Result<Change<C>, AllocError>, usize)
         requires size { IsLimit chunk_size }
         requires ascending { IsAscending rows.now }
         requires within { AreWithin from to rows.now }
-        ensures ready { IfOk result (λ r. IsReady C.format self.now r.0) }
-        ensures limits { IfOk result (λ r. HasLimits chunk_size self.now.limits r.0) }
-        ensures list { IfOk result (λ r. joined (pieces_after r.0 self.now.pieces) ≡ put_all rows.now (outside from to (points self.now))) }
-        ensures removed { IfOk result (λ r. r.1 ≡ length (between from to (points self.now))) }
+        ensures ready { IfOk result.0 (λ c. IsReady C.format self.now c) }
+        ensures limits { IfOk result.0 (λ c. HasLimits chunk_size self.now.limits c) }
+        ensures list { IfOk result.0 (λ c. joined (pieces_after c self.now.pieces) ≡ put_all rows.now (outside from to (points self.now))) }
+        ensures removed { result.1 ≡ length (between from to (points self.now)) }
         ensures counted { steps.old ≤ steps.new }
         ensures bounded { steps.new ≤ steps.old + 2 * longest self.now.pieces }
     {
         // Does nothing: where a field is read, the order of the chunks is known.
         let _ = &self.chunks;
         let Range { start, end } = self.meeting_or_next(from, to);
-        let mut samples = self.samples_left(alloc, start, end, from, to, steps)?;
+        let mut samples = match self.samples_left(alloc, start, end, from, to, steps) {
+            Ok(samples) => samples,
+            Err(fault) => return (Err(fault), self.count_between(from, to, steps)),
+        };
         let removed = self.count_of(start, end) - samples.len();
-        put_rows(&mut samples, from, to, rows)?;
-        let change = self.rebuilt(alloc, start, end, &samples, chunk_size)?;
-        Ok((change, removed))
+        match put_rows(&mut samples, from, to, rows) {
+            Ok(()) => (
+                self.rebuilt(alloc, start, end, &samples, chunk_size),
+                removed,
+            ),
+            Err(fault) => (Err(fault), removed),
+        }
     }
 
     // Where the chunks stand that may have samples of an interval, or else the first chunk past it.

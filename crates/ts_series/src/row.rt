@@ -1,5 +1,5 @@
 // One row at its time, among chunks.
-ghost use Rattle.std.specs.Prelude.{◌≡◌, ◌≤◌, ◌+◌, true, false, None, length, IfOk};
+ghost use Rattle.std.specs.Prelude.{◌≡◌, ◌≤◌, ◌+◌, ◌*◌, true, false, None, length, IfOk};
 ghost use Rattle.ts_spec.specs.Sample.{between, last_of, put};
 ghost use Rattle.ts_sample.specs.Chunk.{IsLimit, IsPast, joined};
 ghost use Rattle.ts_series.specs.Held.{points, longest, pieces_after, IsReady, HasLimits, IsUpTo};
@@ -12,32 +12,36 @@ use std::sync::ledger::Ledger;
 use ts_sample::{Chunk, Sample, Steps};
 
 impl<C: Chunk> Chunks<C> {
-    // A row in the place of a sample at its time, or as a new one, and how many samples there were at it.
+    // A row in the place of a sample at its time, or as a new one, if there is memory, and how many samples there were
+    // at it.
     pub(crate) fn with_row<L: Ledger>(
         &self,
         alloc: Global,
         row: &Sample,
         chunk_size: u32,
         steps: &mut Steps<L>,
-    ) -> Result<(Change<C>, usize), AllocError>
+    ) -> (Result<Change<C>, AllocError>, usize)
         requires size { IsLimit chunk_size }
-        ensures ready { IfOk result (λ r. IsReady C.format self.now r.0) }
-        ensures limits { IfOk result (λ r. HasLimits chunk_size self.now.limits r.0) }
-        ensures list { IfOk result (λ r. joined (pieces_after r.0 self.now.pieces) ≡ put row.now (points self.now)) }
-        ensures removed { IfOk result (λ r. r.1 ≡ length (between row.now.time row.now.time (points self.now))) }
+        ensures ready { IfOk result.0 (λ c. IsReady C.format self.now c) }
+        ensures limits { IfOk result.0 (λ c. HasLimits chunk_size self.now.limits c) }
+        ensures list { IfOk result.0 (λ c. joined (pieces_after c self.now.pieces) ≡ put row.now (points self.now)) }
+        ensures removed { result.1 ≡ length (between row.now.time row.now.time (points self.now)) }
         ensures counted { steps.old ≤ steps.new }
-        ensures bounded { steps.new ≤ steps.old + longest self.now.pieces }
+        ensures bounded { steps.new ≤ steps.old + 2 * longest self.now.pieces }
         ensures easy { IsPast (last_of (points self.now)) row.now.time → steps.new ≡ steps.old }
     {
         // Does nothing: where a field is read, the order of the chunks is known.
         let _ = &self.chunks;
         if !self.is_late(row.time) {
-            let change = self.appended(alloc, row, chunk_size)?;
-            return Ok((change, 0));
+            return (self.appended(alloc, row, chunk_size), 0);
         }
-        let change = self.inserted(alloc, row, steps)?;
-        let removed = self.replaced_by(row, &change);
-        Ok((change, removed))
+        match self.inserted(alloc, row, steps) {
+            Ok(change) => {
+                let removed = self.replaced_by(row, &change);
+                (Ok(change), removed)
+            }
+            Err(fault) => (Err(fault), self.count_at(row.time, steps)),
+        }
     }
 
     // A sample at its time, in the place of one there or as a new one.
@@ -74,17 +78,13 @@ impl<C: Chunk> Chunks<C> {
     }
 
     // How many samples there are at a time: one or none.
-    pub(crate) fn count_at<L: Ledger>(&self, time: u64, steps: &mut Steps<L>) -> usize
+    fn count_at<L: Ledger>(&self, time: u64, steps: &mut Steps<L>) -> usize
         ensures count { result ≡ length (between time time (points self.now)) }
         ensures counted { steps.old ≤ steps.new }
         ensures bounded { steps.new ≤ steps.old + longest self.now.pieces }
-        ensures easy { IsPast (last_of (points self.now)) time → steps.new ≡ steps.old }
     {
         // Does nothing: where a field is read, the order of the chunks is known.
         let _ = &self.chunks;
-        if !self.is_late(time) {
-            return 0;
-        }
         match self.at(time, steps) {
             None => 0,
             Some(_) => 1,

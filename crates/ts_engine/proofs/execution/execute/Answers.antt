@@ -2,7 +2,7 @@ use Rattle.std.proofs.Common.{ℕ, ◌+◌, ◌≤◌, List, refl, ◌∙◌, ap
 use Rattle.ts_labels.specs.Spec.{spec_of, change_of}
 use Rattle.ts_labels.specs.Show.{show_of}
 use Rattle.ts_spec.specs.Filter.{Filter}
-use Rattle.ts_engine.specs.Answering.{IsTextOrLost}
+use Rattle.ts_engine.specs.Answering.{IsReplyText}
 use Rattle.ts_engine.specs.Members.{many_response}
 use Rattle.ts_engine.specs.declared.wanted.Wanted.TheVariants.{Last, Rows}
 use Rattle.ts_engine.specs.declared.wanted.Wanted.TheVariants as wanted
@@ -15,10 +15,10 @@ use Rattle.ts_spec.specs.Key.{Key}
 use Rattle.ts_spec.specs.Replies.{number}
 use Rattle.ts_spec.specs.Response.{Word}
 use Rattle.ts_spec.specs.Step.{time_of, create, alter_at, add_at, incr_at, delete_at, create_rule, drop_keys, count_there}
-use Rattle.ts_db.specs.Held.{Held, Stands, Carries, YieldsToMemory, DeletionYields}
+use Rattle.ts_db.specs.Held.{Held, Stands, Carries, YieldsToMemory}
 use Rattle.ts_engine.specs.Turn.{IsStep, StepOrMemory, takes_memory}
-use Rattle.ts_engine.proofs.Executed.{alone, step_executes, step_executes_by, sure_executes, executes_with, asks_execute, asks_surely, pings_execute}
-use Rattle.std.specs.Prelude.{sum_by, ⊤, IsTrue}
+use Rattle.ts_engine.proofs.Executed.{alone, step_executes, sure_executes, executes_with, asks_execute, asks_surely, pings_execute}
+use Rattle.std.specs.Prelude.{sum_by, IsTrue}
 use Rattle.ts_spec.specs.KeptQuestions.{kept_selection}
 use Rattle.ts_db.specs.Bounds.{selection_steps}
 use Rattle.ts_engine.specs.Bounds.{wanted_steps}
@@ -54,7 +54,7 @@ returns-in-Incr-clause-executes g c =
 
 pub returns-in-DelRange-clause-executes : goal.returns-in-DelRange-clause-executes
 returns-in-DelRange-clause-executes g c =
-    rw c.in-DelRange.is (step_executes_by DeletionYields c.args.reading (DelRange c.in-DelRange.key c.in-DelRange.from c.in-DelRange.to) (λ (h : Held). delete_at h.limits h.state c.in-DelRange.key c.in-DelRange.from c.in-DelRange.to (get c.in-DelRange.key h.state)) c.args.db.now c.delete.new.db (reply_of c.delete.result)
+    rw c.in-DelRange.is (step_executes c.args.reading (DelRange c.in-DelRange.key c.in-DelRange.from c.in-DelRange.to) (λ (h : Held). delete_at h.limits h.state c.in-DelRange.key c.in-DelRange.from c.in-DelRange.to (get c.in-DelRange.key h.state)) c.args.db.now c.delete.new.db (reply_of c.delete.result)
     c.put-in-DelRange.new.out.bytes refl (λ from y. y) (λ from to is. is) c.delete.ensures.answer (alone (reply_of c.delete.result) c.clear.new.self.bytes c.put-in-DelRange.new.out.bytes c.put-in-DelRange.ensures.bytes c.clear.ensures.empty))
 
 pub returns-in-CreateRule-clause-executes : goal.returns-in-CreateRule-clause-executes
@@ -79,21 +79,21 @@ pub returns-in-MRange-clause-executes : goal.returns-in-MRange-clause-executes
 returns-in-MRange-clause-executes g c =
     let wanted = Rows c.in-MRange.latest c.in-MRange.show c.in-MRange.query in
     rw c.in-MRange.is (asks_execute c.args.reading (MRange c.in-MRange.latest (show_of c.in-MRange.show) c.in-MRange.filters.items (query_of c.in-MRange.query)) c.args.db.now c.put_members.new.out.bytes
-    (λ (h : Held). many_response h wanted c.in-MRange.filters.items) (λ h. ⊤) (λ from y. (refl, tt)) (λ from. record { says = refl; state = refl; limits = refl })
-    (subst (λ (fs : List Filter). (from : Held) → Stands c.args.db.now from → IsTextOrLost ⊤ (many_response from wanted fs) c.put_members.new.out.bytes) c.deref.ensures.value c.put_members.ensures.reply))
+    (λ (h : Held). many_response h wanted c.in-MRange.filters.items) (λ (h : Held). YieldsToMemory (many_response h wanted c.in-MRange.filters.items)) (λ from y. (refl, y)) (λ from. record { says = refl; state = refl; limits = refl })
+    (subst (λ (fs : List Filter). (from : Held) → Stands c.args.db.now from → IsReplyText (many_response from wanted fs) c.put_members.new.out.bytes) c.deref.ensures.value c.put_members.ensures.reply))
 
 pub returns-in-MGet-clause-executes : goal.returns-in-MGet-clause-executes
 returns-in-MGet-clause-executes g c =
     let wanted = Last c.in-MGet.latest c.in-MGet.show in
     rw c.in-MGet.is (asks_execute c.args.reading (MGet c.in-MGet.latest (show_of c.in-MGet.show) c.in-MGet.filters.items) c.args.db.now c.put_members-in-MGet.new.out.bytes
-    (λ (h : Held). many_response h wanted c.in-MGet.filters.items) (λ h. ⊤) (λ from y. (refl, tt)) (λ from. record { says = refl; state = refl; limits = refl })
-    (subst (λ (fs : List Filter). (from : Held) → Stands c.args.db.now from → IsTextOrLost ⊤ (many_response from wanted fs) c.put_members-in-MGet.new.out.bytes) c.deref-in-MGet.ensures.value c.put_members-in-MGet.ensures.reply))
+    (λ (h : Held). many_response h wanted c.in-MGet.filters.items) (λ (h : Held). YieldsToMemory (many_response h wanted c.in-MGet.filters.items)) (λ from y. (refl, y)) (λ from. record { says = refl; state = refl; limits = refl })
+    (subst (λ (fs : List Filter). (from : Held) → Stands c.args.db.now from → IsReplyText (many_response from wanted fs) c.put_members-in-MGet.new.out.bytes) c.deref-in-MGet.ensures.value c.put_members-in-MGet.ensures.reply))
 
 pub returns-in-QueryIndex-clause-executes : goal.returns-in-QueryIndex-clause-executes
 returns-in-QueryIndex-clause-executes g c =
     rw c.in-QueryIndex.is (asks_execute c.args.reading (QueryIndex c.in-QueryIndex.filters.items) c.args.db.now c.put_members-in-QueryIndex.new.out.bytes
-    (λ (h : Held). many_response h wanted.Key c.in-QueryIndex.filters.items) (λ h. ⊤) (λ from y. (refl, tt)) (λ from. record { says = refl; state = refl; limits = refl })
-    (subst (λ (fs : List Filter). (from : Held) → Stands c.args.db.now from → IsTextOrLost ⊤ (many_response from wanted.Key fs) c.put_members-in-QueryIndex.new.out.bytes) c.deref-in-QueryIndex.ensures.value c.put_members-in-QueryIndex.ensures.reply))
+    (λ (h : Held). many_response h wanted.Key c.in-QueryIndex.filters.items) (λ (h : Held). YieldsToMemory (many_response h wanted.Key c.in-QueryIndex.filters.items)) (λ from y. (refl, y)) (λ from. record { says = refl; state = refl; limits = refl })
+    (subst (λ (fs : List Filter). (from : Held) → Stands c.args.db.now from → IsReplyText (many_response from wanted.Key fs) c.put_members-in-QueryIndex.new.out.bytes) c.deref-in-QueryIndex.ensures.value c.put_members-in-QueryIndex.ensures.reply))
 
 pub returns-in-Get-clause-executes : goal.returns-in-Get-clause-executes
 returns-in-Get-clause-executes g c =

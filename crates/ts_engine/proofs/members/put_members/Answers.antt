@@ -1,14 +1,14 @@
-use Rattle.std.proofs.Common.{ℕ, ◌+◌, ◌≤◌, inr, sym, ap, subst, ◌∙◌, arith}
+use Rattle.std.proofs.Common.{ℕ, ◌+◌, ◌≤◌, sym, ap, subst, ◌∙◌, arith}
+use Rattle.std.specs.Prelude.{sum_by}
 use Rattle.ts_resp.specs.Replies.{reply_of}
 use Rattle.ts_spec.specs.KeptQuestions.{kept_selection}
 use Rattle.ts_spec.specs.Text.{text}
+use Rattle.ts_db.specs.Bounds.{selection_steps}
 use Rattle.ts_db.specs.Held.{AreNumbersOf}
+use Rattle.ts_engine.specs.Bounds.{wanted_steps}
 use Rattle.ts_engine.proofs.Executed.{alone}
 use Rattle.ts_engine.proofs.ManyTexts.{numbers-live}
-use Rattle.ts_engine.proofs.ManyReplies.{many-told, many-refused}
-use Rattle.std.specs.Prelude.{sum_by}
-use Rattle.ts_db.specs.Bounds.{selection_steps}
-use Rattle.ts_engine.specs.Bounds.{wanted_steps}
+use Rattle.ts_engine.proofs.ManyReplies.{many-refused, many-settled}
 use Rattle.ts_engine.proofs.members.put_members.Goals as goal
 
 pub add_members-requires : goal.add_members-requires
@@ -16,32 +16,27 @@ add_members-requires g c =
     let keys = kept_selection c.args.db.now.keys c.args.filters.now in
     numbers-live c.args.db.now.ids keys c.deref.result.now (subst (AreNumbersOf c.args.db.now.ids keys) (sym c.deref.ensures.value) c.in-Ok.ensures.numbers)
 
-pub returns-in-Ok-add_members-clause-reply : goal.returns-in-Ok-add_members-clause-reply
-returns-in-Ok-add_members-clause-reply g c =
-    let keys = kept_selection c.args.db.now.keys c.args.filters.now in
-    many-told c.args.db.now c.args.wanted.now c.args.filters.now c.args.out.now.bytes c.add_members.new.out.bytes c.requires.empty
-    (c.in-Ok-add_members.ensures.added keys (subst (AreNumbersOf c.args.db.now.ids keys) (sym c.deref.ensures.value) c.in-Ok.ensures.numbers))
-
-pub returns-in-Err-EmptyRows-clause-reply : goal.returns-in-Err-EmptyRows-clause-reply
-returns-in-Err-EmptyRows-clause-reply g c =
-    let keys = kept_selection c.args.db.now.keys c.args.filters.now in
-    many-refused c.args.db.now c.args.wanted.now c.args.filters.now c.put.new.out.bytes
-    (c.in-Err-EmptyRows.ensures.refused c.in-Err-EmptyRows.field-0-is keys (subst (AreNumbersOf c.args.db.now.ids keys) (sym c.deref.ensures.value) c.in-Ok.ensures.numbers))
-    (alone (reply_of c.too_many_rows.result) c.clear.new.self.bytes c.put.new.out.bytes c.put.ensures.bytes c.clear.ensures.empty ∙ ap text c.too_many_rows.ensures)
-
 -- the selection, and then the members
 module _ (old mid new selection members : ℕ) where
   both : mid ≤ old + selection → new ≤ mid + members → new ≤ old + (selection + members)
   both first later = omega (arith, first, later)
 
+pub returns-in-Ok-add_members-clause-reply : goal.returns-in-Ok-add_members-clause-reply
+returns-in-Ok-add_members-clause-reply g c =
+    let keys = kept_selection c.args.db.now.keys c.args.filters.now in
+    many-settled c.args.db.now c.args.wanted.now c.args.filters.now c.args.out.now.bytes c.add_members.new.out.bytes c.settle.new.out.bytes c.in-Ok-add_members.lost c.requires.empty
+    (c.in-Ok-add_members.ensures.added keys (subst (AreNumbersOf c.args.db.now.ids keys) (sym c.deref.ensures.value) c.in-Ok.ensures.numbers))
+    c.settle.ensures.kept c.settle.ensures.said
+
+pub returns-clause-reply : goal.returns-clause-reply
+returns-clause-reply g c =
+    let keys = kept_selection c.args.db.now.keys c.args.filters.now in
+    many-refused c.args.db.now c.args.wanted.now c.args.filters.now c.put.new.out.bytes
+    (c.in-Err.ensures.refused keys (subst (AreNumbersOf c.args.db.now.ids keys) (sym c.deref.ensures.value) c.in-Ok.ensures.numbers))
+    (alone (reply_of c.too_many_rows.result) c.clear.new.self.bytes c.put.new.out.bytes c.put.ensures.bytes c.clear.ensures.empty ∙ ap text c.too_many_rows.ensures)
+
 pub returns-in-Ok-add_members-clause-steps : goal.returns-in-Ok-add_members-clause-steps
 returns-in-Ok-add_members-clause-steps g c =
-    let keys = kept_selection c.args.db.now.keys c.args.filters.now in
-    both c.args.steps.now c.select.new.steps c.add_members.new.steps (selection_steps c.args.db.now c.args.filters.now) (sum_by (wanted_steps c.args.db.now c.args.wanted.now) keys) c.select.ensures.steps
-    (c.add_members.ensures.steps keys (subst (AreNumbersOf c.args.db.now.ids keys) (sym c.deref.ensures.value) c.in-Ok.ensures.numbers))
-
-pub returns-in-Err-EmptyRows-clause-steps : goal.returns-in-Err-EmptyRows-clause-steps
-returns-in-Err-EmptyRows-clause-steps g c =
     let keys = kept_selection c.args.db.now.keys c.args.filters.now in
     both c.args.steps.now c.select.new.steps c.add_members.new.steps (selection_steps c.args.db.now c.args.filters.now) (sum_by (wanted_steps c.args.db.now c.args.wanted.now) keys) c.select.ensures.steps
     (c.add_members.ensures.steps keys (subst (AreNumbersOf c.args.db.now.ids keys) (sym c.deref.ensures.value) c.in-Ok.ensures.numbers))
@@ -51,9 +46,3 @@ returns-clause-steps g c =
     let keys = kept_selection c.args.db.now.keys c.args.filters.now in
     both c.args.steps.now c.select.new.steps c.add_members.new.steps (selection_steps c.args.db.now c.args.filters.now) (sum_by (wanted_steps c.args.db.now c.args.wanted.now) keys) c.select.ensures.steps
     (c.add_members.ensures.steps keys (subst (AreNumbersOf c.args.db.now.ids keys) (sym c.deref.ensures.value) c.in-Ok.ensures.numbers))
-
-pub returns-in_default-clause-reply : goal.returns-in_default-clause-reply
-returns-in_default-clause-reply g c = λ from stands. inr (tt, c.put_no_memory.ensures.bytes)
-
-pub returns-clause-reply : goal.returns-clause-reply
-returns-clause-reply g c = λ from stands. inr (tt, c.put_no_memory-in-Err-Memory.ensures.bytes)

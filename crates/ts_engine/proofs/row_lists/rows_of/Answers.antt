@@ -1,12 +1,14 @@
-use Rattle.std.proofs.Common.{ℕ, ◌+◌, ◌*◌, ◌≤◌, ◌∙◌, refl, sym, ap, arith}
-use Rattle.std.specs.Prelude.{Some}
+use Rattle.std.proofs.Common.{ℕ, ◌+◌, ◌*◌, ◌≤◌, ◌∙◌, List, refl, sym, ap, subst, arith}
+use Rattle.std.specs.Prelude.{Option, Some}
+use Rattle.ts_spec.specs.Answer.{Row}
 use Rattle.ts_spec.specs.KeptQuestions.{kept_asked}
+use Rattle.ts_spec.specs.Questions.{rows_response}
 use Rattle.ts_range.specs.Query.{query_of}
 use Rattle.ts_range.proofs.Whole.{no-limit}
 use Rattle.ts_spec.specs.Key.{Key}
 use Rattle.ts_series.specs.Seams.{IsSeamed, Around}
 use Rattle.ts_db.specs.Bounds.{walk_steps}
-use Rattle.ts_db.specs.Held.{Stock, pieces_at, reach_at}
+use Rattle.ts_db.specs.Held.{Stock, YieldsToMemory, pieces_at, reach_at}
 use Rattle.ts_engine.specs.Bounds.{question_steps}
 use Rattle.ts_engine.proofs.WalkBounds.{few-around}
 use Rattle.ts_engine.proofs.FillingIn.{none-filled}
@@ -43,3 +45,10 @@ pub returns-in-Some-clause-steps : goal.returns-in-Some-clause-steps
 returns-in-Some-clause-steps g c = λ key at.
     let q = c.args.query.now in
     walked c.args.db.now key q.from q.to c.args.steps.now c.rows_filled.new.steps (c.seams_of.ensures key at q.from q.to) (c.rows_filled.ensures.seams key at)
+
+-- rows among which no empty buckets are told yield to want of memory
+pub returns-in-Err-clause-lost : goal.returns-in-Err-clause-lost
+returns-in-Err-clause-lost g c = λ other key at.
+    subst (λ (o : Option (List Row)). YieldsToMemory (rows_response o))
+    (sym (no-limit (query_of c.args.query.now) (kept_asked c.args.db.now.keys c.args.latest key) c.args.db.now.limits.empty_rows
+    (none-filled c.args.query.now c.in_default.ensures.none c.args.query.now.buckets refl))) tt

@@ -1,9 +1,8 @@
 use Rattle.std.proofs.Common.{false, Option, ap, sym, subst, refl}
-use Rattle.std.specs.Prelude.{IfErr}
 use Rattle.ts_spec.specs.Sample.{Point}
 use Rattle.ts_rules.specs.Rules.{one_of}
-use Rattle.ts_rules.specs.Plans.{HidesNothing, IsMending}
-use Rattle.ts_rules.proofs.Mended.{stays, mending-row, hides-one}
+use Rattle.ts_rules.specs.Plans.{IsMending}
+use Rattle.ts_rules.proofs.Mended.{stays, mending-row}
 use Rattle.ts_rules.specs.Shares.{IsPastAll}
 use Rattle.ts_rules.proofs.mending.with_row.Goals as goal
 
@@ -20,8 +19,3 @@ returns-in-Some-clause-easy g c = λ all. (
     let past : IsPastAll c.args.limit c.args.dest.now c.row.inside.time =
     subst (λ (p : Point). IsPastAll c.args.limit c.args.dest.now p.time) (sym c.row.view_is) (all c.in-Some.row c.in-Some.is) in
     c.mended.ensures.easy (record { one = refl; here = refl; past = past.past; few = past.few }))
-
-pub returns-in-Some-clause-memory : goal.returns-in-Some-clause-memory
-returns-in-Some-clause-memory g c =
-    subst (λ (o : Option Point). IfErr c.mended.result (HidesNothing c.args.limit (λ t. false) (one_of o) c.args.dest.now)) (sym c.in-Some.is)
-    (hides-one c.args.limit c.row.inside.time c.in-Some.row c.args.dest.now c.known.ensures.kept (ap (λ (p : Point). p.time) c.row.view_is) c.mended.result (c.mended.ensures.memory refl refl))

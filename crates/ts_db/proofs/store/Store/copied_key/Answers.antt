@@ -1,7 +1,7 @@
 use Rattle.std.proofs.Common.{◌∙◌}
 use Rattle.std.proofs.lemmas.Result.{IfOk-weaker}
 use Rattle.ts_db.proofs.Infos.{number-key}
-use Rattle.ts_db.proofs.Unplanned.{live-number}
+use Rattle.ts_db.proofs.Destinations.{live-number}
 use Rattle.ts_db.proofs.store.Store.copied_key.Goals as goal
 
 pub key_of-requires-clause-live : goal.key_of-requires-clause-live

@@ -11,24 +11,40 @@ use Rattle.ts_db.specs.Planning.{changed_by, gone_by, rows_by_work, shares_of}
 use Rattle.ts_db.specs.Store.{kept_at, contents_of, Contents, IsNode, Holds}
 use Rattle.ts_db.specs.Answering.{node_after}
 use Rattle.ts_db.proofs.Known.{distinct, links}
-use Rattle.ts_db.proofs.Unplanned.{destination-own}
+use Rattle.ts_db.proofs.Destinations.{destination-own}
 use Rattle.ts_db.proofs.Working.{ArePlanned, planned-for, unplanned-for, changed-live, changed-grids, takes-deleted, is-feed, still-fed, worked}
-use Rattle.ts_db.proofs.Deleting.{cut-within, deleted-few, deleted-answers, undeleted-answers, uncut-yields}
+use Rattle.ts_db.proofs.Deleting.{cut-within, deleted-few, deleted-answers, undeleted-answers}
 use Rattle.ts_db.proofs.EasyWrites.{deletion-total}
 use Rattle.ts_db.proofs.store.Store.delete.Goals as goal
 
 pub plan_rules-requires-clause-room : goal.plan_rules-requires-clause-room
-plan_rules-requires-clause-room g c = takes-deleted c.args.from c.args.to c.in-Some.node.now.series c.deref.result.now
+plan_rules-requires-clause-room g c = takes-deleted c.args.from c.args.to c.in-Some.node.now.series c.deref-2.result.now
+
+pub unplanned-requires-clause-room : goal.unplanned-requires-clause-room
+unplanned-requires-clause-room g c = takes-deleted c.args.from c.args.to c.in-Some.node.now.series c.deref.result.now
 
 pub returns-in-Err-clause-deleted : goal.returns-in-Err-clause-deleted
-returns-in-Err-clause-deleted g c key n holds = (uncut-yields c.args.self.now c.requires.db key c.args.id n holds c.args.from c.args.to, refl)
+returns-in-Err-clause-deleted g c key n holds =
+    let it : c.in-Some.node.now ≡ n = some-same c.in-Some.node.now n (c.in-Some.ensures ∙ holds.node) in
+    let work = Delete c.args.from c.args.to in (
+      undeleted-answers c.args.self.now c.requires.db key c.args.id n holds c.args.from c.args.to c.unplanned.result
+          (unplanned-for c.args.self.now work work c.in-Some.node.now n c.deref.result.now c.unplanned.result refl it c.deref.ensures.value c.unplanned.ensures.refused),
+      refl,
+    )
+
+pub returns-in-Err-clause-own : goal.returns-in-Err-clause-own
+returns-in-Err-clause-own g c key is =
+    let node : Node = c.in-Some.node.now in
+    let work = Delete c.args.from c.args.to in
+    destination-own c.args.self.now c.requires.db.store node.rules.items (rows_by_work work node.series) (gone_by work node.series) (c.requires.db.store.live c.args.id.0 node (sym c.in-Some.ensures)).rules key c.unplanned.result
+    (unplanned-for c.args.self.now work work node node c.deref.result.now c.unplanned.result refl refl c.deref.ensures.value c.unplanned.ensures.refused)
 
 pub returns-in-Err-plan_rules-clause-deleted : goal.returns-in-Err-plan_rules-clause-deleted
 returns-in-Err-plan_rules-clause-deleted g c key n holds =
     let it : c.in-Some.node.now ≡ n = some-same c.in-Some.node.now n (c.in-Some.ensures ∙ holds.node) in
     let work = Delete c.args.from c.args.to in (
       undeleted-answers c.args.self.now c.requires.db key c.args.id n holds c.args.from c.args.to c.in-Err-plan_rules.fault
-          (unplanned-for c.args.self.now work work c.in-Some.node.now n c.deref.result.now c.in-Err-plan_rules.fault refl it c.deref.ensures.value c.in-Err-plan_rules.ensures.refused),
+          (unplanned-for c.args.self.now work work c.in-Some.node.now n c.deref-2.result.now c.in-Err-plan_rules.fault refl it c.deref-2.ensures.value c.in-Err-plan_rules.ensures.refused),
       refl,
     )
 
@@ -36,8 +52,8 @@ pub returns-in-Err-plan_rules-clause-own : goal.returns-in-Err-plan_rules-clause
 returns-in-Err-plan_rules-clause-own g c key is =
     let node : Node = c.in-Some.node.now in
     let work = Delete c.args.from c.args.to in
-    destination-own c.args.self.now c.requires.db.store node.rules.items (rows_by_work work node.series) (gone_by work node.series) (c.requires.db.store.live c.args.id.0 node (sym c.in-Some.ensures)).rules work key c.in-Err-plan_rules.fault
-    (unplanned-for c.args.self.now work work node node c.deref.result.now c.in-Err-plan_rules.fault refl refl c.deref.ensures.value c.in-Err-plan_rules.ensures.refused)
+    destination-own c.args.self.now c.requires.db.store node.rules.items (rows_by_work work node.series) (gone_by work node.series) (c.requires.db.store.live c.args.id.0 node (sym c.in-Some.ensures)).rules key c.in-Err-plan_rules.fault
+    (unplanned-for c.args.self.now work work node node c.deref-2.result.now c.in-Err-plan_rules.fault refl refl c.deref-2.ensures.value c.in-Err-plan_rules.ensures.refused)
 
 pub apply-requires-clause-ready : goal.apply-requires-clause-ready
 apply-requires-clause-ready g c =
@@ -45,7 +61,7 @@ apply-requires-clause-ready g c =
     let work = Delete c.args.from c.args.to in
     let fits : IsNode c.args.self.now.limits node = c.requires.db.store.each c.args.id.0 node (sym c.in-Some.ensures) in
     let planned : ArePlanned c.args.self.now work node.series node.rules.items c.in-Ok-plan_rules.planned.rules.items c.in-Ok-plan_rules.planned.plans.items =
-    planned-for c.args.self.now work work node node c.deref.result.now c.in-Ok-plan_rules.planned.rules.items c.in-Ok-plan_rules.planned.plans.items refl refl c.deref.ensures.value
+    planned-for c.args.self.now work work node node c.deref-2.result.now c.in-Ok-plan_rules.planned.rules.items c.in-Ok-plan_rules.planned.plans.items refl refl c.deref-2.ensures.value
     (record { changed = c.in-Ok-plan_rules.ensures.rules; fed = c.in-Ok-plan_rules.ensures.fed; fit = c.in-Ok-plan_rules.ensures.fit }) in
     record {
       key = c.requires.there.key;
@@ -64,7 +80,7 @@ feed-requires-clause-planned g c =
     let node : Node = c.in-Some.node.now in
     let work = Delete c.args.from c.args.to in
     let planned : ArePlanned c.args.self.now work node.series node.rules.items c.in-Ok-plan_rules.planned.rules.items c.in-Ok-plan_rules.planned.plans.items =
-    planned-for c.args.self.now work work node node c.deref.result.now c.in-Ok-plan_rules.planned.rules.items c.in-Ok-plan_rules.planned.plans.items refl refl c.deref.ensures.value
+    planned-for c.args.self.now work work node node c.deref-2.result.now c.in-Ok-plan_rules.planned.rules.items c.in-Ok-plan_rules.planned.plans.items refl refl c.deref-2.ensures.value
     (record { changed = c.in-Ok-plan_rules.ensures.rules; fed = c.in-Ok-plan_rules.ensures.fed; fit = c.in-Ok-plan_rules.ensures.fit }) in
     is-feed c.args.self.now c.requires.db c.requires.there.key c.args.id node (record { number = c.requires.there.holds.number; node = sym c.in-Some.ensures }) c.apply.new.self c.apply.ensures.elsewhere
     (rows_by_work work node.series) (gone_by work node.series) c.in-Ok-plan_rules.planned.plans.items planned.fed
@@ -74,7 +90,7 @@ returns-clause-deleted g c key n holds =
     let it : c.in-Some.node.now ≡ n = some-same c.in-Some.node.now n (c.in-Some.ensures ∙ holds.node) in
     let work = Delete c.args.from c.args.to in
     let planned : ArePlanned c.args.self.now work n.series n.rules.items c.in-Ok-plan_rules.planned.rules.items c.in-Ok-plan_rules.planned.plans.items =
-    planned-for c.args.self.now work work c.in-Some.node.now n c.deref.result.now c.in-Ok-plan_rules.planned.rules.items c.in-Ok-plan_rules.planned.plans.items refl it c.deref.ensures.value
+    planned-for c.args.self.now work work c.in-Some.node.now n c.deref-2.result.now c.in-Ok-plan_rules.planned.rules.items c.in-Ok-plan_rules.planned.plans.items refl it c.deref-2.ensures.value
     (record { changed = c.in-Ok-plan_rules.ensures.rules; fed = c.in-Ok-plan_rules.ensures.fed; fit = c.in-Ok-plan_rules.ensures.fit }) in
     let cut : c.in-Ok.plan ≡ with_change c.in-Ok.plan (cuts c.args.from c.args.to (length (between c.args.from c.args.to (list_of n.series)))) =
     subst (λ (x : Node). c.in-Ok.plan ≡ with_change c.in-Ok.plan (cuts c.args.from c.args.to (length (between c.args.from c.args.to (list_of x.series))))) it
@@ -101,16 +117,17 @@ returns-clause-bounded g c =
 pub returns-in-Err-clause-steps : goal.returns-in-Err-clause-steps
 returns-in-Err-clause-steps g c key number =
     let holds : Holds c.args.self.now key c.args.id c.in-Some.node.now = record { number = number; node = sym c.in-Some.ensures } in
-    omega (arith, c.cut.ensures.bounded, deletion-total c.args.self.now c.requires.db key c.args.id c.in-Some.node.now holds c.args.from c.args.to)
+    let rules = ap (shares_of c.args.self.now.nodes (Delete c.args.from c.args.to) c.in-Some.node.now.series) c.deref.ensures.value in
+    omega (arith, c.cut.ensures.bounded, c.unplanned.ensures.steps, rules, deletion-total c.args.self.now c.requires.db key c.args.id c.in-Some.node.now holds c.args.from c.args.to)
 
 pub returns-in-Err-plan_rules-clause-steps : goal.returns-in-Err-plan_rules-clause-steps
 returns-in-Err-plan_rules-clause-steps g c key number =
     let holds : Holds c.args.self.now key c.args.id c.in-Some.node.now = record { number = number; node = sym c.in-Some.ensures } in
-    let rules = ap (shares_of c.args.self.now.nodes (Delete c.args.from c.args.to) c.in-Some.node.now.series) c.deref.ensures.value in
+    let rules = ap (shares_of c.args.self.now.nodes (Delete c.args.from c.args.to) c.in-Some.node.now.series) c.deref-2.ensures.value in
     omega (arith, c.cut.ensures.bounded, c.plan_rules.ensures.steps, rules, deletion-total c.args.self.now c.requires.db key c.args.id c.in-Some.node.now holds c.args.from c.args.to)
 
 pub returns-clause-steps : goal.returns-clause-steps
 returns-clause-steps g c key number =
     let holds : Holds c.args.self.now key c.args.id c.in-Some.node.now = record { number = number; node = sym c.in-Some.ensures } in
-    let rules = ap (shares_of c.args.self.now.nodes (Delete c.args.from c.args.to) c.in-Some.node.now.series) c.deref.ensures.value in
+    let rules = ap (shares_of c.args.self.now.nodes (Delete c.args.from c.args.to) c.in-Some.node.now.series) c.deref-2.ensures.value in
     omega (arith, c.cut.ensures.bounded, c.plan_rules.ensures.steps, rules, deletion-total c.args.self.now c.requires.db key c.args.id c.in-Some.node.now holds c.args.from c.args.to)

@@ -1,7 +1,7 @@
 use Rattle.std.proofs.Common.{true, false, refl, sym, ◌∙◌, ap, subst, lt-ltb, le-ltb}
 use Rattle.ts_spec.specs.KeptStep.{KeptOutcome, kept_delete_at}
 use Rattle.ts_db.specs.Store.{stock_of, Holds}
-use Rattle.ts_db.specs.Answering.{KeptDeleted}
+use Rattle.ts_db.specs.Answering.{KeptNumber}
 use Rattle.ts_db.proofs.Storing.{missing}
 use Rattle.ts_db.proofs.Deleting.{expired-at, delete-crossed, delete-expired, delete-done}
 use Rattle.ts_db.proofs.store.Store.delete_range.Goals as goal
@@ -36,7 +36,7 @@ pub returns-clause-deleted : goal.returns-clause-deleted
 returns-clause-deleted g c =
     let n = c.in-Some-get.node.now in
     let holds : Holds c.args.self.now c.args.key.now c.in-Some.id n = record { number = sym (c.in-Some.ensures ∙ c.get.ensures.value); node = sym c.in-Some-get.ensures } in
-    subst (λ (step : KeptOutcome). KeptDeleted (stock_of c.args.self.now) step c.delete.result (stock_of c.delete.new.self))
+    subst (λ (step : KeptOutcome). KeptNumber (stock_of c.args.self.now) step c.delete.result (stock_of c.delete.new.self))
     (sym (delete-done c.args.self.now c.requires.db.store c.args.key.now c.in-Some.id n holds c.args.from c.args.to (le-ltb c.args.to c.args.from c.if-to-from.false)
     (expired-at c.args.self.now n c.args.from c.edge.result c.deref.result.now c.meet_expired.result false c.edge.ensures c.deref.ensures.value c.meet_expired.ensures c.if-meet_expired.false)))
     (c.delete.ensures.deleted c.args.key.now n holds)

@@ -19,7 +19,7 @@ returns-clause-fits g c =
 
 pub returns-clause-refused : goal.returns-clause-refused
 returns-clause-refused g c =
-    planned-refused c.args.self.now.limits.samples c.args.self.now.nodes c.args.work c.args.source.now c.args.rule.now c.in-Some.dest.now (sym c.in-Some.ensures) c.made_plan.result c.made_plan.ensures.planned c.made_plan.ensures.memory
+    planned-refused c.args.self.now.limits.samples c.args.self.now.nodes c.args.work c.args.source.now c.args.rule.now c.in-Some.dest.now (sym c.in-Some.ensures) c.made_plan.result c.made_plan.ensures.planned
 
 pub made_plan-requires-clause-fits : goal.made_plan-requires-clause-fits
 made_plan-requires-clause-fits g c = (c.requires.store.each c.args.rule.now.dest.0 c.in-Some.dest.now (sym c.in-Some.ensures)).within

@@ -6,8 +6,7 @@ use Rattle.ts_rules.specs.declared.fault.RuleFault.TheVariants.{Memory}
 use Rattle.ts_rules.specs.declared.rule.Rule.{Rule}
 use Rattle.ts_rules.specs.declared.plan.RulePlan.{RulePlan}
 use Rattle.ts_db.specs.Store.{AreLive}
-use Rattle.ts_db.specs.Planning.{changed_by, gone_by, rows_by_work, AllTake, AreChanged, AreFedBy, first_full, IsRuleUnplanned, shares_of, AreEasyOf}
-use Rattle.ts_db.proofs.Planned.{tells-then}
+use Rattle.ts_db.specs.Planning.{changed_by, gone_by, rows_by_work, AllTake, AreChanged, AreFedBy, first_full, IsRuleUnplanned, IsUnplanned, shares_of, AreEasyOf}
 use Rattle.ts_db.proofs.Plans.{full-past, fed-more, changed-more}
 use Rattle.ts_db.proofs.store.Store.plan_rules.Goals as goal
 
@@ -62,11 +61,11 @@ returns-in-Err-Memory-clause-refused g c =
     let left : drop i all ≡ r ∷ drop (i + 1) all = drop_more all i r c.loop-rule-test.true ∙ ap (λ (x : Rule). x ∷ drop (i + 1) all) (sym c.rule-item.is) in
     let so_far : c.len.result ≡ i = omega (arith, c.len.ensures, c.loop-rule.invariant.many) in
     let first : List Rule → Option Id = first_full c.args.self.now.limits.samples c.args.self.now.nodes (rows_by_work work source) (gone_by work source) in
-    let told : IsRuleUnplanned work r (first (r ∷ [])) (Memory c.in-Err-Memory.field-0-0) =
-    subst (IsRuleUnplanned work r (first (r ∷ []))) c.in-Err-Memory.field-0-is c.in-Err-Memory.ensures.refused in
-    c.unplanned-in-Err-Memory.ensures.refused (first all)
-    (tells-then work
-    (λ (none : first (r ∷ []) ≡ None). sym c.loop-rule.invariant.fit ∙ ap first left
+    let none : first (r ∷ []) ≡ None =
+    subst (IsRuleUnplanned r (first (r ∷ []))) c.in-Err-Memory.field-0-is c.in-Err-Memory.ensures.refused in
+    subst (λ (full : Option Id). IsUnplanned full c.unplanned-in-Err-Memory.result)
+    (sym (sym c.loop-rule.invariant.fit ∙ ap first left
     ∙ full-past c.args.self.now.limits.samples c.args.self.now.nodes (rows_by_work work source) (gone_by work source) r (drop (i + 1) all) none
     ∙ ap (λ k. first (drop (k + 1) all)) (sym so_far)
-    ∙ ap first (sym (take_all (length all - (c.len.result + 1)) (drop (c.len.result + 1) all) (omega (arith, length-drop (c.len.result + 1) all))))) told)
+    ∙ ap first (sym (take_all (length all - (c.len.result + 1)) (drop (c.len.result + 1) all) (omega (arith, length-drop (c.len.result + 1) all))))))
+    c.unplanned-in-Err-Memory.ensures.refused

@@ -1,20 +1,21 @@
-use Rattle.std.proofs.Common.{◌≡◌, ◌+◌, ◌*◌, ◌++◌, List, length, refl, sym, ap, subst, ◌∙◌, arith}
+use Rattle.std.proofs.Common.{◌≡◌, ◌+◌, ◌*◌, ◌++◌, List, length, vec_len, vec_capacity, refl, sym, ap, subst, ◌∙◌, arith}
 use Rattle.ts_spec.specs.KeptQuestions.{kept_selection}
 use Rattle.ts_sample.specs.declared.id.Id.{Id}
 use Rattle.ts_db.specs.Held.{AreNumbersOf}
 use Rattle.ts_db.specs.Store.{Numbers, stock_of, ids_of}
 use Rattle.ts_db.proofs.Collecting.{get-ids}
-use Rattle.ts_db.proofs.Selecting.{chosen, HaveNodes, chosen-selected, all-found, all-there, walk-takes, walk-skips, walk-ends, there-next, fewer-left, selection-all}
+use Rattle.ts_db.proofs.Selecting.{chosen, HaveNodes, chosen-selected, all-found, all-there, walk-takes, walk-skips, walk-ends, there-next, fewer-left, room-left, selection-all}
 use Rattle.ts_db.proofs.store.Store.select.Goals as goal
 
 pub loop-key-init : goal.loop-key-init
 loop-key-init g c =
     let all : c.into_iter-key-iterator.result ≡ c.args.self.now.keys.entries = c.into_iter-key-iterator.ensures.into_iter_gives ∙ c.iter-key-items.ensures.rest in
     record {
-      chosen = ap (λ (l : List Id). l ++ chosen c.args.self.now.nodes c.args.filters.now c.into_iter-key-iterator.result) c.new-ids.ensures.items
+      chosen = ap (λ (l : List Id). l ++ chosen c.args.self.now.nodes c.args.filters.now c.into_iter-key-iterator.result) c.in_ok-ids.ensures.items
           ∙ ap (chosen c.args.self.now.nodes c.args.filters.now) all;
       there = subst (HaveNodes c.args.self.now.nodes) (sym all)
           (all-there c.args.self.now.nodes c.args.self.now.keys.entries c.args.self.now.keys.entries c.requires.stored c.iter-key-items.ensures.found);
+      room = (let same : length c.into_iter-key-iterator.result ≡ length c.args.self.now.keys.entries = ap length all in omega (arith, same, c.len.ensures.len, c.in_ok-ids.ensures.len, c.in_ok-ids.ensures.capacity));
       steps = let same : length c.args.filters.now * length c.into_iter-key-iterator.result ≡ length c.args.filters.now * length c.args.self.now.keys.entries = ap (λ (l : Numbers). length c.args.filters.now * length l) all in omega (arith, same);
     }
 
@@ -23,17 +24,23 @@ unreachable-requires g c =
     let here = there-next c.args.self.now.nodes c.loop-key._key-iterator c.next.new.self c.in-Some._key.now c.in-Some.id.now c.in-Some.ensures.steps c.loop-key.invariant.there in
     absurd (cc (here.0.1, c.get.ensures, c.in_default.ensures))
 
-pub loop-key-preserved-in-Continue-1 : goal.loop-key-preserved-in-Continue-1
-loop-key-preserved-in-Continue-1 g c =
+pub loop-key-preserved-then-pass : goal.loop-key-preserved-then-pass
+loop-key-preserved-then-pass g c =
     let here = there-next c.args.self.now.nodes c.loop-key._key-iterator c.next.new.self c.in-Some._key.now c.in-Some.id.now c.in-Some.ensures.steps c.loop-key.invariant.there in
     record {
       chosen = walk-takes c.args.self.now.nodes c.args.filters.now c.in-Some._key.now c.in-Some.id.now c.in-Some-get.node.now c.loop-key._key-iterator c.next.new.self
-          c.loop-key.ids.items c.push.new.self.items (chosen c.args.self.now.nodes c.args.filters.now c.args.self.now.keys.entries)
-          c.in-Some.ensures.steps (sym c.in-Some-get.ensures) c.loop-key.invariant.chosen (sym c.pass.ensures.pass ∙ c.if-pass.true) c.in_ok-push.ensures.items;
+          c.loop-key.ids.items c.push_reserved.new.self.items (chosen c.args.self.now.nodes c.args.filters.now c.args.self.now.keys.entries)
+          c.in-Some.ensures.steps (sym c.in-Some-get.ensures) c.loop-key.invariant.chosen (sym c.pass.ensures.pass ∙ c.if-pass.true) c.push_reserved.ensures.items;
       there = here.1;
+      room = (let left = room-left c.loop-key._key-iterator c.next.new.self (c.in-Some._key.now, c.in-Some.id.now) (vec_len c.loop-key.ids) (vec_capacity c.loop-key.ids) c.in-Some.ensures.steps c.loop-key.invariant.room in
+          omega (arith, left.1, c.push_reserved.ensures.len, c.push_reserved.ensures.capacity));
       steps = fewer-left (length c.args.filters.now) c.loop-key._key-iterator c.next.new.self (c.in-Some._key.now, c.in-Some.id.now) c.loop-key.steps c.pass.new.steps
           (c.args.steps.now + length c.args.filters.now * length c.args.self.now.keys.entries) c.in-Some.ensures.steps c.loop-key.invariant.steps c.pass.ensures.steps;
     }
+
+pub push_reserved-requires : goal.push_reserved-requires
+push_reserved-requires g c =
+    (room-left c.loop-key._key-iterator c.next.new.self (c.in-Some._key.now, c.in-Some.id.now) (vec_len c.loop-key.ids) (vec_capacity c.loop-key.ids) c.in-Some.ensures.steps c.loop-key.invariant.room).0
 
 pub loop-key-preserved : goal.loop-key-preserved
 loop-key-preserved g c =
@@ -43,19 +50,10 @@ loop-key-preserved g c =
           c.loop-key.ids.items c.loop-key.ids.items (chosen c.args.self.now.nodes c.args.filters.now c.args.self.now.keys.entries)
           c.in-Some.ensures.steps (sym c.in-Some-get.ensures) c.loop-key.invariant.chosen (sym c.pass.ensures.pass ∙ c.if-pass.false) refl;
       there = here.1;
+      room = (let left = room-left c.loop-key._key-iterator c.next.new.self (c.in-Some._key.now, c.in-Some.id.now) (vec_len c.loop-key.ids) (vec_capacity c.loop-key.ids) c.in-Some.ensures.steps c.loop-key.invariant.room in omega (arith, left.1));
       steps = fewer-left (length c.args.filters.now) c.loop-key._key-iterator c.next.new.self (c.in-Some._key.now, c.in-Some.id.now) c.loop-key.steps c.pass.new.steps
           (c.args.steps.now + length c.args.filters.now * length c.args.self.now.keys.entries) c.in-Some.ensures.steps c.loop-key.invariant.steps c.pass.ensures.steps;
     }
-
--- no memory for one more number
-pub returns-in_err-push-clause-steps : goal.returns-in_err-push-clause-steps
-returns-in_err-push-clause-steps g c =
-    let nodes = c.args.self.now.nodes in
-    let es = c.args.self.now.keys.entries in
-    let all = selection-all nodes es c.args.filters.now c.iter-key-items.ensures.ordered (all-there nodes es es c.requires.stored c.iter-key-items.ensures.found) in
-    let left = fewer-left (length c.args.filters.now) c.loop-key._key-iterator c.next.new.self (c.in-Some._key.now, c.in-Some.id.now) c.loop-key.steps c.pass.new.steps
-    (c.args.steps.now + length c.args.filters.now * length es) c.in-Some.ensures.steps c.loop-key.invariant.steps c.pass.ensures.steps in
-    omega (arith, all, left)
 
 pub returns-clause-steps : goal.returns-clause-steps
 returns-clause-steps g c =

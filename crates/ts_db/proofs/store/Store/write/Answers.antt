@@ -18,7 +18,7 @@ use Rattle.ts_db.specs.Answering.{node_after, IsKeptAnswer}
 use Rattle.ts_db.proofs.Known.{takes, distinct, links}
 use Rattle.ts_db.proofs.Owning.{own-fault}
 use Rattle.ts_db.proofs.StayingOpen.{open-for, open-room, no_plans, none-fed, none-full, fed-nothing, grown-after}
-use Rattle.ts_db.proofs.Unplanned.{destination-own}
+use Rattle.ts_db.proofs.Destinations.{destination-own}
 use Rattle.ts_db.proofs.Working.{ArePlanned, planned-for, unplanned-for, changed-live, changed-grids, is-feed, still-fed, worked}
 use Rattle.ts_db.proofs.Writing.{IsWritten, IsUnwritten, unwritten-sample, writes-after, within-planned, written-sample, planned-answers, unplanned-answers, refused-answers}
 use Rattle.ts_spec.specs.Key.{Key}
@@ -44,8 +44,8 @@ returns-in_default-sample-clause-own g c key is = own-fault c.args.self.now key 
 
 -- there was no memory for a sample
 
-pub unwritten-requires-clause-room : goal.unwritten-requires-clause-room
-unwritten-requires-clause-room g c =
+pub unplanned-requires-clause-room : goal.unplanned-requires-clause-room
+unplanned-requires-clause-room g c =
     subst (AllTake (Write c.in-Some-sample.lost) c.in-Some.node.now.series) (sym c.deref-in-Err.ensures.value)
     (takes c.args.self.now c.requires.db c.requires.there.key c.args.id c.in-Some.node.now (record { number = c.requires.there.holds.number; node = sym c.in-Some.ensures }) c.in-Some-sample.lost)
 
@@ -56,9 +56,9 @@ returns-in-Err-clause-written g c key n holds =
     let p : IsUnwritten c.args.self.now.limits.samples (met c.args.how c.args.time c.args.value n.series) c.args.time n.series lost =
     unwritten-sample c.in-Err.fault (met c.args.how c.args.time c.args.value n.series) c.args.self.now.limits.samples c.args.time n.series lost
     (subst (λ (x : Node). Answers (met c.args.how c.args.time c.args.value x.series) c.args.self.now.limits.samples c.args.time x.series (Err c.in-Err.fault)) it c.in-Err.ensures.answer) (sym c.in-Some-sample.ensures) in (
-      subst (λ (what : Merged). IsKeptAnswer (refusal_of (stock_of c.args.self.now).ids c.unwritten.result) (stock_of c.args.self.now).keys (kept_write_merged c.args.self.now.limits (stock_of c.args.self.now).keys key c.args.time what)) (sym p.sets)
-          (unplanned-answers c.args.self.now c.requires.db key c.args.id n holds c.unwritten.result c.args.time p.value p.fits
-          (unplanned-for c.args.self.now (Write lost) (Write (sample_of c.args.time p.value n.series)) c.in-Some.node.now n c.deref-in-Err.result.now c.unwritten.result (ap (λ (q : Point). Write q) p.sample) it c.deref-in-Err.ensures.value c.unwritten.ensures.refused)),
+      subst (λ (what : Merged). IsKeptAnswer (refusal_of (stock_of c.args.self.now).ids c.unplanned.result) (stock_of c.args.self.now).keys (kept_write_merged c.args.self.now.limits (stock_of c.args.self.now).keys key c.args.time what)) (sym p.sets)
+          (unplanned-answers c.args.self.now c.requires.db key c.args.id n holds c.unplanned.result c.args.time p.value p.fits
+          (unplanned-for c.args.self.now (Write lost) (Write (sample_of c.args.time p.value n.series)) c.in-Some.node.now n c.deref-in-Err.result.now c.unplanned.result (ap (λ (q : Point). Write q) p.sample) it c.deref-in-Err.ensures.value c.unplanned.ensures.refused)),
       refl,
     )
 
@@ -66,8 +66,8 @@ pub returns-in-Err-clause-own : goal.returns-in-Err-clause-own
 returns-in-Err-clause-own g c key is =
     let node : Node = c.in-Some.node.now in
     let work = Write c.in-Some-sample.lost in
-    destination-own c.args.self.now c.requires.db.store node.rules.items (rows_by_work work node.series) (gone_by work node.series) (c.requires.db.store.live c.args.id.0 node (sym c.in-Some.ensures)).rules work key c.unwritten.result
-    (unplanned-for c.args.self.now work work node node c.deref-in-Err.result.now c.unwritten.result refl refl c.deref-in-Err.ensures.value c.unwritten.ensures.refused)
+    destination-own c.args.self.now c.requires.db.store node.rules.items (rows_by_work work node.series) (gone_by work node.series) (c.requires.db.store.live c.args.id.0 node (sym c.in-Some.ensures)).rules key c.unplanned.result
+    (unplanned-for c.args.self.now work work node node c.deref-in-Err.result.now c.unplanned.result refl refl c.deref-in-Err.ensures.value c.unplanned.ensures.refused)
 
 -- the destinations are planned for
 
@@ -92,7 +92,7 @@ pub returns-in-Err-plan_rules-clause-own : goal.returns-in-Err-plan_rules-clause
 returns-in-Err-plan_rules-clause-own g c key is =
     let node : Node = c.in-Some.node.now in
     destination-own c.args.self.now c.requires.db.store node.rules.items (rows_by_work (Write c.in-Some-wrote.wrote) node.series) (gone_by (Write c.in-Some-wrote.wrote) node.series)
-    (c.requires.db.store.live c.args.id.0 node (sym c.in-Some.ensures)).rules (Write c.in-Some-wrote.wrote) key c.in-Err-plan_rules.fault
+    (c.requires.db.store.live c.args.id.0 node (sym c.in-Some.ensures)).rules key c.in-Err-plan_rules.fault
     (unplanned-for c.args.self.now (Write c.in-Some-wrote.wrote) (Write c.in-Some-wrote.wrote) node node c.deref-2.result.now c.in-Err-plan_rules.fault refl refl c.deref-2.ensures.value c.in-Err-plan_rules.ensures.refused)
 
 pub apply-requires-clause-ready : goal.apply-requires-clause-ready
@@ -229,7 +229,7 @@ returns-in-Err-clause-steps g c key number =
     let lost = c.in-Some-sample.lost in
     let time : lost.time ≡ c.args.time =
     ap (λ (q : Point). q.time) (unwritten-sample c.in-Err.fault (met c.args.how c.args.time c.args.value node.series) c.args.self.now.limits.samples c.args.time node.series lost c.in-Err.ensures.answer (sym c.in-Some-sample.ensures)).sample in
-    omega (arith, c.put.ensures.bounded, c.unwritten.ensures.steps, total c.args.self.now c.requires.db key c.args.id node holds lost c.args.time time c.deref-in-Err.result.now c.deref-in-Err.ensures.value)
+    omega (arith, c.put.ensures.bounded, c.unplanned.ensures.steps, total c.args.self.now c.requires.db key c.args.id node holds lost c.args.time time c.deref-in-Err.result.now c.deref-in-Err.ensures.value)
 
 pub returns-in-Err-clause-easy : goal.returns-in-Err-clause-easy
 returns-in-Err-clause-easy g c key number e =
@@ -238,7 +238,7 @@ returns-in-Err-clause-easy g c key number e =
     let lost = c.in-Some-sample.lost in
     let time : lost.time ≡ c.args.time =
     ap (λ (q : Point). q.time) (unwritten-sample c.in-Err.fault (met c.args.how c.args.time c.args.value node.series) c.args.self.now.limits.samples c.args.time node.series lost c.in-Err.ensures.answer (sym c.in-Some-sample.ensures)).sample in
-    c.unwritten.ensures.easy (easy c.args.self.now c.requires.db key c.args.id node holds lost c.args.time time c.deref-in-Err.result.now c.deref-in-Err.ensures.value e)
+    c.unplanned.ensures.easy (easy c.args.self.now c.requires.db key c.args.id node holds lost c.args.time time c.deref-in-Err.result.now c.deref-in-Err.ensures.value e)
     ∙ c.put.ensures.easy (few-own c.args.self.now c.requires.db key c.args.id node holds c.args.time e) (last-own c.args.self.now c.requires.db key c.args.id node holds c.args.time e)
 
 pub returns-in_default-wrote-clause-steps : goal.returns-in_default-wrote-clause-steps

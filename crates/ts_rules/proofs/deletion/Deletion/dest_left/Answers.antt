@@ -8,6 +8,7 @@ use Rattle.ts_series.specs.Plan.{AreWithin, AreMade}
 use Rattle.ts_rules.specs.Plans.{IsMending}
 use Rattle.ts_rules.specs.Deletions.{span_left}
 use Rattle.ts_rules.proofs.DestLeft.{dest-stays, dest-mended, left-ascending, left-within, left-made}
+use Rattle.ts_rules.proofs.Rooms.{touched-closed}
 use Rattle.ts_rules.proofs.Sizes.{between-fewer}
 use Rattle.ts_rules.proofs.deletion.Deletion.dest_left.Goals as goal
 
@@ -16,14 +17,26 @@ returns-then-not-is_closed-clause-mended g c =
     dest-stays c.args.self.now.rule.now c.args.self.now.source.now c.args.self.now.from c.args.self.now.to c.args.limit c.args.dest.now c.known-3.ensures.kept c.requires.fits
     (ap (is_past c.args.self.now.rule.now.current) (sym c.start_of-first.ensures) ∙ sym c.is_closed.ensures ∙ c.if-not-is_closed.true)
 
+pub span_left-rows-requires-clause-shown : goal.span_left-rows-requires-clause-shown
+span_left-rows-requires-clause-shown g c =
+    let same = touched-closed c.args.self.now.rule.now c.args.self.now.from c.args.self.now.to c.start_of-first.result c.start_of-last.result c.args.dest.now c.is_closed.result c.start_of-first.ensures c.start_of-last.ensures c.is_closed.ensures
+    c.if-not-is_closed.false in
+    record { empty = c.requires.shown.empty; room = omega (arith, c.requires.shown.room, same) }
+
+pub span_left-rows-requires-clause-rows : goal.span_left-rows-requires-clause-rows
+span_left-rows-requires-clause-rows g c =
+    let same = touched-closed c.args.self.now.rule.now c.args.self.now.from c.args.self.now.to c.start_of-first.result c.start_of-last.result c.args.dest.now c.is_closed.result c.start_of-first.ensures c.start_of-last.ensures c.is_closed.ensures
+    c.if-not-is_closed.false in
+    record { empty = c.requires.rows.empty; room = omega (arith, c.requires.rows.room, same) }
+
 pub mended-requires-clause-ascending : goal.mended-requires-clause-ascending
 mended-requires-clause-ascending g c =
-    let rows = c.deref.ensures.value ∙ c.in-Ok.ensures.span ∙ (λ i. span_left c.args.self.now.rule.now c.args.self.now.source.now c.args.self.now.from c.args.self.now.to c.args.dest.now.born (c.start_of-first.ensures i) (c.start_of-last.ensures i) (list_of c.args.dest.now)) in
+    let rows = c.deref.ensures.value ∙ c.span_left-rows.ensures.span ∙ (λ i. span_left c.args.self.now.rule.now c.args.self.now.source.now c.args.self.now.from c.args.self.now.to c.args.dest.now.born (c.start_of-first.ensures i) (c.start_of-last.ensures i) (list_of c.args.dest.now)) in
     subst IsAscending (sym rows) (left-ascending c.args.self.now.rule.now c.args.self.now.source.now c.args.dest.now c.args.self.now.from c.args.self.now.to c.args.self.now.in_order c.known-2.ensures.kept.ascending c.known-3.ensures.kept)
 
 pub mended-requires-clause-within : goal.mended-requires-clause-within
 mended-requires-clause-within g c =
-    let rows = c.deref.ensures.value ∙ c.in-Ok.ensures.span ∙ (λ i. span_left c.args.self.now.rule.now c.args.self.now.source.now c.args.self.now.from c.args.self.now.to c.args.dest.now.born (c.start_of-first.ensures i) (c.start_of-last.ensures i) (list_of c.args.dest.now)) in
+    let rows = c.deref.ensures.value ∙ c.span_left-rows.ensures.span ∙ (λ i. span_left c.args.self.now.rule.now c.args.self.now.source.now c.args.self.now.from c.args.self.now.to c.args.dest.now.born (c.start_of-first.ensures i) (c.start_of-last.ensures i) (list_of c.args.dest.now)) in
     subst (AreWithin c.start_of-first.result c.start_of-last.result) (sym rows)
     (subst (λ n. AreWithin n c.start_of-last.result (span_left c.args.self.now.rule.now c.args.self.now.source.now c.args.self.now.from c.args.self.now.to c.args.dest.now.born
     (start c.args.self.now.rule.now.grid c.args.self.now.from) (start c.args.self.now.rule.now.grid c.args.self.now.to) (list_of c.args.dest.now))) (sym c.start_of-first.ensures)
@@ -33,36 +46,25 @@ mended-requires-clause-within g c =
 
 pub mended-requires-clause-made : goal.mended-requires-clause-made
 mended-requires-clause-made g c =
-    let rows = c.deref.ensures.value ∙ c.in-Ok.ensures.span ∙ (λ i. span_left c.args.self.now.rule.now c.args.self.now.source.now c.args.self.now.from c.args.self.now.to c.args.dest.now.born (c.start_of-first.ensures i) (c.start_of-last.ensures i) (list_of c.args.dest.now)) in
+    let rows = c.deref.ensures.value ∙ c.span_left-rows.ensures.span ∙ (λ i. span_left c.args.self.now.rule.now c.args.self.now.source.now c.args.self.now.from c.args.self.now.to c.args.dest.now.born (c.start_of-first.ensures i) (c.start_of-last.ensures i) (list_of c.args.dest.now)) in
     subst (AreMade c.args.dest.now.born) (sym rows) (left-made c.args.self.now.rule.now c.args.self.now.source.now c.args.dest.now c.args.self.now.from c.args.self.now.to c.args.self.now.in_order c.known-2.ensures.kept.ascending c.known-3.ensures.kept)
 
-pub returns-in-Ok-clause-mended : goal.returns-in-Ok-clause-mended
-returns-in-Ok-clause-mended g c =
-    let rows = c.deref.ensures.value ∙ c.in-Ok.ensures.span ∙ (λ i. span_left c.args.self.now.rule.now c.args.self.now.source.now c.args.self.now.from c.args.self.now.to c.args.dest.now.born (c.start_of-first.ensures i) (c.start_of-last.ensures i) (list_of c.args.dest.now)) in
+pub returns-clause-mended : goal.returns-clause-mended
+returns-clause-mended g c =
+    let rows = c.deref.ensures.value ∙ c.span_left-rows.ensures.span ∙ (λ i. span_left c.args.self.now.rule.now c.args.self.now.source.now c.args.self.now.from c.args.self.now.to c.args.dest.now.born (c.start_of-first.ensures i) (c.start_of-last.ensures i) (list_of c.args.dest.now)) in
     dest-mended c.args.self.now.rule.now c.args.self.now.source.now c.args.dest.now c.args.self.now.from c.args.self.now.to c.args.self.now.in_order c.known-2.ensures.kept.ascending c.known-3.ensures.kept
     c.args.limit c.mended.result
     (subst (λ (ends : ℕ × ℕ × List Point). IsMending c.args.limit (is_within ends.0 ends.1) ends.2 c.args.dest.now c.mended.result) (λ i. (c.start_of-first.ensures i, c.start_of-last.ensures i, rows i))
     c.mended.ensures.mended)
 
-pub returns-in-Ok-clause-bounded : goal.returns-in-Ok-clause-bounded
-returns-in-Ok-clause-bounded g c =
+pub returns-clause-bounded : goal.returns-clause-bounded
+returns-clause-bounded g c =
     let grid = c.args.self.now.rule.now.grid in
     let upto : c.start_of-last.result ≤ c.args.self.now.to = omega (arith, c.start_of-last.ensures, start-le grid c.args.self.now.to c.known.ensures.some) in
     omega (
       arith,
-      c.span_left.ensures.bounded,
+      c.span_left-rows.ensures.bounded,
       c.mended.ensures.bounded,
-      ap (λ n. length (between n c.start_of-last.result (list_of c.args.dest.now))) c.start_of-first.ensures,
-      between-fewer (start grid c.args.self.now.from) c.start_of-last.result c.args.self.now.to (list_of c.args.dest.now) upto,
-    )
-
-pub returns-in-Err-clause-bounded : goal.returns-in-Err-clause-bounded
-returns-in-Err-clause-bounded g c =
-    let grid = c.args.self.now.rule.now.grid in
-    let upto : c.start_of-last.result ≤ c.args.self.now.to = omega (arith, c.start_of-last.ensures, start-le grid c.args.self.now.to c.known.ensures.some) in
-    omega (
-      arith,
-      c.span_left.ensures.bounded,
       ap (λ n. length (between n c.start_of-last.result (list_of c.args.dest.now))) c.start_of-first.ensures,
       between-fewer (start grid c.args.self.now.from) c.start_of-last.result c.args.self.now.to (list_of c.args.dest.now) upto,
     )

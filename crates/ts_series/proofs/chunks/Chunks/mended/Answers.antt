@@ -16,5 +16,5 @@ returns-in-len1-clause-list g c =
     let one = alone-is c.args.rows.now c.row-item.result c.in-len1.len_at_least c.in-len1.len_below c.row-item.is in
     let same : from ≡ to = omega (arith, c.if-from-to.true) in
     let there = row-at-its-time from to c.row-item.result now same (subst (AreWithin from to) one c.requires.within) in
-    subst (λ (l : List Point). IfOk c.with_row.result (λ r. joined (pieces_after r.0 c.args.self.now.pieces) ≡ l))
+    subst (λ (l : List Point). IfOk c.with_row.result.0 (λ d. joined (pieces_after d c.args.self.now.pieces) ≡ l))
     (there ∙ sym (ap (λ (rows : List Point). put_all rows (outside from to now)) one)) c.with_row.ensures.list

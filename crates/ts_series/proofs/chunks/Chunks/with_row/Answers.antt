@@ -15,5 +15,5 @@ returns-then-not-is_late-clause-removed g c =
     let past = subst (λ (p : Point). IsPast (last_of now) p.time) c.row.view_is (c.is_late.ensures.past c.if-not-is_late.true) in
     sym (count-at time now kept.ascending ∙ ap found (at-past time now kept.ascending past))
 
-pub returns-clause-limits : goal.returns-clause-limits
-returns-clause-limits g c = c.in_ok-change-2.ensures.limits c.args.chunk_size
+pub returns-in-Ok-clause-limits : goal.returns-in-Ok-clause-limits
+returns-in-Ok-clause-limits g c = c.in-Ok.ensures.limits c.args.chunk_size

@@ -3,7 +3,6 @@ use Rattle.std.proofs.Common.{◌≡◌, Bool, true, false, List, [], ◌∷◌,
 use Rattle.std.specs.Prelude.{◌==◌, nat_lt, if◌then◌else◌, Option, None, Some, option_map}
 use Rattle.std.proofs.lemmas.Bool.{and_parts}
 use Rattle.ts_spec.specs.Refusal.{DestinationFull}
-use Rattle.ts_spec.specs.Response.{Response}
 use Rattle.ts_spec.specs.Key.{Key, same}
 use Rattle.ts_spec.specs.Keyed.{Entry, get_in, is_below, is_sorted, get}
 use Rattle.ts_spec.specs.Kept.{Keeping}
@@ -16,13 +15,12 @@ use Rattle.ts_rules.specs.declared.rule.Rule.{Rule}
 use Rattle.ts_db.specs.declared.fault.DbFault.{DbFault}
 use Rattle.ts_db.specs.declared.fault.DbFault.TheVariants.{KeyExists, NoKey, KeysFull, LabelsFull, TooOld, Duplicate, OutOfRange, BeforeLast, SamplesFull, DeleteBeyondRetention, SameKey, SourceIsDest, DestIsSource, DestHasSource, RulesSpent, RulesFull, NoRule, Memory}
 use Rattle.ts_db.specs.declared.store.Store.{Store}
-use Rattle.ts_db.specs.declared.work.Work.{Work}
 use Rattle.ts_db.specs.Faults.{key_among, key_with, full_refusal, refusal_of}
 use Rattle.ts_db.specs.Feeding.{Rows, Gone}
-use Rattle.ts_db.specs.Held.{IsLive as IsLiveNumber, YieldsToMemory, DeletionYields, IsFullAt, IsOwn}
-use Rattle.ts_db.specs.Planning.{fed_list, first_full, TellsFull, IsUnplanned}
+use Rattle.ts_db.specs.Held.{IsLive as IsLiveNumber, YieldsToMemory, IsFullAt, IsOwn}
+use Rattle.ts_db.specs.Planning.{fed_list, first_full, IsUnplanned}
 use Rattle.ts_db.specs.Store.{key_at, key_in, stock_of, IsLive, AreLive, IsInOrder}
-use Rattle.ts_db.specs.Answering.{IsKeptAnswerBy}
+use Rattle.ts_db.specs.Answering.{IsKeptAnswer}
 use Rattle.ts_db.proofs.Collecting.{get-ids, id-same}
 
 -- ---- the key of a number
@@ -62,12 +60,7 @@ module _ (s : Store) (store : IsInOrder s) (i : Id) (live : IsLive s.nodes i) wh
 
 -- ---- the first destination that is full
 
--- want of memory may be told of a deletion where a destination alone may refuse
-pub unless-full-yields : (m : Keeping) (full : Option Key) (done : KeptOutcome) → DeletionYields done.response → DeletionYields (kept_unless_full m full done).response
-unless-full-yields m None done yields = yields
-unless-full-yields m (Some k) done yields = tt
-
--- and of a write where none does
+-- want of memory may be told where no destination refuses
 pub none-full-yields : (names : Id → Key) (m : Keeping) (full : Option Id) (done : KeptOutcome) → full ≡ None → YieldsToMemory done.response
     → YieldsToMemory (kept_unless_full m (option_map names full) done).response
 none-full-yields names m full done none yields = subst (λ (o : Option Id). YieldsToMemory (kept_unless_full m (option_map names o) done).response) (sym none) yields
@@ -85,33 +78,33 @@ module _ (s : Store) (store : IsInOrder s) (rs : List Rule) (rows : Rows) (gone 
           pick false y ih = ih y
 
   -- the step refuses for that destination, and the fault tells its number
-  pub destination-refused : (work : Work) (yields : Response → Type 0) (fault : DbFault) (done : KeptOutcome)
-      → (TellsFull work (first_full s.limits.samples s.nodes rows gone rs ≡ None) → yields (kept_unless_full (stock_of s).keys (option_map (key_in s.nodes) (first_full s.limits.samples s.nodes rows gone rs)) done).response)
-      → IsUnplanned work (first_full s.limits.samples s.nodes rows gone rs) fault
-      → IsKeptAnswerBy yields (refusal_of (stock_of s).ids fault) (stock_of s).keys (kept_unless_full (stock_of s).keys (option_map (key_in s.nodes) (first_full s.limits.samples s.nodes rows gone rs)) done)
-  destination-refused work yields KeyExists done lost x = absurd x
-  destination-refused work yields NoKey done lost x = absurd x
-  destination-refused work yields KeysFull done lost x = absurd x
-  destination-refused work yields LabelsFull done lost x = absurd x
-  destination-refused work yields TooOld done lost x = absurd x
-  destination-refused work yields Duplicate done lost x = absurd x
-  destination-refused work yields OutOfRange done lost x = absurd x
-  destination-refused work yields BeforeLast done lost x = absurd x
-  destination-refused work yields (SamplesFull i written) done lost x =
+  pub destination-refused : (fault : DbFault) (done : KeptOutcome)
+      → (first_full s.limits.samples s.nodes rows gone rs ≡ None → YieldsToMemory (kept_unless_full (stock_of s).keys (option_map (key_in s.nodes) (first_full s.limits.samples s.nodes rows gone rs)) done).response)
+      → IsUnplanned (first_full s.limits.samples s.nodes rows gone rs) fault
+      → IsKeptAnswer (refusal_of (stock_of s).ids fault) (stock_of s).keys (kept_unless_full (stock_of s).keys (option_map (key_in s.nodes) (first_full s.limits.samples s.nodes rows gone rs)) done)
+  destination-refused KeyExists done lost x = absurd x
+  destination-refused NoKey done lost x = absurd x
+  destination-refused KeysFull done lost x = absurd x
+  destination-refused LabelsFull done lost x = absurd x
+  destination-refused TooOld done lost x = absurd x
+  destination-refused Duplicate done lost x = absurd x
+  destination-refused OutOfRange done lost x = absurd x
+  destination-refused BeforeLast done lost x = absurd x
+  destination-refused (SamplesFull i written) done lost x =
       ap (λ (o : Option Id). kept_unless_full (stock_of s).keys (option_map (key_in s.nodes) o) done) x.1
       ∙ ap (λ (k : Key). kept_refused (stock_of s).keys (DestinationFull k)) (sym (key-with s store i (full-live i x.1)))
       ∙ ap (λ b. kept_refused (stock_of s).keys (full_refusal b (key_with (stock_of s).ids i))) (sym x.0)
-  destination-refused work yields DeleteBeyondRetention done lost x = absurd x
-  destination-refused work yields SameKey done lost x = absurd x
-  destination-refused work yields SourceIsDest done lost x = absurd x
-  destination-refused work yields DestIsSource done lost x = absurd x
-  destination-refused work yields DestHasSource done lost x = absurd x
-  destination-refused work yields RulesSpent done lost x = absurd x
-  destination-refused work yields RulesFull done lost x = absurd x
-  destination-refused work yields NoRule done lost x = absurd x
-  destination-refused work yields (Memory e) done lost x = lost x
+  destination-refused DeleteBeyondRetention done lost x = absurd x
+  destination-refused SameKey done lost x = absurd x
+  destination-refused SourceIsDest done lost x = absurd x
+  destination-refused DestIsSource done lost x = absurd x
+  destination-refused DestHasSource done lost x = absurd x
+  destination-refused RulesSpent done lost x = absurd x
+  destination-refused RulesFull done lost x = absurd x
+  destination-refused NoRule done lost x = absurd x
+  destination-refused (Memory e) done lost x = lost x
 
-  pub destination-own : (work : Work) (key : Key) (fault : DbFault) → IsUnplanned work (first_full s.limits.samples s.nodes rows gone rs) fault → IsOwn (stock_of s) key fault
-  destination-own work key (SamplesFull i written) x = subst (IsFullAt (stock_of s).ids key i) (sym x.0) (live-number s store i (full-live i x.1))
-  destination-own work key (Memory e) x = tt
-  destination-own work key fault x = absurd x
+  pub destination-own : (key : Key) (fault : DbFault) → IsUnplanned (first_full s.limits.samples s.nodes rows gone rs) fault → IsOwn (stock_of s) key fault
+  destination-own key (SamplesFull i written) x = subst (IsFullAt (stock_of s).ids key i) (sym x.0) (live-number s store i (full-live i x.1))
+  destination-own key (Memory e) x = tt
+  destination-own key fault x = absurd x

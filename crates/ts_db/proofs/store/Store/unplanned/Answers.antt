@@ -2,10 +2,9 @@ use Rattle.std.proofs.Common.{◌≡◌, ◌+◌, ℕ, ◌∷◌, drop, refl, sy
 use Rattle.std.specs.Prelude.{Some}
 use Rattle.std.proofs.lemmas.List.{drop_more}
 use Rattle.ts_rules.specs.declared.rule.Rule.{Rule}
-use Rattle.ts_db.specs.declared.work.Work.TheVariants.{Write}
 use Rattle.ts_db.specs.Store.{AreLive}
 use Rattle.ts_db.specs.Planning.{gone_by, rows_by_work, AllTake, first_full, IsUnplanned, shares_of, AreEasyOf}
-use Rattle.ts_db.proofs.store.Store.unwritten.Goals as goal
+use Rattle.ts_db.proofs.store.Store.unplanned.Goals as goal
 
 pub overfills-requires-clause-live : goal.overfills-requires-clause-live
 overfills-requires-clause-live g c =
@@ -18,7 +17,7 @@ pub loop-rule-preserved : goal.loop-rule-preserved
 loop-rule-preserved g c =
     let limit = c.args.self.now.limits.samples in
     let nodes = c.args.self.now.nodes in
-    let work = Write c.args.wrote.now in
+    let work = c.args.work.now in
     let source = c.args.source.now in
     let all = c.args.rules.now in
     let i : ℕ = c.loop-rule.rule-index in
@@ -42,7 +41,7 @@ pub returns-then-overfills-clause-refused : goal.returns-then-overfills-clause-r
 returns-then-overfills-clause-refused g c =
     let limit = c.args.self.now.limits.samples in
     let nodes = c.args.self.now.nodes in
-    let work = Write c.args.wrote.now in
+    let work = c.args.work.now in
     let source = c.args.source.now in
     let all = c.args.rules.now in
     let i : ℕ = c.loop-rule.rule-index in
@@ -51,4 +50,4 @@ returns-then-overfills-clause-refused g c =
     let full : first_full limit nodes (rows_by_work work source) (gone_by work source) all ≡ Some r.dest =
     sym c.loop-rule.invariant.fit ∙ ap (first_full limit nodes (rows_by_work work source) (gone_by work source)) left
     ∙ ap (λ b. if b then Some r.dest else first_full limit nodes (rows_by_work work source) (gone_by work source) (drop (i + 1) all)) (sym c.overfills.ensures.full ∙ c.if-overfills.true) in
-    subst (IsUnplanned work (first_full limit nodes (rows_by_work work source) (gone_by work source) all)) (sym c.full_at.ensures) (refl, full)
+    subst (IsUnplanned (first_full limit nodes (rows_by_work work source) (gone_by work source) all)) (sym c.full_at.ensures) (refl, full)

@@ -1,0 +1,75 @@
+// Work for which there was no memory: whether the destination of a rule would be full is told all the same.
+ghost use Rattle.std.specs.Prelude.{◌≡◌, ◌≤◌, false, nat_lt, length, ◌+◌};
+ghost use Rattle.slab.specs.Slab as slab;
+ghost use Rattle.ts_db.specs.declared.fault.DbFault.TheVariants.{SamplesFull};
+ghost use Rattle.ts_db.specs.Planning.{gone_by, rows_by_work, Takes, AllTake, fed_list, first_full, IsUnplanned, share_at, shares_of, IsEasyAt, AreEasyOf};
+ghost use Rattle.ts_db.specs.Store.{IsInOrder, IsLive, AreLive};
+
+use crate::fault::DbFault;
+use crate::store::Store;
+use crate::work::Work;
+use std::alloc::AllocError;
+use std::sync::ledger::Ledger;
+use ts_rules::{Rule, RuleFault};
+use ts_sample::Steps;
+use ts_series::Series;
+
+impl Store {
+    // What is told of work for which there was no memory: that the destination of the first of these rules that would be
+    // full is, or else want of memory. What is planned to find this out is let go.
+    pub(crate) fn unplanned<L: Ledger>(
+        &self,
+        rules: &[Rule],
+        source: &Series,
+        work: &Work,
+        steps: &mut Steps<L>,
+    ) -> DbFault
+        requires store { IsInOrder self.now }
+        requires live { AreLive self.now.nodes rules.now }
+        requires room { AllTake work.now source.now rules.now }
+        ensures refused { IsUnplanned (first_full self.now.limits.samples self.now.nodes (rows_by_work work.now source.now) (gone_by work.now source.now) rules.now) result }
+        ensures counted { steps.old ≤ steps.new }
+        ensures steps { steps.new ≤ steps.old + shares_of self.now.nodes work.now source.now rules.now }
+        ensures easy { AreEasyOf self.now.limits.samples self.now.nodes work.now source.now rules.now → steps.new ≡ steps.old }
+    {
+        for rule in rules {
+            if self.overfills(rule, source, work, steps) {
+                return full_at(rule);
+            }
+        }
+        DbFault::Memory(AllocError)
+    }
+
+    // Whether the destination of a rule would be full after work on the rule's source.
+    fn overfills<L: Ledger>(
+        &self,
+        rule: &Rule,
+        source: &Series,
+        work: &Work,
+        steps: &mut Steps<L>,
+    ) -> bool
+        requires store { IsInOrder self.now }
+        requires live { IsLive self.now.nodes rule.now.dest }
+        requires room { Takes work.now source.now rule.now }
+        ensures full { result ≡ nat_lt self.now.limits.samples (length (fed_list self.now.nodes (rows_by_work work.now source.now) (gone_by work.now source.now) rule.now)) }
+        ensures counted { steps.old ≤ steps.new }
+        ensures steps { steps.new ≤ steps.old + share_at work.now source.now rule.now (slab.get self.now.nodes rule.now.dest.0) }
+        ensures easy { IsEasyAt self.now.limits.samples work.now source.now rule.now (slab.get self.now.nodes rule.now.dest.0) → steps.new ≡ steps.old }
+    {
+        match self.plan_rule(rule, source, *work, steps) {
+            Ok(_) => false,
+            Err(RuleFault::Full) => true,
+            Err(RuleFault::Memory(_)) => false,
+        }
+    }
+}
+
+// The destination of a rule would be full.
+pub(crate) fn full_at(rule: &Rule) -> DbFault
+    ensures { result ≡ SamplesFull rule.now.dest false }
+{
+    DbFault::SamplesFull {
+        id: rule.dest,
+        written: false,
+    }
+}

@@ -1,0 +1,23 @@
+use Rattle.std.proofs.Common.{sym, ◌∙◌}
+use Rattle.ts_engine.specs.Members.{reply_at}
+use Rattle.ts_engine.proofs.ManyReplies.{none-by}
+use Rattle.ts_engine.proofs.ManyTexts.{added-kept, told-lost}
+use Rattle.ts_engine.proofs.members.add_next.Goals as goal
+
+pub returns-then-is_refused-clause-refused : goal.returns-then-is_refused-clause-refused
+returns-then-is_refused-clause-refused g c = λ key at.
+    none-by (reply_at c.args.db.now.limits c.args.db.now.keys c.args.wanted.now key) (sym (c.is_refused.ensures.refused key at) ∙ c.if-is_refused.true)
+
+pub returns-then-lost-clause-added : goal.returns-then-lost-clause-added
+returns-then-lost-clause-added g c = λ key at.
+    told-lost (reply_at c.args.db.now.limits c.args.db.now.keys c.args.wanted.now key) c.args.out.now.bytes c.args.out.now.bytes
+    (sym (c.is_refused.ensures.refused key at) ∙ c.if-is_refused.false)
+
+pub returns-in-Ok-clause-added : goal.returns-in-Ok-clause-added
+returns-in-Ok-clause-added g c = λ key at.
+    added-kept (reply_at c.args.db.now.limits c.args.db.now.keys c.args.wanted.now key) c.args.out.now.bytes c.add_member.new.out.bytes (c.in-Ok.ensures.added key at)
+
+pub returns-in-Err-Memory-clause-added : goal.returns-in-Err-Memory-clause-added
+returns-in-Err-Memory-clause-added g c = λ key at.
+    told-lost (reply_at c.args.db.now.limits c.args.db.now.keys c.args.wanted.now key) c.args.out.now.bytes c.add_member.new.out.bytes
+    (c.in-Err-Memory.ensures.lost (λ is. absurd (cc (c.in-Err-Memory.field-0-is, is))) key at)

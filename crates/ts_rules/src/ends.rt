@@ -1,0 +1,133 @@
+// The rows that a destination is told of the first bucket and of the last one of a deletion, told without memory.
+ghost use Rattle.std.specs.Prelude.{◌≡◌, ◌≤◌, ◌+◌, ◌*◌, ◌&&◌, ◌==◌, nat_le, [], length, if◌then◌else◌};
+ghost use Rattle.ts_spec.specs.Sample.{MAX_TIME, IsAscending, at_times, between};
+ghost use Rattle.ts_spec.specs.State.{edge_of};
+ghost use Rattle.ts_spec.specs.Rules.{is_past};
+ghost use Rattle.ts_spec.specs.Mending.{bucket_row, high_with};
+ghost use Rattle.ts_series.specs.History.{list_of, reach};
+ghost use Rattle.ts_rules.specs.Rules.{one_of};
+ghost use Rattle.ts_rules.specs.Deletions.{gone_of, rows_left};
+ghost use Rattle.ts_rules.specs.Shares.{in_buckets};
+ghost use Rattle.ts_rules.specs.Ends.{rows_at, is_first_in};
+
+use crate::count::ends_left;
+use crate::open::row;
+use crate::rule::Rule;
+use crate::walk::Walk;
+use std::sync::ledger::Ledger;
+use ts_agg::Running;
+use ts_sample::{Sample, Steps};
+use ts_series::Series;
+
+// The two rows, where there are such, the second of a later bucket.
+#[derive(Clone, Copy)]
+pub(crate) struct Ends {
+    pub(crate) first: Option<Sample>,
+    pub(crate) last: Option<Sample>,
+}
+
+impl Ends {
+    // Those of a deletion from one time to another, both included. The samples that go are at hand. `born` is the
+    // destination's.
+    pub(crate) fn new<L: Ledger>(
+        rule: &Rule,
+        source: &Series,
+        from: u64,
+        to: u64,
+        gone: &Walk<'_>,
+        born: u32,
+        steps: &mut Steps<L>,
+    ) -> Ends
+        requires order { from ≤ to }
+        requires time { to ≤ MAX_TIME }
+        requires gone { gone.now ≡ gone_of source.now from to }
+        ensures rows { rows_at result ≡ rows_left rule.now source.now from to born }
+        ensures counted { steps.old ≤ steps.new }
+        ensures bounded { steps.new + length (between from to (list_of source.now))
+            ≤ steps.old + length (in_buckets rule.now.grid from to (list_of source.now)) + 5 * reach source.now }
+    {
+        source.known();
+        rule.grid.known();
+        let first = rule.grid.start_of(from);
+        let last = rule.grid.start_of(to);
+        let (early, late) = ends_left(rule, source, from, to, steps);
+        let goes_early = is_head_in(rule, gone, first);
+        let goes_late = source.has_between(last.max(from), to, steps);
+        Ends {
+            first: row_if(rule, first, goes_early, &early, born),
+            last: last_row(rule, first, last, goes_late, &late, born),
+        }
+    }
+
+    // The edge of a destination once they are written.
+    pub(crate) fn edge(&self, dest: &Series) -> u64
+        requires { IsAscending (rows_at self.now) }
+        ensures { result ≡ edge_of dest.now.options.retention (high_with (rows_at self.now) dest.now.high) }
+    {
+        match (self.first, self.last) {
+            (None, None) => dest.edge_with(&[]),
+            (Some(first), None) => dest.edge_with(&[first]),
+            (None, Some(last)) => dest.edge_with(&[last]),
+            (Some(first), Some(last)) => dest.edge_with(&[first, last]),
+        }
+    }
+
+    // How many of them are from a time on.
+    pub(crate) fn count_from(&self, time: u64) -> usize
+        ensures count { result ≡ length (at_times (nat_le time) (rows_at self.now)) }
+        ensures few { result ≤ 2 }
+    {
+        count_if(self.first, time) + count_if(self.last, time)
+    }
+}
+
+// The row of a bucket that has this left, if it is closed and lost a sample.
+fn row_if(rule: &Rule, start: u64, lost: bool, left: &Running, born: u32) -> Option<Sample>
+    requires { start ≤ MAX_TIME }
+    ensures { one_of result ≡ (if lost && is_past rule.now.current start then bucket_row rule.now.agg born start left.now else []) }
+{
+    if lost && rule.is_closed(start) {
+        row(rule.agg, born, start, left)
+    } else {
+        None
+    }
+}
+
+// The same of the last bucket, if it is another than the first.
+fn last_row(
+    rule: &Rule,
+    first: u64,
+    last: u64,
+    lost: bool,
+    left: &Running,
+    born: u32,
+) -> Option<Sample>
+    requires { last ≤ MAX_TIME }
+    ensures { one_of result ≡ (if first == last then [] else (if lost && is_past rule.now.current last then bucket_row rule.now.agg born last left.now else [])) }
+{
+    if first == last {
+        return None;
+    }
+    row_if(rule, last, lost, left, born)
+}
+
+// Whether the first sample of a walk is in the bucket that starts there.
+fn is_head_in(rule: &Rule, walk: &Walk<'_>, start: u64) -> bool
+    ensures { result ≡ is_first_in rule.now.grid start walk.now }
+{
+    match walk.head() {
+        None => false,
+        Some(head) => rule.grid.start_of(head.time) == start,
+    }
+}
+
+// One, where there is a row and it is from a time on.
+fn count_if(row: Option<Sample>, time: u64) -> usize
+    ensures count { result ≡ length (at_times (nat_le time) (one_of row)) }
+    ensures few { result ≤ 1 }
+{
+    match row {
+        None => 0,
+        Some(row) => usize::from(time <= row.time),
+    }
+}

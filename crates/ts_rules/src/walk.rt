@@ -1,0 +1,80 @@
+// The samples of a series from one time to another, one after another.
+ghost use Rattle.std.specs.Prelude.{◌≡◌, ◌≤◌, ◌+◌, drop};
+ghost use Rattle.ts_spec.specs.Sample.{IsAscending, between, first_of};
+ghost use Rattle.ts_series.specs.History.{list_of, reach};
+ghost use Rattle.ts_rules.specs.Walks.{first_upto};
+
+use std::marker::Model;
+use std::sync::ledger::Ledger;
+use ts_sample::{Sample, Steps};
+use ts_series::{Cursor, Series};
+
+// The samples that are left.
+#[derive(Drop)]
+pub(crate) struct Walk<'a> {
+    head: Option<Sample>,
+    // Those past the head, also those past the last time.
+    rest: Cursor<'a>,
+    to: u64,
+}
+
+impl<'a> Model for Walk<'a> {
+    ghost use Rattle.std.specs.Prelude.{List};
+    ghost use Rattle.ts_spec.specs.Sample.{Point, IsAscending};
+    ghost use Rattle.ts_rules.specs.Walks.{walk_left};
+
+    ghost Value = { List Point };
+
+    ghost view = { λ w. walk_left w.to w.head w.rest };
+
+    ghost invariant = { λ w. IsAscending w.rest };
+}
+
+impl<'a> Walk<'a> {
+    // Those of a series from one time to another, both included.
+    pub(crate) fn new<L: Ledger>(
+        series: &'a Series,
+        from: u64,
+        to: u64,
+        steps: &mut Steps<L>,
+    ) -> Walk<'a>
+        ensures left { result ≡ between from to (list_of series.now) }
+        ensures counted { steps.old ≤ steps.new }
+        ensures bounded { steps.new ≤ steps.old + reach series.now + 1 }
+    {
+        series.known();
+        let mut rest = series.read_from(from, steps);
+        let head = next_upto(&mut rest, to, steps);
+        Walk { head, rest, to }
+    }
+
+    // The first of them.
+    pub(crate) fn head(&self) -> Option<Sample>
+        ensures { result ≡ first_of self.now }
+    {
+        self.head
+    }
+
+    // Leaves the first of them behind.
+    pub(crate) fn advance<L: Ledger>(&mut self, steps: &mut Steps<L>)
+        ensures left { self.new ≡ drop 1 self.old }
+        ensures counted { steps.old ≤ steps.new }
+        ensures bounded { steps.new ≤ steps.old + 1 }
+    {
+        if self.head.is_none() {
+            return;
+        }
+        self.head = next_upto(&mut self.rest, self.to, steps);
+    }
+}
+
+// The next sample, unless it is past a time.
+fn next_upto<L: Ledger>(rest: &mut Cursor<'_>, to: u64, steps: &mut Steps<L>) -> Option<Sample>
+    ensures next { result ≡ first_upto to rest.old }
+    ensures left { rest.new ≡ drop 1 rest.old }
+    ensures counted { steps.old ≤ steps.new }
+    ensures bounded { steps.new ≤ steps.old + 1 }
+{
+    let next = rest.next(steps)?;
+    if next.time <= to { Some(next) } else { None }
+}
