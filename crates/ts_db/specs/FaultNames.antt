@@ -1,5 +1,6 @@
--- The names of faults, as Debug prints them.
-use Rattle.std.specs.Prelude.{ℕ, List, codes}
+-- What Debug prints of faults.
+use Rattle.std.specs.Prelude.{ℕ, Bool, true, false, List, ◌++◌, codes}
+use Rattle.std.specs.Fmt.{decimal}
 use Rattle.ts_db.specs.declared.fault.DbFault.{DbFault}
 use Rattle.ts_db.specs.declared.fault.DbFault.TheVariants.{KeyExists, NoKey, KeysFull, LabelsFull, TooOld, Duplicate, OutOfRange, BeforeLast, SamplesFull, DeleteBeyondRetention, SameKey, SourceIsDest, DestIsSource, DestHasSource, RulesSpent, RulesFull, NoRule, Memory}
 
@@ -23,3 +24,13 @@ name_of RulesSpent = codes "RulesSpent"
 name_of RulesFull = codes "RulesFull"
 name_of NoRule = codes "NoRule"
 name_of (Memory error) = codes "Memory(AllocError)"
+
+-- which series is full
+abbrev pub series_name_of : (written : Bool) → List ℕ
+series_name_of true = codes "written"
+series_name_of false = codes "destination"
+
+-- the name of a fault, and where samples are too many the number of the series, and which it is
+abbrev pub debug_of : DbFault → List ℕ
+debug_of (SamplesFull id written) = codes "SamplesFull(Id(" ++ decimal id.0 ++ codes "), " ++ series_name_of written ++ codes ")"
+debug_of fault = name_of fault

@@ -3,7 +3,7 @@ ghost use Rattle.std.specs.Prelude.{◌≡◌, Some};
 ghost use Rattle.ts_spec.specs.Keyed.{Keyed};
 ghost use Rattle.ts_sample.specs.declared.id.Id.{Id as TheId};
 ghost use Rattle.ts_series.specs.Put.{refusal_of as put_refusal};
-ghost use Rattle.ts_db.specs.FaultNames.{name_of};
+ghost use Rattle.ts_db.specs.FaultNames.{debug_of, name_of, series_name_of};
 ghost use Rattle.ts_db.specs.Faults.{refusal_of, IsFaultAt};
 
 use std::alloc::AllocError;
@@ -72,11 +72,12 @@ pub enum DbFault {
     Memory(AllocError),
 }
 
-impl fmt::Debug for DbFault {
-    ghost debug_output = { λ fault. Some (name_of fault) };
-
-    fn fmt<W: fmt::Write>(&self, f: &mut fmt::Formatter<W>) -> fmt::Result {
-        f.write_str(match self {
+impl DbFault {
+    // The name of the variant, and want of memory with its cause.
+    fn name(&self) -> &'static str
+        ensures { result.now ≡ name_of self.now }
+    {
+        match self {
             DbFault::KeyExists => "KeyExists",
             DbFault::NoKey => "NoKey",
             DbFault::KeysFull => "KeysFull",
@@ -95,8 +96,29 @@ impl fmt::Debug for DbFault {
             DbFault::RulesFull => "RulesFull",
             DbFault::NoRule => "NoRule",
             DbFault::Memory(_) => "Memory(AllocError)",
-        })
+        }
     }
+}
+
+impl fmt::Debug for DbFault {
+    ghost debug_output = { λ fault. Some (debug_of fault) };
+
+    fn fmt<W: fmt::Write>(&self, f: &mut fmt::Formatter<W>) -> fmt::Result {
+        match self {
+            DbFault::SamplesFull { id, written } => {
+                let (number, series) = (id.0, series_name(*written));
+                write!(f, "SamplesFull(Id({number}), {series})")
+            }
+            other => f.write_str(other.name()),
+        }
+    }
+}
+
+// Which series is full.
+fn series_name(written: bool) -> &'static str
+    ensures { result.now ≡ series_name_of written }
+{
+    if written { "written" } else { "destination" }
 }
 
 // The same fault of the series with this number.
