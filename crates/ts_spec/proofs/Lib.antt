@@ -1,5 +1,6 @@
 pub mod Runs
 pub mod Lines
+pub mod LinesAtWork
 pub mod OneLine
 pub mod ReadBack
 pub mod Streams

@@ -5,7 +5,7 @@ use Rattle.ts_spec.specs.declared.limits.Limits.{Limits}
 -- the usual limits
 abbrev pub usual : Limits
 usual = record {
-  wire = record { words = 2 ^ 20; word_bytes = 2 ^ 20; request_bytes = 2 ^ 24 };
+  wire = record { words = 2 ^ 20; word_bytes = 2 ^ 20; request_bytes = 2 ^ 24; line_bytes = 2 ^ 16 };
   keys = 2 ^ 16;
   labels = 64;
   rules = 16;

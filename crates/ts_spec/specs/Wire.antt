@@ -1,6 +1,8 @@
 -- The request grammar of RESP2, over the whole list of bytes, with the place of each request's end and of each fault.
--- A stream is read byte by byte. The first byte that can't continue a stream of requests breaks it, at that byte's place.
-use Rattle.std.specs.Prelude.{ℕ, zero, suc, ◌+◌, ◌-◌, ◌*◌, Bool, true, false, ◌&&◌, ◌==◌, nat_le, if◌then◌else◌, List, [], ◌∷◌, ◌++◌}
+-- A request is an array of words, or a line. A stream is read byte by byte. The first byte that can't continue a stream of
+-- requests breaks it, at that byte's place.
+use Rattle.std.specs.Prelude.{ℕ, zero, suc, ◌+◌, ◌-◌, ◌*◌, Bool, true, false, not, ◌&&◌, ◌||◌, ◌==◌, nat_lt, nat_le, if◌then◌else◌, List, [], ◌∷◌, ◌++◌, length, take, filter, slice_index}
+use Rattle.std.specs.List.{slice_split}
 use Rattle.ts_spec.specs.declared.wire.Kind.{Kind}
 use Rattle.ts_spec.specs.declared.wire.Kind.TheVariants.{Multibulk, Bulk, Dollar, Crlf, TooLarge}
 use Rattle.ts_spec.specs.declared.wire.WireLimits.{WireLimits}
@@ -34,6 +36,12 @@ RETURN = 13
 
 abbrev pub FEED : ℕ
 FEED = 10
+
+abbrev pub SPACE : ℕ
+SPACE = 32
+
+abbrev pub TAB : ℕ
+TAB = 9
 
 abbrev pub is_digit : ℕ → Bool
 is_digit byte = nat_le 48 byte && nat_le byte 57
@@ -69,6 +77,22 @@ line_step limit negative (Number n) byte = if byte == RETURN then Returns n else
 line_step limit negative Minus byte = if byte == 49 then Goes MinusOne else Wrong
 line_step limit negative MinusOne byte = if byte == RETURN then Returns 0 else Wrong
 
+-- the bytes that part the words of a line
+abbrev pub is_blank : ℕ → Bool
+is_blank byte = (byte == SPACE) || (byte == TAB)
+
+-- the text of a line: a return at its end is no part of it
+abbrev pub text_of_line : List ℕ → List ℕ
+text_of_line line = if slice_index line (length line - 1) == RETURN then take (length line - 1) line else line
+
+-- the words of a text: its pieces between blanks that are not empty
+abbrev pub words_of : List ℕ → Request
+words_of text = filter (λ piece. not (length piece == 0)) (slice_split is_blank text)
+
+-- the words of a line, which comes without its feed
+abbrev pub words_of_line : List ℕ → Request
+words_of_line line = words_of (text_of_line line)
+
 -- a request so far: its whole words, how many words come after the one that comes next, and the bytes that they may still take
 pub record Partial : Type 0 where
   pub words : Request
@@ -77,8 +101,10 @@ pub record Partial : Type 0 where
 
 -- what may come next
 pub data Mode : Type 0 where
-  -- `*`
+  -- `*`, or the first byte of a line
   Start : Mode
+  -- the next byte of the line of which these have come
+  Text : List ℕ → Mode
   -- the number of words, and its `\n`
   Count : Line → Mode
   CountFeed : ℕ → Mode
@@ -134,8 +160,14 @@ abbrev pub on_body : Partial → ℕ → List ℕ → Mode
 on_body so_far zero bytes = WordReturn so_far bytes
 on_body so_far (suc n) bytes = Body so_far (suc n) bytes
 
+-- a byte of a line: its feed makes it a request, and no line is longer than the limit
+abbrev pub on_text : WireLimits → List ℕ → ℕ → Move
+on_text limits line byte =
+    if byte == FEED then Whole (words_of_line line) else (if nat_lt (length line) limits.line_bytes then Goto (Text (line ++ byte ∷ [])) else Fault TooLarge)
+
 abbrev pub move : WireLimits → Mode → ℕ → Move
-move limits Start byte = want byte STAR Multibulk (Goto (Count Blank))
+move limits Start byte = if byte == STAR then Goto (Count Blank) else on_text limits [] byte
+move limits (Text line) byte = on_text limits line byte
 move limits (Count line) byte = on_count (line_step limits.words true line byte)
 move limits (CountFeed n) byte = want byte FEED Crlf (after_count limits n)
 move limits (Mark so_far) byte = want byte DOLLAR Dollar (Goto (Length so_far Blank))

@@ -34,6 +34,7 @@ impl Limits {
                 words: 1_048_576,
                 word_bytes: 1_048_576,
                 request_bytes: 16_777_216,
+                line_bytes: 65_536,
             },
             keys: 65_536,
             labels: 64,

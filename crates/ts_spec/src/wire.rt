@@ -14,19 +14,21 @@ pub enum Kind {
     Dollar,
     /// A line or a word does not end with CRLF.
     Crlf,
-    /// The words of one request are together longer than the limit.
+    /// The words of one request are together longer than the limit, or a line is.
     TooLarge,
 }
 
 /// How large a request may be.
 #[derive(Clone, Copy, Debug, PartialEq, Eq)]
 pub struct WireLimits {
-    /// Words per request.
+    /// Words of a request that is an array.
     pub words: u32,
-    /// Bytes per word.
+    /// Bytes of each of its words.
     pub word_bytes: u32,
-    /// Bytes of all words of one request together.
+    /// Bytes of all its words together.
     pub request_bytes: u32,
+    /// Bytes of a request that is a line, its LF not counted. The other limits are none of a line's.
+    pub line_bytes: u32,
 }
 
 /// A law: the encoded form of any requests that have words and fit the limits reads back as these
