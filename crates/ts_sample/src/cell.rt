@@ -1,5 +1,5 @@
 // The value of a row, or that there is none.
-use crate::units::Units;
+use ts_spec::Units;
 
 /// What a reply shows for a value that may not exist.
 #[derive(Clone, Copy, Debug, PartialEq, Eq)]

@@ -12,7 +12,6 @@ mod id;
 mod place;
 mod sample;
 mod steps;
-mod units;
 mod visit;
 
 pub use cell::Cell;
@@ -22,5 +21,5 @@ pub use id::Id;
 pub use place::{find, place_of, place_past, places_between};
 pub use sample::{MAX_TIME, Sample};
 pub use steps::Steps;
-pub use units::Units;
+pub use ts_spec::Units;
 pub use visit::Visit;

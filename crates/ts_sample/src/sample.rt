@@ -1,6 +1,6 @@
 // A sample, and the greatest time.
-use crate::units::Units;
 use std::marker::Model;
+use ts_spec::Units;
 
 /// The greatest time, in milliseconds.
 pub const MAX_TIME: u64 = 9_223_372_036_854_775_807;

@@ -3,6 +3,7 @@ use Rattle.std.specs.Prelude.{ℕ, ◌*◌, ◌^◌, pos, true, false, Bool, Lis
 use Rattle.ts_spec.specs.declared.series.Policy.{Policy}
 use Rattle.ts_spec.specs.declared.series.Policy.TheVariants.{Block, Last}
 use Rattle.ts_spec.specs.declared.series.Encoding.TheVariants.{Compressed}
+use Rattle.ts_spec.specs.declared.series.Ignore.{Ignore}
 use Rattle.ts_spec.specs.declared.bucket.Aggregator.{Aggregator}
 use Rattle.ts_spec.specs.declared.bucket.Aggregator.TheVariants as aggregator
 use Rattle.ts_spec.specs.declared.bucket.Stamp.{Stamp}
@@ -11,7 +12,7 @@ use Rattle.ts_spec.specs.Sample.{MAX_TIME}
 use Rattle.ts_spec.specs.Key.{Key}
 use Rattle.ts_spec.specs.State.{State, empty}
 use Rattle.ts_spec.specs.declared.command.At.TheVariants.{Time}
-use Rattle.ts_spec.specs.Command.{Spec, Query, Buckets, Command, Create, Alter, Add, CreateRule, Range}
+use Rattle.ts_spec.specs.Command.{Spec, Query, Buckets, Command, Create, Alter, Add, Incr, CreateRule, Range}
 use Rattle.ts_spec.specs.Answer.{Number, Nan, Row}
 use Rattle.ts_spec.specs.Response.{Response}
 use Rattle.ts_spec.specs.Step.{step, Outcome}
@@ -48,8 +49,22 @@ r = codes "r"
 abbrev pub s : Key
 s = codes "s"
 
+abbrev pub x : Key
+x = codes "x"
+
+-- at most an equal sample is ignored
+abbrev pub equal : Ignore
+equal = record { time = 0; value = pos 0 }
+
+-- with retention, and with a policy and what is ignored
 abbrev pub kept_for : ℕ → Spec
-kept_for retention = record { options = record { retention = retention; encoding = Compressed; chunk_size = 4096; policy = Block }; labels = [] }
+kept_for retention = record { options = record { retention = retention; encoding = Compressed; chunk_size = 4096; policy = Block; ignore = equal }; labels = [] }
+
+abbrev pub ignoring : Policy → (time value : ℕ) → Spec
+ignoring policy time amount = record {
+  options = record { retention = 0; encoding = Compressed; chunk_size = 4096; policy = policy; ignore = record { time = time; value = pos (amount * 10 ^ 6) } };
+  labels = [];
+}
 
 abbrev pub create : Key → Command
 create k = Create k (kept_for 0)
@@ -58,7 +73,10 @@ abbrev pub create_kept_for : ℕ → Key → Command
 create_kept_for retention k = Create k (kept_for retention)
 
 abbrev pub alter_retention : Key → ℕ → Command
-alter_retention k n = Alter k (record { retention = Some n; chunk_size = None; policy = None; labels = None })
+alter_retention k n = Alter k (record { retention = Some n; chunk_size = None; policy = None; ignore = None; labels = None })
+
+abbrev pub alter_ignore : Key → (time value : ℕ) → Command
+alter_ignore k time amount = Alter k (record { retention = None; chunk_size = None; policy = None; ignore = Some (record { time = time; value = pos (amount * 10 ^ 6) }); labels = None })
 
 -- TS.ADD, and with ON_DUPLICATE
 abbrev pub add : Key → (time value : ℕ) → Command
@@ -69,6 +87,10 @@ add_as policy k t v = Add k (Time t) (pos (v * 10 ^ 6)) (Some policy) (kept_for 
 
 abbrev pub replace : Key → (time value : ℕ) → Command
 replace k t v = add_as Last k t v
+
+-- TS.INCRBY
+abbrev pub increase : Key → (time change : ℕ) → Command
+increase k t x = Incr k (pos (x * 10 ^ 6)) (Time t) (kept_for 0)
 
 -- AGGREGATION sum 10, with an alignment
 abbrev pub sum_rule_at : ℕ → (source dest : Key) → Command

@@ -15,6 +15,7 @@ pub mod EndingRules
 pub mod Exact
 pub mod Examples
 pub mod FiltersAtWork
+pub mod IgnoringAtWork
 pub mod Keeps
 pub mod Keys
 pub mod KeysGo
@@ -38,6 +39,7 @@ pub mod SoundWrites
 pub mod Sound
 pub mod StepKeeps
 pub mod Tidy
+pub mod WordsOfIgnore
 pub mod WordsOfLabels
 pub mod WordsOfQuestions
 pub mod Writes

@@ -138,7 +138,13 @@ info-lines info = (
                                   one_line (codes "sourceKey") refl,
                                   (
                                     bulk-lines info.source,
-                                    (one_line (codes "rules") refl, (all-lines rule_reply rule-lines info.rules, tt)),
+                                    (
+                                      one_line (codes "rules") refl,
+                                      (
+                                        all-lines rule_reply rule-lines info.rules,
+                                        (one_line (codes "ignoreMaxTimeDiff") refl, (tt, (one_line (codes "ignoreMaxValDiff") refl, (tt, tt)))),
+                                      ),
+                                    ),
                                   ),
                                 ),
                               ),

@@ -17,7 +17,8 @@ use Rattle.ts_spec.specs.Refusal.{Fault}
 use Rattle.ts_spec.specs.declared.command.At.{At}
 use Rattle.ts_spec.specs.Command.{Spec, Change, Triple, Command, Create, Alter, Add, Madd, Incr, DelRange, CreateRule, DeleteRule, Range, MRange, Get, MGet, QueryIndex, InfoOf, Ping, Echo, Quit, Drop, Exists}
 use Rattle.ts_spec.specs.Response.{Response, Item}
-use Rattle.ts_spec.specs.Step.{Outcome, time_of, fresh, created, create, is_longer, alter_at, shows_more, first_full, rules_at, unless_full, within_destinations, write_merged, value_at, write, create_with, add_at, put_at, triple_step, item_of, madd, is_before_last, changed_value, incr_at, meets_expired, delete_at, has_rules, create_rule_at, delete_rule_at, drop_keys, step}
+use Rattle.ts_spec.specs.Step.{Outcome, time_of, fresh, created, create, is_longer, alter_at, shows_more, first_full, rules_at, unless_full, within_destinations, write_merged, value_at, unless_ignored, write, create_with, add_at, put_at, triple_step, item_of, madd, is_before_last, changed_value, increased, incr_at, meets_expired, delete_at, has_rules, create_rule_at, delete_rule_at, drop_keys, step}
+use Rattle.ts_spec.specs.Ignoring.{ignored}
 use Rattle.ts_spec.specs.Valid.{EachRule, IsOwn, IsSound, IsValid}
 use Rattle.ts_spec.proofs.Maps.{maps-same}
 use Rattle.ts_spec.proofs.Tidy.{some-same}
@@ -115,8 +116,18 @@ merged-good limits m key d t (To x) v there =
     pick limits (shows_more limits.samples (written key t x m) key) _ _ (λ e. v)
     (λ e. destinations-good limits m key d _ v there (λ dests. valid-written limits m key d t x v there (ltb-false limits.samples (length (shown (written key t x m) key)) e) dests))
 
+ignored-good : (limits : Limits) (m : State) (o : Option ℕ) (done : Outcome) → IsValid limits m → IsGood limits done → IsGood limits (unless_ignored m o done)
+ignored-good limits m None done v g = g
+ignored-good limits m (Some last) done v g = v
+
+increased-good : (limits : Limits) (m : State) (key : Key) (d : Record) (t : ℕ) (w : Merged) → IsValid limits m → get key m ≡ Some d → IsGood limits (increased limits m key d t w)
+increased-good limits m key d t (Refuse r) v there = v
+increased-good limits m key d t Keep v there = v
+increased-good limits m key d t (To x) v there = ignored-good limits m (ignored m key d t x) (write_merged limits m key t (To x)) v (merged-good limits m key d t (To x) v there)
+
 write-good : (limits : Limits) (m : State) (key : Key) (d : Record) (how : Merge) (t : ℕ) (x : ℤ) → IsValid limits m → get key m ≡ Some d → IsGood limits (write limits m key d how t x)
-write-good limits m key d how t x v there = pick limits (nat_lt t (edge d)) _ _ (λ e. v) (λ e. merged-good limits m key d t (merge how (value_at t (shown m key)) x) v there)
+write-good limits m key d how t x v there = pick limits (nat_lt t (edge d)) _ _ (λ e. v)
+    (λ e. ignored-good limits m (ignored m key d t x) (write_merged limits m key t (merge how (value_at t (shown m key)) x)) v (merged-good limits m key d t (merge how (value_at t (shown m key)) x) v there))
 
 create_with-good : (limits : Limits) (m : State) (key : Key) (spec : Spec) (t : ℕ) (x : ℤ) → 1 ≤ limits.samples → IsValid limits m → get key m ≡ None → IsGood limits (create_with limits m key spec t x)
 create_with-good limits m key spec t x room v missing =
@@ -146,7 +157,7 @@ pub incr-good : (limits : Limits) (m : State) (key : Key) (x : ℤ) (t : ℕ) (s
 incr-good limits m key x t spec None room v e = create_with-good limits m key spec t x room v e
 incr-good limits m key x t spec (Some d) room v e =
     pick limits (is_before_last t (last_of (shown m key))) _ _ (λ y. v)
-    (λ y. pick limits (nat_lt t (edge d)) _ _ (λ z. v) (λ z. merged-good limits m key d t (within_bound (changed_value x (last_of (shown m key)))) v e))
+    (λ y. pick limits (nat_lt t (edge d)) _ _ (λ z. v) (λ z. increased-good limits m key d t (within_bound (changed_value x (last_of (shown m key)))) v e))
 
 -- ---- deletions
 

@@ -11,11 +11,11 @@ use Rattle.ts_spec.specs.Ranges.{range_options, count_word}
 use Rattle.ts_spec.specs.Refusal.{BadOption, RepeatedOption, BadLabels, BadFilter, NoPositiveFilter}
 use Rattle.ts_spec.specs.SeriesOptions.{series_options, alter_options, retention_word}
 use Rattle.ts_spec.specs.Settings.{end_word, time_word}
-use Rattle.ts_spec.proofs.Examples.{question}
+use Rattle.ts_spec.proofs.Examples.{equal, question}
 
 pub a_repeated_label : command (codes "TS.CREATE" ∷ codes "k" ∷ codes "LABELS" ∷ codes "a" ∷ codes "1" ∷ codes "b" ∷ codes "2" ∷ codes "a" ∷ codes "3" ∷ [])
     ≡ Ok (Create (codes "k") (record {
-      options = record { retention = 0; encoding = Compressed; chunk_size = 4096; policy = Block };
+      options = record { retention = 0; encoding = Compressed; chunk_size = 4096; policy = Block; ignore = equal };
       labels = record { name = codes "a"; value = codes "3" } ∷ record { name = codes "b"; value = codes "2" } ∷ [];
     }))
 unfolding commands series_options
@@ -23,7 +23,7 @@ a_repeated_label = refl
 
 pub an_option_for_a_value : command (codes "TS.CREATE" ∷ codes "k" ∷ codes "LABELS" ∷ codes "a" ∷ codes "RETENTION" ∷ codes "RETENTION" ∷ codes "5" ∷ [])
     ≡ Ok (Create (codes "k") (record {
-      options = record { retention = 5; encoding = Compressed; chunk_size = 4096; policy = Block };
+      options = record { retention = 5; encoding = Compressed; chunk_size = 4096; policy = Block; ignore = equal };
       labels = record { name = codes "a"; value = codes "RETENTION" } ∷ [];
     }))
 unfolding commands series_options retention_word

@@ -1,5 +1,5 @@
 -- Worked examples of the words of rules, and of questions that ask open buckets too.
-use Rattle.std.specs.Prelude.{◌≡◌, refl, true, List, [], ◌∷◌, codes, Ok, Err}
+use Rattle.std.specs.Prelude.{◌≡◌, refl, true, [], ◌∷◌, codes, Ok, Err}
 use Rattle.ts_spec.specs.declared.bucket.Aggregator.TheVariants.{Avg, Max}
 use Rattle.ts_spec.specs.Command.{CreateRule, DeleteRule, Get, MGet, InfoOf, Nothing}
 use Rattle.ts_spec.specs.Filter.{Among}

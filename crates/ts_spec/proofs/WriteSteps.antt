@@ -1,5 +1,5 @@
 -- Writes and increments over what is kept are steps of the state.
-use Rattle.std.proofs.Common.{◌≡◌, ℕ, ℤ, ◌≤◌, nat_lt, List, Option, Some, None, refl, sym, ap, ◌∙◌, subst}
+use Rattle.std.proofs.Common.{◌≡◌, ℕ, ℤ, ◌≤◌, Bool, nat_lt, if◌then◌else◌, List, Option, Some, None, is_some, option_map, refl, sym, ap, ◌∙◌, subst}
 use Rattle.std.specs.Option.{unwrap_or}
 use Rattle.ts_spec.specs.declared.limits.Limits.{Limits}
 use Rattle.ts_spec.specs.declared.series.Policy.{Policy}
@@ -8,15 +8,16 @@ use Rattle.ts_spec.specs.declared.series.Merge.TheVariants.{By}
 use Rattle.ts_spec.specs.Sample.{Point, last_of}
 use Rattle.ts_spec.specs.Key.{Key}
 use Rattle.ts_spec.specs.Keyed.{get}
-use Rattle.ts_spec.specs.State.{Record, State, link_to, edge}
+use Rattle.ts_spec.specs.State.{Record, State, Link, link_to, edge}
 use Rattle.ts_spec.specs.Rules.{shown, Merged, Refuse, Keep, To, merge, within_bound}
 use Rattle.ts_spec.specs.Refusal.{TooOld, BeforeLast, SamplesFull, NoKey}
 use Rattle.ts_spec.specs.Command.{Spec}
 use Rattle.ts_spec.specs.Response.{Count}
-use Rattle.ts_spec.specs.Step.{Outcome, shows_more, within_samples, write_merged, value_at, write, add_at, put_at, is_before_last, changed_value, incr_by, incr_at}
+use Rattle.ts_spec.specs.Step.{Outcome, shows_more, within_samples, write_merged, value_at, unless_ignored, write, add_at, put_at, is_before_last, changed_value, increased, incr_by, incr_at}
+use Rattle.ts_spec.specs.Ignoring.{ignored_after, ignored, kept_ignored}
 use Rattle.ts_spec.specs.Valid.{IsValid}
 use Rattle.ts_spec.specs.Kept.{Kept, Keeping, kept_record, kept}
-use Rattle.ts_spec.specs.KeptStep.{KeptOutcome, keeps_more, kept_within_samples, kept_write_merged, kept_write, kept_add_at, kept_put_at, kept_incr_by, kept_incr_at}
+use Rattle.ts_spec.specs.KeptStep.{KeptOutcome, keeps_more, kept_within_samples, kept_write_merged, kept_unless_ignored, kept_write, kept_add_at, kept_put_at, kept_increased, kept_incr_by, kept_incr_at}
 use Rattle.ts_spec.specs.Stands.{StandsFor, IsStepOf}
 use Rattle.ts_spec.proofs.Keeps.{shown-there}
 use Rattle.ts_spec.proofs.StepKeeps.{add-good, put-good, incr-good}
@@ -38,14 +39,44 @@ merged-agrees limits m key d t (Refuse refusal) v there = agrees-refused m (kept
 merged-agrees limits m key d t Keep v there = agrees-told m (kept m) (Count t) (Count t) refl refl
 merged-agrees limits m key d t (To x) v there = agrees-samples limits m key _ _ (record { response = refl; keys = sym (kept-written limits m key d t x v there) })
 
+-- ---- samples that are ignored
+
+-- a key ignores the same samples by what is kept of it
+ignored-kept : (m : State) (key : Key) (d : Record) (t : ℕ) (x : ℤ) → get key m ≡ Some d → ignored m key d t x ≡ kept_ignored (kept_record (link_to m key) d) t x
+ignored-kept m key d t x there =
+    ap (λ (ps : List Point). if is_some (link_to m key) then None else ignored_after d.options (last_of ps) t x) (shown-there m key d there)
+    ∙ ap (λ (b : Bool). if b then None else ignored_after d.options (last_of (kept_record (link_to m key) d).list) t x) (same_link (link_to m key))
+  where
+    same_link : (o : Option Link) → is_some o ≡ is_some (option_map (λ (l : Link). l.source) o)
+    same_link None = refl
+    same_link (Some l) = refl
+
+-- an outcome, unless the sample is ignored
+agrees-unless : (m : State) (o p : Option ℕ) (done : Outcome) (kept_done : KeptOutcome) → o ≡ p → Agrees done kept_done → Agrees (unless_ignored m o done) (kept_unless_ignored (kept m) p kept_done)
+agrees-unless m o p done kept_done e a = subst (λ (q : Option ℕ). Agrees (unless_ignored m o done) (kept_unless_ignored (kept m) q kept_done)) e (go o)
+  where
+    go : (q : Option ℕ) → Agrees (unless_ignored m q done) (kept_unless_ignored (kept m) q kept_done)
+    go None = a
+    go (Some last) = agrees-told m (kept m) (Count last) (Count last) refl refl
+
+increased-agrees : (limits : Limits) (m : State) (key : Key) (d : Record) (t : ℕ) (w : Merged) → IsValid limits m → get key m ≡ Some d →
+    Agrees (increased limits m key d t w) (kept_increased limits (kept m) key (kept_record (link_to m key) d) t w)
+increased-agrees limits m key d t (Refuse refusal) v there = merged-agrees limits m key d t (Refuse refusal) v there
+increased-agrees limits m key d t Keep v there = merged-agrees limits m key d t Keep v there
+increased-agrees limits m key d t (To x) v there =
+    agrees-unless m (ignored m key d t x) (kept_ignored (kept_record (link_to m key) d) t x) _ _ (ignored-kept m key d t x there) (merged-agrees limits m key d t (To x) v there)
+
+-- ---- writes
+
 write-agrees : (limits : Limits) (m : State) (key : Key) (d : Record) (how : Merge) (t : ℕ) (x : ℤ) → IsValid limits m → get key m ≡ Some d →
     Agrees (write limits m key d how t x) (kept_write limits (kept m) key (kept_record (link_to m key) d) how t x)
 write-agrees limits m key d how t x v there =
     agrees-if (nat_lt t (edge d)) (nat_lt t (edge d)) _ _ _ _ refl
     (λ e. agrees-refused m (kept m) TooOld refl)
-    (λ e. subst (λ (ps : List Point). Agrees (write_merged limits m key t (merge how (value_at t (shown m key)) x)) (kept_write_merged limits (kept m) key t (merge how (value_at t ps) x)))
+    (λ e. agrees-unless m (ignored m key d t x) (kept_ignored (kept_record (link_to m key) d) t x) _ _ (ignored-kept m key d t x there)
+    (subst (λ (ps : List Point). Agrees (write_merged limits m key t (merge how (value_at t (shown m key)) x)) (kept_write_merged limits (kept m) key t (merge how (value_at t ps) x)))
     (shown-there m key d there)
-    (merged-agrees limits m key d t (merge how (value_at t (shown m key)) x) v there))
+    (merged-agrees limits m key d t (merge how (value_at t (shown m key)) x) v there)))
 
 -- ---- the commands, by the record at the key
 
@@ -79,7 +110,7 @@ incr_by-agrees limits m key d x t last v there =
     (λ e. agrees-refused m (kept m) BeforeLast refl)
     (λ e. agrees-if (nat_lt t (edge d)) (nat_lt t (edge d)) _ _ _ _ refl
     (λ y. agrees-refused m (kept m) TooOld refl)
-    (λ y. merged-agrees limits m key d t (within_bound (changed_value x last)) v there))
+    (λ y. increased-agrees limits m key d t (within_bound (changed_value x last)) v there))
 
 pub incr-agrees : (limits : Limits) (m : State) (key : Key) (x : ℤ) (t : ℕ) (spec : Spec) → IsValid limits m →
     Agrees (incr_at limits m key x t spec (get key m)) (kept_incr_at limits (kept m) key x t spec (get key (kept m)))

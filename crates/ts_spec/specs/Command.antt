@@ -1,6 +1,7 @@
 -- Commands, as their words are read.
 use Rattle.std.specs.Prelude.{ℕ, ℤ, Bool, List, Option, Result}
 use Rattle.ts_spec.specs.declared.series.Policy.{Policy}
+use Rattle.ts_spec.specs.declared.series.Ignore.{Ignore}
 use Rattle.ts_spec.specs.declared.series.Options.{Options}
 use Rattle.ts_spec.specs.declared.command.At.{At}
 use Rattle.ts_spec.specs.declared.bucket.Aggregator.{Aggregator}
@@ -21,6 +22,7 @@ pub record Change : Type 0 where
   pub retention : Option ℕ
   pub chunk_size : Option ℕ
   pub policy : Option Policy
+  pub ignore : Option Ignore
   pub labels : Option (List Label)
 
 -- one sample of TS.MADD; a time or a value that is none is told in the answer of its triple

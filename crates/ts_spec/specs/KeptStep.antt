@@ -20,6 +20,7 @@ use Rattle.ts_spec.specs.Outcome.{time_of}
 use Rattle.ts_spec.specs.Making.{is_longer}
 use Rattle.ts_spec.specs.Writing.{value_at, item_of, is_before_last, changed_value}
 use Rattle.ts_spec.specs.Kept.{KeptRule, Kept, Keeping}
+use Rattle.ts_spec.specs.Ignoring.{kept_ignored}
 use Rattle.ts_spec.specs.Mending.{kept_rule_to, keep_written, keep_deleted}
 use Rattle.ts_spec.specs.Keeping.{kept_fresh, kept_altered, keep_changed, keep_ruled, keep_without_rule, keep_dropped}
 
@@ -90,9 +91,14 @@ kept_write_merged limits m key t (Refuse refusal) = kept_refused m refusal
 kept_write_merged limits m key t Keep = unchanged_with m (Count t)
 kept_write_merged limits m key t (To v) = kept_within_samples limits m key (record { keys = keep_written key t v m; response = Count t })
 
+abbrev pub kept_unless_ignored : Keeping → Option ℕ → KeptOutcome → KeptOutcome
+kept_unless_ignored m None done = done
+kept_unless_ignored m (Some last) done = unchanged_with m (Count last)
+
 abbrev pub kept_write : Limits → Keeping → Key → Kept → Merge → ℕ → ℤ → KeptOutcome
 kept_write limits m key d how t v =
-    if nat_lt t (kept_edge d) then kept_refused m TooOld else kept_write_merged limits m key t (merge how (value_at t d.list) v)
+    if nat_lt t (kept_edge d) then kept_refused m TooOld
+    else kept_unless_ignored m (kept_ignored d t v) (kept_write_merged limits m key t (merge how (value_at t d.list) v))
 
 abbrev pub kept_create_with : Limits → Keeping → Key → Spec → ℕ → ℤ → KeptOutcome
 kept_create_with limits m key spec t v =
@@ -118,10 +124,15 @@ kept_madd limits m reading so_far (x ∷ xs) =
     let done : KeptOutcome = kept_triple limits m reading x.key x.at x.value in
     kept_madd limits done.keys reading (so_far ++ item_of done.response) xs
 
+-- what an increment comes to, as its result is within the bound or not
+abbrev pub kept_increased : Limits → Keeping → Key → Kept → ℕ → Merged → KeptOutcome
+kept_increased limits m key d t (To v) = kept_unless_ignored m (kept_ignored d t v) (kept_write_merged limits m key t (To v))
+kept_increased limits m key d t other = kept_write_merged limits m key t other
+
 abbrev pub kept_incr_by : Limits → Keeping → Key → Kept → ℤ → ℕ → Option Point → KeptOutcome
 kept_incr_by limits m key d change t last =
     if is_before_last t last then kept_refused m BeforeLast
-    else (if nat_lt t (kept_edge d) then kept_refused m TooOld else kept_write_merged limits m key t (within_bound (changed_value change last)))
+    else (if nat_lt t (kept_edge d) then kept_refused m TooOld else kept_increased limits m key d t (within_bound (changed_value change last)))
 
 abbrev pub kept_incr_at : Limits → Keeping → Key → ℤ → ℕ → Spec → Option Kept → KeptOutcome
 kept_incr_at limits m key change t spec None = kept_create_with limits m key spec t change

@@ -8,6 +8,7 @@ pub mod FaultNames
 pub mod Filter
 pub mod FilterText
 pub mod Grammar
+pub mod Ignoring
 pub mod Keeping
 pub mod Kept
 pub mod KeptQuestions

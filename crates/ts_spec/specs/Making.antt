@@ -39,6 +39,7 @@ altered c d = record d {
     encoding = d.options.encoding;
     chunk_size = unwrap_or c.chunk_size d.options.chunk_size;
     policy = unwrap_or c.policy d.options.policy;
+    ignore = unwrap_or c.ignore d.options.ignore;
   };
   labels = unwrap_or c.labels d.labels;
 }

@@ -128,7 +128,7 @@ label_reply label = array (Bulk label.name ∷ Bulk label.value ∷ [])
 abbrev pub rule_reply : RuleInfo → Reply
 rule_reply rule = array (Bulk rule.dest ∷ number rule.grid.duration ∷ Simple (aggregator_name rule.agg) ∷ number rule.grid.align ∷ [])
 
--- ten names, each followed by its value
+-- twelve names, each followed by its value
 abbrev pub info_reply : Info → Reply
 info_reply info = array (
     Simple (codes "totalSamples") ∷ number info.total
@@ -141,6 +141,8 @@ info_reply info = array (
     ∷ Simple (codes "labels") ∷ array (map label_reply info.labels)
     ∷ Simple (codes "sourceKey") ∷ bulk_or_nil info.source
     ∷ Simple (codes "rules") ∷ array (map rule_reply info.rules)
+    ∷ Simple (codes "ignoreMaxTimeDiff") ∷ number info.options.ignore.time
+    ∷ Simple (codes "ignoreMaxValDiff") ∷ Value (Some info.options.ignore.value)
     ∷ [])
 
 -- ---- responses

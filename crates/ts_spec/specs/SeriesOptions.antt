@@ -1,5 +1,5 @@
 -- The options of series and of samples, and what a series is made with.
-use Rattle.std.specs.Prelude.{◌≡◌, ℕ, suc, ◌≤◌, ◌%◌, Bool, ◌&&◌, ◌||◌, ◌==◌, nat_le, if◌then◌else◌, List, [], ◌∷◌, length, codes, Some, is_some, ok_or, unwrap_or, Result, Ok, Err}
+use Rattle.std.specs.Prelude.{◌≡◌, ℕ, suc, ◌≤◌, ◌%◌, ℤ, pos, int_lt, Bool, ◌&&◌, ◌||◌, ◌==◌, nat_le, if◌then◌else◌, List, [], ◌∷◌, length, codes, Some, is_some, ok_or, unwrap_or, Result, Ok, Err}
 use Rattle.ts_spec.specs.declared.series.Policy.{Policy}
 use Rattle.ts_spec.specs.declared.series.Policy.TheVariants.{Block}
 use Rattle.ts_spec.specs.declared.series.Encoding.{Encoding}
@@ -10,7 +10,7 @@ use Rattle.ts_spec.specs.State.{Label}
 use Rattle.ts_spec.specs.Labels.{with_label}
 use Rattle.ts_spec.specs.Command.{Spec, Change}
 use Rattle.ts_spec.specs.Refusal.{Fault, BadOption, BadLabels, BadChunkSize, BadPolicy, BadEncoding}
-use Rattle.ts_spec.specs.Settings.{Word, and_then, at_word, Given, Setting, one_word, has_name}
+use Rattle.ts_spec.specs.Settings.{Word, and_then, at_word, value_word, Given, Setting, one_word, two_words, has_name}
 
 -- ---- single words
 
@@ -36,6 +36,18 @@ policy_word word = ok_or (named policies word) BadPolicy
 unfoldable pub encoding_word : Word → Result Encoding Fault
 encoding_word word = ok_or (named encodings word) BadEncoding
 
+-- how much later than the last one an ignored sample may be, in milliseconds
+unfoldable pub ignore_time_word : Word → Result ℕ Fault
+ignore_time_word word = ok_or (number word) BadOption
+
+-- a value that is not below 0
+abbrev pub from_zero : ℤ → Result ℤ Fault
+from_zero v = if int_lt v (pos 0) then Err BadOption else Ok v
+
+-- how far its value may be from that of the last one
+unfoldable pub ignore_value_word : Word → Result ℤ Fault
+ignore_value_word word = and_then (value_word word) from_zero
+
 -- ---- options
 
 abbrev pub retention : Setting
@@ -49,6 +61,11 @@ chunk_size = one_word (λ given. is_some given.chunk_size) (λ word given. and_t
 
 abbrev pub duplicate_policy : Setting
 duplicate_policy = one_word (λ given. is_some given.policy) (λ word given. and_then (policy_word word) (λ p. Ok (record given { policy = Some p })))
+
+-- how close to the last sample one is ignored: how much later, and how far its value may be from that of the last one
+abbrev pub ignore : Setting
+ignore = two_words (λ given. is_some given.ignore) (λ time amount given.
+    and_then (ignore_time_word time) (λ t. and_then (ignore_value_word amount) (λ v. Ok (record given { ignore = Some (record { time = t; value = v }) }))))
 
 abbrev pub on_duplicate : Setting
 on_duplicate = one_word (λ given. is_some given.on) (λ word given. and_then (policy_word word) (λ p. Ok (record given { on = Some p })))
@@ -88,6 +105,7 @@ series_options =
     ∷ (codes "ENCODING", encoding)
     ∷ (codes "CHUNK_SIZE", chunk_size)
     ∷ (codes "DUPLICATE_POLICY", duplicate_policy)
+    ∷ (codes "IGNORE", ignore)
     ∷ (codes "LABELS", labels)
     ∷ []
 
@@ -97,6 +115,7 @@ alter_options =
     (codes "RETENTION", retention)
     ∷ (codes "CHUNK_SIZE", chunk_size)
     ∷ (codes "DUPLICATE_POLICY", duplicate_policy)
+    ∷ (codes "IGNORE", ignore)
     ∷ (codes "LABELS", labels)
     ∷ []
 
@@ -110,7 +129,8 @@ incr_options = (codes "TIMESTAMP", timestamp) ∷ series_options
 abbrev pub has_labels : List Word → Bool
 has_labels = has_name (codes "LABELS")
 
--- what a new series is made with: where nothing is said, it keeps samples for ever, in packed chunks of 4096 bytes, and refuses a repeated time
+-- what a new series is made with: where nothing is said, it keeps samples for ever, in packed chunks of 4096 bytes, refuses a repeated
+-- time, and ignores at most an equal sample
 abbrev pub spec : Given → Spec
 spec given =
     record {
@@ -119,10 +139,17 @@ spec given =
         encoding = unwrap_or given.encoding Compressed;
         chunk_size = unwrap_or given.chunk_size 4096;
         policy = unwrap_or given.policy Block;
+        ignore = unwrap_or given.ignore (record { time = 0; value = pos 0 });
       };
       labels = unwrap_or given.labels [];
     }
 
 -- what a series gets anew
 abbrev pub change : Given → Change
-change given = record { retention = given.retention; chunk_size = given.chunk_size; policy = given.policy; labels = given.labels }
+change given = record {
+  retention = given.retention;
+  chunk_size = given.chunk_size;
+  policy = given.policy;
+  ignore = given.ignore;
+  labels = given.labels;
+}

@@ -2,6 +2,7 @@
 use Rattle.std.specs.Prelude.{◌≡◌, ◌≤◌, ℕ, zero, suc, Bool, false, ◌||◌, if◌then◌else◌, ℤ, List, [], ◌∷◌, take, codes, Option, None, Some, is_some, ok_or, Result, Ok, Err}
 use Rattle.ts_spec.specs.declared.series.Policy.{Policy}
 use Rattle.ts_spec.specs.declared.series.Encoding.{Encoding}
+use Rattle.ts_spec.specs.declared.series.Ignore.{Ignore}
 use Rattle.ts_spec.specs.declared.command.At.{At}
 use Rattle.ts_spec.specs.declared.command.At.TheVariants.{Clock, Time}
 use Rattle.ts_spec.specs.declared.bucket.Aggregation.{Aggregation}
@@ -63,6 +64,7 @@ pub record Given : Type 0 where
   pub encoding : Option Encoding
   pub chunk_size : Option ℕ
   pub policy : Option Policy
+  pub ignore : Option Ignore
   -- the policy of this write alone
   pub on : Option Policy
   pub at : Option At
@@ -88,6 +90,7 @@ nothing = record {
   encoding = None;
   chunk_size = None;
   policy = None;
+  ignore = None;
   on = None;
   at = None;
   labels = None;

@@ -15,6 +15,7 @@ use Rattle.ts_spec.specs.Refusal.{Fault, NoKey, TooOld, BeforeLast, SamplesFull,
 use Rattle.ts_spec.specs.declared.command.At.{At}
 use Rattle.ts_spec.specs.Command.{Spec, Triple}
 use Rattle.ts_spec.specs.Response.{Item, Wrote, IsWrong, IsRefused, Response, Count, Refused, Items}
+use Rattle.ts_spec.specs.Ignoring.{ignored}
 use Rattle.ts_spec.specs.Outcome.{refused, answer_only, time_of, Outcome}
 use Rattle.ts_spec.specs.Making.{fresh, created}
 
@@ -58,10 +59,16 @@ write_merged limits m key t (To v) = within_samples limits m key (record { state
 abbrev pub value_at : ℕ → List Point → Option ℤ
 value_at t ps = option_map (λ p. p.value) (at t ps)
 
+-- the outcome, unless the sample is ignored: then nothing changes, and the time of the last sample is told
+abbrev pub unless_ignored : State → Option ℕ → Outcome → Outcome
+unless_ignored m None done = done
+unless_ignored m (Some last) done = answer_only m (Count last)
+
 -- a write to a key that is there
 abbrev pub write : Limits → State → Key → Record → Merge → ℕ → ℤ → Outcome
 write limits m key d how t v =
-    if nat_lt t (edge d) then refused m TooOld else write_merged limits m key t (merge how (value_at t (shown m key)) v)
+    if nat_lt t (edge d) then refused m TooOld
+    else unless_ignored m (ignored m key d t v) (write_merged limits m key t (merge how (value_at t (shown m key)) v))
 
 -- a new series with one sample
 abbrev pub create_with : Limits → State → Key → Spec → ℕ → ℤ → Outcome
@@ -112,11 +119,16 @@ abbrev pub changed_value : ℤ → Option Point → ℤ
 changed_value change None = change
 changed_value change (Some p) = p.value +ℤ change
 
+-- what an increment comes to, as its result is within the bound or not
+abbrev pub increased : Limits → State → Key → Record → ℕ → Merged → Outcome
+increased limits m key d t (To v) = unless_ignored m (ignored m key d t v) (write_merged limits m key t (To v))
+increased limits m key d t other = write_merged limits m key t other
+
 -- TS.INCRBY and TS.DECRBY on a record
 abbrev pub incr_by : Limits → State → Key → Record → ℤ → ℕ → Option Point → Outcome
 incr_by limits m key d change t last =
     if is_before_last t last then refused m BeforeLast
-    else (if nat_lt t (edge d) then refused m TooOld else write_merged limits m key t (within_bound (changed_value change last)))
+    else (if nat_lt t (edge d) then refused m TooOld else increased limits m key d t (within_bound (changed_value change last)))
 
 -- TS.INCRBY and TS.DECRBY on the record at a key, or on none
 abbrev pub incr_at : Limits → State → Key → ℤ → ℕ → Spec → Option Record → Outcome

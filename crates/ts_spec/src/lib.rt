@@ -10,6 +10,7 @@ mod limits;
 mod reply_laws;
 mod series;
 mod text;
+mod units;
 mod value;
 mod wire;
 
@@ -19,7 +20,8 @@ pub use kept_laws::{each_step_keeps_a_state_valid, what_is_kept_is_enough};
 pub use laws::{one_bucket_shows_at_its_start, settling_twice_is_settling_once};
 pub use limits::Limits;
 pub use reply_laws::{replies_are_plain, want_of_memory_shows_as_such};
-pub use series::{Encoding, Merge, Options, Policy};
+pub use series::{Encoding, Ignore, Merge, Options, Policy};
 pub use text::reply_texts_show_their_ends;
+pub use units::Units;
 pub use value::ValueFault;
 pub use wire::{Kind, WireLimits, encoded_requests_read_back};

@@ -1,3 +1,6 @@
+// How a series is kept, and what a write does where its time already has a sample.
+use crate::units::Units;
+
 /// What a write does where its time already has a sample.
 #[derive(Clone, Copy, Debug, PartialEq, Eq)]
 pub enum Policy {
@@ -33,6 +36,23 @@ pub enum Encoding {
     Uncompressed,
 }
 
+/// How close to the last sample of a series one is ignored, where the policy is `Last`.
+#[derive(Clone, Copy, Debug, PartialEq, Eq)]
+pub struct Ignore {
+    /// At its time or at most so much later, in milliseconds.
+    pub time: u64,
+    /// With a value that differs by at most this.
+    pub value: Units,
+}
+
+impl Ignore {
+    /// Where nothing is said: at the same time, with an equal value.
+    pub const EQUAL: Ignore = Ignore {
+        time: 0,
+        value: Units::ZERO,
+    };
+}
+
 /// How a series is kept.
 #[derive(Clone, Copy, Debug, PartialEq, Eq)]
 pub struct Options {
@@ -43,4 +63,6 @@ pub struct Options {
     pub chunk_size: u32,
     /// What a write does where its time already has a sample.
     pub policy: Policy,
+    /// How close to its last sample it ignores one.
+    pub ignore: Ignore,
 }
