@@ -7,12 +7,9 @@ use Rattle.ts_spec.specs.Bucket.{start}
 use Rattle.ts_spec.specs.State.{Rule, Record}
 use Rattle.ts_spec.specs.Rules.{is_append, is_eligible, taken_anew, touched, counted_samples, sample_for, meets}
 use Rattle.ts_spec.specs.Valid.{IsUpTo, IsSoundRule, IsSound}
+use Rattle.ts_spec.specs.CountsAll.{CountsAll}
 use Rattle.ts_spec.proofs.Samples.{at-time, at-times, at-append, at-put, at-put_all, at-filter, passing, ascending-times, ascending-put, ascending-filter, ascending-same}
 use Rattle.ts_spec.proofs.SoundWrites.{ascending-touched, rule-counted}
-
--- the rule counts exactly the samples of the source that were written since it was made
-abbrev pub CountsAll : Record → Rule → Type 0
-CountsAll d r = r.seen ≡ filter (is_eligible r) d.plain
 
 or-none : (x : Option Point) → option_or x None ≡ x
 or-none None = refl
@@ -34,7 +31,7 @@ at-touched test plain old r t h k e same =
     go false x = ap (passing (is_eligible r)) (same x)
 
 -- A write keeps a rule that counts all eligible samples so.
-pub counts-all-written : (t : ℕ) (v : ℤ) (d : Record) (r : Rule) → IsSound d → IsSoundRule d r → CountsAll d r →
+pub counts-all-written : (t : ℕ) (v : ℤ) (d : Record) (r : Rule) → IsSound d → IsSoundRule d r → CountsAll d.plain r →
     counted_samples (sample_for t v d) d.high (put (sample_for t v d) d.plain) r ≡ filter (is_eligible r) (put (sample_for t v d) d.plain)
 counts-all-written t v d r s k e = go (is_append t d.high) refl
   where
@@ -101,7 +98,7 @@ meets-own (q ∷ ps) r t p h = go (q.time == t) refl h (meets-own ps r t p)
     go false e x ih = right (start r.grid q.time == start r.grid t) (meets ps r (start r.grid t)) (ih x)
 
 -- A deletion keeps a rule that counts all eligible samples so.
-pub counts-all-deleted : (from to : ℕ) (d : Record) (r : Rule) → IsSound d → IsSoundRule d r → CountsAll d r →
+pub counts-all-deleted : (from to : ℕ) (d : Record) (r : Rule) → IsSound d → IsSoundRule d r → CountsAll d.plain r →
     touched (meets (between from to d.plain) r) (outside from to d.plain) r ≡ filter (is_eligible r) (outside from to d.plain)
 counts-all-deleted from to d r s k e =
     ascending-same (touched (meets (between from to d.plain) r) (outside from to d.plain) r) (filter (is_eligible r) (outside from to d.plain))

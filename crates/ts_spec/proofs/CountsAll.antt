@@ -27,24 +27,25 @@ use Rattle.ts_spec.proofs.Bodies.{link-bodies-some, bodies, body, get-bodies, li
 use Rattle.ts_spec.proofs.Keeps.{rule-elsewhere}
 use Rattle.ts_spec.proofs.Exact.{IsDone, source-after, dest-after, dest-rule-after}
 use Rattle.ts_spec.proofs.ClientChanges.{write-done, deletion-done}
-use Rattle.ts_spec.proofs.Counting.{CountsAll, counts-all-written, counts-all-deleted}
+use Rattle.ts_spec.specs.CountsAll.{CountsAll}
+use Rattle.ts_spec.proofs.Counting.{counts-all-written, counts-all-deleted}
 
 -- the rule from one key to another counts all eligible samples of its source
-pub record CountsAllFrom (m : State) (s k : Key) : Type 0 where
+pub record CountsFrom (m : State) (s k : Key) : Type 0 where
   pub source : Record
   pub rule : Rule
   pub there : get s m ≡ Some source
   pub linked : link_to m k ≡ Some (record { source = s; rule = rule })
-  pub counts : CountsAll source rule
+  pub counts : CountsAll source.plain rule
 
-edge-zero : (retention : ℕ) (high : Option ℕ) → retention ≡ 0 → edge_of retention high ≡ 0
+pub edge-zero : (retention : ℕ) (high : Option ℕ) → retention ≡ 0 → edge_of retention high ≡ 0
 edge-zero retention high e = ap (λ (n : ℕ). edge_of n high) e ∙ zero-edge high
   where
     zero-edge : (o : Option ℕ) → edge_of zero o ≡ 0
     zero-edge None = refl
     zero-edge (Some x) = refl
 
-expired-zero : (low : ℕ) (r : Rule) → low ≡ 0 → expired low r ≡ r
+pub expired-zero : (low : ℕ) (r : Rule) → low ≡ 0 → expired low r ≡ r
 expired-zero low r e =
     ap (λ (n : ℕ). expired n r) e
     ∙ (let seen : at_times (λ t. not (nat_lt (start r.grid t) 0 && is_closed r (start r.grid t))) r.seen ≡ r.seen =
@@ -52,7 +53,7 @@ expired-zero low r e =
     (λ t. ap (λ (b : Bool). not (b && is_closed r (start r.grid t))) (le-ltb (start r.grid t) 0 (omega arith))) in
     λ i. record r { seen = seen i })
 
-kept-zero : (low : ℕ) (ps : List Point) → low ≡ 0 → at_times (nat_le low) ps ≡ ps
+pub kept-zero : (low : ℕ) (ps : List Point) → low ≡ 0 → at_times (nat_le low) ps ≡ ps
 kept-zero low ps e = ap (λ (n : ℕ). at_times (nat_le n) ps) e ∙ times-kept (nat_le 0) ps (λ t. le-leb 0 t (omega arith))
 
 -- settling leaves each link, with its rule expired
@@ -73,7 +74,7 @@ known-link n s k q r x y =
 module _ (m : State) (key : Key) (c : Record) (f : Record → Record) (g : Record → Rule → Rule) (touches : Rule → ℕ → Bool) (test : ℕ → Bool) (h : IsDone m key c f g) where
   -- the command is on the source
   pub counts-from-source : (k : Key) (r : Rule) (e : Record) → link_to m k ≡ Some (record { source = key; rule = r }) → get k m ≡ Some e → link_to m key ≡ None → (f c).options.retention ≡ 0 → e.options.retention ≡ 0 →
-      CountsAll (f c) (g c r) → CountsAllFrom (settled (bodies key f touches test m)) key k
+      CountsAll (f c).plain (g c r) → CountsFrom (settled (bodies key f touches test m)) key k
   counts-from-source k r e x there free s d counts = record {
     source = record (f c) { plain = at_times (nat_le (edge (f c))) (f c).plain; rules = map (λ r. expired (edge_at (get r.dest (settled (bodies key f touches test m)))) r) (f c).rules };
     rule = g c r;
@@ -94,8 +95,8 @@ module _ (m : State) (key : Key) (c : Record) (f : Record → Record) (g : Recor
           (ap edge_at (dest-after m key c f g touches test h k r e x there) ∙ edge-zero e.options.retention (high_by (Some (g c r)) e.high) d))
 
   -- the command is on another key than the source and the destination
-  pub counts-elsewhere : (s k : Key) (e : Record) → (w : CountsAllFrom m s k) → get k m ≡ Some e → same k key ≡ false → same s key ≡ false → link_to m s ≡ None →
-      CountsAllFrom (settled (bodies key f touches test m)) s k
+  pub counts-elsewhere : (s k : Key) (e : Record) → (w : CountsFrom m s k) → get k m ≡ Some e → same k key ≡ false → same s key ≡ false → link_to m s ≡ None →
+      CountsFrom (settled (bodies key f touches test m)) s k
   counts-elsewhere s k e w there dest_other source_other free = record {
     source = settled_record (bodies key f touches test m) s (clear_record key test w.source);
     rule = w.rule;
@@ -123,13 +124,13 @@ module _ (m : State) (key : Key) (c : Record) (f : Record → Record) (g : Recor
 -- A rule between series without retention, that counts all eligible samples, of a valid state
 pub record CountsForEver (limits : Limits) (m : State) (s k : Key) : Type 0 where
   pub valid : IsValid limits m
-  pub from : CountsAllFrom m s k
+  pub from : CountsFrom m s k
   pub dest : Record
   pub dest_there : get k m ≡ Some dest
   pub source_for_ever : from.source.options.retention ≡ 0
   pub dest_for_ever : dest.options.retention ≡ 0
 
-source-free : (limits : Limits) (m : State) (s k : Key) (h : CountsForEver limits m s k) → link_to m s ≡ None
+pub source-free : (limits : Limits) (m : State) (s k : Key) (h : CountsForEver limits m s k) → link_to m s ≡ None
 source-free limits m s k h = go (link_to m s) refl
   where
     go : (o : Option Link) → link_to m s ≡ o → o ≡ None
@@ -147,17 +148,17 @@ source-rule limits m s k h =
     each-rule-at (IsSoundRule h.from.source) k h.from.source.rules h.from.rule (ap (λ (q : Record). rule_to k q.rules) (sym eq) ∙ fnd.rule) (h.valid.sound s h.from.source h.from.there).rules
 
 -- A write to a key other than the destination leaves all eligible samples counted.
-pub counts-all-after-write : (limits : Limits) (m : State) (s k key : Key) (c : Record) (t : ℕ) (v : ℤ) → CountsForEver limits m s k → get key m ≡ Some c → same k key ≡ false → CountsAllFrom (written key t v m) s k
+pub counts-all-after-write : (limits : Limits) (m : State) (s k key : Key) (c : Record) (t : ℕ) (v : ℤ) → CountsForEver limits m s k → get key m ≡ Some c → same k key ≡ false → CountsFrom (written key t v m) s k
 counts-all-after-write limits m s k key c t v h there other = go (same s key) refl
   where
-    go : (b : Bool) → same s key ≡ b → CountsAllFrom (written key t v m) s k
+    go : (b : Bool) → same s key ≡ b → CountsFrom (written key t v m) s k
     go false x =
         counts-elsewhere m key c (with_sample t v) (λ d r. counted (sample_for t v d) d.high (put (sample_for t v d) d.plain) r) (write_touches t (high_at (get key m))) (λ b. b == t)
         (write-done limits m key c t v h.valid there) s k h.dest h.from h.dest_there other x (source-free limits m s k h)
     go true x =
         let keys : s ≡ key = same-true s key x in
         let eq : h.from.source ≡ c = some-same h.from.source c (sym h.from.there ∙ ap (λ (j : Key). get j m) keys ∙ there) in
-        subst (λ (j : Key). CountsAllFrom (written key t v m) j k) (sym keys)
+        subst (λ (j : Key). CountsFrom (written key t v m) j k) (sym keys)
         (counts-from-source m key c (with_sample t v) (λ d r. counted (sample_for t v d) d.high (put (sample_for t v d) d.plain) r) (write_touches t (high_at (get key m))) (λ b. b == t)
         (write-done limits m key c t v h.valid there) k h.from.rule h.dest
         (h.from.linked ∙ ap (λ (j : Key). Some (record { source = j; rule = h.from.rule })) keys) h.dest_there
@@ -166,17 +167,17 @@ counts-all-after-write limits m s k key c t v h there other = go (same s key) re
         (counts-all-written t v h.from.source h.from.rule (h.valid.sound s h.from.source h.from.there) (source-rule limits m s k h) h.from.counts)))
 
 -- A deletion on a key other than the destination leaves all eligible samples counted.
-pub counts-all-after-deletion : (limits : Limits) (m : State) (s k key : Key) (c : Record) (from to : ℕ) → CountsForEver limits m s k → get key m ≡ Some c → same k key ≡ false → CountsAllFrom (deleted key from to m) s k
+pub counts-all-after-deletion : (limits : Limits) (m : State) (s k key : Key) (c : Record) (from to : ℕ) → CountsForEver limits m s k → get key m ≡ Some c → same k key ≡ false → CountsFrom (deleted key from to m) s k
 counts-all-after-deletion limits m s k key c from to h there other = go (same s key) refl
   where
-    go : (b : Bool) → same s key ≡ b → CountsAllFrom (deleted key from to m) s k
+    go : (b : Bool) → same s key ≡ b → CountsFrom (deleted key from to m) s k
     go false x =
         counts-elsewhere m key c (without from to) (λ d r. recounted (between from to d.plain) (outside from to d.plain) r) (meets (between from to (plain_at (get key m)))) (is_within from to)
         (deletion-done limits m key c from to h.valid there) s k h.dest h.from h.dest_there other x (source-free limits m s k h)
     go true x =
         let keys : s ≡ key = same-true s key x in
         let eq : h.from.source ≡ c = some-same h.from.source c (sym h.from.there ∙ ap (λ (j : Key). get j m) keys ∙ there) in
-        subst (λ (j : Key). CountsAllFrom (deleted key from to m) j k) (sym keys)
+        subst (λ (j : Key). CountsFrom (deleted key from to m) j k) (sym keys)
         (counts-from-source m key c (without from to) (λ d r. recounted (between from to d.plain) (outside from to d.plain) r) (meets (between from to (plain_at (get key m)))) (is_within from to)
         (deletion-done limits m key c from to h.valid there) k h.from.rule h.dest
         (h.from.linked ∙ ap (λ (j : Key). Some (record { source = j; rule = h.from.rule })) keys) h.dest_there
@@ -187,7 +188,7 @@ counts-all-after-deletion limits m s k key c from to h there other = go (same s 
 -- ---- a new rule
 
 -- A new rule has counted all eligible samples: there are none yet.
-pub counts-all-made : (dest : Key) (agg : Aggregator) (grid : Grid) (d : Record) → IsSound d → CountsAll (with_rule dest agg grid d) (new_rule dest agg grid d)
+pub counts-all-made : (dest : Key) (agg : Aggregator) (grid : Grid) (d : Record) → IsSound d → CountsAll (with_rule dest agg grid d).plain (new_rule dest agg grid d)
 counts-all-made dest agg grid d s =
     ascending-same [] (filter (is_eligible (new_rule dest agg grid d)) d.plain) tt (ascending-filter (is_eligible (new_rule dest agg grid d)) d.plain s.ascending)
     (λ t. sym (at-filter t (is_eligible (new_rule dest agg grid d)) d.plain s.ascending ∙ none t (at t d.plain) refl))

@@ -165,7 +165,7 @@ module _ (limits : Limits) (m : State) (ends : Key → Key → Bool) (v : IsVali
 
   -- ---- settled
 
-  plain-left : (k : Key) (d : Record) → ends_into ends k (link_to m k) ≡ false → (ended_in ends m k d).plain ≡ d.plain
+  pub plain-left : (k : Key) (d : Record) → ends_into ends k (link_to m k) ≡ false → (ended_in ends m k d).plain ≡ d.plain
   plain-left k d e = ap (λ (b : Bool). if b then shown_by (rule_into m k) d else d.plain) e
 
   tidy-ended : (k : Key) (d : Record) → get k m ≡ Some d → Fate k → tidied_by (rule_into (ended ends m) k) (ended_in ends m k d) ≡ ended_in ends m k d

@@ -75,3 +75,7 @@ pub mod BucketRoom
 pub mod KeptLists
 pub mod BucketSpan
 pub mod WordsOfRules
+pub mod CountsOn
+pub mod CountsAfter
+pub mod StepCounts
+pub mod NewCounts

@@ -73,7 +73,7 @@ sound-ruled dest agg grid d s = record {
 -- ---- the state
 
 module _ (limits : Limits) (m : State) (source dest : Key) (agg : Aggregator) (grid : Grid) (s d : Record) (v : IsValid limits m) (h : IsRulable limits m source dest s d) where
-  source-after : get source (ruled source dest agg grid m) ≡ Some (with_rule dest agg grid s)
+  pub source-after : get source (ruled source dest agg grid m) ≡ Some (with_rule dest agg grid s)
   source-after =
       get-change m source source (with_rule dest agg grid) ∙ ap (option_map (λ c. if same source source then with_rule dest agg grid c else c)) h.source_there
       ∙ ap (λ (b : Bool). Some (if b then with_rule dest agg grid s else s)) (same-refl source)

@@ -3,6 +3,7 @@ pub mod Answer
 pub mod Bucket
 pub mod Command
 pub mod Counting
+pub mod CountsAll
 pub mod Encoded
 pub mod FaultNames
 pub mod Filter
@@ -41,6 +42,7 @@ pub mod Stands
 pub mod State
 pub mod Step
 pub mod Text
+pub mod Totals
 pub mod Valid
 pub mod Value
 pub mod Wire

@@ -4,6 +4,7 @@
 
 mod bucket;
 mod command;
+mod counting_laws;
 mod kept_laws;
 mod laws;
 mod limits;
@@ -16,6 +17,7 @@ mod wire;
 
 pub use bucket::{Aggregation, Aggregator, Align, Stamp};
 pub use command::At;
+pub use counting_laws::a_new_rule_counts_all_that_its_source_has;
 pub use kept_laws::{each_step_keeps_a_state_valid, what_is_kept_is_enough};
 pub use laws::{one_bucket_shows_at_its_start, settling_twice_is_settling_once};
 pub use limits::Limits;
