@@ -105,7 +105,7 @@ info-kept m k = go (get k m) refl
 
 -- ---- answers over many
 
-labels-kept : (m : State) (k : Key) → kept_labels_at (get k (kept m)) ≡ labels_at (get k m)
+pub labels-kept : (m : State) (k : Key) → kept_labels_at (get k (kept m)) ≡ labels_at (get k m)
 labels-kept m k = ap kept_labels_at (get-kept m k) ∙ go (get k m)
   where
     go : (o : Option Record) → kept_labels_at (option_map (kept_record (link_to m k)) o) ≡ labels_at o
