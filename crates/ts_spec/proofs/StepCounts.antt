@@ -18,7 +18,8 @@ use Rattle.ts_spec.specs.Rules.{shown, plain_at, Merged, Refuse, Keep, To, merge
 use Rattle.ts_spec.specs.Refusal.{Fault}
 use Rattle.ts_spec.specs.Command.{Spec, Change, Triple, Command, Create, Alter, Add, Madd, Incr, DelRange, CreateRule, DeleteRule, Range, MRange, Get, MGet, QueryIndex, InfoOf, Ping, Echo, Quit, Drop, Exists}
 use Rattle.ts_spec.specs.Response.{Response, Item}
-use Rattle.ts_spec.specs.Step.{Outcome, time_of, created, is_longer, alter_at, shows_more, first_full, rules_at, unless_full, within_destinations, write_merged, value_at, write, add_at, put_at, triple_step, item_of, madd, is_before_last, changed_value, incr_at, meets_expired, delete_at, has_rules, create_rule_at, delete_rule_at, drop_keys, step}
+use Rattle.ts_spec.specs.Step.{Outcome, time_of, created, is_longer, alter_at, shows_more, first_full, rules_at, unless_full, within_destinations, write_merged, value_at, unless_ignored, write, add_at, put_at, triple_step, item_of, madd, is_before_last, changed_value, increased, incr_at, meets_expired, delete_at, has_rules, create_rule_at, delete_rule_at, drop_keys, step}
+use Rattle.ts_spec.specs.Ignoring.{ignored}
 use Rattle.ts_spec.specs.Valid.{IsValid}
 use Rattle.ts_spec.specs.CountsAll.{CountsAll, JoinsForEver, StillCountsAll, names, changes}
 use Rattle.ts_spec.proofs.StepKeeps.{triple-good, rulable}
@@ -61,9 +62,15 @@ module _ (limits : Limits) (s k : Key) (old : Rule) where
       pick Counts (shows_more limits.samples (written key t x m) key) _ _ (λ e. h)
       (λ e. destinations-count m key _ h (counts-on-written limits m s k key old d t x v there other h))
 
+  -- where a sample is ignored nothing changes
+  unless-counts : (m : State) (q : Option ℕ) (o : Outcome) → Counts m → Counts o.state → Counts (unless_ignored m q o).state
+  unless-counts m None o h after = after
+  unless-counts m (Some last) o h after = h
+
   write-counts : (m : State) (key : Key) (d : Record) (how : Merge) (t : ℕ) (x : ℤ) → IsValid limits m → get key m ≡ Some d → same k key ≡ false → Counts m → Counts (write limits m key d how t x).state
   write-counts m key d how t x v there other h =
-      pick Counts (nat_lt t (edge d)) _ _ (λ e. h) (λ e. merged-counts m key d t (merge how (value_at t (shown m key)) x) v there other h)
+      pick Counts (nat_lt t (edge d)) _ _ (λ e. h)
+      (λ e. unless-counts m (ignored m key d t x) _ h (merged-counts m key d t (merge how (value_at t (shown m key)) x) v there other h))
 
   add-counts : (m : State) (key : Key) (t : ℕ) (x : ℤ) (on : Option Policy) (spec : Spec) (o : Option Record) → IsValid limits m → get key m ≡ o → same k key ≡ false → Counts m → Counts (add_at limits m key t x on spec o).state
   add-counts m key t x on spec None v e other h = created-counts m key _ _ v e refl h
@@ -93,11 +100,16 @@ module _ (limits : Limits) (s k : Key) (old : Rule) where
       right true b y = absurd (false≢true (sym y))
       right false b y = y
 
+  increased-counts : (m : State) (key : Key) (d : Record) (t : ℕ) (w : Merged) → IsValid limits m → get key m ≡ Some d → same k key ≡ false → Counts m → Counts (increased limits m key d t w).state
+  increased-counts m key d t (Refuse r) v there other h = merged-counts m key d t (Refuse r) v there other h
+  increased-counts m key d t Keep v there other h = merged-counts m key d t Keep v there other h
+  increased-counts m key d t (To x) v there other h = unless-counts m (ignored m key d t x) _ h (merged-counts m key d t (To x) v there other h)
+
   incr-counts : (m : State) (key : Key) (x : ℤ) (t : ℕ) (spec : Spec) (o : Option Record) → IsValid limits m → get key m ≡ o → same k key ≡ false → Counts m → Counts (incr_at limits m key x t spec o).state
   incr-counts m key x t spec None v e other h = created-counts m key _ _ v e refl h
   incr-counts m key x t spec (Some d) v e other h =
       pick Counts (is_before_last t (last_of (shown m key))) _ _ (λ y. h)
-      (λ y. pick Counts (nat_lt t (edge d)) _ _ (λ z. h) (λ z. merged-counts m key d t (within_bound (changed_value x (last_of (shown m key)))) v e other h))
+      (λ y. pick Counts (nat_lt t (edge d)) _ _ (λ z. h) (λ z. increased-counts m key d t (within_bound (changed_value x (last_of (shown m key)))) v e other h))
 
   delete-counts : (m : State) (key : Key) (from to : ℕ) (o : Option Record) → IsValid limits m → get key m ≡ o → same k key ≡ false → Counts m → Counts (delete_at limits m key from to o).state
   delete-counts m key from to None v e other h = h
