@@ -1,5 +1,6 @@
 -- Numbers that are read byte by byte.
-use Rattle.std.proofs.Common.{◌≡◌, ℕ, ◌+◌, ◌-◌, ◌*◌, ◌/◌, ◌%◌, ◌<◌, ◌≤◌, List, [], ◌∷◌, ◌++◌, length, get_or, take, take_all, drop, refl, sym, ap, ◌∙◌, subst, inl, inr, arith, add-one}
+use Rattle.std.proofs.Common.{◌≡◌, ℕ, ◌+◌, ◌-◌, ◌*◌, ◌/◌, ◌%◌, ◌<◌, ◌≤◌, zero, suc, List, [], ◌∷◌, ◌++◌, length, get_or, take, take_all, drop, refl, sym, ap, ◌∙◌, subst, inl, inr, arith, add-one}
+use Rattle.std.specs.Prelude.{⊤}
 use Rattle.std.proofs.Math.Nat.{mul-le-mul_left}
 use Rattle.std.proofs.Math.Seq.{drop-cons}
 use Rattle.std.proofs.lemmas.Bool.{cases_lt}
@@ -123,13 +124,37 @@ module _ (limit : ℕ) (bytes : List ℕ) (i sum weight : ℕ) (inside : i < len
         absurd (omega (arith, reading.worth, reading.below))
   ]
 
--- after a first or a second byte from 128 on there is one more
-module _ (limit : ℕ) (bytes : List ℕ) (b : Begins limit bytes) (first : 128 ≤ get_or bytes 0 0) where
-  from_second : IsReading limit bytes (drop 1 bytes) (0 + (get_or bytes 0 0 - 128) * 1) (1 * 128)
-  from_second = read_on limit bytes 0 0 1 (not_ended limit bytes b) (started limit bytes b) first
+-- each of the first so many bytes is from 128 on
+abbrev pub AreMore : ℕ → List ℕ → Type 0
+AreMore zero bytes = ⊤
+AreMore (suc n) bytes = AreMore n bytes × (128 ≤ get_or bytes n 0)
 
-  pub second_there : 1 < length bytes
-  second_there = still_within limit bytes 0 0 1 (not_ended limit bytes b) (started limit bytes b) first
+-- what of the number such bytes are, and what weight the next one has
+pub record IsReadTo (limit : ℕ) (bytes : List ℕ) (i : ℕ) : Type 0 where
+  pub sum : ℕ
+  pub weight : ℕ
+  pub reading : IsReading limit bytes (drop i bytes) sum weight
 
-  pub third_there : 128 ≤ get_or bytes 1 0 → 2 < length bytes
-  third_there second = still_within limit bytes 1 (0 + (get_or bytes 0 0 - 128) * 1) (1 * 128) second_there from_second second
+read_to : (limit : ℕ) (bytes : List ℕ) (b : Begins limit bytes) (i : ℕ) → AreMore i bytes → IsReadTo limit bytes i
+read_to limit bytes b zero more = record { sum = 0; weight = 1; reading = started limit bytes b }
+read_to limit bytes b (suc i) more =
+    let r = read_to limit bytes b i more.0 in
+    let on = read_on limit bytes i r.sum r.weight (within limit bytes i r.sum r.weight r.reading) r.reading more.1 in
+    let next : i + 1 ≡ suc i = omega arith in
+    record {
+      sum = r.sum + (get_or bytes i 0 - 128) * r.weight;
+      weight = r.weight * 128;
+      reading = subst (λ (n : ℕ). IsReading limit bytes (drop n bytes) (r.sum + (get_or bytes i 0 - 128) * r.weight) (r.weight * 128)) next on;
+    }
+
+-- past such bytes there is one more
+pub byte_there : (limit : ℕ) (bytes : List ℕ) (b : Begins limit bytes) (i : ℕ) → AreMore i bytes → i < length bytes
+byte_there limit bytes b i more = let r = read_to limit bytes b i more in within limit bytes i r.sum r.weight r.reading
+
+-- and where that is below 128, the others come after the number
+pub bytes_after : (limit : ℕ) (bytes : List ℕ) (b : Begins limit bytes) (i : ℕ) → AreMore i bytes → get_or bytes i 0 < 128
+    → take (length bytes - (i + 1)) (drop (i + 1) bytes) ≡ (number_of bytes).1
+bytes_after limit bytes b i more last =
+    let r = read_to limit bytes b i more in
+    all_left bytes (i + 1)
+    ∙ left_after limit bytes i r.sum r.weight (within limit bytes i r.sum r.weight r.reading) r.reading last

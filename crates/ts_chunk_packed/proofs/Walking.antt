@@ -1,5 +1,5 @@
 -- A walk of a visitor over the samples of bytes.
-use Rattle.std.proofs.Common.{◌≡◌, ℕ, suc, ◌+◌, ◌<◌, ◌≤◌, Bool, true, false, cond, if◌then◌else◌, List, [], ◌∷◌, length, drop, get_or, refl, sym, ap, ◌∙◌, subst, arith, add-one}
+use Rattle.std.proofs.Common.{◌≡◌, ℕ, ◌+◌, ◌<◌, ◌≤◌, Bool, true, false, cond, if◌then◌else◌, List, [], ◌∷◌, length, drop, get_or, refl, sym, ap, ◌∙◌, subst, arith, add-one}
 use Rattle.std.specs.Prelude.{nat_le}
 use Rattle.std.proofs.lemmas.Bool.Decides.{nat_tests}
 use Rattle.std.proofs.Math.Seq.{drop-cons}
@@ -42,6 +42,52 @@ stopped from to p rest rises past =
 within_from : (from to t : ℕ) → t ≤ to → is_within from to t ≡ nat_le from t
 within_from from to t early = grind (arith, nat_tests)
 
+-- a first sample that is not past the interval, and then the others
+module _ {V : Type 0} (step : V → Point → V) (room : V → ℕ) (lowers : (v : V) (p : Point) → room v ≤ room (step v p) + 1) (from to : ℕ) (now : V) (p : Point) (rest : List Point) (early : p.time ≤ to) where
+  abbrev following : List Point
+  following = between from to rest
+
+  either : Bool → List Point
+  either b = cond b (p ∷ following) following
+
+  both : between from to (p ∷ rest) ≡ either (nat_le from p.time)
+  unfolding either
+  both = ap (λ (b : Bool). cond b (p ∷ following) following) (within_from from to p.time early)
+
+  taken_first : (b : Bool) → visited step (if b then step now p else now) following ≡ visited step now (either b)
+  unfolding either
+  taken_first true = refl
+  taken_first false = refl
+
+  room_past : (b : Bool) → length (either b) ≤ room now → length following ≤ room (if b then step now p else now)
+  unfolding either
+  room_past true enough = omega (arith, lowers now p)
+  room_past false enough = enough
+
+  one_more : (b : Bool) → length (either b) ≤ length following + 1
+  unfolding either
+  one_more true = omega arith
+  one_more false = omega arith
+
+  some_first : (b : Bool) → b ≡ true → 1 ≤ length (either b)
+  unfolding either
+  some_first true is = omega arith
+  some_first false is = cc
+
+  pub first_room : length (between from to (p ∷ rest)) ≤ room now → nat_le from p.time ≡ true → 1 ≤ room now
+  first_room enough is = omega (arith, ap length both, some_first (nat_le from p.time) is)
+
+  pub room_then : length (between from to (p ∷ rest)) ≤ room now → (v : V) → v ≡ (if nat_le from p.time then step now p else now) → length (between from to rest) ≤ room v
+  room_then enough v is =
+      subst (λ (w : V). length following ≤ room w) (sym is)
+      (room_past (nat_le from p.time) (subst (λ (l : List Point). length l ≤ room now) both enough))
+
+  pub visited_then : (v : V) → v ≡ (if nat_le from p.time then step now p else now) → visited step v (between from to rest) ≡ visited step now (between from to (p ∷ rest))
+  visited_then v is = ap (λ (w : V). visited step w following) is ∙ taken_first (nat_le from p.time) ∙ ap (visited step now) (sym both)
+
+  pub at_most_one : length (between from to (p ∷ rest)) ≤ length (between from to rest) + 1
+  at_most_one = omega (arith, ap length both, one_more (nat_le from p.time))
+
 module _ {V : Type 0} (step : V → Point → V) (room : V → ℕ) (lowers : (v : V) (p : Point) → room v ≤ room (step v p) + 1) (from to : ℕ) (begins : V) (all : List Point) (before : ℕ) where
   pub begun : (s : State) (count : ℕ) (left : List ℕ) → IsLeft s count left → samples_from s count left ≡ all → length (between from to all) ≤ room begins
       → Walked step room from to begins begins all all s left before before 0
@@ -74,31 +120,6 @@ module _ {V : Type 0} (step : V → Point → V) (room : V → ℕ) (lowers : (v
     read : sample_of s left ≡ (p, packed_from (next s p) rest)
     read = ap (sample_of s) walked.bytes ∙ sample_back s p (packed_from (next s p) rest)
 
-    abbrev next_ones : List Point
-    next_ones = between from to rest
-
-    with_it : Bool → List Point
-    with_it b = cond b (p ∷ next_ones) next_ones
-
-    whole : p.time ≤ to → between from to (p ∷ rest) ≡ with_it (nat_le from p.time)
-    unfolding with_it
-    whole early = ap (λ (b : Bool). cond b (p ∷ next_ones) next_ones) (within_from from to p.time early)
-
-    taken : (b : Bool) → visited step (if b then step now p else now) next_ones ≡ visited step now (with_it b)
-    unfolding with_it
-    taken true = refl
-    taken false = refl
-
-    room_after : (b : Bool) → length (with_it b) ≤ room now → length next_ones ≤ room (if b then step now p else now)
-    unfolding with_it
-    room_after true enough = omega (arith, lowers now p)
-    room_after false enough = enough
-
-    one_longer : (b : Bool) → length (with_it b) ≤ length next_ones + 1
-    unfolding with_it
-    one_longer true = omega arith
-    one_longer false = omega arith
-
     on : p.time ≤ to → (after : V) → after ≡ (if nat_le from p.time then step now p else now) → (others : List ℕ) → others ≡ packed_from (next s p) rest
         → Walked step room from to begins after all rest (next s p) others before (steps + 1) (i + 1)
     on early after is others bytes = record {
@@ -107,11 +128,9 @@ module _ {V : Type 0} (step : V → Point → V) (room : V → ℕ) (lowers : (v
       fine = walked.fine.1;
       ascending = walked.ascending.1;
       starts = starts_after p.time rest walked.ascending.0;
-      visited = ap (λ (v : V). visited step v next_ones) is ∙ taken (nat_le from p.time) ∙ ap (visited step now) (sym (whole early)) ∙ walked.visited;
-      room =
-          subst (λ (v : V). length next_ones ≤ room v) (sym is)
-          (room_after (nat_le from p.time) (subst (λ (l : List Point). length l ≤ room now) (whole early) walked.room));
-      counted = omega (arith, ap length (whole early), one_longer (nat_le from p.time), walked.counted);
+      visited = visited_then step room lowers from to now p rest early after is ∙ walked.visited;
+      room = room_then step room lowers from to now p rest early walked.room after is;
+      counted = omega (arith, at_most_one step room lowers from to now p rest early, walked.counted);
       bounded = omega (arith, walked.bounded);
     }
 
@@ -125,12 +144,9 @@ module _ {V : Type 0} (step : V → Point → V) (room : V → ℕ) (lowers : (v
 
       -- there is room for it, if it is in the interval
       pub some_room : q.time ≤ to → nat_le from q.time ≡ true → 1 ≤ room now
-      unfolding with_it
       some_room early late =
           let e = ap (λ (r : Point). r.time) q_is in
-          let here : length (between from to (p ∷ rest)) ≡ suc (length next_ones) =
-          ap length (whole (omega (arith, e))) ∙ ap (λ (b : Bool). length (cond b (p ∷ next_ones) next_ones)) (ap (nat_le from) (sym e) ∙ late) in
-          omega (arith, walked.room)
+          first_room step room lowers from to now p rest (omega (arith, e)) walked.room (ap (nat_le from) (sym e) ∙ late)
 
       pub walked_on : q.time ≤ to → (v : V) → v ≡ (if nat_le from q.time then step now q else now) → (t : State) → t ≡ next s q
           → Walked step room from to begins v all rest t others before (steps + 1) (i + 1)

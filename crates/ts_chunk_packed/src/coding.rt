@@ -89,8 +89,8 @@ fn time_after<'a>(context: &Context, bytes: &'a [u8]) -> (u64, &'a [u8])
     (context.before().time + gap, rest)
 }
 
-// The value by the number that the bytes begin with, and the bytes after it. One of up to three bytes is read without
-// a loop.
+// The value by the number that the bytes begin with, and the bytes after it. One of up to six bytes is read without a
+// loop.
 #[inline(always)]
 fn value_after(from: i128, bytes: &[u8]) -> (i128, &[u8])
     requires from { unsigned_abs from ≤ bound }
@@ -98,21 +98,34 @@ fn value_after(from: i128, bytes: &[u8]) -> (i128, &[u8])
     ensures value { result.0 ≡ from +ℤ unzigzag (number_of bytes.now).0 }
     ensures rest { result.1.now ≡ (number_of bytes.now).1 }
 {
-    let first = bytes[0];
+    let first = bytes[0] as u64;
     if first < 128 {
-        return (ahead_near(from, first as u64), &bytes[1..]);
+        return (ahead_near(from, first), &bytes[1..]);
     }
-    let lowest = (first - 128) as u64;
-    let second = bytes[1];
+    let one = first - 128;
+    let second = bytes[1] as u64;
     if second < 128 {
-        let number = lowest + second as u64 * 128;
-        return (ahead_near(from, number), &bytes[2..]);
+        return (ahead_near(from, one + second * 128), &bytes[2..]);
     }
-    let lower = lowest + (second - 128) as u64 * 128;
-    let third = bytes[2];
+    let two = one + (second - 128) * 128;
+    let third = bytes[2] as u64;
     if third < 128 {
-        let number = lower + third as u64 * 16_384;
-        return (ahead_near(from, number), &bytes[3..]);
+        return (ahead_near(from, two + third * 16_384), &bytes[3..]);
+    }
+    let three = two + (third - 128) * 16_384;
+    let fourth = bytes[3] as u64;
+    if fourth < 128 {
+        return (ahead_near(from, three + fourth * 2_097_152), &bytes[4..]);
+    }
+    let four = three + (fourth - 128) * 2_097_152;
+    let fifth = bytes[4] as u64;
+    if fifth < 128 {
+        return (ahead_near(from, four + fifth * 268_435_456), &bytes[5..]);
+    }
+    let five = four + (fifth - 128) * 268_435_456;
+    let sixth = bytes[5] as u64;
+    if sixth < 128 {
+        return (ahead_near(from, five + sixth * 34_359_738_368), &bytes[6..]);
     }
     value_after_long(from, bytes)
 }

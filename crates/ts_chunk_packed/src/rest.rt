@@ -84,8 +84,9 @@ impl<'a> Rest<'a> {
         self.count
     }
 
-    // The next sample, and what is left after it.
-    fn split_first(&self) -> Option<(Sample, Rest<'a>)>
+    /// The next sample, and what is left after it.
+    #[inline(always)]
+    pub fn split_first(&self) -> Option<(Sample, Rest<'a>)>
         ensures list { IfSome result (λ r. self.now.list ≡ r.0 ∷ r.1.list) }
         ensures state { IfSome result (λ r. r.1.state ≡ next self.now.state r.0) }
         ensures ended { IfNone result (self.now.list ≡ []) }

@@ -1,7 +1,7 @@
 // A walk of a visitor over samples.
-ghost use Rattle.std.specs.Prelude.{◌≡◌, ◌+◌, ◌≤◌, nat_le, true, if◌then◌else◌, length};
+ghost use Rattle.std.specs.Prelude.{◌≡◌, ◌+◌, ◌≤◌, nat_le, true, if◌then◌else◌, ◌∷◌, length};
 ghost use Rattle.ts_sample.specs.Visit.{visited};
-ghost use Rattle.ts_spec.specs.Sample.{between};
+ghost use Rattle.ts_spec.specs.Sample.{IsAscending, between};
 
 use crate::coding::decode;
 use crate::rest::Rest;
@@ -9,7 +9,51 @@ use std::sync::ledger::Ledger;
 use ts_sample::{Sample, Steps, Visit};
 
 /// Takes a visitor over the samples of an interval among those that are left of a chunk.
+#[inline(always)]
 pub fn walk<V: Visit, L: Ledger>(
+    rest: Rest<'_>,
+    from: u64,
+    to: u64,
+    visit: &mut V,
+    steps: &mut Steps<L>,
+)
+    requires room { length (between from to rest.list) ≤ V.room visit.old }
+    ensures visited { visit.new ≡ visited V.step visit.old (between from to rest.entry.list) }
+    ensures counted { steps.old + length (between from to rest.entry.list) ≤ steps.new }
+    ensures bounded { steps.new ≤ steps.old + length rest.entry.list }
+{
+    if let Some((first, others)) = rest.split_first() {
+        walk_from(&first, others, from, to, visit, steps);
+    }
+}
+
+// The same over a first sample and the others. Past the first one it is known that there was one.
+#[inline(always)]
+fn walk_from<V: Visit, L: Ledger>(
+    first: &Sample,
+    others: Rest<'_>,
+    from: u64,
+    to: u64,
+    visit: &mut V,
+    steps: &mut Steps<L>,
+)
+    requires ascending { IsAscending (first.now ∷ others.list) }
+    requires room { length (between from to (first.now ∷ others.list)) ≤ V.room visit.old }
+    ensures visited { visit.new ≡ visited V.step visit.old (between from to (first.now ∷ others.entry.list)) }
+    ensures counted { steps.old + length (between from to (first.now ∷ others.entry.list)) ≤ steps.new }
+    ensures bounded { steps.new ≤ steps.old + length (first.now ∷ others.entry.list) }
+{
+    steps.tick();
+    if first.time > to {
+        return;
+    }
+    offer(first, from, visit);
+    walk_on(others, from, to, visit, steps);
+}
+
+// The same over samples that follow others.
+#[inline(always)]
+fn walk_on<V: Visit, L: Ledger>(
     rest: Rest<'_>,
     from: u64,
     to: u64,
@@ -35,6 +79,7 @@ pub fn walk<V: Visit, L: Ledger>(
 }
 
 // Gives a visitor a sample that is not before this time.
+#[inline(always)]
 fn offer<V: Visit>(sample: &Sample, from: u64, visit: &mut V)
     requires { nat_le from sample.now.time ≡ true → 1 ≤ V.room visit.old }
     ensures { visit.new ≡ (if nat_le from sample.now.time then V.step visit.old sample.now else visit.old) }

@@ -2,7 +2,7 @@ use Rattle.std.proofs.Common.{◌+◌, ◌<◌, drop, sym, ap, ◌∙◌, subst,
 use Rattle.ts_spec.specs.Sample.{Point}
 use Rattle.ts_chunk_packed.proofs.Resting.{length-samples_from}
 use Rattle.ts_chunk_packed.proofs.Walking.{Walked, begun, follows, no_earlier, some_room, walked_on, ended, all_walked}
-use Rattle.ts_chunk_packed.proofs.walk.walk.Goals as goal
+use Rattle.ts_chunk_packed.proofs.walk.walk_on.Goals as goal
 
 pub loop-init : goal.loop-init
 loop-init g c =

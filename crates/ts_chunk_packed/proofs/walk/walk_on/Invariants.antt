@@ -1,6 +1,6 @@
 use Rattle.std.proofs.Common.{drop}
 use Rattle.ts_chunk_packed.proofs.Walking.{Walked}
-use Rattle.ts_chunk_packed.proofs.walk.walk.Given as goal
+use Rattle.ts_chunk_packed.proofs.walk.walk_on.Given as goal
 
 abbrev pub invariant-loop : goal.invariant-loop
 invariant-loop g l =
