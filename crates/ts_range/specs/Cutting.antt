@@ -1,5 +1,5 @@
 -- Samples that are cut into buckets one after another.
-use Rattle.std.specs.Prelude.{◌≡◌, ◌<◌, ◌≤◌, ℕ, List, [], ◌++◌, Option, None, Some}
+use Rattle.std.specs.Prelude.{◌≡◌, ◌<◌, ◌≤◌, ℕ, List, [], ◌∷◌, ◌++◌, Option, None, Some}
 use Rattle.std.specs.List.{All}
 use Rattle.std.specs.Option.{ForSome}
 use Rattle.ts_spec.specs.Sample.{Point}
@@ -31,3 +31,12 @@ IsCut has bs (Some o) ps = IsOpenAt has bs o ps
 -- an open bucket has counted at most so many samples
 abbrev pub HasAtMost : ℕ → Option Bucket → Type 0
 HasAtMost n current = ForSome current (λ o. counted o.tally ≤ n)
+
+-- the bucket of a sample is open, which is the only one in it yet
+pub record HasBegun (bs : Buckets) (current : Option Bucket) (p : Point) : Type 0 where
+  pub bucket : Bucket
+  pub is : current ≡ Some bucket
+  pub span : IsSpan bs.grid bucket.start bucket.last
+  pub begins : bucket.start ≡ start bs.grid p.time
+  pub tells : Tells bs.agg bucket.tally (p ∷ [])
+  pub one : counted bucket.tally ≤ 1

@@ -63,6 +63,25 @@ impl Bucket {
         }
     }
 
+    // Hands on its row, and becomes the bucket of a sample past it, which is the only one in it yet. It is called once a
+    // bucket, and so it stands apart from what is done with each sample.
+    #[inline(never)]
+    pub(crate) fn turn<T: Take>(&mut self, buckets: &Buckets, sample: &Sample, taker: &mut T)
+        requires { self.old.last < sample.now.time }
+        ensures limit { T.limit taker.new ≡ T.limit taker.old }
+        ensures row { (ps : List Point) → Tells buckets.now.agg self.old.tally ps
+            → start_of buckets.now.grid self.old.start ≡ self.old.start
+            → (rows : List TheRow) → T.has taker.old rows
+            → T.has taker.new (rows ++ row_with (buckets_of buckets.now) self.old.start ps ∷ []) }
+        ensures span { IsSpan buckets.now.grid self.old.start self.old.last → IsSpan buckets.now.grid self.new.start self.new.last }
+        ensures start { IsSpan buckets.now.grid self.old.start self.old.last → self.new.start ≡ start_of buckets.now.grid sample.now.time }
+        ensures tells { Tells buckets.now.agg self.new.tally (sample.now ∷ []) }
+        ensures one { counted self.new.tally ≤ 1 }
+    {
+        self.tell(buckets, taker);
+        *self = self.after(buckets, sample);
+    }
+
     // Hands on its row.
     #[inline]
     pub(crate) fn tell<T: Take>(&self, buckets: &Buckets, taker: &mut T)

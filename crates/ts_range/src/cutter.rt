@@ -18,7 +18,7 @@ impl Cutter {
     ghost use Rattle.ts_agg.specs.Tally.{counted};
     ghost use Rattle.ts_range.specs.Query.{buckets_of};
     ghost use Rattle.ts_range.specs.BucketRows.{bucket_rows};
-    ghost use Rattle.ts_range.specs.Cutting.{IsCut, HasAtMost};
+    ghost use Rattle.ts_range.specs.Cutting.{IsCut, HasAtMost, HasBegun};
 
     // No sample yet.
     pub(crate) fn new(buckets: Buckets) -> Cutter
@@ -32,7 +32,7 @@ impl Cutter {
 
     // Puts a sample that is past the others into its bucket. Where that is another one, it hands on the row of
     // the one before. Within a bucket nothing is divided.
-    #[inline]
+    #[inline(always)]
     pub(crate) fn push<T: Take>(&mut self, sample: &Sample, taker: &mut T)
         requires few { ForSome self.old.current (λ b. counted b.tally < 10 ^ 14) }
         ensures buckets { self.new.buckets ≡ self.old.buckets }
@@ -42,16 +42,24 @@ impl Cutter {
             → IsCut (T.has taker.new) self.old.buckets self.new.current (ps ++ sample.now ∷ []) }
     {
         match &mut self.current {
-            None => self.current = Some(Bucket::of(&self.buckets, sample)),
+            None => self.open(sample),
             Some(bucket) => {
                 if sample.time <= bucket.last {
                     bucket.tally.push(sample);
                     return;
                 }
-                bucket.tell(&self.buckets, taker);
-                *bucket = bucket.after(&self.buckets, sample);
+                bucket.turn(&self.buckets, sample, taker);
             }
         }
+    }
+
+    // Opens the bucket of a first sample.
+    #[inline(never)]
+    fn open(&mut self, sample: &Sample)
+        ensures buckets { self.new.buckets ≡ self.old.buckets }
+        ensures begun { HasBegun self.old.buckets self.new.current sample.now }
+    {
+        self.current = Some(Bucket::of(&self.buckets, sample));
     }
 
     // Hands on the row of the bucket that is open.

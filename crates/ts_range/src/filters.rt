@@ -55,7 +55,7 @@ impl Filters {
     }
 
     // Whether both filters let a sample through.
-    #[inline]
+    #[inline(always)]
     pub(crate) fn let_through(&self, sample: &Sample) -> bool
         ensures { result ≡ passes self.now sample.now }
     {

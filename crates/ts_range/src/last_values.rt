@@ -94,6 +94,7 @@ impl<T: Take> Visit for LastValues<T> {
 
     ghost room = { λ w. 2 ^ 32 };
 
+    #[inline(always)]
     fn sample(&mut self, sample: &Sample) {
         take_sample(
             &self.filters,
@@ -109,6 +110,7 @@ impl<T: Take> Visit for LastValues<T> {
 }
 
 // Puts a sample that is past the others into its bucket, once the rows of those before it were handed on.
+#[inline(always)]
 fn take_sample<T: Take>(
     filters: &Filters,
     filling: &Filling,
@@ -125,6 +127,7 @@ fn take_sample<T: Take>(
 }
 
 // Puts a value into the bucket that is open. It may be let through.
+#[inline(always)]
 fn put(current: &mut Current, value: Units, is_chosen: bool)
     ensures place { current.new.place ≡ current.old.place }
     ensures latest { option_map cell_of current.new.latest ≡ Some (Number value) }

@@ -129,7 +129,7 @@ impl<T: Take> Visit for Walk<T> {
 
     ghost room = { λ w. 10 ^ 14 - length w.seen };
 
-    #[inline]
+    #[inline(always)]
     fn sample(&mut self, sample: &Sample) {
         take_sample(&self.filters, &mut self.cut, &mut self.taker, sample);
         self.seen = Trail::with(&self.seen, sample);
@@ -139,7 +139,7 @@ impl<T: Take> Visit for Walk<T> {
 }
 
 // Hands on the row that a sample makes, or that it ends, if the filters let it through.
-#[inline]
+#[inline(always)]
 fn take_sample<T: Take>(filters: &Filters, cut: &mut Option<Cutter>, taker: &mut T, sample: &Sample)
     requires { ForSome cut.old (λ c. ForSome c.current (λ b. counted b.tally < 10 ^ 14)) }
     ensures buckets { option_map (λ c. c.buckets) cut.new ≡ option_map (λ c. c.buckets) cut.old }
@@ -158,7 +158,7 @@ fn take_sample<T: Take>(filters: &Filters, cut: &mut Option<Cutter>, taker: &mut
 }
 
 // Hands on the row of a sample.
-#[inline]
+#[inline(always)]
 fn tell<T: Take>(sample: &Sample, taker: &mut T)
     ensures limit { T.limit taker.new ≡ T.limit taker.old }
     ensures row { (rows : List TheRow) → T.has taker.old rows → T.has taker.new (rows ++ row_of sample.now ∷ []) }

@@ -15,5 +15,5 @@ pub returns-else-sample-bucket-clause-cut : goal.returns-else-sample-bucket-clau
 returns-else-sample-bucket-clause-cut g c = λ ps rises is.
     next (g.T.Take.has c.args.taker.now) c.args.self.now.buckets c.in-Some.bucket ps (subst (λ (o : Option Bucket). IsCut (g.T.Take.has c.args.taker.now) c.args.self.now.buckets o ps) c.in-Some.is is) c.args.sample.now rises
     (omega (arith, ap (λ (p : Point). p.time) c.sample.view_is, c.if-sample-bucket.false)) (omega (arith, ap (λ (p : Point). p.time) c.sample.view_is, c.sample.invariant))
-    c.after.result c.after.ensures.span c.after.ensures.start c.after.ensures.tells
-    (g.T.Take.has c.tell.new.taker) c.tell.ensures.row
+    c.turn.new.self c.turn.ensures.span c.turn.ensures.start c.turn.ensures.tells
+    (g.T.Take.has c.turn.new.taker) c.turn.ensures.row
