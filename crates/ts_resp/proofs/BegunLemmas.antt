@@ -3,8 +3,8 @@ use Rattle.std.proofs.Common.{◌≡◌, ℕ, suc, ◌+◌, ◌<◌, Bool, true,
 use Rattle.std.proofs.lemmas.List.{drop-drop}
 use Rattle.ts_spec.specs.declared.wire.Kind.TheVariants.{Multibulk, Crlf}
 use Rattle.ts_spec.specs.declared.wire.WireLimits.{WireLimits}
-use Rattle.ts_spec.specs.Wire.{Mode, Start, Count, CountFeed, STAR, FEED, Move, Goto, Fault, Line, Blank, LineMove, Goes, Returns, Wrong, want, move, line_step, on_count, after_count}
-use Rattle.ts_spec.proofs.Lines.{want-same, want-other}
+use Rattle.ts_spec.specs.Wire.{Mode, Start, Count, CountFeed, STAR, FEED, Move, Fault, Line, Blank, LineMove, Goes, Returns, Wrong, want, move, line_step, on_count, after_count}
+use Rattle.ts_resp.proofs.StartLemmas.{on_star}
 use Rattle.ts_resp.specs.declared.line.NumberLine.{NumberLine}
 use Rattle.ts_resp.specs.declared.line.NumberLine.TheVariants as found
 use Rattle.ts_resp.specs.declared.header.Header.{Header}
@@ -17,7 +17,7 @@ pub begun_on-nil : (limits : WireLimits) (place begin : ℕ) (mode : Mode) → b
 unfolding begun_on
 begun_on-nil limits place begin mode = refl
 
-begun_on-byte : (limits : WireLimits) (place begin : ℕ) (mode : Mode) (byte : ℕ) (bytes : List ℕ) (m : Move) → move limits mode byte ≡ m
+pub begun_on-byte : (limits : WireLimits) (place begin : ℕ) (mode : Mode) (byte : ℕ) (bytes : List ℕ) (m : Move) → move limits mode byte ≡ m
     → begun_on limits place begin mode (byte ∷ bytes) ≡ begun_after m place begin (λ from next. begun_on limits (place + 1) from next bytes)
 unfolding begun_on
 begun_on-byte limits place begin mode byte bytes m e =
@@ -66,16 +66,13 @@ line_begun limits line (byte ∷ bytes) place begin =
 led : (limits : WireLimits) (first : ℕ) (line : List ℕ) (place begin : ℕ) (r : NumberLine) → first ≡ STAR → r ≡ number_line limits.words true Blank line
     → (begun_on limits place begin Start (first ∷ line) ≡ begun_on limits (place + 1) begin (Count Blank) line) × IsLineBegun limits Blank line (place + 1) begin r
 led limits first line place begin r e is = (
-  begun_on-byte limits place begin Start first line _ (want-same first STAR Multibulk (Goto (Count Blank)) e),
+  begun_on-byte limits place begin Start first line _ (on_star limits first e),
   subst (IsLineBegun limits Blank line (place + 1) begin) (sym is) (line_begun limits Blank line (place + 1) begin),
 )
 
 pub IsBegun-none : (limits : WireLimits) (bytes : List ℕ) → length bytes < 1 → IsBegun limits bytes header.Open
 IsBegun-none limits [] h = λ place begin. begun_on-nil limits place begin Start
 IsBegun-none limits (byte ∷ bytes) h = absurd (omega arith)
-
-pub IsBegun-first : (limits : WireLimits) (first : ℕ) (line : List ℕ) → (first ≡ STAR → ⊥) → IsBegun limits (first ∷ line) (header.Broken Multibulk 0)
-IsBegun-first limits first line e = λ place begin. begun_on-byte limits place begin Start first line _ (want-other first STAR Multibulk (Goto (Count Blank)) e)
 
 pub IsBegun-open : (limits : WireLimits) (first : ℕ) (line : List ℕ) → first ≡ STAR → found.Open ≡ number_line limits.words true Blank line
     → IsBegun limits (first ∷ line) header.Open

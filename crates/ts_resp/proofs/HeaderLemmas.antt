@@ -9,6 +9,7 @@ use Rattle.ts_spec.specs.Wire as wire
 use Rattle.ts_spec.specs.Wire.{Stream, Inside, Partial, Mode, Start, Mark, Count, CountFeed, Length, LengthFeed, after_count, after_length, Move, Goto, Fault, Line, Blank, LineMove, Goes, Returns, Wrong, FEED, want, move, line_step, on_count, on_length, at_end, after_move, read_on}
 use Rattle.ts_spec.proofs.Streams.{read_on-nil, read_on-byte}
 use Rattle.ts_spec.proofs.Lines.{on_line, IsLineMode, IsFed, count_line, length_line, length_ends, want-same}
+use Rattle.ts_resp.proofs.StartLemmas.{on_star}
 use Rattle.ts_resp.specs.declared.line.NumberLine.{NumberLine}
 use Rattle.ts_resp.specs.declared.line.NumberLine.TheVariants as found
 use Rattle.ts_resp.specs.declared.header.Header.{Header}
@@ -168,7 +169,7 @@ IsHeader-feed {limits} {limit} {negative} {mode} {ends} {kind} {entry} {first} l
     subst (IsHeader limits entry next (first ∷ line)) (sym is) (fed_line led next feed line number len (drop (len + 1) line) e f fed refl)
 
 pub count_led : (limits : WireLimits) (first : ℕ) → first ≡ 42 → IsLed limits limits.words true Count (λ n. Goto (CountFeed n)) Multibulk Start first
-count_led limits first e = record { line = count_line limits; leads = want-same first 42 Multibulk (Goto (Count Blank)) e }
+count_led limits first e = record { line = count_line limits; leads = on_star limits first e }
 
 pub length_led : (limits : WireLimits) (so_far : Partial) (first : ℕ) → first ≡ 36
     → IsLed limits limits.word_bytes false (Length so_far) (length_ends so_far) Bulk (Mark so_far) first

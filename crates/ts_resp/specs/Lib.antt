@@ -5,4 +5,5 @@ pub mod Reading
 pub mod Replies
 pub mod Room
 pub mod Steps
+pub mod Texts
 pub mod Words

@@ -1,7 +1,7 @@
 -- What a reader of requests holds, and the stream that it stands for.
 use Rattle.std.specs.Prelude.{ℕ, ◌+◌, List, [], ◌∷◌, ◌++◌, length, Option, Some, None}
 use Rattle.ts_spec.specs.declared.wire.WireLimits.{WireLimits}
-use Rattle.ts_spec.specs.Wire.{Partial, Mode, Start, Mark, Move, Goto, Whole, Fault, move, Stream, Ended, Inside, read_on}
+use Rattle.ts_spec.specs.Wire.{Request, Partial, Mode, Start, Mark, Move, Goto, Whole, Fault, move, Stream, Ended, Inside, read_on}
 
 -- the place where the request at hand begins, the place of the first unread byte, the whole words of that request, and the unread bytes
 pub record Reading : Type 0 where
@@ -24,11 +24,16 @@ stream_of r more = read_on r.limits r.place r.begin (mode_of r.so_far) (r.unread
 abbrev pub fed : Reading → ℕ
 fed r = r.place + length r.unread
 
--- where a request begins of which the next byte is at place: a request without words is passed over, and any other begins here
+-- where the request at hand begins, where one is whole: one without words is passed over
+abbrev pub begun_whole : Request → (place begin : ℕ) → (ℕ → Mode → Option ℕ) → Option ℕ
+begun_whole [] place begin on = on (place + 1) Start
+begun_whole (word ∷ words) place begin on = Some begin
+
+-- where a request begins of which the next byte is at place
 abbrev pub begun_after : Move → (place begin : ℕ) → (ℕ → Mode → Option ℕ) → Option ℕ
 begun_after (Goto (Mark so_far)) place begin on = Some begin
 begun_after (Goto next) place begin on = on begin next
-begun_after (Whole request) place begin on = on (place + 1) Start
+begun_after (Whole request) place begin on = begun_whole request place begin on
 begun_after (Fault kind) place begin on = Some begin
 
 -- the same where the bytes end: between two requests, or inside the one that began

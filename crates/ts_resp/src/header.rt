@@ -1,5 +1,5 @@
 // The first lines of a request, and a whole word, as they stand at the beginning of unread bytes.
-ghost use Rattle.std.specs.Prelude.{ℕ, ◌≡◌, ◌+◌, ◌-◌, ◌^◌, ◌<◌, ◌≤◌, drop, length};
+ghost use Rattle.std.specs.Prelude.{ℕ, ◌≡◌, ◌+◌, ◌-◌, ◌^◌, ◌<◌, ◌≤◌, drop, length, slice_index};
 ghost use Rattle.ts_spec.specs.declared.wire.Kind.TheVariants.{TooLarge};
 ghost use Rattle.ts_spec.specs.Wire.{Request};
 ghost use Rattle.ts_resp.specs.Headers.{IsCount, IsBegun, IsLength, IsWord, IsHeaderWithin, IsWordWithin, HasNumber, HasAtMost, feed_at, ended_by, body_at};
@@ -22,21 +22,16 @@ pub(crate) enum FoundWord {
     Broken { kind: Kind, at: usize },
 }
 
-// How many words the request has that begins with the bytes.
+// How many words the array has that begins with the bytes.
 pub(crate) fn count_header(bytes: &[u8], limits: &WireLimits) -> Header
+    requires { 0 < length bytes.now → slice_index bytes.now 0 ≡ 42 }
     ensures meaning { IsCount limits.now bytes.now result }
     ensures begun { IsBegun limits.now bytes.now result }
     ensures within { IsHeaderWithin (length bytes.now) result }
 {
-    let [first, line @ ..] = bytes else {
+    let [_, line @ ..] = bytes else {
         return Header::Open;
     };
-    if *first != b'*' {
-        return Header::Broken {
-            kind: Kind::Multibulk,
-            at: 0,
-        };
-    }
     if let Some((number, len)) = short_line(line, limits.words, true) {
         return Header::Whole {
             number,

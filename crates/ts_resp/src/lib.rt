@@ -11,7 +11,9 @@ mod parts;
 mod protocol;
 mod reader;
 mod reply;
+mod text;
 mod word;
+mod words;
 
 pub use gap::{GAP, close_array, open_array};
 pub use out::Out;

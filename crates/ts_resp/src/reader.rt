@@ -1,10 +1,12 @@
 // The requests of a stream that comes in pieces.
-ghost use Rattle.std.specs.Prelude.{◌≡◌, ◌≢◌, ℕ, ◌+◌, ◌^◌, ◌<◌, ◌≤◌, List, [], ◌++◌, length, OnOk, OnErr};
+ghost use Rattle.std.specs.Prelude.{◌≡◌, ◌≢◌, ℕ, ◌+◌, ◌^◌, ◌<◌, ◌≤◌, List, [], ◌++◌, length, drop, slice_index, Some, OnOk, OnErr, IfSome, MatchOption};
 ghost use Rattle.ts_spec.specs.Wire.{Then, Broken, Start, stream_at};
 ghost use Rattle.ts_resp.specs.Reading.{stream_of, fed, unfinished, begun_on, ended_at};
 ghost use Rattle.ts_resp.specs.Next.{IfRequest, UnlessRequest, OnNotYet, IfBroken};
 
 use crate::header::{Header, count_header};
+use crate::text::{Text, begins_line, found_text};
+use crate::words::is_blank_line;
 use crate::{Protocol, Word};
 use bytes::BytesMut;
 use std::alloc::{AllocError, Global};
@@ -58,6 +60,8 @@ pub struct Reader {
     place: u64,
     so_far: Option<Unfinished>,
     unread: BytesMut,
+    // how many of the unread bytes are known to hold no LF: a line that comes in pieces is looked through once
+    scanned: usize,
     // room for the words of the next request
     spare: Vec<Word>,
 }
@@ -65,6 +69,7 @@ pub struct Reader {
 impl Model for Reader {
     ghost use Rattle.std.specs.Prelude.{◌+◌, ◌^◌, ◌<◌, ◌≤◌, length};
     ghost use Rattle.ts_resp.specs.Reading.{Reading};
+    ghost use Rattle.ts_resp.specs.Texts.{before_feed};
 
     ghost Value = { Reading };
 
@@ -76,7 +81,8 @@ impl Model for Reader {
       unread = r.unread.items;
     } };
 
-    ghost invariant = { λ r. (r.begin ≤ r.place) × (r.place + length r.unread.items < 2 ^ 64) };
+    ghost invariant = { λ r. (r.begin ≤ r.place) × (r.place + length r.unread.items < 2 ^ 64)
+        × (r.scanned ≤ before_feed r.unread.items) };
 }
 
 impl Reader {
@@ -86,6 +92,7 @@ impl Reader {
         requires words { 1 ≤ limits.words }
         requires word_bytes { 1 ≤ limits.word_bytes }
         requires request_bytes { 1 ≤ limits.request_bytes }
+        requires line_bytes { 1 ≤ limits.line_bytes }
         ensures stream { (more : List ℕ) → stream_of result more ≡ stream_at limits 0 more }
         ensures fed { fed result ≡ 0 }
         ensures place { unfinished result ≡ None }
@@ -98,6 +105,7 @@ impl Reader {
             place: 0,
             so_far: None,
             unread: BytesMut::new(alloc),
+            scanned: 0,
             spare: Vec::new(alloc),
         }
     }
@@ -193,14 +201,49 @@ fn first_begin(bytes: &[u8], limits: &WireLimits, place: u64, begin: u64) -> Opt
     let mut place = place;
     let mut begin = begin;
     while !rest.is_empty() {
-        match count_header(rest, limits) {
-            Header::Whole { number: 0, feed } => {
-                rest = &rest[feed + 1..];
-                place += feed as u64 + 1;
-                begin = place;
-            }
-            Header::Open | Header::Whole { .. } | Header::Broken { .. } => return Some(begin),
-        }
+        let Some(len) = wordless(rest, limits) else {
+            return Some(begin);
+        };
+        rest = &rest[len..];
+        place += len as u64;
+        begin = place;
     }
     None
+}
+
+// How many bytes the request takes that stands at the beginning of the bytes, if it is whole and has no words.
+fn wordless(bytes: &[u8], limits: &WireLimits) -> Option<usize>
+    requires { 0 < length bytes.now }
+    ensures begun { MatchOption result
+        ((place begin : ℕ) → begun_on limits.now place begin Start bytes.now ≡ Some begin)
+        (λ len. (place begin : ℕ) → begun_on limits.now place begin Start bytes.now
+        ≡ begun_on limits.now (place + len) (place + len) Start (drop len bytes.now)) }
+    ensures within { IfSome result (λ len. (0 < len) × (len ≤ length bytes.now)) }
+{
+    if begins_line(bytes) {
+        return blank_line(bytes, limits);
+    }
+    match count_header(bytes, limits) {
+        Header::Whole { number: 0, feed } => Some(feed + 1),
+        Header::Open | Header::Whole { .. } | Header::Broken { .. } => None,
+    }
+}
+
+// The same of a line.
+fn blank_line(bytes: &[u8], limits: &WireLimits) -> Option<usize>
+    requires some { 0 < length bytes.now }
+    requires line { slice_index bytes.now 0 ≢ 42 }
+    ensures begun { MatchOption result
+        ((place begin : ℕ) → begun_on limits.now place begin Start bytes.now ≡ Some begin)
+        (λ len. (place begin : ℕ) → begun_on limits.now place begin Start bytes.now
+        ≡ begun_on limits.now (place + len) (place + len) Start (drop len bytes.now)) }
+    ensures within { IfSome result (λ len. (0 < len) × (len ≤ length bytes.now)) }
+{
+    let Text::Whole { feed } = found_text(bytes, 0, limits) else {
+        return None;
+    };
+    if !is_blank_line(&bytes[..feed]) {
+        return None;
+    }
+    Some(feed + 1)
 }
