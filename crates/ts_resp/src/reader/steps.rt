@@ -1,13 +1,11 @@
-// One header or one word at a time.
-ghost use Rattle.std.specs.Prelude.{◌≡◌, ◌≢◌, ◌+◌, ◌-◌, ◌<◌, ◌≤◌, [], ◌∷◌, ◌++◌, length, drop, slice_index, slice_range, Some, None, OnOk, OnErr, IfOk, IfErr, MatchOption};
+// One header or one word of an array at a time.
+ghost use Rattle.std.specs.Prelude.{◌≡◌, ◌+◌, ◌-◌, ◌<◌, ◌≤◌, [], ◌∷◌, ◌++◌, length, drop, slice_index, slice_range, Some, None, OnOk, OnErr, IfOk, IfErr, MatchOption};
 ghost use Rattle.ts_resp.specs.Headers.{IsCount, IsBegun, IsWord, IsWordWithin};
 ghost use Rattle.ts_resp.specs.Steps.{GoesOn, Answers};
-ghost use Rattle.ts_resp.specs.Texts.{IsText, IsTextBegun};
 
 use super::{Next, Reader, Unfinished};
 use crate::header::{FoundWord, Header, count_header, found_word};
-use crate::text::{Text, begins_line, found_text};
-use crate::words::push_words;
+use crate::text::begins_line;
 use crate::{Protocol, Word};
 use std::alloc::{AllocError, Global};
 use std::mem;
@@ -35,48 +33,6 @@ impl Reader {
             return self.read_line();
         }
         self.read_count()
-    }
-
-    fn read_line(&mut self) -> Option<Next>
-        requires between { self.old.so_far ≡ None }
-        requires some { 0 < length self.old.unread }
-        requires line { slice_index self.old.unread 0 ≢ 42 }
-        ensures { MatchOption result (GoesOn self.old self.new) (Answers self.old self.new) }
-    {
-        match found_text(self.unread.as_slice(), self.scanned, &self.limits) {
-            Text::Open => {
-                self.scanned = self.unread.len();
-                Some(Next::NotYet)
-            }
-            Text::Whole { feed } => self.take_line(feed),
-            Text::TooLong => {
-                let at = self.limits.line_bytes as usize;
-                Some(Next::Broken(self.fault(Kind::TooLarge, at)))
-            }
-        }
-    }
-
-    // Takes the words of a line whose LF stands at `feed`. Where memory is wanting, the line is left unread.
-    fn take_line(&mut self, feed: usize) -> Option<Next>
-        requires between { self.old.so_far ≡ None }
-        requires text { IsText self.old.limits self.old.unread (Text.Whole feed) }
-        requires begun { IsTextBegun self.old.limits self.old.unread (Text.Whole feed) }
-        requires within { feed < length self.old.unread }
-        ensures { MatchOption result (GoesOn self.old self.new) (Answers self.old self.new) }
-    {
-        let mut words = mem::replace(&mut self.spare, Vec::new(self.alloc));
-        words.clear();
-        let line = &self.unread.as_slice()[..feed];
-        if push_words(self.alloc, line, &mut words).is_err() {
-            return Some(Next::Memory);
-        }
-        self.pass(feed + 1);
-        self.begin = self.place;
-        if words.is_empty() {
-            self.spare = words;
-            return None;
-        }
-        Some(Next::Request(words))
     }
 
     fn read_count(&mut self) -> Option<Next>
@@ -153,7 +109,7 @@ impl Reader {
     }
 
     // Passes over unread bytes.
-    fn pass(&mut self, len: usize)
+    pub(super) fn pass(&mut self, len: usize)
         requires { len ≤ length self.old.unread }
         ensures { self.new ≡ record self.old
             { place = self.old.place + len; unread = drop len self.old.unread } }
@@ -164,7 +120,7 @@ impl Reader {
     }
 
     // The fault of an unread byte.
-    fn fault(&self, kind: Kind, at: usize) -> Protocol
+    pub(super) fn fault(&self, kind: Kind, at: usize) -> Protocol
         requires { at < length self.now.unread }
         ensures { result ≡ record { kind = kind; place = self.now.place + at } }
     {

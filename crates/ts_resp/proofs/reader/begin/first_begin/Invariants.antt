@@ -1,7 +1,7 @@
 use Rattle.std.proofs.Common.{◌≡◌, ◌+◌, ◌^◌, ◌<◌, length}
 use Rattle.ts_spec.specs.Wire.{Start}
 use Rattle.ts_resp.specs.Reading.{begun_on}
-use Rattle.ts_resp.proofs.reader.first_begin.Given as goal
+use Rattle.ts_resp.proofs.reader.begin.first_begin.Given as goal
 
 -- what is left begins where all of the bytes do
 abbrev pub invariant-loop-rest : goal.invariant-loop-rest
