@@ -1,6 +1,6 @@
 -- The answers of the calls of a store are those of the steps of each state that it stands for.
 use Rattle.std.proofs.Common.{◌≡◌, ◌≤◌, ℕ, ℤ, Bool, true, false, List, sym, ◌∙◌, ap, subst}
-use Rattle.std.specs.Prelude.{⊤, nat_le, Option, option_map, is_some, if◌then◌else◌, Result}
+use Rattle.std.specs.Prelude.{⊤, nat_le, Option, option_map, is_some, if◌then◌else◌, Result, Ok, Err, IfOk}
 use Rattle.ts_spec.specs.declared.limits.Limits.{Limits}
 use Rattle.ts_spec.specs.declared.series.Policy.{Policy}
 use Rattle.ts_spec.specs.declared.bucket.Aggregator.{Aggregator}
@@ -13,11 +13,13 @@ use Rattle.ts_spec.specs.Command.{Spec, Change, Create, Alter, CreateRule, Delet
 use Rattle.ts_spec.specs.Rules.{dropped}
 use Rattle.ts_spec.specs.Response.{Response, Done, Count}
 use Rattle.ts_spec.specs.Step.{create, alter_at, add_at, put_at, incr_at, delete_at, create_rule, delete_rule_at}
-use Rattle.ts_spec.specs.Questions.{asked, info_response}
+use Rattle.ts_spec.specs.Questions.{asked, info_response, labels_at}
+use Rattle.ts_spec.specs.Filter.{Filter, selection}
+use Rattle.ts_spec.specs.Totals.{total_shown}
 use Rattle.ts_spec.specs.Kept.{Kept, Keeping, kept, kept_record}
 use Rattle.ts_spec.specs.State.{link_to}
 use Rattle.ts_spec.specs.KeptStep.{kept_create, kept_alter_at, kept_add_at, kept_put_at, kept_incr_at, kept_delete_at, kept_create_rule, kept_delete_rule_at}
-use Rattle.ts_spec.specs.KeptQuestions.{kept_asked, kept_info_response}
+use Rattle.ts_spec.specs.KeptQuestions.{kept_asked, kept_info_response, kept_labels_at, kept_selection}
 use Rattle.ts_spec.specs.Keeping.{keep_dropped}
 use Rattle.ts_spec.specs.Stands.{StandsFor}
 use Rattle.ts_spec.proofs.KeptSteps.{kept-step}
@@ -26,10 +28,13 @@ use Rattle.ts_spec.proofs.DeleteStep.{delete-step}
 use Rattle.ts_spec.proofs.KeptEnds.{kept-dropped}
 use Rattle.ts_spec.proofs.KeysGo.{valid-dropped}
 use Rattle.ts_spec.proofs.KeptMaps.{get-kept, some-kept, count-kept}
-use Rattle.ts_spec.proofs.KeptAsked.{asked-kept, info-kept}
+use Rattle.ts_spec.proofs.KeptAsked.{asked-kept, info-kept, labels-kept, selection-kept}
+use Rattle.ts_sample.specs.declared.id.Id.{Id}
 use Rattle.ts_db.specs.declared.fault.DbFault.{DbFault}
-use Rattle.ts_db.specs.Held.{Held, Stock, Stands, Leads, AnswersDone, AnswersNumber, Drops, Finds}
+use Rattle.ts_db.specs.Held.{Held, Stock, Stands, Leads, AnswersDone, AnswersNumber, Drops, Finds, AreNumbersOf}
 use Rattle.ts_db.specs.Answering.{KeptDone, KeptNumber}
+use Rattle.ts_db.specs.Totals.{total_of}
+use Rattle.ts_db.proofs.ShownTotals.{total-kept}
 use Rattle.ts_db.proofs.Refusing.{create-refuses, alter-refuses, add-refuses, put-refuses, incr-refuses, delete-refuses, create_rule-refuses, delete_rule-refuses}
 use Rattle.ts_db.proofs.Lifting.{at-limits, lifted, finds-state}
 
@@ -77,6 +82,28 @@ module _ (old new : Stock) (room : 1 ≤ old.limits.samples) where
 -- a key is there exactly where it is in each state that is stood for
 pub there-law : (stock : Stock) (key : Key) (was : Bool) → was ≡ is_some (get key stock.keys) → (from : Held) → Stands stock from → was ≡ is_some (get key from.state)
 there-law stock key was is from st = is ∙ ap (λ (m : Keeping). is_some (get key m)) st.state.kept ∙ some-kept from.state key
+
+-- there are as many keys as in each state that is stood for
+pub count-law : (stock : Stock) (n : ℕ) → n ≡ count_keys stock.keys → (from : Held) → Stands stock from → n ≡ count_keys from.state
+count-law stock n is from st = is ∙ ap count_keys st.state.kept ∙ count-kept from.state
+
+-- a key has the labels that it has in each state that is stood for
+pub labels-law : (stock : Stock) (key : Key) (from : Held) → Stands stock from → kept_labels_at (get key stock.keys) ≡ labels_at (get key from.state)
+labels-law stock key from st = ap (λ (m : Keeping). kept_labels_at (get key m)) st.state.kept ∙ labels-kept from.state key
+
+-- and the keys whose labels pass filters are those of each such state
+pub selection-law : (stock : Stock) (filters : List Filter) (from : Held) → Stands stock from → kept_selection stock.keys filters ≡ selection from.state filters
+selection-law stock filters from st = ap (λ (m : Keeping). kept_selection m filters) st.state.kept ∙ selection-kept from.state filters
+
+-- so the numbers that are selected are those of the selection in each such state
+pub select-law : {V E : Type 0} (items : V → List Id) (stock : Stock) (filters : List Filter) (r : Result V E) → IfOk r (λ v. AreNumbersOf stock.ids (kept_selection stock.keys filters) (items v))
+    → (from : Held) → Stands stock from → IfOk r (λ v. AreNumbersOf stock.ids (selection from.state filters) (items v))
+select-law items stock filters (Ok v) h from st = subst (λ (ks : List Key). AreNumbersOf stock.ids ks (items v)) (selection-law stock filters from st) h
+select-law items stock filters (Err e) h from st = h
+
+-- all keys together show as many samples as in each such state
+pub total-law : (stock : Stock) (from : Held) → Stands stock from → total_of stock.keys ≡ total_shown from.state
+total-law stock from st = ap total_of st.state.kept ∙ total-kept from.state
 
 -- there is no room for one more exactly where there is none in each state that is stood for
 pub full-law : (stock : Stock) (full : Bool) → full ≡ nat_le stock.limits.keys (count_keys stock.keys) → (from : Held) → Stands stock from → full ≡ nat_le from.limits.keys (count_keys from.state)

@@ -42,3 +42,4 @@ pub mod StepBounds
 pub mod EasyWrites
 pub mod Selecting
 pub mod Totals
+pub mod ShownTotals

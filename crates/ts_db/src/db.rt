@@ -60,9 +60,10 @@ impl Db {
 
     /// How many keys there are.
     pub fn count(&self) -> u32
-        ensures { result ≡ count_keys self.now.keys }
+        ensures keys { result ≡ count_keys self.now.keys }
+        ensures each { (held : Held) → Stands self.now held → result ≡ count_keys held.state }
     {
-        self.store.keys.len().min(self.store.limits.keys as usize) as u32
+        self.store.count()
     }
 
     /// Whether there are as many keys as there may be. Takes no memory.

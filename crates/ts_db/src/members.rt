@@ -2,14 +2,15 @@
 ghost use Rattle.std.specs.Prelude.{◌≡◌, ◌≤◌, ◌^◌, ◌⊎◌, ℕ, suc, false, nat_lt, length, is_some, Some, IfOk, OnErr, ◌+◌, ◌*◌};
 ghost use Rattle.ts_sample.specs.Visit.{visited};
 ghost use Rattle.std.specs.Option.{ForSome};
-ghost use Rattle.ts_spec.specs.Filter.{all_hold};
+ghost use Rattle.ts_spec.specs.Filter.{all_hold, selection};
 ghost use Rattle.ts_spec.specs.Key.{Key};
 ghost use Rattle.ts_spec.specs.Keyed.{get};
 ghost use Rattle.ts_spec.specs.KeptQuestions.{kept_asked, kept_labels_at, kept_selection};
+ghost use Rattle.ts_spec.specs.Questions.{labels_at};
 ghost use Rattle.ts_spec.specs.Sample.{IsAscending, at_times, between, last_of};
+ghost use Rattle.ts_spec.specs.Totals.{total_shown};
 ghost use Rattle.ts_series.specs.Seams.{IsSeam, IsSeamed, EndsNear, Around};
-ghost use Rattle.ts_db.specs.Held.{IsLive, AreEntriesOf, AreNumbersOf, AreTimes, ends_of, reach_at, pieces_at};
-ghost use Rattle.ts_db.specs.Totals.{total_of};
+ghost use Rattle.ts_db.specs.Held.{Held, Stands, IsLive, AreEntriesOf, AreNumbersOf, AreTimes, ends_of, reach_at, pieces_at};
 ghost use Rattle.ts_db.specs.Bounds.{reach_of_all, walk_steps, selection_steps};
 
 use crate::db::Db;
@@ -29,6 +30,8 @@ impl Db {
         steps: &mut Steps<L>,
     ) -> Result<Vec<Id>, AllocError>
         ensures numbers { IfOk result (λ ids. AreNumbersOf self.now.ids (kept_selection self.now.keys filters.now) ids.items) }
+        ensures each { (held : Held) → Stands self.now held
+            → IfOk result (λ ids. AreNumbersOf self.now.ids (selection held.state filters.now) ids.items) }
         ensures unspent { OnErr result (steps.new ≡ steps.old) }
         ensures steps { steps.new ≤ steps.old + selection_steps self.now filters.now }
     {
@@ -47,6 +50,8 @@ impl Db {
         requires { IsLive self.now.ids id }
         ensures passes { (key : Key) → get key self.now.ids ≡ Some id
             → result ≡ all_hold filters.now (kept_labels_at (get key self.now.keys)) }
+        ensures each { (held : Held) → Stands self.now held → (key : Key) → get key self.now.ids ≡ Some id
+            → result ≡ all_hold filters.now (labels_at (get key held.state)) }
         ensures steps { steps.new ≤ steps.old + length filters.now }
     {
         self.store.passes(id, filters, steps)
@@ -62,7 +67,7 @@ impl Db {
 
     /// How many samples all keys show together. Takes no memory.
     pub fn total<L: Ledger>(&self, steps: &mut Steps<L>) -> u64
-        ensures total { result ≡ total_of self.now.keys }
+        ensures each { (held : Held) → Stands self.now held → result ≡ total_shown held.state }
         ensures counted { steps.old ≤ steps.new }
         ensures steps { steps.new ≤ steps.old + reach_of_all self.now }
     {
@@ -80,7 +85,9 @@ impl Db {
     /// The labels of the key of a number. Takes no memory.
     pub fn labels_of(&self, id: Id) -> &Labels
         requires { IsLive self.now.ids id }
-        ensures { (key : Key) → get key self.now.ids ≡ Some id → result.now ≡ kept_labels_at (get key self.now.keys) }
+        ensures labels { (key : Key) → get key self.now.ids ≡ Some id → result.now ≡ kept_labels_at (get key self.now.keys) }
+        ensures each { (held : Held) → Stands self.now held → (key : Key) → get key self.now.ids ≡ Some id
+            → result.now ≡ labels_at (get key held.state) }
     {
         self.store.labels_of(id)
     }

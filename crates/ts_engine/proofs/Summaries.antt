@@ -7,17 +7,15 @@ use Rattle.ts_io.specs.Counts.{Counts, counts_of}
 use Rattle.ts_io.specs.Sinks.{Grows}
 use Rattle.ts_resp.specs.Reading.{stream_of}
 use Rattle.ts_spec.specs.Run.{Placed, Runs, requests_in, until_quit}
+use Rattle.ts_spec.specs.Totals.{total_shown}
 use Rattle.ts_spec.specs.Wire.{Request, Stream, requests_of}
-use Rattle.ts_spec.specs.Kept.{kept}
 use Rattle.ts_spec.specs.Keyed.{count_keys}
 use Rattle.ts_spec.specs.Limits.{usual}
 use Rattle.ts_spec.specs.declared.limits.Limits.{Limits}
 use Rattle.ts_spec.specs.declared.wire.WireLimits.{WireLimits}
-use Rattle.ts_spec.proofs.KeptMaps.{count-kept}
 use Rattle.ts_spec.proofs.Runs.{Runs-append, Runs-one}
 use Rattle.ts_gen.specs.Workload.{script}
-use Rattle.ts_db.specs.Held.{Held, Stock, Stands}
-use Rattle.ts_db.specs.Totals.{total_of}
+use Rattle.ts_db.specs.Held.{Held}
 use Rattle.ts_engine.specs.declared.piped.End.{End}
 use Rattle.ts_engine.specs.declared.piped.End.TheVariants as end
 use Rattle.ts_engine.specs.declared.piped.Outcome.{Outcome}
@@ -81,12 +79,12 @@ same_six : (a b c d e f a' b' c' d' e' f' : ℕ) → a ≡ a' → b ≡ b' → c
 same_six a b c d e f a' b' c' d' e' f' p q r s t u = rw (p, q, r, s, t, u) refl
 
 -- a workload was answered whole, and what was counted are the numbers of its summary
-pub summed : (limits : Limits) (seed n : ℕ) (wire : WireLimits) (budget : ℕ) (outcome : Outcome) (held : Held) (stock : Stock) (told left readings readings' : Option (List ℕ)) (before after : Counts)
+pub summed : (limits : Limits) (seed n : ℕ) (wire : WireLimits) (budget : ℕ) (outcome : Outcome) (held : Held) (told left readings readings' : Option (List ℕ)) (before after : Counts)
     (size total errors keys samples : ℕ) → wire ≡ usual.wire → told ≡ Some (script seed n) → readings ≡ Some [] → before ≡ counts_of [] → outcome.end ≡ end.Ended
     → Piped wire budget outcome (start (record limits { wire = wire }) readings) (record { held = held; readings = readings' }) told left (λ w. before ≡ counts_of w) (λ w. after ≡ counts_of w)
-    → Stands stock held → size ≡ length (script seed n) → total ≡ after.total → errors ≡ after.errors → keys ≡ count_keys stock.keys → samples ≡ total_of stock.keys
+    → size ≡ length (script seed n) → total ≡ after.total → errors ≡ after.errors → keys ≡ count_keys held.state → samples ≡ total_shown held.state
     → IsSummary limits seed n (outcome.executed ∷ size ∷ total ∷ errors ∷ keys ∷ samples ∷ [])
-summed limits seed n wire budget outcome held stock told left readings readings' before after size total errors keys samples same tells none begun ended piped stands is_size is_total is_errors is_keys is_samples =
+summed limits seed n wire budget outcome held told left readings readings' before after size total errors keys samples same tells none begun ended piped is_size is_total is_errors is_keys is_samples =
     let had : (List ℕ → Type 0) = λ w. before ≡ counts_of w in
     let has : (List ℕ → Type 0) = λ w. after ≡ counts_of w in
     let to : World = record { held = held; readings = readings' } in
@@ -99,11 +97,10 @@ summed limits seed n wire budget outcome held stock told left readings readings'
     let ran : RanAll (with_usual_wire limits) (Some []) (script seed n) outcome.executed to had has =
     ran_all (with_usual_wire limits) (Some []) budget outcome to (script seed n) left had has three ended in
     let counted : after ≡ counts_of ran.text = ran.grown.each [] begun in
-    let held_keys : stock.keys ≡ kept held.state = stands.state.kept in
     record {
       text = ran.text;
       to = to;
       run = ran.run;
       are = same_six outcome.executed size total errors keys samples _ _ _ _ _ _ ran.executed_is is_size (is_total ∙ ap (λ (c : Counts). c.total) counted) (is_errors ∙ ap (λ (c : Counts). c.errors) counted)
-          (is_keys ∙ ap count_keys held_keys ∙ count-kept held.state) (is_samples ∙ ap total_of held_keys);
+          is_keys is_samples;
     }

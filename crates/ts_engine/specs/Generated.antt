@@ -2,16 +2,15 @@
 use Rattle.std.specs.Prelude.{◌≡◌, ℕ, List, [], ◌∷◌, length, Some}
 use Rattle.ts_io.specs.Counts.{counts_of}
 use Rattle.ts_io.specs.Sinks.{Grows, GrowsByFront}
-use Rattle.ts_spec.specs.Kept.{kept}
 use Rattle.ts_spec.specs.Keyed.{count_keys}
 use Rattle.ts_spec.specs.Limits.{usual}
 use Rattle.ts_spec.specs.Run.{Runs}
+use Rattle.ts_spec.specs.Totals.{total_shown}
 use Rattle.ts_spec.specs.declared.limits.Limits.{Limits}
 use Rattle.ts_gen.specs.Workload.{script}
 use Rattle.ts_words.specs.Lines.{summary_of}
 use Rattle.ts_words.specs.declared.status.Status.{Status}
 use Rattle.ts_words.specs.declared.status.Status.TheVariants as status
-use Rattle.ts_db.specs.Totals.{total_of}
 use Rattle.ts_engine.specs.Headline.{requests, start}
 use Rattle.ts_engine.specs.Top.{Reports}
 use Rattle.ts_engine.specs.Turn.{World, turn}
@@ -28,7 +27,7 @@ pub record IsSummary (limits : Limits) (seed n : ℕ) (numbers : List ℕ) : Typ
   pub to : World
   pub run : Runs turn (start (with_usual_wire limits) (Some [])) (requests usual.wire (script seed n)) text to
   pub are : numbers ≡ length (requests usual.wire (script seed n)) ∷ length (script seed n) ∷ (counts_of text).total ∷ (counts_of text).errors
-      ∷ count_keys to.held.state ∷ total_of (kept to.held.state) ∷ []
+      ∷ count_keys to.held.state ∷ total_shown to.held.state ∷ []
 
 -- what an output has of a workload, by the status that is meant: the whole summary, a front of it, or nothing
 abbrev pub Sums : (meant : Status) → Limits → (seed n : ℕ) → (had has : List ℕ → Type 0) → Type 0

@@ -1,7 +1,8 @@
 // What is done where the words of the command line ask for a workload.
 ghost use Rattle.std.specs.Prelude.{◌≡◌, ◌≢◌, ◌⊎◌, ◌<◌, ◌≤◌, IfSome};
 ghost use Rattle.ts_io.specs.Causes.{Rose};
-ghost use Rattle.ts_db.specs.Totals.{total_of};
+ghost use Rattle.ts_spec.specs.Totals.{total_shown};
+ghost use Rattle.ts_db.specs.Held.{Held, Stands};
 ghost use Rattle.ts_engine.specs.Generated.{IsSummary, Sums, Workload};
 ghost use Rattle.ts_engine.specs.Top.{AreUsable};
 
@@ -105,7 +106,7 @@ fn count_samples<L: Ledger>(db: &Db, blank: Blank) -> u64
     requires name { blank.name ≡ L.name }
     requires parts { blank.parts ≡ L.parts }
     requires some { 0 < blank.parts }
-    ensures { result ≡ total_of db.now.keys }
+    ensures { (held : Held) → Stands db.now held → result ≡ total_shown held.state }
 {
     db.total(&mut Steps::<L>::new(blank))
 }
