@@ -1,3 +1,4 @@
+pub mod Batching
 pub mod Counting
 pub mod Growth
 pub mod Holding

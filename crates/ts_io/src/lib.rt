@@ -6,7 +6,9 @@
 //! memory are numbered from 1 on, so each call from that one on has that number.
 #![tactic(auto)]
 
+mod batches;
 mod clock;
+mod connection;
 mod count_sink;
 mod failed;
 mod listener;
@@ -20,10 +22,15 @@ mod source;
 mod std_sink;
 mod std_source;
 mod system_clock;
+mod tcp_connection;
+mod tcp_link;
 mod tcp_net;
-mod tcp_reader;
+mod tcp_socket;
+mod waiting;
 
+pub use batches::Batches;
 pub use clock::Clock;
+pub use connection::{Connection, Wait};
 pub use count_sink::CountSink;
 pub use failed::Failed;
 pub use listener::{Ends, Listener};
@@ -36,5 +43,7 @@ pub use source::Source;
 pub use std_sink::StdSink;
 pub use std_source::StdSource;
 pub use system_clock::SystemClock;
+pub use tcp_connection::TcpConnection;
+pub use tcp_link::{TcpReader, TcpWriter};
 pub use tcp_net::TcpNet;
-pub use tcp_reader::TcpReader;
+pub use waiting::{Full, Waiting};

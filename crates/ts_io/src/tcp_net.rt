@@ -4,22 +4,31 @@ ghost use Rattle.ts_io.specs.Adapters.{failed_listens_of, hands_out};
 ghost use Rattle.ts_io.specs.Causes.{HasCause, counted};
 
 use crate::failed::count_failure;
-use crate::tcp_reader::TcpReader;
-use crate::{Ends, Failed, Listener, StdSink, StdSource};
-use std::io;
+use crate::tcp_link::Link;
+use crate::{
+    Batches, Ends, Failed, Listener, StdSink, StdSource, TcpConnection, TcpReader, TcpWriter,
+};
 use std::net::{Net, TcpListener, TcpStream};
+use std::{io, rt};
 
-/// A listener over the system's network, which counts its errors. A link has two handles of one connection, and
-/// its connection ends when it is closed. It tells nothing of the links to come or of the closed ones.
+/// A listener over the system's network, which counts its errors. It tells nothing of the links to come or of the closed
+/// ones.
+///
+/// Both ends of a link share one connection and what waits to be sent on it. Where a link is closed, this is sent, and then
+/// the connection ends.
 #[derive(Drop)]
 pub struct TcpNet<R> {
     rt: R,
     listener: Option<TcpListener>,
+    link: Option<Link>,
     is_out: bool,
     faults: u64,
 }
 
-impl<R: Net<Listener = TcpListener, Stream = TcpStream>> TcpNet<R> {
+impl<R> TcpNet<R>
+where
+    R: Net<Listener = TcpListener, Stream = TcpStream> + rt::Clock + AllocGlobal,
+{
     /// A listener that listens nowhere yet.
     pub fn new(rt: R) -> Self
         ensures faults { failed_listens_of result ≡ 0 }
@@ -30,16 +39,59 @@ impl<R: Net<Listener = TcpListener, Stream = TcpStream>> TcpNet<R> {
         TcpNet {
             rt,
             listener: None,
+            link: None,
             is_out: false,
             faults: 0,
         }
     }
+
+    // Listens at this address. The place of the link is made once.
+    fn listen(&mut self, address: &str) -> io::Result<()>
+        ensures out { hands_out self.new ≡ hands_out self.old }
+        ensures faults { failed_listens_of self.new ≡ failed_listens_of self.old }
+    {
+        let listener = TcpListener::bind(&self.rt, address)?;
+        if self.link.is_none() {
+            self.link = Some(Link::new(self.rt.alloc())?);
+        }
+        self.listener = Some(listener);
+        Ok(())
+    }
+
+    // The next connection as a link. Takes no memory.
+    fn next_link(&self) -> io::Result<Ends<StdSource<TcpReader>, StdSink<TcpWriter>>> {
+        let (Some(listener), Some(link)) = (&self.listener, &self.link) else {
+            return Err(io::Error::from(io::ErrorKind::NotConnected));
+        };
+        let input = link.share()?;
+        let out = link.share()?;
+        let (stream, _) = listener.accept()?;
+        link.put(Batches::new(self.rt.alloc(), TcpConnection::new(stream)))?;
+        Ok(Ends {
+            input: StdSource::new(TcpReader::new(input)),
+            out: StdSink::new(TcpWriter::new(out)),
+        })
+    }
+
+    // Sends what waits, and ends the connection of the link.
+    fn end_link(&self) {
+        let Some(link) = &self.link else { return };
+        let Some(mut batches) = link.take() else {
+            return
+        };
+        if batches.send_all().is_ok() {
+            batches.into_connection().end(&self.rt);
+        }
+    }
 }
 
-impl<R: Net<Listener = TcpListener, Stream = TcpStream>> Listener for TcpNet<R> {
+impl<R> Listener for TcpNet<R>
+where
+    R: Net<Listener = TcpListener, Stream = TcpStream> + rt::Clock + AllocGlobal,
+{
     type In = StdSource<TcpReader>;
 
-    type Out = StdSink<TcpStream>;
+    type Out = StdSink<TcpWriter>;
 
     ghost faults = { failed_listens_of };
 
@@ -56,24 +108,21 @@ impl<R: Net<Listener = TcpListener, Stream = TcpStream>> Listener for TcpNet<R> 
         ensures ok { OnOk result (failed_listens_of self.new ≡ failed_listens_of self.old) }
         ensures err { OnErr result (failed_listens_of self.new ≡ counted (failed_listens_of self.old)) }
     {
-        match TcpListener::bind(&self.rt, address) {
-            Ok(listener) => {
-                self.listener = Some(listener);
-                Ok(())
-            }
+        match self.listen(address) {
+            Ok(()) => Ok(()),
             Err(_) => Err(count_failure(&mut self.faults)),
         }
     }
 
     /// It waits for the next connection. Where no address is open it fails.
-    fn accept(&mut self) -> Result<Ends<StdSource<TcpReader>, StdSink<TcpStream>>, Failed>
+    fn accept(&mut self) -> Result<Ends<StdSource<TcpReader>, StdSink<TcpWriter>>, Failed>
         requires { hands_out self.old ≡ false }
         ensures out { hands_out self.new ≡ is_ok result }
         ensures cause { HasCause (failed_listens_of self.old) (failed_listens_of self.new) result }
         ensures ok { OnOk result (failed_listens_of self.new ≡ failed_listens_of self.old) }
         ensures err { OnErr result (failed_listens_of self.new ≡ counted (failed_listens_of self.old)) }
     {
-        match next_link(&self.listener) {
+        match self.next_link() {
             Ok(ends) => {
                 self.is_out = true;
                 Ok(ends)
@@ -82,26 +131,13 @@ impl<R: Net<Listener = TcpListener, Stream = TcpStream>> Listener for TcpNet<R> 
         }
     }
 
-    fn close(&mut self, ends: Ends<StdSource<TcpReader>, StdSink<TcpStream>>)
+    fn close(&mut self, ends: Ends<StdSource<TcpReader>, StdSink<TcpWriter>>)
         requires { hands_out self.old ≡ true }
         ensures out { hands_out self.new ≡ false }
         ensures faults { failed_listens_of self.new ≡ failed_listens_of self.old }
     {
         drop(ends);
+        self.end_link();
         self.is_out = false;
     }
-}
-
-// The next connection as a link.
-fn next_link(
-    listener: &Option<TcpListener>,
-) -> io::Result<Ends<StdSource<TcpReader>, StdSink<TcpStream>>> {
-    let Some(listener) = listener else {
-        return Err(io::Error::from(io::ErrorKind::NotConnected));
-    };
-    let (stream, _) = listener.accept()?;
-    Ok(Ends {
-        out: StdSink::new(stream.try_clone()?),
-        input: StdSource::new(TcpReader::new(stream)),
-    })
 }

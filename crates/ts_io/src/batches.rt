@@ -1,0 +1,269 @@
+// Replies over a connection leave together, and wait in memory for a peer that does not take them.
+ghost use Rattle.std.specs.Prelude.{◌≡◌, ◌≢◌, ◌<◌, ◌≤◌, [], length, true, false, IfOk, OnOk};
+ghost use Rattle.std.specs.Io.{ReadsAtMost, WritesAtMost};
+ghost use Rattle.std.specs.Io.KnownBytes.{ReadConsumes};
+ghost use Rattle.ts_io.specs.Batches.{Holds, TryConsumes, connection_of, waiting_of, peer_is_behind};
+ghost use Rattle.ts_io.specs.Causes.{HasCause};
+ghost use Rattle.ts_io.specs.Sinks.{Grows, WriteGrows};
+
+use crate::waiting::Waiting;
+use crate::{Connection, Failed, Sink, Source, Wait};
+use std::alloc::Global;
+
+/// How many bytes are gathered before they are sent: 16 KiB.
+const BATCH: usize = 16384;
+
+/// A connection, and the bytes that wait to be sent on it. What it has as a sink is what was sent, and then what waits.
+///
+/// What waits is sent before more is taken where 16 KiB were gathered since the last send, and before each read. A peer that
+/// did not take all in a moment is behind: then a send does not wait, and a read waits for either, for bytes to come or for
+/// the peer to take some. Before a read answers that the input has ended, all has been sent. Where a send fails, the write or
+/// the read that it belongs to fails.
+#[derive(Drop)]
+pub struct Batches<C> {
+    connection: C,
+    waiting: Waiting,
+    gathered: usize,
+    is_behind: bool,
+}
+
+impl<C: Connection> Batches<C> {
+    /// Nothing waits. Takes no memory.
+    pub fn new(alloc: Global, connection: C) -> Self
+        ensures connection { connection_of result ≡ connection }
+        ensures waiting { waiting_of result ≡ [] }
+        ensures behind { peer_is_behind result ≡ false }
+    {
+        Batches {
+            connection,
+            waiting: Waiting::new(alloc),
+            gathered: 0,
+            is_behind: false,
+        }
+    }
+
+    /// How many bytes wait.
+    pub fn waiting(&self) -> usize
+        ensures { result ≡ length (waiting_of self.now) }
+    {
+        self.waiting.len()
+    }
+
+    /// Sends all that waits, for as long as the peer needs to take it.
+    pub fn send_all(&mut self) -> Result<(), Failed>
+        ensures all { OnOk result (waiting_of self.new ≡ []) }
+        ensures has { Grows (Holds (C.has (connection_of self.old)) (waiting_of self.old))
+            (Holds (C.has (connection_of self.new)) (waiting_of self.new)) [] }
+        ensures left { C.left (connection_of self.new) ≡ C.left (connection_of self.old) }
+        ensures cause { HasCause (C.faults (connection_of self.old)) (C.faults (connection_of self.new)) result }
+    {
+        while !self.waiting.is_empty() {
+            self.send(Wait::Long)?;
+        }
+        Ok(())
+    }
+
+    /// The connection. What waits is dropped.
+    pub fn into_connection(self) -> C
+        ensures { result ≡ connection_of self }
+    {
+        self.connection
+    }
+
+    // Sends what waits, once.
+    fn send(&mut self, wait: Wait) -> Result<(), Failed>
+        ensures progress { wait ≡ Wait.Long → 0 < length (waiting_of self.old)
+            → OnOk result (length (waiting_of self.new) < length (waiting_of self.old)) }
+        ensures has { Grows (Holds (C.has (connection_of self.old)) (waiting_of self.old))
+            (Holds (C.has (connection_of self.new)) (waiting_of self.new)) [] }
+        ensures left { C.left (connection_of self.new) ≡ C.left (connection_of self.old) }
+        ensures cause { HasCause (C.faults (connection_of self.old)) (C.faults (connection_of self.new)) result }
+    {
+        let count = self.connection.send(self.waiting.as_slice(), wait)?;
+        self.waiting.drop_front(count);
+        Ok(())
+    }
+
+    // Sends what waits, if any does, and sees whether the peer keeps up.
+    fn send_off(&mut self) -> Result<(), Failed>
+        ensures behind { OnOk result (peer_is_behind self.new ≡ false → waiting_of self.new ≡ []) }
+        ensures has { Grows (Holds (C.has (connection_of self.old)) (waiting_of self.old))
+            (Holds (C.has (connection_of self.new)) (waiting_of self.new)) [] }
+        ensures left { C.left (connection_of self.new) ≡ C.left (connection_of self.old) }
+        ensures cause { HasCause (C.faults (connection_of self.old)) (C.faults (connection_of self.new)) result }
+    {
+        self.gathered = 0;
+        if self.waiting.is_empty() {
+            self.is_behind = false;
+            return Ok(());
+        }
+        let wait = if self.is_behind {
+            Wait::Not
+        } else {
+            Wait::Briefly
+        };
+        self.send(wait)?;
+        self.is_behind = !self.waiting.is_empty();
+        Ok(())
+    }
+
+    // Has these bytes wait. Where there is no room for them, it waits until there is; without any, they are sent.
+    fn gather(&mut self, bytes: &[u8]) -> Result<usize, Failed>
+        ensures bound { WritesAtMost result bytes.now }
+        ensures progress { 0 < length bytes.now → IfOk result (λ n. 0 < n) }
+        ensures bytes { WriteGrows (Holds (C.has (connection_of self.old)) (waiting_of self.old))
+            (Holds (C.has (connection_of self.new)) (waiting_of self.new)) result bytes.now }
+        ensures cause { HasCause (C.faults (connection_of self.old)) (C.faults (connection_of self.new)) result }
+    {
+        loop {
+            match self.waiting.push(bytes) {
+                Ok(()) => {
+                    self.gathered = self.gathered.saturating_add(bytes.len());
+                    return Ok(bytes.len());
+                }
+                Err(_) if self.waiting.is_empty() => return self.send_straight(bytes, Wait::Long),
+                Err(_) => self.send(Wait::Long)?,
+            }
+        }
+    }
+
+    // Sends what waits, and then these bytes, as far as the peer keeps up.
+    fn write_large(&mut self, bytes: &[u8]) -> Result<usize, Failed>
+        ensures bound { WritesAtMost result bytes.now }
+        ensures progress { 0 < length bytes.now → IfOk result (λ n. 0 < n) }
+        ensures bytes { WriteGrows (Holds (C.has (connection_of self.old)) (waiting_of self.old))
+            (Holds (C.has (connection_of self.new)) (waiting_of self.new)) result bytes.now }
+        ensures cause { HasCause (C.faults (connection_of self.old)) (C.faults (connection_of self.new)) result }
+    {
+        self.send_off()?;
+        if self.is_behind {
+            return self.gather(bytes);
+        }
+        self.write_straight(bytes)
+    }
+
+    // Sends these bytes, where nothing waits and the peer keeps up. Where it takes none, they wait.
+    fn write_straight(&mut self, bytes: &[u8]) -> Result<usize, Failed>
+        requires { waiting_of self.old ≡ [] }
+        ensures bound { WritesAtMost result bytes.now }
+        ensures progress { 0 < length bytes.now → IfOk result (λ n. 0 < n) }
+        ensures bytes { WriteGrows (Holds (C.has (connection_of self.old)) (waiting_of self.old))
+            (Holds (C.has (connection_of self.new)) (waiting_of self.new)) result bytes.now }
+        ensures cause { HasCause (C.faults (connection_of self.old)) (C.faults (connection_of self.new)) result }
+    {
+        match self.send_straight(bytes, Wait::Briefly) {
+            Ok(0) => {
+                self.is_behind = true;
+                self.gather(bytes)
+            }
+            Ok(count) => {
+                self.is_behind = count < bytes.len();
+                Ok(count)
+            }
+            Err(failed) => Err(failed),
+        }
+    }
+
+    // Sends these bytes once, where nothing waits.
+    fn send_straight(&mut self, bytes: &[u8], wait: Wait) -> Result<usize, Failed>
+        requires { waiting_of self.old ≡ [] }
+        ensures bound { WritesAtMost result bytes.now }
+        ensures progress { wait ≡ Wait.Long → 0 < length bytes.now → IfOk result (λ n. 0 < n) }
+        ensures bytes { WriteGrows (Holds (C.has (connection_of self.old)) (waiting_of self.old))
+            (Holds (C.has (connection_of self.new)) (waiting_of self.new)) result bytes.now }
+        ensures cause { HasCause (C.faults (connection_of self.old)) (C.faults (connection_of self.new)) result }
+    {
+        self.connection.send(bytes, wait)
+    }
+
+    // Waits for bytes to come, or for the peer to take what waits.
+    fn read_behind(&mut self, buf: &mut [u8]) -> Result<usize, Failed>
+        ensures bound { ReadsAtMost result buf.new }
+        ensures bytes { ReadConsumes (C.left (connection_of self.old)) (C.left (connection_of self.new)) result buf.new }
+        ensures ended { IfOk result (λ n. n ≡ 0 → 0 < length buf.old → waiting_of self.new ≡ []) }
+        ensures has { Grows (Holds (C.has (connection_of self.old)) (waiting_of self.old))
+            (Holds (C.has (connection_of self.new)) (waiting_of self.new)) [] }
+        ensures cause { HasCause (C.faults (connection_of self.old)) (C.faults (connection_of self.new)) result }
+    {
+        for _ in 0..u64::MAX {
+            match self.try_read(buf)? {
+                Some(0) => return self.send_all_and_read(buf),
+                Some(count) => return Ok(count),
+                None => self.send(Wait::Briefly)?,
+            }
+            if self.waiting.is_empty() {
+                return self.send_all_and_read(buf);
+            }
+        }
+        self.send_all_and_read(buf)
+    }
+
+    // Reads what has come.
+    fn try_read(&mut self, buf: &mut [u8]) -> Result<Option<usize>, Failed>
+        ensures bytes { TryConsumes (C.left (connection_of self.old)) (C.left (connection_of self.new)) result buf.new }
+        ensures waiting { waiting_of self.new ≡ waiting_of self.old }
+        ensures has { Grows (Holds (C.has (connection_of self.old)) (waiting_of self.old))
+            (Holds (C.has (connection_of self.new)) (waiting_of self.new)) [] }
+        ensures cause { HasCause (C.faults (connection_of self.old)) (C.faults (connection_of self.new)) result }
+    {
+        self.connection.try_receive(buf)
+    }
+
+    // Sends all that waits, and then waits for bytes to come, or the end.
+    fn send_all_and_read(&mut self, buf: &mut [u8]) -> Result<usize, Failed>
+        ensures bound { ReadsAtMost result buf.new }
+        ensures bytes { ReadConsumes (C.left (connection_of self.old)) (C.left (connection_of self.new)) result buf.new }
+        ensures all { OnOk result (waiting_of self.new ≡ []) }
+        ensures has { Grows (Holds (C.has (connection_of self.old)) (waiting_of self.old))
+            (Holds (C.has (connection_of self.new)) (waiting_of self.new)) [] }
+        ensures cause { HasCause (C.faults (connection_of self.old)) (C.faults (connection_of self.new)) result }
+    {
+        self.send_all()?;
+        self.connection.receive(buf)
+    }
+}
+
+impl<C: Connection> Source for Batches<C> {
+    ghost left = { λ b. C.left (connection_of b) };
+
+    ghost faults = { λ b. C.faults (connection_of b) };
+
+    fn read(&mut self, buf: &mut [u8]) -> Result<usize, Failed>
+        ensures bound { ReadsAtMost result buf.new }
+        ensures bytes { ReadConsumes (C.left (connection_of self.old)) (C.left (connection_of self.new)) result buf.new }
+        ensures cause { HasCause (C.faults (connection_of self.old)) (C.faults (connection_of self.new)) result }
+
+        // At the end of the input nothing waits, and else only what a peer that is behind has not taken.
+        ensures ended { IfOk result (λ n. n ≡ 0 → 0 < length buf.old → waiting_of self.new ≡ []) }
+        ensures has { Grows (Holds (C.has (connection_of self.old)) (waiting_of self.old))
+            (Holds (C.has (connection_of self.new)) (waiting_of self.new)) [] }
+    {
+        self.send_off()?;
+        if self.is_behind {
+            return self.read_behind(buf);
+        }
+        self.send_all_and_read(buf)
+    }
+}
+
+impl<C: Connection> Sink for Batches<C> {
+    ghost has = { λ b. Holds (C.has (connection_of b)) (waiting_of b) };
+
+    ghost faults = { λ b. C.faults (connection_of b) };
+
+    fn write(&mut self, bytes: &[u8]) -> Result<usize, Failed>
+        ensures bound { WritesAtMost result bytes.now }
+        ensures progress { 0 < length bytes.now → IfOk result (λ n. 0 < n) }
+        ensures bytes { WriteGrows (Holds (C.has (connection_of self.old)) (waiting_of self.old))
+            (Holds (C.has (connection_of self.new)) (waiting_of self.new)) result bytes.now }
+        ensures cause { HasCause (C.faults (connection_of self.old)) (C.faults (connection_of self.new)) result }
+    {
+        if bytes.len() >= BATCH {
+            return self.write_large(bytes);
+        }
+        if self.gathered >= BATCH {
+            self.send_off()?;
+        }
+        self.gather(bytes)
+    }
+}

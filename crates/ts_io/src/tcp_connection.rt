@@ -1,0 +1,65 @@
+// A connection of TCP.
+ghost use Rattle.std.specs.Prelude.{◌≡◌, ◌<◌, ◌≤◌, [], None, length, IfOk};
+ghost use Rattle.std.specs.Io.{ReadsAtMost, WritesAtMost};
+ghost use Rattle.std.specs.Io.KnownBytes.{ReadConsumes};
+ghost use Rattle.ts_io.specs.Batches.{TryConsumes};
+ghost use Rattle.ts_io.specs.Causes.{HasCause};
+ghost use Rattle.ts_io.specs.Sinks.{Grows, WriteGrows};
+
+use crate::failed::count_failure;
+use crate::tcp_socket::TcpSocket;
+use crate::{Connection, Failed, Wait};
+use std::net::TcpStream;
+use std::rt;
+
+/// A connection of TCP, which counts its errors. It tells nothing of what it gave or took.
+#[derive(Drop)]
+pub struct TcpConnection {
+    socket: TcpSocket,
+    faults: u64,
+}
+
+impl TcpConnection {
+    pub(crate) fn new(stream: TcpStream) -> Self {
+        TcpConnection {
+            socket: TcpSocket::new(stream),
+            faults: 0,
+        }
+    }
+
+    /// Ends the connection, once its client has what was sent. What fails here comes after the last call that could tell of
+    /// it, and is not told.
+    pub(crate) fn end<R: rt::Clock>(self, rt: &R) {
+        let mut socket = self.socket;
+        let _ = socket.linger(rt);
+    }
+}
+
+impl Connection for TcpConnection {
+    ghost left = { λ _. None };
+
+    ghost has = { λ _ _. ⊥ };
+
+    ghost faults = { λ c. c.faults };
+
+    fn send(&mut self, bytes: &[u8], wait: Wait) -> Result<usize, Failed> {
+        match self.socket.send(bytes, wait) {
+            Ok(count) => Ok(count),
+            Err(_) => Err(count_failure(&mut self.faults)),
+        }
+    }
+
+    fn receive(&mut self, buf: &mut [u8]) -> Result<usize, Failed> {
+        match self.socket.receive(buf) {
+            Ok(count) => Ok(count),
+            Err(_) => Err(count_failure(&mut self.faults)),
+        }
+    }
+
+    fn try_receive(&mut self, buf: &mut [u8]) -> Result<Option<usize>, Failed> {
+        match self.socket.try_receive(buf) {
+            Ok(count) => Ok(count),
+            Err(_) => Err(count_failure(&mut self.faults)),
+        }
+    }
+}

@@ -1,0 +1,104 @@
+// A queue of bytes that wait to be sent.
+ghost use Rattle.std.specs.Prelude.{◌≡◌, ◌==◌, ◌≤◌, ◌^◌, [], ◌++◌, length, drop, OnOk, OnErr};
+
+use std::alloc::Global;
+use std::marker::Model;
+
+/// The most bytes that wait: 64 MiB.
+const MOST_WAITING: usize = 67_108_864;
+
+/// The most room that is kept where nothing waits.
+const MOST_SPARE: usize = 65536;
+
+/// There is no room for more bytes that wait.
+#[derive(Clone, Copy)]
+pub struct Full;
+
+/// Bytes that wait to be sent, in the order in which they came: at most 64 MiB.
+#[derive(Drop)]
+pub struct Waiting {
+    bytes: Vec<u8>,
+    sent: usize,
+}
+
+impl Model for Waiting {
+    ghost use Rattle.std.specs.Prelude.{◌≤◌, List, ℕ, drop, length};
+
+    ghost Value = { List ℕ };
+
+    ghost view = { λ w. drop w.sent w.bytes.items };
+
+    ghost invariant = { λ w. w.sent ≤ length w.bytes.items };
+}
+
+impl Waiting {
+    /// Nothing waits. Takes no memory.
+    pub fn new(alloc: Global) -> Self
+        ensures { result ≡ [] }
+    {
+        Waiting {
+            bytes: Vec::new(alloc),
+            sent: 0,
+        }
+    }
+
+    /// How many bytes wait.
+    pub fn len(&self) -> usize
+        ensures { result ≡ length self.now }
+    {
+        self.bytes.len() - self.sent
+    }
+
+    /// Whether nothing waits.
+    pub fn is_empty(&self) -> bool
+        ensures { result ≡ (length self.now == 0) }
+    {
+        self.len() == 0
+    }
+
+    /// The bytes that wait.
+    pub fn as_slice(&self) -> &[u8]
+        ensures { result.now ≡ self.now }
+    {
+        &self.bytes[self.sent..]
+    }
+
+    /// Adds these bytes at the end. It is refused where more than 64 MiB would wait, or without memory, and then nothing
+    /// has changed.
+    pub fn push(&mut self, bytes: &[u8]) -> Result<(), Full>
+        ensures all { OnOk result (self.new ≡ self.old ++ bytes.now) }
+        ensures limit { OnOk result (length self.new ≤ 2 ^ 26) }
+        ensures unchanged { OnErr result (self.new ≡ self.old) }
+    {
+        if self.len().saturating_add(bytes.len()) > MOST_WAITING {
+            return Err(Full);
+        }
+        if self.sent >= self.len() {
+            self.forget_sent();
+        }
+        match self.bytes.extend_from_slice(bytes) {
+            Ok(()) => Ok(()),
+            Err(_) => Err(Full),
+        }
+    }
+
+    /// Takes this many bytes from the front.
+    pub fn drop_front(&mut self, count: usize)
+        requires { count ≤ length self.old }
+        ensures { self.new ≡ drop count self.old }
+    {
+        self.sent += count;
+        if self.sent == self.bytes.len() {
+            self.forget_sent();
+            self.bytes.shrink_to(MOST_SPARE);
+        }
+    }
+
+    // Moves what waits to the front of the room.
+    fn forget_sent(&mut self)
+        ensures { self.new ≡ self.old }
+    {
+        self.bytes.drain(..self.sent);
+        self.sent = 0;
+    }
+}
