@@ -4,7 +4,7 @@ use std::io;
 use std::io::{Read, Write};
 use std::net::{Shutdown, SocketAddr, TcpListener, TcpStream};
 use std::test::Fail;
-use ts_io::{Listener, TcpNet, write_all_counted};
+use ts_io::{Failed, Listener, TcpNet, write_all_counted};
 
 // An address of this machine that no one listens at.
 fn free_address(rt: &HostRuntime) -> io::Result<SocketAddr> {
@@ -29,6 +29,78 @@ fn a_connection_is_a_link(rt: HostRuntime) -> Result<(), Fail> {
     let mut told = Vec::new(rt.alloc());
     client.read_to_end(&mut told)?;
     assert_eq!(rt; told.as_slice(), b"told".as_slice());
+    Ok(())
+}
+
+// A listener, and a client that is connected to it.
+fn connected(rt: &HostRuntime) -> Result<(TcpNet<&HostRuntime>, TcpStream), Fail> {
+    let address = free_address(rt)?;
+    let text = format!(in rt.alloc(); "{address}")?;
+    let mut net = TcpNet::new(rt);
+    net.open(&text).map_err(|_| "open")?;
+    let client = TcpStream::connect(rt, address)?;
+    Ok((net, client))
+}
+
+#[test]
+fn no_reply_is_lost_where_the_client_has_sent_more(rt: HostRuntime) -> Result<(), Fail> {
+    let (mut net, mut client) = connected(&rt)?;
+    client.write_all(&[b'q'; 100_000])?;
+    client.shutdown(Shutdown::Write)?;
+    let mut ends = net.accept().map_err(|_| "accept")?;
+    assert_eq!(rt; read_two(&mut ends.input), Ok((2, *b"qq")));
+    for _ in 0..1000 {
+        assert_eq!(rt; write_all_counted(&mut ends.out, b"told"), Ok(()));
+    }
+    net.close(ends);
+    let mut told = Vec::new(rt.alloc());
+    client.read_to_end(&mut told)?;
+    assert_eq!(rt; told.len(), 4000);
+    Ok(())
+}
+
+// The client reads only what the system holds for it at the moment, and the server goes on where it would have to wait.
+#[test]
+fn a_client_that_reads_late_has_all(rt: HostRuntime) -> Result<(), Fail> {
+    let (mut net, mut client) = connected(&rt)?;
+    client.write_all(&[b'q'; 20_000])?;
+    let mut ends = net.accept().map_err(|_| "accept")?;
+    let mut reply = [0; 1000];
+    for turn in 0..20_000 {
+        reply[turn % 1000] = (turn % 251) as u8;
+        assert_eq!(rt; write_all_counted(&mut ends.out, &reply), Ok(()));
+    }
+    client.set_nonblocking(true)?;
+    let mut told = Vec::new(rt.alloc());
+    let mut room = [0; 65536];
+    for _ in 0..10_000 {
+        assert_eq!(rt; read_two(&mut ends.input), Ok((2, *b"qq")));
+        if let Ok(count) = client.read(&mut room) {
+            told.extend_from_slice(&room[..count])?;
+        }
+    }
+    client.set_nonblocking(false)?;
+    client.shutdown(Shutdown::Write)?;
+    net.close(ends);
+    client.read_to_end(&mut told)?;
+    assert_eq!(rt; told.len(), 20_000_000);
+    assert_eq!(rt; &told[19_999_000..], reply.as_slice());
+    Ok(())
+}
+
+#[test]
+fn a_send_that_fails_shows_at_the_next_read(rt: HostRuntime) -> Result<(), Fail> {
+    let (mut net, mut client) = connected(&rt)?;
+    client.write_all(b"ask")?;
+    let mut ends = net.accept().map_err(|_| "accept")?;
+    assert_eq!(rt; write_once(&mut ends.out, b"told"), Ok(4));
+    assert_eq!(rt; read_two(&mut ends.input), Ok((2, *b"as")));
+
+    // What it was told is not read: so its end is a reset.
+    drop(client);
+    assert_eq!(rt; write_once(&mut ends.out, b"told"), Ok(4));
+    assert_eq!(rt; read_two(&mut ends.input), Err(Failed));
+    net.close(ends);
     Ok(())
 }
 

@@ -1,8 +1,8 @@
-use Rattle.std.proofs.Common.{[], ◌++◌, length, sym, subst, arith}
+use Rattle.std.proofs.Common.{[], length, sym, subst, arith}
 use Rattle.std.proofs.lemmas.List.{take_all}
 use Rattle.ts_io.specs.Batches.{Holds}
 use Rattle.ts_io.specs.Sinks.{Grows}
-use Rattle.ts_io.proofs.Batching.{holds_gathered, write_after}
+use Rattle.ts_io.proofs.Batching.{holds_gathered}
 use Rattle.ts_io.proofs.Growth.{grows_twice}
 use Rattle.ts_io.proofs.batches.Batches.gather.Goals as goal
 

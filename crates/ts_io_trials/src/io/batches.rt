@@ -1,0 +1,160 @@
+// Replies that leave together, to a peer in memory.
+use crate::io::calls::{read_two, write_once};
+use crate::io::peer::Peer;
+use std::alloc::{AllocError, Global};
+use std::test::Fail;
+use ts_io::{Batches, Failed, Waiting, write_all_counted};
+
+// So many bytes, of which each tells its place.
+fn numbered(alloc: Global, count: usize) -> Result<Vec<u8>, AllocError> {
+    let mut bytes = Vec::with_capacity(alloc, count)?;
+    for place in 0..count {
+        bytes.push((place % 251) as u8)?;
+    }
+    Ok(bytes)
+}
+
+#[test]
+fn small_replies_leave_before_a_read(rt: HostRuntime) -> Result<(), Fail> {
+    let mut peer = Peer::new(rt.alloc(), 100_000);
+    peer.coming = 3;
+    let mut batches = Batches::new(rt.alloc(), peer);
+    for _ in 0..100 {
+        assert_eq!(rt; write_all_counted(&mut batches, b"reply"), Ok(()));
+    }
+    assert_eq!(rt; batches.waiting(), 500);
+    assert_eq!(rt; read_two(&mut batches), Ok((2, *b"xx")));
+    assert_eq!(rt; batches.waiting(), 0);
+    assert_eq!(rt; read_two(&mut batches), Ok((1, *b"x\0")));
+    let peer = batches.into_connection();
+    assert_eq!(rt; peer.taken.len(), 500);
+    assert_eq!(rt; peer.sends, 1);
+    Ok(())
+}
+
+#[test]
+fn many_replies_leave_by_sixteen_kibibytes(rt: HostRuntime) -> Result<(), Fail> {
+    let mut batches = Batches::new(rt.alloc(), Peer::new(rt.alloc(), 100_000));
+    let reply = numbered(rt.alloc(), 1024)?;
+    for _ in 0..160 {
+        assert_eq!(rt; write_all_counted(&mut batches, &reply), Ok(()));
+    }
+    assert_eq!(rt; batches.waiting(), 16384);
+    let peer = batches.into_connection();
+    assert_eq!(rt; peer.taken.len(), 9 * 16384);
+    assert_eq!(rt; peer.sends, 9);
+    Ok(())
+}
+
+#[test]
+fn a_large_reply_goes_straight_out_after_what_waits(rt: HostRuntime) -> Result<(), Fail> {
+    let mut batches = Batches::new(rt.alloc(), Peer::new(rt.alloc(), 100_000));
+    let reply = numbered(rt.alloc(), 20_000)?;
+    assert_eq!(rt; write_all_counted(&mut batches, b"before"), Ok(()));
+    assert_eq!(rt; write_once(&mut batches, &reply), Ok(20_000));
+    assert_eq!(rt; batches.waiting(), 0);
+    let peer = batches.into_connection();
+    assert_eq!(rt; peer.sends, 2);
+    assert_eq!(rt; &peer.taken[..6], b"before".as_slice());
+    assert_eq!(rt; &peer.taken[6..], reply.as_slice());
+    Ok(())
+}
+
+// Writes in pieces of each of these sizes in turn, with a read of no bytes after each tenth, until all is written.
+#[test]
+fn nothing_is_lost_doubled_or_turned_around(rt: HostRuntime) -> Result<(), Fail> {
+    let bytes = numbered(rt.alloc(), 300_000)?;
+    for most in [0, 1, 7, 1000, 16384, 30_000] {
+        let mut peer = Peer::new(rt.alloc(), most);
+        peer.coming = 1_000_000;
+        let mut batches = Batches::new(rt.alloc(), peer);
+        let mut place = 0;
+        for turn in 0..bytes.len() {
+            let size = [1, 5, 900, 20_000, 16384, 70][turn % 6];
+            let end = (place + size).min(bytes.len());
+            assert_eq!(rt; write_all_counted(&mut batches, &bytes[place..end]), Ok(()));
+            place = end;
+            if turn % 10 == 0 {
+                assert_eq!(rt; read_two(&mut batches), Ok((2, *b"xx")));
+            }
+            if place == bytes.len() {
+                break;
+            }
+        }
+        assert_eq!(rt; batches.send_all(), Ok(()));
+        let peer = batches.into_connection();
+        assert_eq!(rt;
+            peer.taken.as_slice() == bytes.as_slice(),
+            true,
+            "{most} at a time"
+        );
+    }
+    Ok(())
+}
+
+#[test]
+fn a_peer_that_is_behind_is_read_from_all_the_same(rt: HostRuntime) -> Result<(), Fail> {
+    let mut peer = Peer::new(rt.alloc(), 0);
+    peer.coming = 4;
+    peer.silent = 3;
+    let mut batches = Batches::new(rt.alloc(), peer);
+    assert_eq!(rt; write_all_counted(&mut batches, b"reply"), Ok(()));
+    assert_eq!(rt; read_two(&mut batches), Ok((2, *b"xx")));
+    assert_eq!(rt; batches.waiting(), 5);
+    assert_eq!(rt; read_two(&mut batches), Ok((2, *b"xx")));
+    assert_eq!(rt; batches.waiting(), 5);
+    assert_eq!(rt; read_two(&mut batches), Ok((0, *b"\0\0")));
+    assert_eq!(rt; batches.waiting(), 0);
+    assert_eq!(rt;
+        batches.into_connection().taken.as_slice(),
+        b"reply".as_slice()
+    );
+    Ok(())
+}
+
+#[test]
+fn a_read_fails_where_the_send_before_it_fails(rt: HostRuntime) -> Result<(), Fail> {
+    let mut peer = Peer::new(rt.alloc(), 100);
+    peer.coming = 4;
+    peer.fails = true;
+    let mut batches = Batches::new(rt.alloc(), peer);
+    assert_eq!(rt; read_two(&mut batches), Ok((2, *b"xx")));
+    assert_eq!(rt; write_once(&mut batches, b"reply"), Ok(5));
+    assert_eq!(rt; read_two(&mut batches), Err(Failed));
+    assert_eq!(rt; read_two(&mut batches), Err(Failed));
+    assert_eq!(rt;
+        write_once(&mut batches, &numbered(rt.alloc(), 20_000)?),
+        Err(Failed)
+    );
+    assert_eq!(rt; batches.send_all(), Err(Failed));
+    Ok(())
+}
+
+#[test]
+fn more_than_sixty_four_mebibytes_are_waited_for(rt: HostRuntime) -> Result<(), Fail> {
+    let mut batches = Batches::new(rt.alloc(), Peer::new(rt.alloc(), 0));
+    let mebibyte = numbered(rt.alloc(), 1 << 20)?;
+    for _ in 0..64 {
+        assert_eq!(rt; write_all_counted(&mut batches, &mebibyte), Ok(()));
+    }
+    assert_eq!(rt; batches.waiting(), 64 << 20);
+    assert_eq!(rt; write_once(&mut batches, b"and"), Ok(3));
+    assert_eq!(rt; batches.waiting(), 64 << 20);
+    assert_eq!(rt; batches.into_connection().taken.as_slice(), &mebibyte[..3]);
+    Ok(())
+}
+
+#[test]
+fn what_waits_is_refused_past_its_limit(rt: HostRuntime) -> Result<(), Fail> {
+    let mut waiting = Waiting::new(rt.alloc());
+    let mut all = Vec::new(rt.alloc());
+    all.resize(64 << 20, 7)?;
+    assert_eq!(rt; waiting.push(b"a").is_ok(), true);
+    assert_eq!(rt; waiting.push(&all).is_err(), true);
+    assert_eq!(rt; waiting.as_slice(), b"a".as_slice());
+    waiting.drop_front(1);
+    assert_eq!(rt; waiting.push(&all).is_ok(), true);
+    assert_eq!(rt; waiting.push(b"a").is_err(), true);
+    assert_eq!(rt; waiting.len(), 64 << 20);
+    Ok(())
+}
