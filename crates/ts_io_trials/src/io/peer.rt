@@ -1,5 +1,5 @@
 // A peer in memory, which takes so many bytes a call, or none, or fails.
-ghost use Rattle.std.specs.Prelude.{◌≡◌, ◌<◌, None, ⊥};
+ghost use Rattle.std.specs.Prelude.{◌≡◌, ◌<◌, None};
 ghost use Rattle.ts_io.specs.Causes.{Rose};
 
 use std::alloc::Global;
