@@ -18,6 +18,7 @@ pub record AreUsable (limits : Limits) : Type 0 where
   pub words : 1 ≤ limits.wire.words
   pub word_bytes : 1 ≤ limits.wire.word_bytes
   pub request_bytes : 1 ≤ limits.wire.request_bytes
+  pub line_bytes : 1 ≤ limits.wire.line_bytes
   pub keys : 1 ≤ limits.keys
   pub labels : 1 ≤ limits.labels
   pub rules : 1 ≤ limits.rules

@@ -72,6 +72,7 @@ fn open_and_serve<N: Listener, K: Sink, C: Clock>(
     requires words { 1 ≤ limits.words }
     requires word_bytes { 1 ≤ limits.word_bytes }
     requires request_bytes { 1 ≤ limits.request_bytes }
+    requires line_bytes { 1 ≤ limits.line_bytes }
     requires budget { 1 ≤ budget }
     requires net { N.is_out net.old ≡ false }
     requires links { 1 ≤ links }

@@ -67,6 +67,7 @@ pub fn pipe<S: Source, K: Sink, C: Clock>(
     requires words { 1 ≤ limits.words }
     requires word_bytes { 1 ≤ limits.word_bytes }
     requires request_bytes { 1 ≤ limits.request_bytes }
+    requires line_bytes { 1 ≤ limits.line_bytes }
     requires budget { 1 ≤ budget }
     ensures piped { Carries db.old db.new (λ from to. Piped limits budget result
         (record { held = from; readings = C.readings clock.old }) (record { held = to; readings = C.readings clock.new })

@@ -43,6 +43,7 @@ pub fn serve<N: Listener, K: Sink, C: Clock>(
     requires words { 1 ≤ limits.words }
     requires word_bytes { 1 ≤ limits.word_bytes }
     requires request_bytes { 1 ≤ limits.request_bytes }
+    requires line_bytes { 1 ≤ limits.line_bytes }
     requires budget { 1 ≤ budget }
     requires net { N.is_out net.old ≡ false }
     ensures serves { Carries db.old db.new (λ from to. Serves
@@ -80,6 +81,7 @@ fn serve_link<N: Listener, K: Sink, C: Clock>(
     requires words { 1 ≤ limits.words }
     requires word_bytes { 1 ≤ limits.word_bytes }
     requires request_bytes { 1 ≤ limits.request_bytes }
+    requires line_bytes { 1 ≤ limits.line_bytes }
     requires budget { 1 ≤ budget }
     requires net { N.is_out net.old ≡ false }
     ensures serves { Carries db.old db.new (λ from to. Serves

@@ -34,6 +34,7 @@ impl Session {
         requires words { 1 ≤ limits.words }
         requires word_bytes { 1 ≤ limits.word_bytes }
         requires request_bytes { 1 ≤ limits.request_bytes }
+        requires line_bytes { 1 ≤ limits.line_bytes }
         ensures { IfOk result (Begins limits) }
     {
         let room = Out::new(alloc)?;

@@ -9,7 +9,7 @@
 //!   a time and a value. A part in braces stands once for each number, which takes the place of each `#`; each `@` is the
 //!   number that is as far from the end. After `each ` the whole line stands so. In place of `^` stands the word, and in a
 //!   reply the word as a reply;
-//! - `sends` and bytes of the input, or `gets` and bytes of the output, as they stand, but for `\r` and `\n`;
+//! - `sends` and bytes of the input, or `gets` and bytes of the output, as they stand, but for `\r`, `\n` and `\t`;
 //! - `fails read` or `fails write`, and which reads of the input or writes to the output fail, as `2`;
 //! - `link`, after which all such lines are those of a connection: what it sends, and what it is answered;
 //! - `ends`, the status that is not 0, and the line on standard error;

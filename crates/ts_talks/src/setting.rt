@@ -85,6 +85,7 @@ impl Setting {
             "rules" => self.limits.rules = number,
             "born" => self.limits.born = number,
             "empty_rows" => self.limits.empty_rows = number,
+            "line_bytes" => self.limits.wire.line_bytes = number,
             _ => return false,
         }
         true
@@ -109,15 +110,18 @@ impl Setting {
     pub(crate) fn usable_limits(&self) -> Limits
         ensures { AreUsable result }
     {
-        Limits {
-            keys: self.limits.keys.max(1),
-            labels: self.limits.labels.max(1),
-            rules: self.limits.rules.max(1),
-            samples: self.limits.samples.max(1),
-            born: self.limits.born.max(1),
-            empty_rows: self.limits.empty_rows.max(1),
-            ..Limits::usual()
-        }
+        let mut limits = self.limits;
+        limits.wire.words = limits.wire.words.max(1);
+        limits.wire.word_bytes = limits.wire.word_bytes.max(1);
+        limits.wire.request_bytes = limits.wire.request_bytes.max(1);
+        limits.wire.line_bytes = limits.wire.line_bytes.max(1);
+        limits.keys = limits.keys.max(1);
+        limits.labels = limits.labels.max(1);
+        limits.rules = limits.rules.max(1);
+        limits.samples = limits.samples.max(1);
+        limits.empty_rows = limits.empty_rows.max(1);
+        limits.born = limits.born.max(1);
+        limits
     }
 }
 

@@ -77,13 +77,14 @@ fn push_rows(rows: &str, bytes: &mut Vec<u8>) -> Result<(), AllocError> {
     Ok(())
 }
 
-// Appends the bytes of a text, in which `\r` and `\n` stand for the bytes at the end of a line.
+// Appends the bytes of a text, in which `\r` and `\n` stand for the bytes at the end of a line, and `\t` for a tab.
 fn push_bytes(text: &str, bytes: &mut Vec<u8>) -> Result<(), AllocError> {
     let mut marked = false;
     for byte in text.as_bytes() {
         let byte = match *byte {
             b'r' if marked => b'\r',
             b'n' if marked => b'\n',
+            b't' if marked => b'\t',
             byte => byte,
         };
         marked = byte == b'\\';

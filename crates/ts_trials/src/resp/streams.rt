@@ -10,6 +10,7 @@ const USUAL: WireLimits = WireLimits {
     words: 1_048_576,
     word_bytes: 1_048_576,
     request_bytes: 16_777_216,
+    line_bytes: 65_536,
 };
 
 // A request of 40 bytes.
@@ -67,7 +68,7 @@ fn read_in_two(
     front: &[u8],
     back: &[u8],
 ) -> Result<Ending, AllocError>
-    requires { (1 ≤ limits.words) × (1 ≤ limits.word_bytes) × (1 ≤ limits.request_bytes) }
+    requires { (1 ≤ limits.words) × (1 ≤ limits.word_bytes) × (1 ≤ limits.request_bytes) × (1 ≤ limits.line_bytes) }
 {
     let mut reader = Reader::new(alloc, limits);
     reader.feed(front)?;
@@ -83,7 +84,7 @@ fn ends_so(
     stream: &[u8],
     ending: Ending,
 ) -> Result<bool, AllocError>
-    requires { (1 ≤ limits.words) × (1 ≤ limits.word_bytes) × (1 ≤ limits.request_bytes) }
+    requires { (1 ≤ limits.words) × (1 ≤ limits.word_bytes) × (1 ≤ limits.request_bytes) × (1 ≤ limits.line_bytes) }
 {
     for cut in 0..=stream.len() {
         let (front, back) = stream.split_at(cut);
@@ -97,8 +98,12 @@ fn ends_so(
 #[test]
 fn streams(rt: HostRuntime) -> Result<(), Fail> {
     let alloc = rt.alloc();
-    let rows: [(&[u8], Ending); 13] = [
-        (b"GET", broken(0, Kind::Multibulk, 0, 0)),
+    let rows: [(&[u8], Ending); 17] = [
+        (b"GET", stopped(0, Some(0))),
+        (b" GET a\r\n\n\tGET\tb \n", stopped(2, None)),
+        (b"\n \r\n\r", stopped(0, Some(4))),
+        (b"a\n*1\r\n$1\r\na\r\na\n*", stopped(3, Some(15))),
+        (b"a\n*x", broken(1, Kind::Multibulk, 3, 2)),
         (b"*01", broken(0, Kind::Multibulk, 2, 0)),
         (b"*-2", broken(0, Kind::Multibulk, 2, 0)),
         (b"*1\rX", broken(0, Kind::Crlf, 3, 0)),
@@ -132,17 +137,33 @@ fn limits(rt: HostRuntime) -> Result<(), Fail> {
     let alloc = rt.alloc();
     let few = WireLimits { words: 3, ..USUAL };
     assert!(rt; ends_so(alloc, few, b"*4", broken(0, Kind::Multibulk, 1, 0))?);
+    assert!(rt; ends_so(alloc, few, b"a b c d\n", stopped(1, None))?);
     let short = WireLimits {
         word_bytes: 3,
         ..USUAL
     };
     assert!(rt; ends_so(alloc, short, b"*1\r\n$4", broken(0, Kind::Bulk, 5, 0))?);
+    assert!(rt; ends_so(alloc, short, b"abcd\n", stopped(1, None))?);
     let small = WireLimits {
         request_bytes: 3,
         ..USUAL
     };
     let stream = b"*2\r\n$2\r\nab\r\n$2\r\n";
     assert!(rt; ends_so(alloc, small, stream, broken(0, Kind::TooLarge, 14, 0))?);
+    assert!(rt; ends_so(alloc, small, b"ab cd\n", stopped(1, None))?);
+    let lines = WireLimits {
+        line_bytes: 4,
+        ..USUAL
+    };
+    assert!(rt; ends_so(alloc, lines, b"PING\nPING\n", stopped(2, None))?);
+    assert!(rt;
+        ends_so(
+            alloc,
+            lines,
+            b"PING\nPING\r\n",
+            broken(1, Kind::TooLarge, 9, 5)
+        )?
+    );
     Ok(())
 }
 
