@@ -1,10 +1,10 @@
 -- What `pipe` did is what the headline says.
 use Rattle.std.specs.Prelude.{Option, Some, None}
 use Rattle.std.specs.Io.KnownBytes.{Consumes, IsAtEnd}
-use Rattle.std.proofs.Common.{◌≡◌, inl, inr, true, false, if◌then◌else◌, take, ℕ, List, [], ◌∷◌, ◌++◌, length, refl, sym, ◌∙◌, ap, subst, append_assoc}
-use Rattle.std.proofs.lemmas.List.{append-nil}
+use Rattle.std.proofs.Common.{◌≡◌, inl, inr, true, false, if◌then◌else◌, take, ℕ, List, [], ◌∷◌, ◌++◌, length, refl, sym, ◌∙◌, ap, subst, arith, append_assoc, length-append}
+use Rattle.std.proofs.lemmas.List.{append-nil, length-map}
 use Rattle.ts_resp.specs.Reading.{stream_of, ended_at, unfinished}
-use Rattle.ts_spec.specs.Run.{Runs, then_all, requests_in, is_quit, has_quit, until_quit}
+use Rattle.ts_spec.specs.Run.{Placed, Runs, then_all, requests_in, is_quit, has_quit, until_quit}
 use Rattle.ts_spec.specs.Wire.{Request, Stream, Ended, Inside, Broken, stream_at, requests_of, ending_of}
 use Rattle.ts_spec.proofs.Runs.{Runs-append, Runs-one, requests_of-then_all, ending_of-then_all, requests_in-append}
 use Rattle.ts_engine.specs.declared.piped.End.{End}
@@ -12,7 +12,7 @@ use Rattle.ts_engine.specs.declared.piped.End.TheVariants as end
 use Rattle.ts_engine.specs.Turn.{World, turn}
 use Rattle.ts_engine.specs.Session.{Spot, Went, WentSome, LastReply, Quitted, CutFault, IsUpToDate}
 use Rattle.ts_engine.specs.Piping.{beginning, Ends}
-use Rattle.ts_engine.specs.Headline.{requests, asks_to_quit, ending, start, Seen, AllAnswered, WholeAnswered, SomeAnswered, LastCut, FaultCut, FrontAnswered, Writes}
+use Rattle.ts_engine.specs.Headline.{requests, asks_to_quit, ending, Exchange, AllAnswered, WholeAnswered, SomeAnswered, LastCut, FaultCut, FrontAnswered, Writes, count_done}
 use Rattle.ts_engine.proofs.Quits.{has_quit-append, until_quit-append, until_quit-last, has_quit-last}
 use Rattle.ts_engine.proofs.Sessions.{grows_as}
 
@@ -24,45 +24,49 @@ pub splits : (bytes : List ℕ) (left : Option (List ℕ)) (front : List ℕ) �
 splits bytes None front took = absurd took
 splits bytes (Some rest) front took = (rest, took, refl)
 
-module _ (seen : Seen) (last : Spot) (readings : last.world.readings ≡ seen.readings_left) where
-  -- the world at the end, with the readings that are left
-  pub world_is : last.world ≡ record { held = last.world.held; readings = seen.readings_left }
-  world_is = ap (λ (q : Option (List ℕ)). record { held = last.world.held; readings = q }) readings
-
-  module _ (front tail : List ℕ) (went : Went (beginning seen.limits.wire (start seen.limits seen.readings)) last seen.had seen.has front tail) where
+module _ (exchange : Exchange) (last : Spot) (at : last.world ≡ exchange.to) where
+  module _ (front tail : List ℕ) (went : Went (beginning exchange.limits exchange.from) last exchange.had exchange.has front tail) where
     -- the requests in the bytes and whatever follows them
-    follows : (more : List ℕ) → stream_at seen.limits.wire 0 (front ++ more) ≡ then_all went.done (stream_of last.reader more)
+    follows : (more : List ℕ) → stream_at exchange.limits 0 (front ++ more) ≡ then_all went.done (stream_of last.reader more)
     follows more = went.stream more
 
-    its_requests : (more : List ℕ) → requests_of (stream_at seen.limits.wire 0 (front ++ more)) ≡ requests_in went.done ++ requests_of (stream_of last.reader more)
+    its_requests : (more : List ℕ) → requests_of (stream_at exchange.limits 0 (front ++ more)) ≡ requests_in went.done ++ requests_of (stream_of last.reader more)
     its_requests more = ap requests_of (follows more) ∙ requests_of-then_all went.done (stream_of last.reader more)
 
-    pub first_requests : (more : List ℕ) → requests seen.limits.wire (front ++ more) ≡ requests_in went.done ++ until_quit (requests_of (stream_of last.reader more))
+    pub first_requests : (more : List ℕ) → requests exchange.limits (front ++ more) ≡ requests_in went.done ++ until_quit (requests_of (stream_of last.reader more))
     first_requests more = ap until_quit (its_requests more) ∙ until_quit-append (requests_in went.done) (requests_of (stream_of last.reader more)) went.goes_on
 
-    its_ending : (more : List ℕ) → ending seen.limits.wire (front ++ more) ≡ ending_of (stream_of last.reader more)
+    its_ending : (more : List ℕ) → ending exchange.limits (front ++ more) ≡ ending_of (stream_of last.reader more)
     its_ending more = ap ending_of (follows more) ∙ ending_of-then_all went.done (stream_of last.reader more)
 
+    -- they are all requests, where no further one follows
+    pub all_requests : (bytes more : List ℕ) → bytes ≡ front ++ more → requests_of (stream_of last.reader more) ≡ [] → requests exchange.limits bytes ≡ requests_in went.done
+    all_requests bytes more whole none =
+        ap (requests exchange.limits) whole ∙ first_requests more ∙ ap (λ (l : List Request). requests_in went.done ++ until_quit l) none ∙ append-nil (requests_in went.done)
+
+    -- and so many were executed
+    pub all_executed : (bytes more : List ℕ) → bytes ≡ front ++ more → requests_of (stream_of last.reader more) ≡ [] → last.executed ≡ length (requests exchange.limits bytes)
+    all_executed bytes more whole none = omega (arith, went.executed, ap length (all_requests bytes more whole none), length-map went.done (λ (p : Placed). p.request))
+
     -- all requests had their turns, where no further one follows
-    pub all_answered : (bytes more : List ℕ) → bytes ≡ front ++ more → requests_of (stream_of last.reader more) ≡ [] → AllAnswered seen bytes tail
+    pub all_answered : (bytes more : List ℕ) → bytes ≡ front ++ more → requests_of (stream_of last.reader more) ≡ [] → AllAnswered exchange bytes tail
     all_answered bytes more whole none = record {
       text = went.text;
-      held = last.world.held;
-      run = subst (λ (w : World). Runs turn (start seen.limits seen.readings) (requests seen.limits.wire bytes) went.text w) world_is
-          (subst (λ (l : List Request). Runs turn (start seen.limits seen.readings) l went.text last.world)
-          (sym (ap (requests seen.limits.wire) whole ∙ first_requests more ∙ ap (λ (l : List Request). requests_in went.done ++ until_quit l) none ∙ append-nil (requests_in went.done)))
+      run = subst (λ (w : World). Runs turn exchange.from (requests exchange.limits bytes) went.text w) at
+          (subst (λ (l : List Request). Runs turn exchange.from l went.text last.world)
+          (sym (all_requests bytes more whole none))
           went.run);
       grown = went.grown;
     }
 
     -- none of them is QUIT, where no further one follows
-    pub no_quit : (bytes more : List ℕ) → bytes ≡ front ++ more → requests_of (stream_of last.reader more) ≡ [] → asks_to_quit seen.limits.wire bytes ≡ false
+    pub no_quit : (bytes more : List ℕ) → bytes ≡ front ++ more → requests_of (stream_of last.reader more) ≡ [] → asks_to_quit exchange.limits bytes ≡ false
     no_quit bytes more whole none =
-        ap (asks_to_quit seen.limits.wire) whole ∙ ap has_quit (its_requests more) ∙ has_quit-append (requests_in went.done) (requests_of (stream_of last.reader more)) went.goes_on ∙ ap has_quit none
+        ap (asks_to_quit exchange.limits) whole ∙ ap has_quit (its_requests more) ∙ has_quit-append (requests_in went.done) (requests_of (stream_of last.reader more)) went.goes_on ∙ ap has_quit none
 
     -- the ending of the bytes, where the rest of the stream is known
-    pub ends_as : (bytes more : List ℕ) (stream : Stream) → bytes ≡ front ++ more → stream_of last.reader more ≡ stream → ending seen.limits.wire bytes ≡ ending_of stream
-    ends_as bytes more stream whole is = ap (ending seen.limits.wire) whole ∙ its_ending more ∙ ap ending_of is
+    pub ends_as : (bytes more : List ℕ) (stream : Stream) → bytes ≡ front ++ more → stream_of last.reader more ≡ stream → ending exchange.limits bytes ≡ ending_of stream
+    ends_as bytes more stream whole is = ap (ending exchange.limits) whole ∙ its_ending more ∙ ap ending_of is
 
 pub no_requests : (place : Option ℕ) → requests_of (ended_at place) ≡ []
 no_requests None = refl
@@ -72,53 +76,53 @@ pub its_own_ending : (place : Option ℕ) → ending_of (ended_at place) ≡ end
 its_own_ending None = refl
 its_own_ending (Some place) = refl
 
-module _ (seen : Seen) (last : Spot) (readings : last.world.readings ≡ seen.readings_left) (bytes front : List ℕ) (left : Option (List ℕ)) (split : Splits bytes left front) where
-  from : Spot
-  from = beginning seen.limits.wire (start seen.limits seen.readings)
-
+module _ (exchange : Exchange) (last : Spot) (at : last.world ≡ exchange.to) (bytes front : List ℕ) (left : Option (List ℕ)) (split : Splits bytes left front) where
   -- the whole of the bytes was taken
   whole : IsAtEnd left → (bytes ≡ front ++ []) × (left ≡ Some [])
   whole at_end =
       let none : split.0 ≡ [] = subst IsAtEnd split.2 at_end in
       (split.1 ∙ ap (λ (l : List ℕ). front ++ l) none, split.2 ∙ ap Some none)
 
-  abbrev pub front_answered : Went (beginning seen.limits.wire (start seen.limits seen.readings)) last seen.had seen.has front [] → IsUpToDate last → FrontAnswered seen bytes left
+  abbrev pub front_answered : Went (beginning exchange.limits exchange.from) last exchange.had exchange.has front [] → IsUpToDate last → FrontAnswered exchange bytes left
   front_answered went current = record {
     front = front;
     rest = split.0;
     split = split.1;
     left_is = split.2;
     place = unfinished last.reader;
-    unbroken = ends_as seen last readings front [] went front [] (ended_at (unfinished last.reader)) (sym (append-nil front)) current.rest
+    unbroken = ends_as exchange last at front [] went front [] (ended_at (unfinished last.reader)) (sym (append-nil front)) current.rest
         ∙ its_own_ending (unfinished last.reader);
-    goes_on = no_quit seen last readings front [] went front [] (sym (append-nil front)) (ap requests_of current.rest ∙ no_requests (unfinished last.reader));
-    answered = all_answered seen last readings front [] went front [] (sym (append-nil front)) (ap requests_of current.rest ∙ no_requests (unfinished last.reader));
+    goes_on = no_quit exchange last at front [] went front [] (sym (append-nil front)) (ap requests_of current.rest ∙ no_requests (unfinished last.reader));
+    answered = all_answered exchange last at front [] went front [] (sym (append-nil front)) (ap requests_of current.rest ∙ no_requests (unfinished last.reader));
   }
 
-  pub some_answered : WentSome (beginning seen.limits.wire (start seen.limits seen.readings)) last seen.had seen.has front → SomeAnswered seen bytes
+  front_executed : Went (beginning exchange.limits exchange.from) last exchange.had exchange.has front [] → IsUpToDate last → last.executed ≡ length (requests exchange.limits front)
+  front_executed went current =
+      all_executed exchange last at front [] went front [] (sym (append-nil front)) (ap requests_of current.rest ∙ no_requests (unfinished last.reader))
+
+  abbrev pub some_answered : WentSome (beginning exchange.limits exchange.from) last exchange.had exchange.has front → SomeAnswered exchange bytes
   some_answered went =
       let rest = went.stream split.0 in
       record {
         done = requests_in went.done;
         others = until_quit (requests_of rest.0);
-        first = ap (requests seen.limits.wire) split.1 ∙ ap until_quit (ap requests_of rest.1 ∙ requests_of-then_all went.done rest.0)
+        first = ap (requests exchange.limits) split.1 ∙ ap until_quit (ap requests_of rest.1 ∙ requests_of-then_all went.done rest.0)
             ∙ until_quit-append (requests_in went.done) (requests_of rest.0) went.goes_on;
         text = went.text;
-        held = last.world.held;
-        run = subst (λ (w : World). Runs turn (start seen.limits seen.readings) (requests_in went.done) went.text w) (world_is seen last readings) went.run;
+        run = subst (λ (w : World). Runs turn exchange.from (requests_in went.done) went.text w) at went.run;
         grown = went.grown;
       }
 
   -- the requests of the bytes, with the last one that had its turn
-  pub with_last : (cut : LastReply (beginning seen.limits.wire (start seen.limits seen.readings)) last seen.had seen.has front)
-      → requests_of (stream_at seen.limits.wire 0 bytes) ≡ requests_in cut.done ++ cut.last.request ∷ requests_of (stream_of last.reader split.0)
+  pub with_last : (cut : LastReply (beginning exchange.limits exchange.from) last exchange.had exchange.has front)
+      → requests_of (stream_at exchange.limits 0 bytes) ≡ requests_in cut.done ++ cut.last.request ∷ requests_of (stream_of last.reader split.0)
   with_last cut =
-      ap (λ (l : List ℕ). requests_of (stream_at seen.limits.wire 0 l)) split.1 ∙ ap requests_of (cut.stream split.0)
+      ap (λ (l : List ℕ). requests_of (stream_at exchange.limits 0 l)) split.1 ∙ ap requests_of (cut.stream split.0)
       ∙ requests_of-then_all (cut.done ++ cut.last ∷ []) (stream_of last.reader split.0)
       ∙ ap (λ (l : List Request). l ++ requests_of (stream_of last.reader split.0)) (requests_in-append cut.done (cut.last ∷ []))
       ∙ append_assoc (requests_in cut.done) (cut.last.request ∷ []) (requests_of (stream_of last.reader split.0))
 
-  abbrev pub last_cut : LastReply (beginning seen.limits.wire (start seen.limits seen.readings)) last seen.had seen.has front → LastCut seen bytes
+  abbrev pub last_cut : LastReply (beginning exchange.limits exchange.from) last exchange.had exchange.has front → LastCut exchange bytes
   last_cut cut = record {
     done = requests_in cut.done;
     last = cut.last.request;
@@ -128,27 +132,31 @@ module _ (seen : Seen) (last : Spot) (readings : last.world.readings ≡ seen.re
     mid = cut.mid;
     reply = cut.reply;
     kept = cut.kept;
-    held = last.world.held;
     run = cut.run;
-    turned = subst (λ (w : World). turn cut.mid cut.last.request cut.reply w) (world_is seen last readings) cut.turned;
+    turned = subst (λ (w : World). turn cut.mid cut.last.request cut.reply w) at cut.turned;
     grown = cut.grown;
   }
 
+  -- the last request that had its turn is the last one of all
+  quitted_requests : (quitted : Quitted (beginning exchange.limits exchange.from) last exchange.had exchange.has front) → requests exchange.limits bytes ≡ requests_in quitted.reply.done ++ quitted.reply.last.request ∷ []
+  quitted_requests quitted =
+      ap until_quit (with_last quitted.reply)
+      ∙ until_quit-last (requests_in quitted.reply.done) quitted.reply.last.request (requests_of (stream_of last.reader split.0)) quitted.reply.goes_on quitted.asked
+
   -- QUIT was answered
-  pub quitted_all : (quitted : Quitted (beginning seen.limits.wire (start seen.limits seen.readings)) last seen.had seen.has front)
-      → AllAnswered seen bytes [] × (asks_to_quit seen.limits.wire bytes ≡ true)
+  pub quitted_all : (quitted : Quitted (beginning exchange.limits exchange.from) last exchange.had exchange.has front)
+      → AllAnswered exchange bytes [] × (asks_to_quit exchange.limits bytes ≡ true)
   quitted_all quitted =
       let cut = quitted.reply in
       let rest : List Request = requests_of (stream_of last.reader split.0) in (
         record {
           text = cut.text ++ cut.reply;
-          held = last.world.held;
-          run = subst (λ (w : World). Runs turn (start seen.limits seen.readings) (requests seen.limits.wire bytes) (cut.text ++ cut.reply) w) (world_is seen last readings)
-              (subst (λ (l : List Request). Runs turn (start seen.limits seen.readings) l (cut.text ++ cut.reply) last.world)
-              (sym (ap until_quit (with_last cut) ∙ until_quit-last (requests_in cut.done) cut.last.request rest cut.goes_on quitted.asked))
-              (Runs-append turn (start seen.limits seen.readings) cut.mid last.world (requests_in cut.done) (cut.last.request ∷ []) cut.text cut.reply cut.run
+          run = subst (λ (w : World). Runs turn exchange.from (requests exchange.limits bytes) (cut.text ++ cut.reply) w) at
+              (subst (λ (l : List Request). Runs turn exchange.from l (cut.text ++ cut.reply) last.world)
+              (sym (quitted_requests quitted))
+              (Runs-append turn exchange.from cut.mid last.world (requests_in cut.done) (cut.last.request ∷ []) cut.text cut.reply cut.run
               (Runs-one turn cut.mid last.world cut.last.request cut.reply cut.turned)));
-          grown = grows_as seen.had seen.has (cut.text ++ take cut.kept cut.reply) ((cut.text ++ cut.reply) ++ [])
+          grown = grows_as exchange.had exchange.has (cut.text ++ take cut.kept cut.reply) ((cut.text ++ cut.reply) ++ [])
               (ap (λ (l : List ℕ). cut.text ++ l) quitted.whole ∙ sym (append-nil (cut.text ++ cut.reply))) cut.grown;
         },
         ap has_quit (with_last cut) ∙ has_quit-last (requests_in cut.done) cut.last.request rest cut.goes_on quitted.asked,
@@ -156,40 +164,59 @@ module _ (seen : Seen) (last : Spot) (readings : last.world.readings ≡ seen.re
 
   -- the input was read to its end, which is of this kind
   pub whole_answered : (end : Stream) → requests_of end ≡ [] → ending_of end ≡ end
-      → Went (beginning seen.limits.wire (start seen.limits seen.readings)) last seen.had seen.has front [] → stream_of last.reader [] ≡ end → IsAtEnd left
-      → WholeAnswered seen bytes left end
+      → Went (beginning exchange.limits exchange.from) last exchange.had exchange.has front [] → stream_of last.reader [] ≡ end → IsAtEnd left
+      → WholeAnswered exchange bytes left end
   whole_answered end none own went is at_end =
       let all = whole at_end in
       record {
-        answered = all_answered seen last readings front [] went bytes [] all.0 (ap requests_of is ∙ none);
-        goes_on = no_quit seen last readings front [] went bytes [] all.0 (ap requests_of is ∙ none);
-        ended = ends_as seen last readings front [] went bytes [] end all.0 is ∙ own;
+        answered = all_answered exchange last at front [] went bytes [] all.0 (ap requests_of is ∙ none);
+        goes_on = no_quit exchange last at front [] went bytes [] all.0 (ap requests_of is ∙ none);
+        ended = ends_as exchange last at front [] went bytes [] end all.0 is ∙ own;
         left_is = all.1;
       }
 
-  abbrev pub fault_cut : CutFault (beginning seen.limits.wire (start seen.limits seen.readings)) last seen.had seen.has front → FaultCut seen bytes
+  abbrev pub fault_cut : CutFault (beginning exchange.limits exchange.from) last exchange.had exchange.has front → FaultCut exchange bytes
   fault_cut cut = record {
     kind = cut.fault.kind;
     place = cut.fault.place;
     kept = cut.kept;
-    broken = ends_as seen last readings front _ cut.went bytes split.0 (Broken cut.fault.kind cut.fault.place) split.1 (cut.broken split.0);
-    goes_on = no_quit seen last readings front _ cut.went bytes split.0 split.1 (ap requests_of (cut.broken split.0));
-    answered = all_answered seen last readings front _ cut.went bytes split.0 split.1 (ap requests_of (cut.broken split.0));
+    broken = ends_as exchange last at front _ cut.went bytes split.0 (Broken cut.fault.kind cut.fault.place) split.1 (cut.broken split.0);
+    goes_on = no_quit exchange last at front _ cut.went bytes split.0 split.1 (ap requests_of (cut.broken split.0));
+    answered = all_answered exchange last at front _ cut.went bytes split.0 split.1 (ap requests_of (cut.broken split.0));
   }
 
   -- what was done over the bytes taken is what the headline says of its end
-  abbrev pub writes : (budget : ℕ) (e : End) → (e ≡ end.Budget → length front ≡ budget) → Ends e left (beginning seen.limits.wire (start seen.limits seen.readings)) last seen.had seen.has front
-      → Writes seen budget bytes left e
+  abbrev pub writes : (budget : ℕ) (e : End) → (e ≡ end.Budget → length front ≡ budget) → Ends e left (beginning exchange.limits exchange.from) last exchange.had exchange.has front
+      → Writes exchange budget bytes left e
   writes budget end.Ended spent (inl all) = inl (whole_answered Ended refl refl all.went all.ended all.at_end)
   writes budget end.Ended spent (inr quitted) = inr (quitted_all quitted)
   writes budget (end.Truncated place) spent ends = whole_answered (Inside place) refl refl ends.0 ends.1 ends.2
   writes budget (end.Protocol fault) spent ends = (
-    all_answered seen last readings front _ ends.0 bytes split.0 split.1 (ap requests_of (ends.1 split.0)),
-    no_quit seen last readings front _ ends.0 bytes split.0 split.1 (ap requests_of (ends.1 split.0)),
-    ends_as seen last readings front _ ends.0 bytes split.0 (Broken fault.kind fault.place) split.1 (ends.1 split.0),
+    all_answered exchange last at front _ ends.0 bytes split.0 split.1 (ap requests_of (ends.1 split.0)),
+    no_quit exchange last at front _ ends.0 bytes split.0 split.1 (ap requests_of (ends.1 split.0)),
+    ends_as exchange last at front _ ends.0 bytes split.0 (Broken fault.kind fault.place) split.1 (ends.1 split.0),
   )
   writes budget end.ReadFault spent ends = front_answered ends.0 ends.1
   writes budget end.Budget spent ends = (front_answered ends.0 ends.1, spent refl)
   writes budget end.Memory spent ends = some_answered ends
   writes budget end.WriteFault spent (inl cut) = inl (last_cut cut)
   writes budget end.WriteFault spent (inr cut) = inr (fault_cut cut)
+
+  -- so many requests as were executed had their turns
+  pub executed_writes : (budget : ℕ) (e : End) (spent : e ≡ end.Budget → length front ≡ budget) (ends : Ends e left (beginning exchange.limits exchange.from) last exchange.had exchange.has front)
+      → last.executed ≡ count_done exchange budget bytes left e (writes budget e spent ends)
+  executed_writes budget end.Ended spent (inl all) =
+      let everything = whole all.at_end in
+      all_executed exchange last at front [] all.went bytes [] everything.0 (ap requests_of all.ended)
+  executed_writes budget end.Ended spent (inr quitted) =
+      let cut = quitted.reply in
+      omega (arith, cut.executed, ap length (quitted_requests quitted), length-append (requests_in cut.done) (cut.last.request ∷ []), length-map cut.done (λ (p : Placed). p.request))
+  executed_writes budget (end.Truncated place) spent ends =
+      let everything = whole ends.2 in
+      all_executed exchange last at front [] ends.0 bytes [] everything.0 (ap requests_of ends.1)
+  executed_writes budget (end.Protocol fault) spent ends = all_executed exchange last at front _ ends.0 bytes split.0 split.1 (ap requests_of (ends.1 split.0))
+  executed_writes budget end.ReadFault spent ends = front_executed ends.0 ends.1
+  executed_writes budget end.Budget spent ends = front_executed ends.0 ends.1
+  executed_writes budget end.Memory spent ends = omega (arith, ends.executed, length-map ends.done (λ (p : Placed). p.request))
+  executed_writes budget end.WriteFault spent (inl cut) = omega (arith, cut.executed, length-map cut.done (λ (p : Placed). p.request))
+  executed_writes budget end.WriteFault spent (inr cut) = all_executed exchange last at front _ cut.went bytes split.0 split.1 (ap requests_of (cut.broken split.0))

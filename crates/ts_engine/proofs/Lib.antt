@@ -1,4 +1,5 @@
 pub mod Added
+pub mod Answered
 pub mod Carried
 pub mod Carrying
 pub mod Dropping

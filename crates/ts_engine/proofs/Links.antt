@@ -52,7 +52,18 @@ handed_both {I} {O} xs ys c c1 c2 k k1 k2 one two = record {
       ∙ ap (λ (l : List (Ends I O)). option_map (λ before. before ++ l) k) (sym (map-append (λ (l : Link I O). l.back) xs ys));
 }
 
+-- without a fault all were served
+pub done_by : (served : Served) → (served ≡ AcceptFault → ⊥) → (served ≡ WriteFault → ⊥) → served ≡ Done
+done_by Done no_accept no_write = refl
+done_by AcceptFault no_accept no_write = absurd (no_accept refl)
+done_by WriteFault no_accept no_write = absurd (no_write refl)
+
 module _ {I O : Type 0} (views : StreamViews I O) (limits : WireLimits) (budget : ℕ) where
+  -- by how their serving ended
+  pub serves_as : (served served' : Served) (number most : ℕ) (from to : World) (c c1 k k1 : Option (List (Ends I O))) (had has : List ℕ → Type 0) → served ≡ served'
+      → Serves views limits budget served number most from to c c1 k k1 had has → Serves views limits budget served' number most from to c c1 k k1 had has
+  serves_as served served' number most from to c c1 k k1 had has same serves = subst (λ (s : Served). Serves views limits budget s number most from to c c1 k k1 had has) same serves
+
   served_both : (xs ys : List (Link I O)) (from mid to : World) → AreServed views limits budget xs from mid → AreServed views limits budget ys mid to → AreServed views limits budget (xs ++ ys) from to
   served_both [] ys from mid to one two = subst (λ (w : World). AreServed views limits budget ys w to) one two
   served_both (x ∷ xs) ys from mid to one two = (one.0, one.1, served_both xs ys one.0 mid to one.2 two)

@@ -7,17 +7,15 @@ use Rattle.std.proofs.Math.Seq.{take-append-add}
 use Rattle.ts_io.specs.Causes.{Rose}
 use Rattle.ts_resp.specs.Reading.{ended_at}
 use Rattle.ts_spec.specs.Wire.{Stream, Broken, requests_of}
-use Rattle.ts_db.specs.Held.{Held}
 use Rattle.ts_engine.specs.declared.piped.End.{End}
 use Rattle.ts_engine.specs.declared.piped.End.TheVariants as end
 use Rattle.ts_engine.specs.declared.piped.Outcome.{Outcome}
 use Rattle.ts_words.specs.declared.status.Status.TheVariants as status
-use Rattle.ts_engine.specs.Headline.{start, Seen, ending, asks_to_quit}
+use Rattle.ts_engine.specs.Headline.{Exchange, ending, asks_to_quit}
 use Rattle.ts_engine.specs.Piping.{beginning, Ends, is_of_input, Piped, HasCauses}
 use Rattle.ts_engine.specs.Session.{Spot}
 use Rattle.ts_engine.specs.Status.{status_of}
 use Rattle.ts_engine.specs.Top.{status_cut}
-use Rattle.ts_engine.specs.Turn.{World}
 use Rattle.ts_engine.proofs.Headlines.{splits, no_quit, ends_as, front_answered, quitted_all}
 
 -- the first bytes of so many are those that were taken, and more
@@ -44,39 +42,39 @@ at_end end.Memory left old new had has bytes ends same = (cc)
 at_end end.Budget left old new had has bytes ends same = (cc)
 
 -- by what was answered over the bytes taken
-module _ (seen : Seen) (last : Spot) (readings : last.world.readings ≡ seen.readings_left) (left : Option (List ℕ)) (first front more : List ℕ) (is : first ≡ front ++ more) where
-  by_first : (e : End) (reads reads' writes writes' : ℕ) (ends : Ends e left (beginning seen.limits.wire (start seen.limits seen.readings)) last seen.had seen.has front)
-      → (is_of_input e left (beginning seen.limits.wire (start seen.limits seen.readings)) last seen.had seen.has front ends ≡ true → ⊥) → (e ≡ end.Budget → more ≡ [])
+module _ (exchange : Exchange) (last : Spot) (at : last.world ≡ exchange.to) (left : Option (List ℕ)) (first front more : List ℕ) (is : first ≡ front ++ more) where
+  by_first : (e : End) (reads reads' writes writes' : ℕ) (ends : Ends e left (beginning exchange.limits exchange.from) last exchange.had exchange.has front)
+      → (is_of_input e left (beginning exchange.limits exchange.from) last exchange.had exchange.has front ends ≡ true → ⊥) → (e ≡ end.Budget → more ≡ [])
       → HasCauses e reads reads' writes writes' → (Rose reads reads' → ⊥) → (Rose writes writes' → ⊥)
-      → (status_of e ≡ status.Memory) ⊎ (status_of e ≡ status_cut (asks_to_quit seen.limits.wire first) (ending seen.limits.wire first))
+      → (status_of e ≡ status.Memory) ⊎ (status_of e ≡ status_cut (asks_to_quit exchange.limits first) (ending exchange.limits first))
   by_first end.Ended reads reads' writes writes' (inl all) unread none causes no_read no_write = absurd (unread refl)
   by_first end.Ended reads reads' writes writes' (inr quitted) unread none causes no_read no_write =
-      inr (ap (λ (b : Bool). status_cut b (ending seen.limits.wire first)) (sym (quitted_all seen last readings first front (Some more) (more, is, refl) quitted).1))
+      inr (ap (λ (b : Bool). status_cut b (ending exchange.limits first)) (sym (quitted_all exchange last at first front (Some more) (more, is, refl) quitted).1))
   by_first (end.Truncated place) reads reads' writes writes' ends unread none causes no_read no_write = absurd (unread refl)
   by_first (end.Protocol fault) reads reads' writes writes' ends unread none causes no_read no_write =
-      inr (sym (ap (λ (s : Stream). status_cut (asks_to_quit seen.limits.wire first) s) (ends_as seen last readings front _ ends.0 first more (Broken fault.kind fault.place) is (ends.1 more))
-      ∙ ap (λ (b : Bool). status_cut b (Broken fault.kind fault.place)) (no_quit seen last readings front _ ends.0 first more is (ap requests_of (ends.1 more)))))
+      inr (sym (ap (λ (s : Stream). status_cut (asks_to_quit exchange.limits first) s) (ends_as exchange last at front _ ends.0 first more (Broken fault.kind fault.place) is (ends.1 more))
+      ∙ ap (λ (b : Bool). status_cut b (Broken fault.kind fault.place)) (no_quit exchange last at front _ ends.0 first more is (ap requests_of (ends.1 more)))))
   by_first end.ReadFault reads reads' writes writes' ends unread none causes no_read no_write = absurd (no_read (causes.read refl))
   by_first end.WriteFault reads reads' writes writes' ends unread none causes no_read no_write = absurd (no_write (causes.write refl))
   by_first end.Memory reads reads' writes writes' ends unread none causes no_read no_write = inl refl
   by_first end.Budget reads reads' writes writes' ends unread none causes no_read no_write =
       let same : first ≡ front = is ∙ ap (λ (l : List ℕ). front ++ l) (none refl) ∙ append-nil front in
-      let answered = front_answered seen last readings first front (Some more) (more, is, refl) ends.0 ends.1 in
-      inr (unbroken (asks_to_quit seen.limits.wire first) (ending seen.limits.wire first) answered.place (ap (asks_to_quit seen.limits.wire) same ∙ answered.goes_on)
-      (ap (ending seen.limits.wire) same ∙ answered.unbroken))
+      let answered = front_answered exchange last at first front (Some more) (more, is, refl) ends.0 ends.1 in
+      inr (unbroken (asks_to_quit exchange.limits first) (ending exchange.limits first) answered.place (ap (asks_to_quit exchange.limits) same ∙ answered.goes_on)
+      (ap (ending exchange.limits) same ∙ answered.unbroken))
 
 -- what `pipe` did from the empty database with an input that told its bytes
-module _ (seen : Seen) (budget : ℕ) (outcome : Outcome) (held : Held) (bytes : List ℕ) (left : Option (List ℕ))
-    (piped : Piped seen.limits.wire budget outcome (start seen.limits seen.readings) (record { held = held; readings = seen.readings_left }) (Some bytes) left seen.had seen.has) where
+module _ (exchange : Exchange) (budget : ℕ) (outcome : Outcome) (bytes : List ℕ) (left : Option (List ℕ))
+    (piped : Piped exchange.limits budget outcome exchange.from exchange.to (Some bytes) left exchange.had exchange.has) where
   by_piped : (reads reads' writes writes' : ℕ) → HasCauses outcome.end reads reads' writes writes' → budget ≤ length bytes → (Rose reads reads' → ⊥) → (Rose writes writes' → ⊥)
-      → (status_of outcome.end ≡ status.Memory) ⊎ (status_of outcome.end ≡ status_cut (asks_to_quit seen.limits.wire (take budget bytes)) (ending seen.limits.wire (take budget bytes)))
+      → (status_of outcome.end ≡ status.Memory) ⊎ (status_of outcome.end ≡ status_cut (asks_to_quit exchange.limits (take budget bytes)) (ending exchange.limits (take budget bytes)))
   by_piped reads reads' writes writes' causes enough no_read no_write =
       let split = splits bytes left piped.bytes piped.took in
       let within : length piped.bytes ≤ budget = omega (arith, piped.count, piped.within) in
-      by_first seen piped.last (ap (λ (w : World). w.readings) piped.world) left (take budget bytes) piped.bytes (take (budget - length piped.bytes) split.0)
+      by_first exchange piped.last piped.world left (take budget bytes) piped.bytes (take (budget - length piped.bytes) split.0)
       (ap (take budget) split.1 ∙ first_bytes piped.bytes split.0 budget within) outcome.end reads reads' writes writes' piped.ends
       (λ read.
-      let none : split.0 ≡ [] = subst IsAtEnd split.2 (at_end outcome.end left (beginning seen.limits.wire (start seen.limits seen.readings)) piped.last seen.had seen.has piped.bytes piped.ends read) in
+      let none : split.0 ≡ [] = subst IsAtEnd split.2 (at_end outcome.end left (beginning exchange.limits exchange.from) piped.last exchange.had exchange.has piped.bytes piped.ends read) in
       let below : outcome.taken < budget = piped.below read in
       absurd (omega (arith, ap length split.1, length-append piped.bytes split.0, ap length none, piped.count, below, enough)))
       (λ is.
@@ -84,10 +82,10 @@ module _ (seen : Seen) (budget : ℕ) (outcome : Outcome) (held : Held) (bytes :
       ap (λ (n : ℕ). take n split.0) all)
       causes no_read no_write
 
-pub by_budget : (seen : Seen) (budget : ℕ) (outcome : Outcome) (held : Held) (bytes : List ℕ) (told left : Option (List ℕ)) → told ≡ Some bytes
-    → Piped seen.limits.wire budget outcome (start seen.limits seen.readings) (record { held = held; readings = seen.readings_left }) told left seen.had seen.has
+pub by_budget : (exchange : Exchange) (budget : ℕ) (outcome : Outcome) (bytes : List ℕ) (told left : Option (List ℕ)) → told ≡ Some bytes
+    → Piped exchange.limits budget outcome exchange.from exchange.to told left exchange.had exchange.has
     → (reads reads' writes writes' : ℕ) → HasCauses outcome.end reads reads' writes writes' → budget ≤ length bytes → (Rose reads reads' → ⊥) → (Rose writes writes' → ⊥)
-    → (status_of outcome.end ≡ status.Memory) ⊎ (status_of outcome.end ≡ status_cut (asks_to_quit seen.limits.wire (take budget bytes)) (ending seen.limits.wire (take budget bytes)))
-by_budget seen budget outcome held bytes told left tells piped =
-    by_piped seen budget outcome held bytes left
-    (subst (λ (o : Option (List ℕ)). Piped seen.limits.wire budget outcome (start seen.limits seen.readings) (record { held = held; readings = seen.readings_left }) o left seen.had seen.has) tells piped)
+    → (status_of outcome.end ≡ status.Memory) ⊎ (status_of outcome.end ≡ status_cut (asks_to_quit exchange.limits (take budget bytes)) (ending exchange.limits (take budget bytes)))
+by_budget exchange budget outcome bytes told left tells piped =
+    by_piped exchange budget outcome bytes left
+    (subst (λ (o : Option (List ℕ)). Piped exchange.limits budget outcome exchange.from exchange.to o left exchange.had exchange.has) tells piped)

@@ -1,31 +1,24 @@
 -- What `pipe` did with an input that it answered whole.
 use Rattle.std.specs.Prelude.{Option, Some}
-use Rattle.std.specs.Io.KnownBytes.{IsAtEnd}
-use Rattle.std.proofs.Common.{◌≡◌, ◌⊎◌, inl, inr, ℕ, List, [], ◌∷◌, ◌++◌, length, take, refl, sym, ◌∙◌, ap, subst, arith, append-nil, length-append}
-use Rattle.std.proofs.lemmas.List.{length-map}
+use Rattle.std.proofs.Common.{◌≡◌, ◌⊎◌, inl, inr, ℕ, List, [], ◌∷◌, ◌++◌, length, refl, sym, ◌∙◌, ap, subst, append-nil}
 use Rattle.ts_io.specs.Counts.{Counts, counts_of}
 use Rattle.ts_io.specs.Sinks.{Grows}
-use Rattle.ts_resp.specs.Reading.{stream_of}
-use Rattle.ts_spec.specs.Run.{Placed, Runs, requests_in, until_quit}
+use Rattle.ts_spec.specs.Run.{Runs}
 use Rattle.ts_spec.specs.Totals.{total_shown}
-use Rattle.ts_spec.specs.Wire.{Request, Stream, requests_of}
 use Rattle.ts_spec.specs.Keyed.{count_keys}
 use Rattle.ts_spec.specs.Limits.{usual}
 use Rattle.ts_spec.specs.declared.limits.Limits.{Limits}
 use Rattle.ts_spec.specs.declared.wire.WireLimits.{WireLimits}
-use Rattle.ts_spec.proofs.Runs.{Runs-append, Runs-one}
 use Rattle.ts_gen.specs.Workload.{script}
 use Rattle.ts_db.specs.Held.{Held}
 use Rattle.ts_engine.specs.declared.piped.End.{End}
 use Rattle.ts_engine.specs.declared.piped.End.TheVariants as end
 use Rattle.ts_engine.specs.declared.piped.Outcome.{Outcome}
 use Rattle.ts_engine.specs.Generated.{with_usual_wire, IsSummary}
-use Rattle.ts_engine.specs.Headline.{requests, start}
-use Rattle.ts_engine.specs.Piping.{beginning, ReadAll, Ends, Piped}
-use Rattle.ts_engine.specs.Session.{Quitted}
+use Rattle.ts_engine.specs.Headline.{requests, start, Exchange, AllAnswered, Writes, count_done}
+use Rattle.ts_engine.specs.Piping.{Piped}
 use Rattle.ts_engine.specs.Turn.{World, turn}
-use Rattle.ts_engine.proofs.Headlines.{splits, first_requests, with_last}
-use Rattle.ts_engine.proofs.Quits.{until_quit-last}
+use Rattle.ts_engine.proofs.Taking.{writes_of, executed_of}
 use Rattle.ts_engine.proofs.Sessions.{grows_as}
 
 -- all requests of the bytes had their turns, so many as were executed, and the sink has the text of them all
@@ -37,43 +30,29 @@ pub record RanAll (limits : Limits) (readings : Option (List ℕ)) (bytes : List
 
 module _ (limits : Limits) (readings : Option (List ℕ)) (budget : ℕ) (outcome : Outcome) (to : World) (bytes : List ℕ) (left : Option (List ℕ)) (had has : List ℕ → Type 0)
     (piped : Piped limits.wire budget outcome (start limits readings) to (Some bytes) left had has) where
-  ran_by : ReadAll left (beginning limits.wire (start limits readings)) piped.last had has piped.bytes ⊎ Quitted (beginning limits.wire (start limits readings)) piped.last had has piped.bytes
-      → RanAll limits readings bytes outcome.executed to had has
-  ran_by (inl all) =
-      let split = splits bytes left piped.bytes piped.took in
-      let none : split.0 ≡ [] = subst IsAtEnd split.2 all.at_end in
-      let done : List Request = requests_in all.went.done in
-      let are : requests limits.wire bytes ≡ done =
-      ap (requests limits.wire) (split.1 ∙ ap (λ (l : List ℕ). piped.bytes ++ l) none)
-      ∙ first_requests (record { limits = limits; readings = readings; readings_left = to.readings; had = had; has = has }) piped.last (ap (λ (w : World). w.readings) piped.world) piped.bytes [] all.went []
-      ∙ ap (λ (s : Stream). done ++ until_quit (requests_of s)) all.ended ∙ append-nil done in
-      record {
-        text = all.went.text;
-        run = subst (λ (w : World). Runs turn (start limits readings) (requests limits.wire bytes) all.went.text w) piped.world
-            (subst (λ (l : List Request). Runs turn (start limits readings) l all.went.text piped.last.world) (sym are) all.went.run);
-        executed_is = omega (arith, piped.executed, all.went.executed, ap length are, length-map all.went.done (λ (p : Placed). p.request));
-        grown = grows_as had has (all.went.text ++ []) all.went.text (append-nil all.went.text) all.went.grown;
-      }
-  ran_by (inr quitted) =
-      let split = splits bytes left piped.bytes piped.took in
-      let cut = quitted.reply in
-      let done : List Request = requests_in cut.done in
-      let rest : List Request = requests_of (stream_of piped.last.reader split.0) in
-      let are : requests limits.wire bytes ≡ done ++ cut.last.request ∷ [] =
-      ap until_quit (with_last (record { limits = limits; readings = readings; readings_left = to.readings; had = had; has = has }) piped.last (ap (λ (w : World). w.readings) piped.world) bytes piped.bytes left split cut)
-      ∙ until_quit-last done cut.last.request rest cut.goes_on quitted.asked in
-      record {
-        text = cut.text ++ cut.reply;
-        run = subst (λ (w : World). Runs turn (start limits readings) (requests limits.wire bytes) (cut.text ++ cut.reply) w) piped.world
-            (subst (λ (l : List Request). Runs turn (start limits readings) l (cut.text ++ cut.reply) piped.last.world) (sym are)
-            (Runs-append turn (start limits readings) cut.mid piped.last.world done (cut.last.request ∷ []) cut.text cut.reply cut.run
-            (Runs-one turn cut.mid piped.last.world cut.last.request cut.reply cut.turned)));
-        executed_is = omega (arith, piped.executed, cut.executed, ap length are, length-append done (cut.last.request ∷ []), length-map cut.done (λ (p : Placed). p.request));
-        grown = grows_as had has (cut.text ++ take cut.kept cut.reply) (cut.text ++ cut.reply) (ap (λ (l : List ℕ). cut.text ++ l) quitted.whole) cut.grown;
-      }
+  abbrev exchange : Exchange
+  exchange = record { limits = limits.wire; from = start limits readings; to = to; had = had; has = has }
+
+  ran_with : AllAnswered exchange bytes [] → outcome.executed ≡ length (requests limits.wire bytes) → RanAll limits readings bytes outcome.executed to had has
+  ran_with all executed = record {
+    text = all.text;
+    run = all.run;
+    executed_is = executed;
+    grown = grows_as had has (all.text ++ []) all.text (append-nil all.text) all.grown;
+  }
+
+  ran_by : (e : End) (written : Writes exchange budget bytes left e) → outcome.executed ≡ count_done exchange budget bytes left e written → e ≡ end.Ended → RanAll limits readings bytes outcome.executed to had has
+  ran_by end.Ended (inl all) executed is = ran_with all.answered executed
+  ran_by end.Ended (inr quitted) executed is = ran_with quitted.0 executed
+  ran_by (end.Truncated place) written executed is = (cc)
+  ran_by (end.Protocol fault) written executed is = (cc)
+  ran_by end.ReadFault written executed is = (cc)
+  ran_by end.WriteFault written executed is = (cc)
+  ran_by end.Memory written executed is = (cc)
+  ran_by end.Budget written executed is = (cc)
 
   pub ran_all : outcome.end ≡ end.Ended → RanAll limits readings bytes outcome.executed to had has
-  ran_all is = ran_by (subst (λ (e : End). Ends e left (beginning limits.wire (start limits readings)) piped.last had has piped.bytes) is piped.ends)
+  ran_all is = ran_by outcome.end (writes_of exchange budget outcome bytes left piped) (executed_of exchange budget outcome bytes left piped) is
 
 same_six : (a b c d e f a' b' c' d' e' f' : ℕ) → a ≡ a' → b ≡ b' → c ≡ c' → d ≡ d' → e ≡ e' → f ≡ f' → a ∷ b ∷ c ∷ d ∷ e ∷ f ∷ [] ≡ a' ∷ b' ∷ c' ∷ d' ∷ e' ∷ f' ∷ []
 same_six a b c d e f a' b' c' d' e' f' p q r s t u = rw (p, q, r, s, t, u) refl

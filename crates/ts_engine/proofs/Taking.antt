@@ -6,19 +6,20 @@ use Rattle.ts_resp.specs.Reading.{stream_of}
 use Rattle.ts_spec.specs.Run.{Placed, then_all, requests_in, is_quit, has_quit}
 use Rattle.ts_spec.specs.Wire.{Stream, stream_at}
 use Rattle.ts_db.specs.Held.{Held}
+use Rattle.ts_spec.specs.declared.wire.WireLimits.{WireLimits}
 use Rattle.ts_engine.specs.declared.piped.End.{End}
 use Rattle.ts_engine.specs.declared.piped.End.TheVariants as end
 use Rattle.ts_engine.specs.declared.piped.Outcome.{Outcome}
 use Rattle.ts_words.specs.declared.status.Status.{Status}
 use Rattle.ts_words.specs.declared.status.Status.TheVariants as status
-use Rattle.ts_engine.specs.Headline.{start, Seen, Writes}
-use Rattle.ts_engine.specs.Piping.{beginning, PIECE, ReadAll, Ends, shown_at, Piped}
+use Rattle.ts_engine.specs.Headline.{Exchange, Seen, exchange_of, Writes, count_done}
+use Rattle.ts_engine.specs.Piping.{beginning, PIECE, ReadAll, Ends, shown_at, is_of_input, Piped}
 use Rattle.ts_engine.specs.Session.{Spot, Quitted}
 use Rattle.ts_engine.specs.Status.{status_of, place_of}
 use Rattle.ts_engine.specs.Taken.{quit_place, place_after, Near, Taken}
 use Rattle.ts_engine.specs.Top.{Reports}
 use Rattle.ts_engine.specs.Turn.{World}
-use Rattle.ts_engine.proofs.Headlines.{Splits, splits, writes}
+use Rattle.ts_engine.proofs.Headlines.{Splits, splits, writes, executed_writes}
 use Rattle.ts_engine.proofs.Quits.{neither}
 
 -- the place after QUIT is the one after the request that is QUIT
@@ -33,15 +34,15 @@ place_after-last : (done : List Placed) (last : Placed) (rest : Stream) → plac
 place_after-last [] last rest = refl
 place_after-last (first ∷ done) last rest = place_after-last done last rest
 
-module _ (seen : Seen) (last : Spot) (readings : last.world.readings ≡ seen.readings_left) (bytes front : List ℕ) (left : Option (List ℕ)) (split : Splits bytes left front) (taken : ℕ) where
+module _ (exchange : Exchange) (last : Spot) (at : last.world ≡ exchange.to) (bytes front : List ℕ) (left : Option (List ℕ)) (split : Splits bytes left front) (taken : ℕ) where
   -- no read was made past an end that showed itself
-  near_writes : (budget : ℕ) (e : End) (spent : e ≡ end.Budget → length front ≡ budget) (ends : Ends e left (beginning seen.limits.wire (start seen.limits seen.readings)) last seen.had seen.has front)
-      → IfSome (shown_at e left (beginning seen.limits.wire (start seen.limits seen.readings)) last seen.had seen.has front ends) (λ place. taken ≤ place + PIECE)
-      → Near seen bytes left budget e (writes seen last readings bytes front left split budget e spent ends) taken
+  near_writes : (budget : ℕ) (e : End) (spent : e ≡ end.Budget → length front ≡ budget) (ends : Ends e left (beginning exchange.limits exchange.from) last exchange.had exchange.has front)
+      → IfSome (shown_at e left (beginning exchange.limits exchange.from) last exchange.had exchange.has front ends) (λ place. taken ≤ place + PIECE)
+      → Near exchange bytes left budget e (writes exchange last at bytes front left split budget e spent ends) taken
   near_writes budget end.Ended spent (inl all) near = tt
   near_writes budget end.Ended spent (inr quitted) near = record {
     at = quitted.reply.last.after;
-    is = ap (λ (l : List ℕ). quit_place (stream_at seen.limits.wire 0 l)) split.1 ∙ ap quit_place (quitted.reply.stream split.0)
+    is = ap (λ (l : List ℕ). quit_place (stream_at exchange.limits 0 l)) split.1 ∙ ap quit_place (quitted.reply.stream split.0)
         ∙ quit_place-last quitted.reply.done quitted.reply.last (stream_of last.reader split.0) quitted.reply.goes_on quitted.asked;
     near = near;
   }
@@ -52,19 +53,19 @@ module _ (seen : Seen) (last : Spot) (readings : last.world.readings ≡ seen.re
   near_writes budget end.Memory spent ends near = tt
   near_writes budget end.WriteFault spent (inl cut) near = record {
     at = cut.last.after;
-    is = ap (λ (l : List ℕ). place_after (stream_at seen.limits.wire 0 l) (length (requests_in cut.done))) split.1
+    is = ap (λ (l : List ℕ). place_after (stream_at exchange.limits 0 l) (length (requests_in cut.done))) split.1
         ∙ ap (λ (s : Stream). place_after s (length (requests_in cut.done))) (cut.stream split.0) ∙ place_after-last cut.done cut.last (stream_of last.reader split.0);
     near = near;
   }
   near_writes budget end.WriteFault spent (inr cut) near = near
 
 -- an input that has nothing left ends as one that has
-read_alone : (left : Option (List ℕ)) (old new : Spot) (had has : List ℕ → Type 0) (bytes : List ℕ) → ReadAll left old new had has bytes ⊎ Quitted old new had has bytes
+abbrev read_alone : (left : Option (List ℕ)) (old new : Spot) (had has : List ℕ → Type 0) (bytes : List ℕ) → ReadAll left old new had has bytes ⊎ Quitted old new had has bytes
     → ReadAll (Some []) old new had has bytes ⊎ Quitted old new had has bytes
 read_alone left old new had has bytes (inl all) = inl (record { went = all.went; ended = all.ended; at_end = refl })
 read_alone left old new had has bytes (inr quitted) = inr quitted
 
-pub ends_alone : (e : End) (left : Option (List ℕ)) (old new : Spot) (had has : List ℕ → Type 0) (bytes : List ℕ) → Ends e left old new had has bytes → Ends e (Some []) old new had has bytes
+abbrev ends_alone : (e : End) (left : Option (List ℕ)) (old new : Spot) (had has : List ℕ → Type 0) (bytes : List ℕ) → Ends e left old new had has bytes → Ends e (Some []) old new had has bytes
 ends_alone end.Ended left old new had has bytes ends = read_alone left old new had has bytes ends
 ends_alone (end.Truncated place) left old new had has bytes ends = (ends.0, ends.1, refl)
 ends_alone (end.Protocol fault) left old new had has bytes ends = ends
@@ -73,45 +74,93 @@ ends_alone end.WriteFault left old new had has bytes ends = ends
 ends_alone end.Memory left old new had has bytes ends = ends
 ends_alone end.Budget left old new had has bytes ends = ends
 
--- what `pipe` did from the empty database with an input that told its bytes
-module _ (seen : Seen) (budget : ℕ) (outcome : Outcome) (held : Held) (bytes : List ℕ) (left : Option (List ℕ))
-    (piped : Piped seen.limits.wire budget outcome (start seen.limits seen.readings) (record { held = held; readings = seen.readings_left }) (Some bytes) left seen.had seen.has) where
-  taken_of : (had has : List ℕ → Type 0) (given : Status) → Reports (status_of outcome.end) (place_of outcome.end) given had has → (outcome.end ≡ end.Ended → given ≡ status.Ended)
+-- and shows itself there
+pub shown_alone : (e : End) (left : Option (List ℕ)) (old new : Spot) (had has : List ℕ → Type 0) (bytes : List ℕ) (ends : Ends e left old new had has bytes)
+    → shown_at e (Some []) old new had has bytes (ends_alone e left old new had has bytes ends) ≡ shown_at e left old new had has bytes ends
+shown_alone end.Ended left old new had has bytes (inl all) = refl
+shown_alone end.Ended left old new had has bytes (inr quitted) = refl
+shown_alone (end.Truncated place) left old new had has bytes ends = refl
+shown_alone (end.Protocol fault) left old new had has bytes ends = refl
+shown_alone end.ReadFault left old new had has bytes ends = refl
+shown_alone end.WriteFault left old new had has bytes ends = refl
+shown_alone end.Memory left old new had has bytes ends = refl
+shown_alone end.Budget left old new had has bytes ends = refl
+
+pub of_input_alone : (e : End) (left : Option (List ℕ)) (old new : Spot) (had has : List ℕ → Type 0) (bytes : List ℕ) (ends : Ends e left old new had has bytes)
+    → is_of_input e (Some []) old new had has bytes (ends_alone e left old new had has bytes ends) ≡ is_of_input e left old new had has bytes ends
+of_input_alone end.Ended left old new had has bytes (inl all) = refl
+of_input_alone end.Ended left old new had has bytes (inr quitted) = refl
+of_input_alone (end.Truncated place) left old new had has bytes ends = refl
+of_input_alone (end.Protocol fault) left old new had has bytes ends = refl
+of_input_alone end.ReadFault left old new had has bytes ends = refl
+of_input_alone end.WriteFault left old new had has bytes ends = refl
+of_input_alone end.Memory left old new had has bytes ends = refl
+of_input_alone end.Budget left old new had has bytes ends = refl
+
+-- what `pipe` did with an input is what it does with the bytes that it took of it, where there are no others
+abbrev pub piped_alone : (limits : WireLimits) (budget : ℕ) (outcome : Outcome) (from to : World) (told left : Option (List ℕ)) (had has : List ℕ → Type 0)
+    → (piped : Piped limits budget outcome from to told left had has) → Piped limits budget outcome from to (Some piped.bytes) (Some []) had has
+piped_alone limits budget outcome from to told left had has piped =
+    let first : Spot = beginning limits from in
+    record {
+      bytes = piped.bytes;
+      last = piped.last;
+      count = piped.count;
+      within = piped.within;
+      spent = piped.spent;
+      took = sym (append-nil piped.bytes);
+      world = piped.world;
+      executed = piped.executed;
+      ends = ends_alone outcome.end left first piped.last had has piped.bytes piped.ends;
+      near = subst (λ (o : Option ℕ). IfSome o (λ place. outcome.taken ≤ place + PIECE)) (sym (shown_alone outcome.end left first piped.last had has piped.bytes piped.ends)) piped.near;
+      below = λ is. piped.below (sym (of_input_alone outcome.end left first piped.last had has piped.bytes piped.ends) ∙ is);
+    }
+
+-- what `pipe` did with an input that told its bytes
+module _ (exchange : Exchange) (budget : ℕ) (outcome : Outcome) (bytes : List ℕ) (left : Option (List ℕ)) (piped : Piped exchange.limits budget outcome exchange.from exchange.to (Some bytes) left exchange.had exchange.has) where
+  abbrev split : Splits bytes left piped.bytes
+  split = splits bytes left piped.bytes piped.took
+
+  pub used_up : outcome.end ≡ end.Budget → length piped.bytes ≡ budget
+  used_up is = piped.count ∙ piped.spent is
+
+  abbrev pub writes_of : Writes exchange budget bytes left outcome.end
+  writes_of = writes exchange piped.last piped.world bytes piped.bytes left split budget outcome.end used_up piped.ends
+
+  pub executed_of : outcome.executed ≡ count_done exchange budget bytes left outcome.end writes_of
+  executed_of = sym piped.executed ∙ executed_writes exchange piped.last piped.world bytes piped.bytes left split budget outcome.end used_up piped.ends
+
+  pub near_of : Near exchange bytes left budget outcome.end writes_of outcome.taken
+  near_of = near_writes exchange piped.last piped.world bytes piped.bytes left split outcome.taken budget outcome.end used_up piped.ends piped.near
+
+pub piped_writes : (exchange : Exchange) (budget : ℕ) (outcome : Outcome) (bytes : List ℕ) (told left : Option (List ℕ)) → told ≡ Some bytes
+    → Piped exchange.limits budget outcome exchange.from exchange.to told left exchange.had exchange.has → Writes exchange budget bytes left outcome.end
+piped_writes exchange budget outcome bytes told left tells piped =
+    writes_of exchange budget outcome bytes left (subst (λ (o : Option (List ℕ)). Piped exchange.limits budget outcome exchange.from exchange.to o left exchange.had exchange.has) tells piped)
+
+-- what it did from the empty database on is what the top call says was taken
+module _ (seen : Seen) (held : Held) (budget : ℕ) (outcome : Outcome) (bytes : List ℕ) (left : Option (List ℕ)) where
+  taken_of : Piped seen.limits.wire budget outcome (exchange_of seen held).from (exchange_of seen held).to (Some bytes) left seen.had seen.has
+      → (had has : List ℕ → Type 0) (given : Status) → Reports (status_of outcome.end) (place_of outcome.end) given had has → (outcome.end ≡ end.Ended → given ≡ status.Ended)
       → Taken seen budget bytes left had has given
-  taken_of had has given reported quiet =
-      let readings = ap (λ (w : World). w.readings) piped.world in
-      let split = splits bytes left piped.bytes piped.took in
-      let spent : (outcome.end ≡ end.Budget → length piped.bytes ≡ budget) = λ is. piped.count ∙ piped.spent is in
+  taken_of piped had has given reported quiet =
+      let exchange : Exchange = exchange_of seen held in
+      let parts = splits bytes left piped.bytes piped.took in
       record {
-        headline = record { end = outcome.end; written = writes seen piped.last readings bytes piped.bytes left split budget outcome.end spent piped.ends; reported = reported };
+        headline = record { held = held; end = outcome.end; written = writes_of exchange budget outcome bytes left piped; reported = reported };
         front = piped.bytes;
-        rest = split.0;
-        split = split.1;
-        left_is = split.2;
+        rest = parts.0;
+        split = parts.1;
+        left_is = parts.2;
         within = omega (arith, piped.count, piped.within);
-        alone = writes seen piped.last readings piped.bytes piped.bytes (Some []) ([], sym (append-nil piped.bytes), refl) budget outcome.end spent
-            (ends_alone outcome.end left (beginning seen.limits.wire (start seen.limits seen.readings)) piped.last seen.had seen.has piped.bytes piped.ends);
-        near = near_writes seen piped.last readings bytes piped.bytes left split (length piped.bytes) budget outcome.end spent piped.ends
-            (subst (λ (n : ℕ). IfSome (shown_at outcome.end left (beginning seen.limits.wire (start seen.limits seen.readings)) piped.last seen.had seen.has piped.bytes piped.ends) (λ place. n ≤ place + PIECE))
-            (sym piped.count) piped.near);
+        alone = writes_of exchange budget outcome piped.bytes (Some []) (piped_alone exchange.limits budget outcome exchange.from exchange.to (Some bytes) left exchange.had exchange.has piped);
+        near = subst (λ (n : ℕ). Near exchange bytes left budget outcome.end (writes_of exchange budget outcome bytes left piped) n) (sym piped.count) (near_of exchange budget outcome bytes left piped);
         quiet = quiet;
       }
 
-  writes_of : Writes seen budget bytes left outcome.end
-  writes_of =
-      writes seen piped.last (ap (λ (w : World). w.readings) piped.world) bytes piped.bytes left (splits bytes left piped.bytes piped.took) budget outcome.end (λ is. piped.count ∙ piped.spent is) piped.ends
-
-pub piped_writes : (seen : Seen) (budget : ℕ) (outcome : Outcome) (held : Held) (bytes : List ℕ) (told left : Option (List ℕ)) → told ≡ Some bytes
-    → Piped seen.limits.wire budget outcome (start seen.limits seen.readings) (record { held = held; readings = seen.readings_left }) told left seen.had seen.has → Writes seen budget bytes left outcome.end
-piped_writes seen budget outcome held bytes told left tells piped =
-    writes_of seen budget outcome held bytes left
-    (subst (λ (o : Option (List ℕ)). Piped seen.limits.wire budget outcome (start seen.limits seen.readings) (record { held = held; readings = seen.readings_left }) o left seen.had seen.has) tells piped)
-
-pub piped_taken : (seen : Seen) (budget : ℕ) (outcome : Outcome) (held : Held) (bytes : List ℕ) (told left : Option (List ℕ)) → told ≡ Some bytes
-    → Piped seen.limits.wire budget outcome (start seen.limits seen.readings) (record { held = held; readings = seen.readings_left }) told left seen.had seen.has
-    → (had has : List ℕ → Type 0) (given : Status) → Reports (status_of outcome.end) (place_of outcome.end) given had has → (outcome.end ≡ end.Ended → given ≡ status.Ended)
-    → Taken seen budget bytes left had has given
-piped_taken seen budget outcome held bytes told left tells piped had has given reported quiet =
-    taken_of seen budget outcome held bytes left
-    (subst (λ (o : Option (List ℕ)). Piped seen.limits.wire budget outcome (start seen.limits seen.readings) (record { held = held; readings = seen.readings_left }) o left seen.had seen.has) tells piped)
-    had has given reported quiet
+  pub piped_taken : (told : Option (List ℕ)) → told ≡ Some bytes
+      → Piped seen.limits.wire budget outcome (exchange_of seen held).from (exchange_of seen held).to told left seen.had seen.has
+      → (had has : List ℕ → Type 0) (given : Status) → Reports (status_of outcome.end) (place_of outcome.end) given had has → (outcome.end ≡ end.Ended → given ≡ status.Ended)
+      → Taken seen budget bytes left had has given
+  piped_taken told tells piped =
+      taken_of (subst (λ (o : Option (List ℕ)). Piped seen.limits.wire budget outcome (exchange_of seen held).from (exchange_of seen held).to o left seen.had seen.has) tells piped)

@@ -10,28 +10,28 @@ use Rattle.ts_words.specs.declared.status.Status.TheVariants as status
 use Rattle.ts_engine.specs.Piping.{HasCauses}
 use Rattle.ts_engine.specs.Status.{status_of}
 use Rattle.ts_engine.specs.Top.{status_by, status_at}
-use Rattle.ts_engine.specs.Headline.{Seen, Writes, ending, asks_to_quit}
+use Rattle.ts_engine.specs.Headline.{Exchange, Writes, ending, asks_to_quit}
 
 -- without QUIT the status is that of the ending
 by_ending : (quits : Bool) (stream end : Stream) → quits ≡ false → stream ≡ end → status_at end ≡ status_by quits stream
 by_ending quits stream end none is = ap status_at (sym is) ∙ ap (λ (b : Bool). status_by b stream) (sym none)
 
 -- where no fault was counted and the budget is not reached, the status is the grammar's, or want of memory
-pub by_grammar : (seen : Seen) (budget : ℕ) (bytes : List ℕ) (left : Option (List ℕ)) (e : End) (reads reads' writes writes' : ℕ)
-    → Writes seen budget bytes left e → HasCauses e reads reads' writes writes' → length bytes < budget → (Rose reads reads' → ⊥) → (Rose writes writes' → ⊥)
-    → (status_of e ≡ status.Memory) ⊎ (status_of e ≡ status_by (asks_to_quit seen.limits.wire bytes) (ending seen.limits.wire bytes))
-by_grammar seen budget bytes left end.Ended reads reads' writes writes' (inl all) causes below no_read no_write =
-    inr (by_ending (asks_to_quit seen.limits.wire bytes) (ending seen.limits.wire bytes) Ended all.goes_on all.ended)
-by_grammar seen budget bytes left end.Ended reads reads' writes writes' (inr quitted) causes below no_read no_write =
-    inr (ap (λ (b : Bool). status_by b (ending seen.limits.wire bytes)) (sym quitted.1))
-by_grammar seen budget bytes left (end.Truncated place) reads reads' writes writes' wrote causes below no_read no_write =
-    inr (by_ending (asks_to_quit seen.limits.wire bytes) (ending seen.limits.wire bytes) (Inside place) wrote.goes_on wrote.ended)
-by_grammar seen budget bytes left (end.Protocol fault) reads reads' writes writes' wrote causes below no_read no_write =
-    inr (by_ending (asks_to_quit seen.limits.wire bytes) (ending seen.limits.wire bytes) (Broken fault.kind fault.place) wrote.1 wrote.2)
-by_grammar seen budget bytes left end.ReadFault reads reads' writes writes' wrote causes below no_read no_write = absurd (no_read (causes.read refl))
-by_grammar seen budget bytes left end.WriteFault reads reads' writes writes' wrote causes below no_read no_write = absurd (no_write (causes.write refl))
-by_grammar seen budget bytes left end.Memory reads reads' writes writes' wrote causes below no_read no_write = inl refl
-by_grammar seen budget bytes left end.Budget reads reads' writes writes' wrote causes below no_read no_write =
+pub by_grammar : (exchange : Exchange) (budget : ℕ) (bytes : List ℕ) (left : Option (List ℕ)) (e : End) (reads reads' writes writes' : ℕ)
+    → Writes exchange budget bytes left e → HasCauses e reads reads' writes writes' → length bytes < budget → (Rose reads reads' → ⊥) → (Rose writes writes' → ⊥)
+    → (status_of e ≡ status.Memory) ⊎ (status_of e ≡ status_by (asks_to_quit exchange.limits bytes) (ending exchange.limits bytes))
+by_grammar exchange budget bytes left end.Ended reads reads' writes writes' (inl all) causes below no_read no_write =
+    inr (by_ending (asks_to_quit exchange.limits bytes) (ending exchange.limits bytes) Ended all.goes_on all.ended)
+by_grammar exchange budget bytes left end.Ended reads reads' writes writes' (inr quitted) causes below no_read no_write =
+    inr (ap (λ (b : Bool). status_by b (ending exchange.limits bytes)) (sym quitted.1))
+by_grammar exchange budget bytes left (end.Truncated place) reads reads' writes writes' wrote causes below no_read no_write =
+    inr (by_ending (asks_to_quit exchange.limits bytes) (ending exchange.limits bytes) (Inside place) wrote.goes_on wrote.ended)
+by_grammar exchange budget bytes left (end.Protocol fault) reads reads' writes writes' wrote causes below no_read no_write =
+    inr (by_ending (asks_to_quit exchange.limits bytes) (ending exchange.limits bytes) (Broken fault.kind fault.place) wrote.1 wrote.2)
+by_grammar exchange budget bytes left end.ReadFault reads reads' writes writes' wrote causes below no_read no_write = absurd (no_read (causes.read refl))
+by_grammar exchange budget bytes left end.WriteFault reads reads' writes writes' wrote causes below no_read no_write = absurd (no_write (causes.write refl))
+by_grammar exchange budget bytes left end.Memory reads reads' writes writes' wrote causes below no_read no_write = inl refl
+by_grammar exchange budget bytes left end.Budget reads reads' writes writes' wrote causes below no_read no_write =
     absurd (omega (arith, ap length wrote.0.split, length-append wrote.0.front wrote.0.rest, wrote.1))
 
 -- what holds of the status meant holds of the one given
@@ -45,6 +45,13 @@ pub answered_as : (meant given : Status) (told told' : ℕ) → (given ≡ statu
 answered_as meant given told told' cause same none =
     ⊎_elim (λ (failed : given ≡ status.WriteFault). ⊎_elim (λ (was : meant ≡ status.WriteFault). failed ∙ sym was) (λ (rose : Rose told told'). absurd (none rose)) (cause failed))
     (λ (is : given ≡ meant). is) same
+
+-- a workload whose status is no write fault was answered, or there was no memory
+pub answered_or_memory : {A B : Type 0} (given : Status) → (given ≡ status.Ended) ⊎ (given ≡ status.WriteFault) ⊎ (given ≡ status.Memory) → (given ≡ status.WriteFault → A ⊎ B) → (A → ⊥) → (B → ⊥)
+    → (given ≡ status.Memory) ⊎ (given ≡ status.Ended)
+answered_or_memory given (inl good) cause no_a no_b = inr good
+answered_or_memory given (inr (inl failed)) cause no_a no_b = absurd (⊎_elim no_a no_b (cause failed))
+answered_or_memory given (inr (inr memory)) cause no_a no_b = inl memory
 
 -- where the status given is neither that of a write nor that of this fault, the end was another
 pub not_meant : {E : Type 0} (view : E → Status) (e fault : E) (meant given : Status) → meant ≡ view e

@@ -41,3 +41,9 @@ pub record Connections {I O : Type 0} (views : StreamViews I O) (seen : Seen) (b
   pub serves : Serves views seen.limits.wire budget served 1 most (start seen.limits seen.readings) (record { held = held; readings = seen.readings_left }) coming coming' closed closed' seen.had seen.has
   pub reported : Reports (status_served served) 0 given had has
   pub quiet : served ≡ Done → given ≡ status.Ended
+
+-- So many links were served, from the empty database and the first link on, and their lines were written. That is a good end.
+pub record AllServed {I O : Type 0} (views : StreamViews I O) (seen : Seen) (budget most : ℕ) (coming coming' closed closed' : Option (List (Ends I O))) (given : Status) : Type 0 where
+  pub good : given ≡ status.Ended
+  pub held : Held
+  pub serves : Serves views seen.limits.wire budget Done 1 most (start seen.limits seen.readings) (record { held = held; readings = seen.readings_left }) coming coming' closed closed' seen.had seen.has

@@ -1,5 +1,6 @@
 -- What is written for an input, by its end: the replies of a database of plain sample lists.
-use Rattle.std.specs.Prelude.{◌≡◌, ◌⊎◌, Bool, true, false, ℕ, List, [], ◌∷◌, ◌++◌, length, take, Option, Some}
+use Rattle.std.specs.Prelude.{◌≡◌, ◌⊎◌, Bool, true, false, ℕ, ◌+◌, List, [], ◌∷◌, ◌++◌, length, take, Option, Some}
+use Rattle.std.proofs.Common.{inl, inr}
 use Rattle.ts_io.specs.Sinks.{Grows}
 use Rattle.ts_resp.specs.Reading.{ended_at}
 use Rattle.ts_spec.specs.Run.{Runs, has_quit, until_quit}
@@ -30,7 +31,15 @@ ending limits bytes = ending_of (stream_at limits 0 bytes)
 abbrev pub start : Limits → Option (List ℕ) → World
 start limits readings = record { held = record { limits = limits; state = empty }; readings = readings }
 
--- what was read, from a clock that has these readings left, and what a sink had and has
+-- an exchange of requests and replies: the limits of requests, the worlds before and after, and what the sink of the replies had and has
+pub record Exchange : Type 1 where
+  pub limits : WireLimits
+  pub from : World
+  pub to : World
+  pub had : List ℕ → Type 0
+  pub has : List ℕ → Type 0
+
+-- what was read by a run of the program, from a clock that has these readings left, and what a sink had and has
 pub record Seen : Type 1 where
   pub limits : Limits
   pub readings : Option (List ℕ)
@@ -38,46 +47,53 @@ pub record Seen : Type 1 where
   pub had : List ℕ → Type 0
   pub has : List ℕ → Type 0
 
-module _ (seen : Seen) where
+-- that is an exchange from the empty database to this one
+abbrev pub exchange_of : Seen → Held → Exchange
+exchange_of seen held = record {
+  limits = seen.limits.wire;
+  from = start seen.limits seen.readings;
+  to = record { held = held; readings = seen.readings_left };
+  had = seen.had;
+  has = seen.has;
+}
+
+module _ (exchange : Exchange) where
   -- the sink has the text of a run of all requests in these bytes, and then the tail
   pub record AllAnswered (bytes tail : List ℕ) : Type 0 where
     pub text : List ℕ
-    pub held : Held
-    pub run : Runs turn (start seen.limits seen.readings) (requests seen.limits.wire bytes) text (record { held = held; readings = seen.readings_left })
-    pub grown : Grows seen.had seen.has (text ++ tail)
+    pub run : Runs turn exchange.from (requests exchange.limits bytes) text exchange.to
+    pub grown : Grows exchange.had exchange.has (text ++ tail)
 
   -- the sink has the text of a run of the first requests in these bytes
   pub record SomeAnswered (bytes : List ℕ) : Type 0 where
     pub done : List Request
     pub others : List Request
-    pub first : requests seen.limits.wire bytes ≡ done ++ others
+    pub first : requests exchange.limits bytes ≡ done ++ others
     pub text : List ℕ
-    pub held : Held
-    pub run : Runs turn (start seen.limits seen.readings) done text (record { held = held; readings = seen.readings_left })
-    pub grown : Grows seen.had seen.has text
+    pub run : Runs turn exchange.from done text exchange.to
+    pub grown : Grows exchange.had exchange.has text
 
   -- the sink has such a text, in which only bytes at the end of the last request's text are missing
   pub record LastCut (bytes : List ℕ) : Type 0 where
     pub done : List Request
     pub last : Request
     pub others : List Request
-    pub first : requests seen.limits.wire bytes ≡ done ++ last ∷ others
+    pub first : requests exchange.limits bytes ≡ done ++ last ∷ others
     pub text : List ℕ
     pub mid : World
     pub reply : List ℕ
     pub kept : ℕ
-    pub held : Held
-    pub run : Runs turn (start seen.limits seen.readings) done text mid
-    pub turned : turn mid last reply (record { held = held; readings = seen.readings_left })
-    pub grown : Grows seen.had seen.has (text ++ take kept reply)
+    pub run : Runs turn exchange.from done text mid
+    pub turned : turn mid last reply exchange.to
+    pub grown : Grows exchange.had exchange.has (text ++ take kept reply)
 
   -- the sink has the text of a run of all requests, and the fault's text, in which only bytes at its end are missing
   pub record FaultCut (bytes : List ℕ) : Type 0 where
     pub kind : Kind
     pub place : ℕ
     pub kept : ℕ
-    pub broken : ending seen.limits.wire bytes ≡ Broken kind place
-    pub goes_on : asks_to_quit seen.limits.wire bytes ≡ false
+    pub broken : ending exchange.limits bytes ≡ Broken kind place
+    pub goes_on : asks_to_quit exchange.limits bytes ≡ false
     pub answered : AllAnswered bytes (take kept (fault_text kind))
 
   -- a front of the bytes was taken, and all requests in it were answered; there is no fault and no QUIT in it
@@ -87,23 +103,38 @@ module _ (seen : Seen) where
     pub split : bytes ≡ front ++ rest
     pub left_is : left ≡ Some rest
     pub place : Option ℕ
-    pub unbroken : ending seen.limits.wire front ≡ ended_at place
-    pub goes_on : asks_to_quit seen.limits.wire front ≡ false
+    pub unbroken : ending exchange.limits front ≡ ended_at place
+    pub goes_on : asks_to_quit exchange.limits front ≡ false
     pub answered : AllAnswered front []
 
   -- the whole of the bytes was taken, all requests in them were answered, and none is QUIT
   pub record WholeAnswered (bytes : List ℕ) (left : Option (List ℕ)) (end : Stream) : Type 0 where
     pub answered : AllAnswered bytes []
-    pub goes_on : asks_to_quit seen.limits.wire bytes ≡ false
-    pub ended : ending seen.limits.wire bytes ≡ end
+    pub goes_on : asks_to_quit exchange.limits bytes ≡ false
+    pub ended : ending exchange.limits bytes ≡ end
     pub left_is : left ≡ Some []
 
   -- what is written for an input with these bytes, of which so many may be taken; left is what it has at the end
   abbrev pub Writes : (budget : ℕ) → List ℕ → Option (List ℕ) → End → Type 0
-  Writes budget bytes left end.Ended = WholeAnswered bytes left Ended ⊎ (AllAnswered bytes [] × (asks_to_quit seen.limits.wire bytes ≡ true))
+  Writes budget bytes left end.Ended = WholeAnswered bytes left Ended ⊎ (AllAnswered bytes [] × (asks_to_quit exchange.limits bytes ≡ true))
   Writes budget bytes left (end.Truncated place) = WholeAnswered bytes left (Inside place)
-  Writes budget bytes left (end.Protocol fault) = AllAnswered bytes (fault_text fault.kind) × (asks_to_quit seen.limits.wire bytes ≡ false) × (ending seen.limits.wire bytes ≡ Broken fault.kind fault.place)
+  Writes budget bytes left (end.Protocol fault) = AllAnswered bytes (fault_text fault.kind) × (asks_to_quit exchange.limits bytes ≡ false) × (ending exchange.limits bytes ≡ Broken fault.kind fault.place)
   Writes budget bytes left end.ReadFault = FrontAnswered bytes left
   Writes budget bytes left end.Budget = (front : FrontAnswered bytes left) × (length front.front ≡ budget)
   Writes budget bytes left end.Memory = SomeAnswered bytes
   Writes budget bytes left end.WriteFault = LastCut bytes ⊎ FaultCut bytes
+
+  -- how many requests had their turns where a write failed: the one whose reply was cut among them
+  abbrev pub count_cut : (bytes : List ℕ) → LastCut bytes ⊎ FaultCut bytes → ℕ
+  count_cut bytes (inl cut) = length cut.done + 1
+  count_cut bytes (inr cut) = length (requests exchange.limits bytes)
+
+  -- how many had their turns
+  abbrev pub count_done : (budget : ℕ) (bytes : List ℕ) (left : Option (List ℕ)) (e : End) → Writes budget bytes left e → ℕ
+  count_done budget bytes left end.Ended written = length (requests exchange.limits bytes)
+  count_done budget bytes left (end.Truncated place) written = length (requests exchange.limits bytes)
+  count_done budget bytes left (end.Protocol fault) written = length (requests exchange.limits bytes)
+  count_done budget bytes left end.ReadFault written = length (requests exchange.limits written.front)
+  count_done budget bytes left end.Budget written = length (requests exchange.limits written.0.front)
+  count_done budget bytes left end.Memory written = length written.done
+  count_done budget bytes left end.WriteFault written = count_cut bytes written

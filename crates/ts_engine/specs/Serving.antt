@@ -1,5 +1,6 @@
 -- What `serve` does to a listener, an output and a database: links are served one after another.
-use Rattle.std.specs.Prelude.{◌≡◌, ℕ, ◌+◌, ◌≤◌, ◌<◌, List, [], ◌∷◌, ◌++◌, length, map, take, Option}
+use Rattle.std.specs.Prelude.{◌≡◌, ℕ, ◌+◌, ◌≤◌, ◌<◌, List, [], ◌∷◌, ◌++◌, length, map, take, Option, Some}
+use Rattle.std.specs.Io.KnownBytes.{Consumes}
 use Rattle.std.specs.Option.{option_map}
 use Rattle.ts_io.specs.Sinks.{Grows}
 use Rattle.ts_io.specs.declared.listener.Ends.{Ends}
@@ -12,7 +13,9 @@ use Rattle.ts_engine.specs.declared.piped.End.TheVariants as end
 use Rattle.ts_engine.specs.declared.piped.Outcome.{Outcome}
 use Rattle.ts_engine.specs.declared.serving.Served.{Served}
 use Rattle.ts_engine.specs.declared.serving.Served.TheVariants.{Done, AcceptFault, WriteFault}
-use Rattle.ts_engine.specs.Piping.{Piped, HasCauses}
+use Rattle.ts_engine.specs.Answered.{InputAnswered}
+use Rattle.ts_engine.specs.Headline.{Exchange}
+use Rattle.ts_engine.specs.Piping.{HasCauses}
 use Rattle.ts_engine.specs.Turn.{World}
 
 -- ---- lines
@@ -57,9 +60,25 @@ pub record Handed {I O : Type 0} (links : List (Link I O)) (coming coming' close
   pub back : closed' ≡ option_map (λ before. before ++ map (λ link. link.back) links) closed
 
 module _ {I O : Type 0} (views : StreamViews I O) (limits : WireLimits) (budget : ℕ) where
-  -- the requests in a link's input were answered on its output, and a fault ended that only where its own count rose, and else that is as it was
+  -- what is exchanged over a link, from one world to another
+  abbrev pub link_exchange : Link I O → (from to : World) → Exchange
+  link_exchange link from to = record { limits = limits; from = from; to = to; had = views.has link.came.out; has = views.has link.back.out }
+
+  -- these bytes of its input, which has this left at the end, were answered
+  abbrev pub LinkAnswered : (link : Link I O) → (from to : World) → List ℕ → (left : Option (List ℕ)) → Type 0
+  LinkAnswered link from to bytes left =
+      InputAnswered (link_exchange link from to) budget bytes left link.outcome
+      (views.reads link.came.input) (views.reads link.back.input) (views.writes link.came.out) (views.writes link.back.out)
+
+  -- So many bytes were taken of a link's input, at most the budget. They were answered as an input that has no others; and where the input told
+  -- its bytes, these were answered. A fault is the end only where its own count rose, and else that is as it was.
   pub record IsServed (link : Link I O) (from to : World) : Type 0 where
-    pub piped : Piped limits budget link.outcome from to (views.left link.came.input) (views.left link.back.input) (views.has link.came.out) (views.has link.back.out)
+    pub front : List ℕ
+    pub count : length front ≡ link.outcome.taken
+    pub within : link.outcome.taken ≤ budget
+    pub took : Consumes (views.left link.came.input) (views.left link.back.input) front
+    pub alone : LinkAnswered link from to front (Some [])
+    pub answered : (bytes : List ℕ) → views.left link.came.input ≡ Some bytes → LinkAnswered link from to bytes (views.left link.back.input)
     pub causes : HasCauses link.outcome.end (views.reads link.came.input) (views.reads link.back.input) (views.writes link.came.out) (views.writes link.back.out)
 
   -- links were served one after another, each in the world that the one before left

@@ -7,7 +7,7 @@ use Rattle.ts_engine.specs.declared.piped.End.{End}
 use Rattle.ts_engine.specs.declared.piped.End.TheVariants as end
 use Rattle.ts_words.specs.declared.status.Status.{Status}
 use Rattle.ts_words.specs.declared.status.Status.TheVariants as status
-use Rattle.ts_engine.specs.Headline.{Seen, AllAnswered, WholeAnswered, LastCut, FaultCut, asks_to_quit, Writes}
+use Rattle.ts_engine.specs.Headline.{Exchange, Seen, exchange_of, AllAnswered, WholeAnswered, LastCut, FaultCut, asks_to_quit, Writes}
 use Rattle.ts_engine.specs.Piping.{PIECE}
 use Rattle.ts_engine.specs.Status.{status_of, place_of}
 use Rattle.ts_engine.specs.Top.{Headline, Reports}
@@ -33,19 +33,19 @@ pub record IsNear (place : Option ℕ) (taken : ℕ) : Type 0 where
   pub is : place ≡ Some at
   pub near : taken ≤ at + PIECE
 
-module _ (seen : Seen) (bytes : List ℕ) (left : Option (List ℕ)) where
+module _ (exchange : Exchange) (bytes : List ℕ) (left : Option (List ℕ)) where
   -- past a QUIT
-  abbrev pub QuitNear : WholeAnswered seen bytes left Ended ⊎ (AllAnswered seen bytes [] × (asks_to_quit seen.limits.wire bytes ≡ true)) → ℕ → Type 0
+  abbrev pub QuitNear : WholeAnswered exchange bytes left Ended ⊎ (AllAnswered exchange bytes [] × (asks_to_quit exchange.limits bytes ≡ true)) → ℕ → Type 0
   QuitNear (inl whole) taken = ⊤
-  QuitNear (inr quits) taken = IsNear (quit_place (stream_at seen.limits.wire 0 bytes)) taken
+  QuitNear (inr quits) taken = IsNear (quit_place (stream_at exchange.limits 0 bytes)) taken
 
   -- past the request whose reply failed, or past the fault whose text did
-  abbrev pub CutNear : LastCut seen bytes ⊎ FaultCut seen bytes → ℕ → Type 0
-  CutNear (inl cut) taken = IsNear (place_after (stream_at seen.limits.wire 0 bytes) (length cut.done)) taken
+  abbrev pub CutNear : LastCut exchange bytes ⊎ FaultCut exchange bytes → ℕ → Type 0
+  CutNear (inl cut) taken = IsNear (place_after (stream_at exchange.limits 0 bytes) (length cut.done)) taken
   CutNear (inr cut) taken = taken ≤ cut.place + PIECE
 
   -- no read was made past an end that showed itself in the input
-  abbrev pub Near : (budget : ℕ) (e : End) → Writes seen budget bytes left e → (taken : ℕ) → Type 0
+  abbrev pub Near : (budget : ℕ) (e : End) → Writes exchange budget bytes left e → (taken : ℕ) → Type 0
   Near budget end.Ended written taken = QuitNear written taken
   Near budget (end.Truncated place) written taken = ⊤
   Near budget (end.Protocol fault) written taken = taken ≤ fault.place + PIECE
@@ -63,8 +63,8 @@ pub record Taken (seen : Seen) (budget : ℕ) (bytes : List ℕ) (left : Option 
   pub split : bytes ≡ front ++ rest
   pub left_is : left ≡ Some rest
   pub within : length front ≤ budget
-  pub alone : Writes seen budget front (Some []) headline.end
-  pub near : Near seen bytes left budget headline.end headline.written (length front)
+  pub alone : Writes (exchange_of seen headline.held) budget front (Some []) headline.end
+  pub near : Near (exchange_of seen headline.held) bytes left budget headline.end headline.written (length front)
   pub quiet : headline.end ≡ end.Ended → given ≡ status.Ended
 
 -- An end was reported by its status and line, whatever the input tells of itself. A good end is not reported otherwise.

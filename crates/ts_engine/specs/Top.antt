@@ -6,12 +6,13 @@ use Rattle.ts_io.specs.Sinks.{Grows, GrowsByFront}
 use Rattle.ts_spec.specs.Wire.{Stream, Then, Ended, Inside, Broken}
 use Rattle.ts_spec.specs.declared.limits.Limits.{Limits}
 use Rattle.std.specs.declared.alloc.Global.{Global}
+use Rattle.ts_db.specs.Held.{Held}
 use Rattle.ts_engine.specs.declared.piped.End.{End}
 use Rattle.ts_words.specs.Endings.{line_of}
 use Rattle.ts_words.specs.declared.status.Status.{Status}
 use Rattle.ts_words.specs.declared.status.Status.TheVariants as status
 use Rattle.ts_engine.specs.Status.{status_of, place_of}
-use Rattle.ts_engine.specs.Headline.{Seen, Writes}
+use Rattle.ts_engine.specs.Headline.{Seen, exchange_of, Writes}
 
 -- each limit lets something through
 pub record AreUsable (limits : Limits) : Type 0 where
@@ -35,10 +36,11 @@ abbrev pub Reports : (meant : Status) → (place : ℕ) → (given : Status) →
 Reports meant place given had has =
     ((given ≡ meant) × Grows had has (line_of meant place)) ⊎ ((given ≡ status.WriteFault) × GrowsByFront had has (line_of meant place))
 
--- how an input with these bytes was answered: what its end says was written, and the end was reported
+-- how an input with these bytes was answered, from the empty database on: what its end says was written, and the end was reported
 pub record Headline (seen : Seen) (budget : ℕ) (bytes : List ℕ) (left : Option (List ℕ)) (had has : List ℕ → Type 0) (given : Status) : Type 0 where
+  pub held : Held
   pub end : End
-  pub written : Writes seen budget bytes left end
+  pub written : Writes (exchange_of seen held) budget bytes left end
   pub reported : Reports (status_of end) (place_of end) given had has
 
 -- the status that the grammar gives to an ending

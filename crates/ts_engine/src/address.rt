@@ -2,7 +2,7 @@
 ghost use Rattle.std.specs.Prelude.{◌≡◌, ◌≢◌, ◌⊎◌, ◌≤◌, false};
 ghost use Rattle.ts_io.specs.Causes.{Rose};
 ghost use Rattle.ts_db.specs.Held.{Carries};
-ghost use Rattle.ts_engine.specs.Asked.{Connections};
+ghost use Rattle.ts_engine.specs.Asked.{Connections, AllServed};
 ghost use Rattle.ts_engine.specs.Asked as asked;
 ghost use Rattle.ts_engine.specs.Serving.{Serves};
 ghost use Rattle.ts_engine.specs.Top.{AreUsable};
@@ -34,6 +34,10 @@ pub(crate) fn serve_address<N: Listener, K: Sink, E: Sink, C: Clock>(
     ensures served { Connections (record { left = N.In.left; reads = N.In.faults; has = N.Out.has; writes = N.Out.faults })
         (record { limits = limits; readings = C.readings clock.old; readings_left = C.readings clock.new; had = K.has out.old; has = K.has out.new })
         budget links (N.coming net.old) (N.coming net.new) (N.closed net.old) (N.closed net.new) (E.has err.old) (E.has err.new) result }
+    ensures complete { (Rose (N.faults net.old) (N.faults net.new) → ⊥) → (Rose (K.faults out.old) (K.faults out.new) → ⊥)
+        → AllServed (record { left = N.In.left; reads = N.In.faults; has = N.Out.has; writes = N.Out.faults })
+        (record { limits = limits; readings = C.readings clock.old; readings_left = C.readings clock.new; had = K.has out.old; has = K.has out.new })
+        budget links (N.coming net.old) (N.coming net.new) (N.closed net.old) (N.closed net.new) result }
     ensures net { N.is_out net.new ≡ false }
     ensures statuses { (result ≡ Status.Ended) ⊎ (result ≡ Status.AcceptFault) ⊎ (result ≡ Status.WriteFault) }
     ensures accept_fault { result ≡ Status.AcceptFault → Rose (N.faults net.old) (N.faults net.new) }

@@ -1,7 +1,7 @@
 // The top call: the words of the command line, and what they ask for.
 ghost use Rattle.std.specs.Prelude.{◌≡◌, ◌≢◌, ◌⊎◌, ◌≤◌, ◌<◌, ℕ, false, List, length, take, None, Some};
 ghost use Rattle.ts_io.specs.Causes.{Rose};
-ghost use Rattle.ts_engine.specs.Asked.{asked, IsServe, IsGen, Connections};
+ghost use Rattle.ts_engine.specs.Asked.{asked, IsServe, IsGen, Connections, AllServed};
 ghost use Rattle.ts_engine.specs.Generated.{Workload};
 ghost use Rattle.ts_engine.specs.Headline.{Seen, ending, asks_to_quit};
 ghost use Rattle.ts_engine.specs.Taken.{Taken, HasStatusLine};
@@ -70,6 +70,17 @@ pub fn top<S: Source, K: Sink, E: Sink, C: Clock, N: Listener>(
     // Where the words ask for a workload, its summary is that of a run of its requests.
     ensures generated { (seed n : ℕ) → asked words.now ≡ Some (Mode.Gen seed n)
         → Workload limits seed n (K.has out.old) (K.has out.new) (E.has err.old) (E.has err.new) result }
+
+    // Where the listener and the output don't fail, all connections are served, and their lines are written.
+    ensures serve_complete { (links : ℕ) → asked words.now ≡ Some (Mode.Serve links)
+        → (Rose (N.faults net.old) (N.faults net.new) → ⊥) → (Rose (K.faults out.old) (K.faults out.new) → ⊥) → AllServed
+        (record { left = N.In.left; reads = N.In.faults; has = N.Out.has; writes = N.Out.faults })
+        (record { limits = limits; readings = C.readings clock.old; readings_left = C.readings clock.new; had = K.has out.old; has = K.has out.new })
+        budget links (N.coming net.old) (N.coming net.new) (N.closed net.old) (N.closed net.new) result }
+
+    // Where the output and `err` don't fail, a workload is answered, or there is no memory.
+    ensures gen_complete { IsGen words.now → (Rose (K.faults out.old) (K.faults out.new) → ⊥) → (Rose (E.faults err.old) (E.faults err.new) → ⊥)
+        → (result ≡ Status.Memory) ⊎ (result ≡ Status.Ended) }
 
     // Words that ask for nothing touch nothing but `err`.
     ensures usage { asked words.now ≡ None → Reports Status.Usage 0 result (E.has err.old) (E.has err.new) }

@@ -6,7 +6,7 @@ use Rattle.ts_engine.specs.Status.{status_of, place_of}
 use Rattle.ts_engine.specs.Top.{Reports}
 use Rattle.ts_engine.proofs.Spending.{by_budget}
 use Rattle.ts_engine.proofs.Taking.{piped_taken, piped_writes}
-use Rattle.ts_engine.proofs.Tops.{by_grammar, answered_as, as_meant, not_meant}
+use Rattle.ts_engine.proofs.Tops.{by_grammar, answered_as, as_meant, not_meant, answered_or_memory}
 use Rattle.ts_engine.proofs.running.top.Goals as goal
 
 pub returns-in-Some-Pipe-clause-status_line : goal.returns-in-Some-Pipe-clause-status_line
@@ -22,7 +22,7 @@ unfolding returns-in-Some-Pipe-clause-status_line
 returns-in-Some-Pipe-clause-taken g c = λ is_pipe bytes told.
     let carried = c.pipe-outcome.ensures.piped (record { limits = c.args.limits; state = empty }) c.new-db.ensures.stands in
     let reports = returns-in-Some-Pipe-clause-status_line g c is_pipe in
-    piped_taken _ c.args.budget c.pipe-outcome.result carried.to bytes _ (g.S.Source.left c.pipe-outcome.new.input) told carried.done _ _ c.report.result reports.reported reports.quiet
+    piped_taken _ carried.to c.args.budget c.pipe-outcome.result bytes (g.S.Source.left c.pipe-outcome.new.input) _ told carried.done _ _ c.report.result reports.reported reports.quiet
 
 pub returns-in-Some-Pipe-clause-headline : goal.returns-in-Some-Pipe-clause-headline
 returns-in-Some-Pipe-clause-headline g c = λ is_pipe bytes told. (returns-in-Some-Pipe-clause-taken g c is_pipe bytes told).headline
@@ -32,14 +32,14 @@ returns-in-Some-Pipe-clause-complete g c = λ is_pipe bytes told below none.
     let carried = c.pipe-outcome.ensures.piped (record { limits = c.args.limits; state = empty }) c.new-db.ensures.stands in
     let meant = answered_as c.status.result c.report.result _ _ c.report.ensures.cause c.report.ensures.same none.2 ∙ c.status.ensures in
     as_meant _ c.report.result _ meant
-    (by_grammar _ c.args.budget bytes _ c.pipe-outcome.result.end _ _ _ _ (piped_writes _ c.args.budget c.pipe-outcome.result carried.to bytes _ _ told carried.done) c.pipe-outcome.ensures.causes below none.0 none.1)
+    (by_grammar _ c.args.budget bytes _ c.pipe-outcome.result.end _ _ _ _ (piped_writes _ c.args.budget c.pipe-outcome.result bytes _ _ told carried.done) c.pipe-outcome.ensures.causes below none.0 none.1)
 
 pub returns-in-Some-Pipe-clause-spent : goal.returns-in-Some-Pipe-clause-spent
 returns-in-Some-Pipe-clause-spent g c = λ is_pipe bytes told enough none.
     let carried = c.pipe-outcome.ensures.piped (record { limits = c.args.limits; state = empty }) c.new-db.ensures.stands in
     let meant = answered_as c.status.result c.report.result _ _ c.report.ensures.cause c.report.ensures.same none.2 ∙ c.status.ensures in
     as_meant _ c.report.result _ meant
-    (by_budget _ c.args.budget c.pipe-outcome.result carried.to bytes _ _ told carried.done _ _ _ _ c.pipe-outcome.ensures.causes enough none.0 none.1)
+    (by_budget _ c.args.budget c.pipe-outcome.result bytes _ _ told carried.done _ _ _ _ c.pipe-outcome.ensures.causes enough none.0 none.1)
 
 pub returns-in-Some-Pipe-clause-no_read_fault : goal.returns-in-Some-Pipe-clause-no_read_fault
 returns-in-Some-Pipe-clause-no_read_fault g c = λ no_read no_write.
@@ -52,3 +52,7 @@ returns-in-Some-Pipe-clause-no_write_fault g c = λ no_write.
     let other = not_meant status_of c.pipe-outcome.result.end end.WriteFault c.status.result c.report.result
     c.status.ensures c.report.ensures.same no_write no_write in
     (c.pipe-outcome.ensures.causes.unwritten other, c.report.ensures.no_fault no_write)
+
+pub returns-in-Some-Gen-clause-gen_complete : goal.returns-in-Some-Gen-clause-gen_complete
+returns-in-Some-Gen-clause-gen_complete g c = λ is_gen no_write no_error.
+    answered_or_memory c.answer_workload.result c.answer_workload.ensures.statuses c.answer_workload.ensures.write_fault no_write no_error

@@ -2,6 +2,7 @@ use Rattle.std.proofs.Common.{sym, subst, arith}
 use Rattle.std.specs.Prelude.{List, Option}
 use Rattle.ts_io.specs.Links.{TakesFront, AddsAtEnd}
 use Rattle.ts_io.specs.declared.listener.Ends.{Ends}
+use Rattle.ts_engine.proofs.Answered.{is_served}
 use Rattle.ts_engine.proofs.Carried.{carries_none, carries_as}
 use Rattle.ts_engine.proofs.Links.{serves_fault, serves_one, serves_cut}
 use Rattle.ts_engine.proofs.serving.serve_link.Goals as goal
@@ -17,7 +18,7 @@ returns-in-Ok-write_link-clause-serves g c =
     (g.N.Listener.coming c.args.net.now) (g.N.Listener.coming c.close.new.self) (g.N.Listener.closed c.args.net.now) (g.N.Listener.closed c.close.new.self) _ _
     (subst (λ (o : Option (List (Ends g.row.N-In.Denot g.row.N-Out.Denot))). TakesFront (g.N.Listener.coming c.args.net.now) o c.in-Ok.ends) (sym c.close.ensures.coming) c.in-Ok.ensures.link)
     (subst (λ (o : Option (List (Ends g.row.N-In.Denot g.row.N-Out.Denot))). AddsAtEnd o (g.N.Listener.closed c.close.new.self) (record { input = c.pipe-outcome.new.input; out = c.pipe-outcome.new.out })) c.in-Ok.ensures.closed c.close.ensures.closed)
-    (record { piped = piped; causes = c.pipe-outcome.ensures.causes }) c.in-Ok-write_link.ensures.whole) c.pipe-outcome.ensures.piped
+    (is_served _ _ _ _ _ _ piped c.pipe-outcome.ensures.causes) c.in-Ok-write_link.ensures.whole) c.pipe-outcome.ensures.piped
 
 pub returns-in-Err-clause-serves : goal.returns-in-Err-clause-serves
 returns-in-Err-clause-serves g c =
@@ -26,4 +27,4 @@ returns-in-Err-clause-serves g c =
     (g.N.Listener.coming c.args.net.now) (g.N.Listener.coming c.close.new.self) (g.N.Listener.closed c.args.net.now) (g.N.Listener.closed c.close.new.self) _ _
     (subst (λ (o : Option (List (Ends g.row.N-In.Denot g.row.N-Out.Denot))). TakesFront (g.N.Listener.coming c.args.net.now) o c.in-Ok.ends) (sym c.close.ensures.coming) c.in-Ok.ensures.link)
     (subst (λ (o : Option (List (Ends g.row.N-In.Denot g.row.N-Out.Denot))). AddsAtEnd o (g.N.Listener.closed c.close.new.self) (record { input = c.pipe-outcome.new.input; out = c.pipe-outcome.new.out })) c.in-Ok.ensures.closed c.close.ensures.closed)
-    (record { piped = piped; causes = c.pipe-outcome.ensures.causes }) c.in-Err.ensures.front) c.pipe-outcome.ensures.piped
+    (is_served _ _ _ _ _ _ piped c.pipe-outcome.ensures.causes) c.in-Err.ensures.front) c.pipe-outcome.ensures.piped
