@@ -1,6 +1,6 @@
 // A line of a stream: a command and the reply that is due to it, or bytes.
 use crate::patterns::{Words, unfold};
-use crate::setting::Numbers;
+use crate::round::Round;
 use crate::texts::Exchange;
 use itoa::Buffer;
 use std::alloc::{AllocError, Global};
@@ -54,20 +54,19 @@ impl Line {
     pub(crate) fn add_to(
         &self,
         alloc: Global,
-        numbers: Numbers,
-        word: &str,
+        round: Round,
         exchange: &mut Exchange,
     ) -> Result<(), AllocError> {
         match self.form {
             Form::Once => {}
-            Form::Each => return self.add_each(alloc, numbers, exchange),
+            Form::Each => return self.add_each(alloc, round, exchange),
             Form::Bytes => return exchange.push_bytes(&self.command, &self.reply),
         }
-        let command = unfold(alloc, &self.command, numbers)?;
-        let reply = unfold(alloc, &self.reply, numbers)?;
-        let command = with_word(alloc, &command, word)?;
-        let reply = with_word(alloc, &reply, &bulk(alloc, word)?)?;
-        exchange.push(&command, &reply)
+        let command = unfold(alloc, &self.command, round.numbers)?;
+        let reply = unfold(alloc, &self.reply, round.numbers)?;
+        let command = with_word(alloc, &command, round.word)?;
+        let reply = with_word(alloc, &reply, &bulk(alloc, round.word)?)?;
+        exchange.push(&round.encoded(alloc, &command)?, &reply)
     }
 
     // Adds its request and its reply once for each number, which stands in place of each `#`; in place of each `@` stands
@@ -75,9 +74,10 @@ impl Line {
     fn add_each(
         &self,
         alloc: Global,
-        numbers: Numbers,
+        round: Round,
         exchange: &mut Exchange,
     ) -> Result<(), AllocError> {
+        let numbers = round.numbers;
         let there = numbers.first..numbers.end;
         let back = (numbers.first..numbers.end).rev();
         for (number, other) in there.zip(back) {
@@ -89,7 +89,7 @@ impl Line {
             };
             let command = words.fill(alloc, &self.command)?;
             let reply = words.fill(alloc, &self.reply)?;
-            exchange.push(&command, &reply)?;
+            exchange.push(&round.encoded(alloc, &command)?, &reply)?;
         }
         Ok(())
     }

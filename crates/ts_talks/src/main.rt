@@ -1,10 +1,11 @@
 //! Talks with the program, through its top call. A talk in the input begins with a line `talk` and its name, and ends with
 //! an empty line. Its other lines are:
 //!
-//! - `with` and what it is run with: a limit, as `keys 1`, or the `budget` of bytes; the `words` of the command line, if it
-//!   is not `pipe`; what the clock shows, as `clock 1000,900`; how many bytes come at once, in one run after another, as
-//!   `pieces 4096,1`; which calls of the listener fail, as `failing_calls 3`, its `open` and each `accept` counted from 1; the
-//!   `numbers` from one up to another; or the `lengths` of a word, from one up to another;
+//! - `with` and what it is run with: a limit, as `keys 1`, of requests as `wire_words 3`, or the `budget` of bytes; the `words`
+//!   of the command line, if it is not `pipe`; what the clock shows, as `clock 1000,900`; how many bytes come at once, in one
+//!   run after another, as `pieces 4096,1`; `cuts`, for pieces of each size; how many bytes a write takes, as `takes 1`; which
+//!   calls of the listener fail, as `failing_calls 3`, its `open` and each `accept` counted from 1; `encodings`, for series of
+//!   TS.CREATE in either one; the `numbers` from one up to another; or the `lengths` of a word, from one up to another;
 //! - a command, and after ` -> ` the reply that is due to it: its lines, apart by ` | `, or `[1:2, 3:4]` for rows, each with
 //!   a time and a value. A part in braces stands once for each number, which takes the place of each `#`; each `@` is the
 //!   number that is as far from the end. After `each ` the whole line stands so. In place of `^` stands the word, and in a
@@ -13,6 +14,8 @@
 //! - `fails read` or `fails write`, and which reads of the input or writes to the output fail, as `2`;
 //! - `link`, after which all such lines are those of a connection: what it sends, and what it is answered;
 //! - `ends`, the status that is not 0, and the line on standard error;
+//! - `outcome` and what the library's `pipe` comes to, which is then called in place of the program: how many requests were
+//!   executed, how many bytes were taken, and the end, as `executed 1, taken 14, WriteFault`;
 //! - what begins with `#` and says nothing.
 //!
 //! A talk in which all is written that is due, and nothing else, in pieces of 4,096 bytes and of one byte, is told by its
@@ -22,6 +25,7 @@
 mod end;
 mod line;
 mod patterns;
+mod round;
 mod run;
 mod setting;
 mod stream;

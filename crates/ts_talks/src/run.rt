@@ -1,10 +1,10 @@
-// A run of the program over devices in memory.
+// Runs of the program, and calls of `pipe`, over devices in memory.
 use crate::end::End;
 use crate::setting::Setting;
 use crate::stream::Stream;
 use crate::texts::Exchange;
 use std::alloc::{AllocError, Global};
-use ts_engine::top;
+use ts_engine::{Db, Outcome, pipe, top};
 use ts_io::{Ends, MemClock, MemListener, MemSink, MemSource};
 
 // A stream, with what is sent and what is due.
@@ -24,11 +24,12 @@ pub(crate) fn is_answered(
     end: &End,
     piece: usize,
 ) -> Result<bool, AllocError> {
-    let mut ends = own.stream.ends(&own.exchange, piece)?;
-    let mut err = MemSink::new(alloc, 4096, Vec::new(alloc));
+    let takes = setting.takes();
+    let mut ends = own.stream.ends(&own.exchange, piece, takes)?;
+    let mut err = MemSink::new(alloc, takes.max(1), Vec::new(alloc));
     let mut clock = MemClock::new(Vec::from_slice(alloc, &setting.readings)?);
     let failing = Vec::from_slice(alloc, &setting.failing_calls)?;
-    let mut net = MemListener::new(alloc, ends_of(alloc, links, piece)?, failing)?;
+    let mut net = MemListener::new(alloc, ends_of(alloc, links, piece, takes)?, failing)?;
     let status = top(
         alloc,
         &setting.words(alloc)?,
@@ -47,15 +48,46 @@ pub(crate) fn is_answered(
     )
 }
 
+// Whether a call of `pipe` in which so many bytes are read at once writes what is due, and nothing else, and comes to
+// this.
+pub(crate) fn comes_to(
+    alloc: Global,
+    setting: &Setting,
+    own: &Talking,
+    outcome: &str,
+    piece: usize,
+) -> Result<bool, AllocError> {
+    let limits = setting.usable_limits();
+    let mut ends = own.stream.ends(&own.exchange, piece, setting.takes())?;
+    let mut clock = MemClock::new(Vec::from_slice(alloc, &setting.readings)?);
+    let mut db = Db::new(alloc, limits);
+    let Outcome {
+        executed,
+        taken,
+        end,
+    } = pipe(
+        alloc,
+        &mut db,
+        &mut ends.input,
+        &mut ends.out,
+        &mut clock,
+        limits.wire,
+        setting.budget.max(1),
+    );
+    let told = format!(in alloc; "executed {executed}, taken {taken}, {end:?}")?;
+    Ok(ends.out.bytes() == own.exchange.out.as_slice() && told.as_str() == outcome)
+}
+
 // The ends of connections.
 fn ends_of(
     alloc: Global,
     links: &[Talking],
     piece: usize,
+    takes: usize,
 ) -> Result<Vec<Ends<MemSource, MemSink>>, AllocError> {
     let mut ends = Vec::new(alloc);
     for link in links {
-        ends.push(link.stream.ends(&link.exchange, piece)?)?;
+        ends.push(link.stream.ends(&link.exchange, piece, takes)?)?;
     }
     Ok(ends)
 }

@@ -1,4 +1,5 @@
 // What a talk is run with: the limits of the database, what the clock shows, and the numbers and words of its lines.
+ghost use Rattle.std.specs.Prelude.{◌≤◌};
 ghost use Rattle.ts_engine.specs.Top.{AreUsable};
 
 use std::alloc::{AllocError, Global};
@@ -22,6 +23,11 @@ impl Numbers {
     }
 }
 
+// Series are made as nothing else says, or in each encoding.
+const USUAL: [Option<&str>; 1] = [None];
+
+const BOTH: [Option<&str>; 2] = [Some("COMPRESSED"), Some("UNCOMPRESSED")];
+
 #[derive(Drop)]
 pub(crate) struct Setting {
     // The words of the command line, where it is not `pipe`.
@@ -34,6 +40,12 @@ pub(crate) struct Setting {
     pub(crate) failing_calls: Vec<u64>,
     // How many bytes a read takes at most, in one run after another.
     pub(crate) pieces: Vec<u64>,
+    // Whether the requests also come in pieces of each size.
+    pub(crate) cuts: bool,
+    // How many bytes a write takes at most.
+    takes: usize,
+    // Whether series are made in each encoding, in one run after another.
+    encodings: bool,
     // For which numbers a part of a line, or a whole line, stands once.
     pub(crate) numbers: Numbers,
     // How many letters the word has, in one run after another.
@@ -50,6 +62,9 @@ impl Setting {
             readings: Vec::new(alloc),
             failing_calls: Vec::new(alloc),
             pieces: Vec::new(alloc),
+            cuts: false,
+            takes: 4096,
+            encodings: false,
             numbers: Numbers { first: 0, end: 0 },
             lengths: Numbers { first: 1, end: 2 },
         }
@@ -63,6 +78,8 @@ impl Setting {
             "failing_calls" => return take_list(what, &mut self.failing_calls),
             "clock" => return take_list(what, &mut self.readings),
             "pieces" => return take_list(what, &mut self.pieces),
+            "cuts" => self.cuts = true,
+            "encodings" => self.encodings = true,
             "numbers" => return Ok(take_numbers(what, &mut self.numbers)),
             "lengths" => return Ok(take_numbers(what, &mut self.lengths)),
             _ => {
@@ -79,6 +96,10 @@ impl Setting {
     fn take_limit(&mut self, name: &str, number: u32) -> bool {
         match name {
             "budget" => self.budget = number as u64,
+            "takes" => self.takes = number as usize,
+            "wire_words" => self.limits.wire.words = number,
+            "word_bytes" => self.limits.wire.word_bytes = number,
+            "request_bytes" => self.limits.wire.request_bytes = number,
             "keys" => self.limits.keys = number,
             "labels" => self.limits.labels = number,
             "samples" => self.limits.samples = number,
@@ -89,6 +110,11 @@ impl Setting {
             _ => return false,
         }
         true
+    }
+
+    // The encodings in which series are made, each in one run: as nothing else says, or in one after the other.
+    pub(crate) fn encodings(&self) -> &'static [Option<&'static str>] {
+        if self.encodings { &BOTH } else { &USUAL }
     }
 
     // The words of the command line, which stand apart by spaces.
@@ -122,6 +148,13 @@ impl Setting {
         limits.empty_rows = limits.empty_rows.max(1);
         limits.born = limits.born.max(1);
         limits
+    }
+
+    // The most bytes of a write, at least 1.
+    pub(crate) fn takes(&self) -> usize
+        ensures { 1 ≤ result }
+    {
+        self.takes.max(1)
     }
 }
 

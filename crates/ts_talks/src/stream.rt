@@ -1,6 +1,7 @@
 // A stream of a talk: the input with the output, or a connection.
 use crate::line::Line;
-use crate::setting::{Numbers, take_list};
+use crate::round::Round;
+use crate::setting::take_list;
 use crate::texts::Exchange;
 use std::alloc::{AllocError, Global};
 use ts_io::{Ends, MemSink, MemSource};
@@ -40,20 +41,21 @@ impl Stream {
         Ok(true)
     }
 
-    // What is sent and what is due, with these numbers and this word.
-    pub(crate) fn exchange(&self, numbers: Numbers, word: &str) -> Result<Exchange, AllocError> {
+    // What is sent and what is due in such a round.
+    pub(crate) fn exchange(&self, round: Round) -> Result<Exchange, AllocError> {
         let mut exchange = Exchange::new(self.alloc);
         for line in &self.lines {
-            line.add_to(self.alloc, numbers, word, &mut exchange)?;
+            line.add_to(self.alloc, round, &mut exchange)?;
         }
         Ok(exchange)
     }
 
-    // Its two ends, with so many bytes a read, one at least.
+    // Its two ends, with so many bytes a read and a write, one at least.
     pub(crate) fn ends(
         &self,
         exchange: &Exchange,
         piece: usize,
+        takes: usize,
     ) -> Result<Ends<MemSource, MemSink>, AllocError> {
         let alloc = self.alloc;
         let input = Vec::from_slice(alloc, &exchange.input)?;
@@ -61,7 +63,7 @@ impl Stream {
         let writes = Vec::from_slice(alloc, &self.writes)?;
         Ok(Ends {
             input: MemSource::new(input, piece.max(1), reads),
-            out: MemSink::new(alloc, 4096, writes),
+            out: MemSink::new(alloc, takes.max(1), writes),
         })
     }
 }

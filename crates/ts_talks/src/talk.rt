@@ -1,6 +1,7 @@
 // A talk: requests with the replies that are due to them, and what they are run with.
 use crate::end::End;
-use crate::run::{Talking, is_answered};
+use crate::round::Round;
+use crate::run::{Talking, comes_to, is_answered};
 use crate::setting::Setting;
 use crate::stream::Stream;
 use std::alloc::{AllocError, Global};
@@ -14,6 +15,8 @@ pub(crate) struct Talk {
     own: Stream,
     links: Vec<Stream>,
     end: End,
+    // What `pipe` comes to, where that is called in place of the program.
+    outcome: Option<String>,
     // Whether each line could be read.
     readable: bool,
 }
@@ -31,6 +34,7 @@ impl Talk {
             own: Stream::new(alloc),
             links: Vec::new(alloc),
             end: End::well(alloc),
+            outcome: None,
             readable: true,
         }
     }
@@ -61,6 +65,10 @@ impl Talk {
             self.end = end;
             return Ok(true);
         }
+        if let Some(outcome) = line.strip_prefix("outcome ") {
+            self.outcome = Some(String::from_str(self.alloc, outcome)?);
+            return Ok(true);
+        }
         if line == "link" {
             self.links.push(Stream::new(self.alloc))?;
             return Ok(true);
@@ -86,11 +94,26 @@ impl Talk {
         Ok(Some(outcome))
     }
 
-    // Whether the requests have these replies, with a word of each length.
+    // Whether the requests have these replies, in each encoding, with a word of each length.
     fn is_answered(&self) -> Result<bool, AllocError> {
+        for encoding in self.setting.encodings() {
+            if !self.is_answered_in(*encoding)? {
+                return Ok(false);
+            }
+        }
+        Ok(true)
+    }
+
+    // Whether they have them in this encoding.
+    fn is_answered_in(&self, encoding: Option<&str>) -> Result<bool, AllocError> {
         let mut word = String::new(self.alloc);
         for length in 0..self.setting.lengths.end {
-            if self.setting.lengths.first <= length && !self.is_answered_with(&word)? {
+            let round = Round {
+                numbers: self.setting.numbers,
+                word: &word,
+                encoding,
+            };
+            if self.setting.lengths.first <= length && !self.is_answered_with(round)? {
                 return Ok(false);
             }
             word.push('w')?;
@@ -98,12 +121,12 @@ impl Talk {
         Ok(true)
     }
 
-    // Whether they have them with this word, in pieces of each size.
-    fn is_answered_with(&self, word: &str) -> Result<bool, AllocError> {
-        let own = self.talking(&self.own, word)?;
+    // Whether they have them in this round, in pieces of each size.
+    fn is_answered_with(&self, round: Round) -> Result<bool, AllocError> {
+        let own = self.talking(&self.own, round)?;
         let mut links = Vec::new(self.alloc);
         for link in &self.links {
-            links.push(self.talking(link, word)?)?;
+            links.push(self.talking(link, round)?)?;
         }
         let pieces = if self.setting.pieces.is_empty() {
             &PIECES
@@ -111,17 +134,39 @@ impl Talk {
             self.setting.pieces.as_slice()
         };
         for piece in pieces {
-            let piece = *piece as usize;
-            if !is_answered(self.alloc, &self.setting, &own, &links, &self.end, piece)? {
+            if !self.is_answered_by(&own, &links, *piece as usize)? {
+                return Ok(false);
+            }
+        }
+        Ok(!self.setting.cuts || self.is_answered_cut(&own)?)
+    }
+
+    // Whether they have them where so many bytes are read at once.
+    fn is_answered_by(
+        &self,
+        own: &Talking,
+        links: &[Talking],
+        piece: usize,
+    ) -> Result<bool, AllocError> {
+        match &self.outcome {
+            None => is_answered(self.alloc, &self.setting, own, links, &self.end, piece),
+            Some(outcome) => comes_to(self.alloc, &self.setting, own, outcome, piece),
+        }
+    }
+
+    // Whether they have them in pieces of each size.
+    fn is_answered_cut(&self, own: &Talking) -> Result<bool, AllocError> {
+        for size in 0..own.exchange.input.len() {
+            if !self.is_answered_by(own, &[], size)? {
                 return Ok(false);
             }
         }
         Ok(true)
     }
 
-    // A stream, with what is sent and due where the word is this one.
-    fn talking<'a>(&self, stream: &'a Stream, word: &str) -> Result<Talking<'a>, AllocError> {
-        let exchange = stream.exchange(self.setting.numbers, word)?;
+    // A stream, with what is sent and due in this round.
+    fn talking<'a>(&self, stream: &'a Stream, round: Round) -> Result<Talking<'a>, AllocError> {
+        let exchange = stream.exchange(round)?;
         Ok(Talking { stream, exchange })
     }
 }
