@@ -55,31 +55,27 @@ fn a_large_reply_goes_straight_out_after_what_waits(rt: HostRuntime) -> Result<(
     assert_eq!(rt; batches.waiting(), 0);
     let peer = batches.into_connection();
     assert_eq!(rt; peer.sends, 2);
-    assert_eq!(rt; &peer.taken[..6], b"before".as_slice());
-    assert_eq!(rt; &peer.taken[6..], reply.as_slice());
+    let mut wanted = b"before".to_vec(rt.alloc())?;
+    wanted.extend_from_slice(&reply)?;
+    assert_eq!(rt; peer.taken.as_slice() == wanted.as_slice(), true);
     Ok(())
 }
 
-// Writes in pieces of each of these sizes in turn, with a read of no bytes after each tenth, until all is written.
+// Half of each block is written in small pieces, and half at once, whatever the peer takes a call; then a read follows.
 #[test]
 fn nothing_is_lost_doubled_or_turned_around(rt: HostRuntime) -> Result<(), Fail> {
-    let bytes = numbered(rt.alloc(), 300_000)?;
+    let bytes = numbered(rt.alloc(), 250_000)?;
     for most in [0, 1, 7, 1000, 16384, 30_000] {
         let mut peer = Peer::new(rt.alloc(), most);
-        peer.coming = 1_000_000;
+        peer.coming = 1000;
         let mut batches = Batches::new(rt.alloc(), peer);
-        let mut place = 0;
-        for turn in 0..bytes.len() {
-            let size = [1, 5, 900, 20_000, 16384, 70][turn % 6];
-            let end = (place + size).min(bytes.len());
-            assert_eq!(rt; write_all_counted(&mut batches, &bytes[place..end]), Ok(()));
-            place = end;
-            if turn % 10 == 0 {
-                assert_eq!(rt; read_two(&mut batches), Ok((2, *b"xx")));
+        for block in bytes.chunks(50_000) {
+            let (small, large) = block.split_at(block.len() / 2);
+            for piece in small.chunks(70) {
+                assert_eq!(rt; write_all_counted(&mut batches, piece), Ok(()));
             }
-            if place == bytes.len() {
-                break;
-            }
+            assert_eq!(rt; write_all_counted(&mut batches, large), Ok(()));
+            assert_eq!(rt; read_two(&mut batches), Ok((2, *b"xx")));
         }
         assert_eq!(rt; batches.send_all(), Ok(()));
         let peer = batches.into_connection();
@@ -140,7 +136,8 @@ fn more_than_sixty_four_mebibytes_are_waited_for(rt: HostRuntime) -> Result<(), 
     assert_eq!(rt; batches.waiting(), 64 << 20);
     assert_eq!(rt; write_once(&mut batches, b"and"), Ok(3));
     assert_eq!(rt; batches.waiting(), 64 << 20);
-    assert_eq!(rt; batches.into_connection().taken.as_slice(), &mebibyte[..3]);
+    let taken = batches.into_connection().taken;
+    assert_eq!(rt; taken.as_slice(), numbered(rt.alloc(), 3)?.as_slice());
     Ok(())
 }
 
@@ -152,7 +149,8 @@ fn what_waits_is_refused_past_its_limit(rt: HostRuntime) -> Result<(), Fail> {
     assert_eq!(rt; waiting.push(b"a").is_ok(), true);
     assert_eq!(rt; waiting.push(&all).is_err(), true);
     assert_eq!(rt; waiting.as_slice(), b"a".as_slice());
-    waiting.drop_front(1);
+    let count = waiting.len();
+    waiting.drop_front(count);
     assert_eq!(rt; waiting.push(&all).is_ok(), true);
     assert_eq!(rt; waiting.push(b"a").is_err(), true);
     assert_eq!(rt; waiting.len(), 64 << 20);

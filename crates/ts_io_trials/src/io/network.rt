@@ -84,7 +84,7 @@ fn a_client_that_reads_late_has_all(rt: HostRuntime) -> Result<(), Fail> {
     net.close(ends);
     client.read_to_end(&mut told)?;
     assert_eq!(rt; told.len(), 20_000_000);
-    assert_eq!(rt; &told[19_999_000..], reply.as_slice());
+    assert_eq!(rt; told.ends_with(&reply), true);
     Ok(())
 }
 
