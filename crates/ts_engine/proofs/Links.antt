@@ -10,6 +10,11 @@ use Rattle.ts_io.proofs.Growth.{grows_none, grows_twice}
 use Rattle.ts_spec.specs.declared.wire.WireLimits.{WireLimits}
 use Rattle.ts_engine.specs.declared.serving.Served.{Served}
 use Rattle.ts_engine.specs.declared.serving.Served.TheVariants.{Done, AcceptFault, WriteFault}
+use Rattle.ts_words.specs.declared.mode.Mode.{Mode}
+use Rattle.ts_words.specs.declared.mode.Mode.TheVariants.{Serve}
+use Rattle.ts_words.specs.declared.status.Status.{Status}
+use Rattle.ts_engine.specs.Asked.{AllServed}
+use Rattle.ts_engine.specs.Headline.{Seen}
 use Rattle.ts_engine.specs.Serving.{line_at, Link, lines_from, StreamViews, Handed, IsServed, AreServed, Lines, Serves}
 use Rattle.ts_engine.specs.Turn.{World}
 
@@ -184,3 +189,14 @@ module _ {I O : Type 0} (views : StreamViews I O) (limits : WireLimits) (budget 
   serves_from served number most from to c c' c1 k k' k1 had has came back serves =
       subst (λ (x : Option (List (Ends I O))). Serves views limits budget served number most from to x c1 k k1 had has) came
       (subst (λ (x : Option (List (Ends I O))). Serves views limits budget served number most from to c' c1 x k1 had has) back serves)
+
+-- words that ask for one number of links ask for no other
+pub same_links : (mode : Option Mode) (a b : ℕ) → Some (Serve a) ≡ mode → mode ≡ Some (Serve b) → a ≡ b
+same_links mode a b one two = serves_same (one ∙ two)
+  where
+    serves_same : Some (Serve a) ≡ Some (Serve b) → a ≡ b
+    serves_same same = (cc)
+
+pub all_served_as : {I O : Type 0} (views : StreamViews I O) (seen : Seen) (budget most most' : ℕ) (coming coming' closed closed' : Option (List (Ends I O))) (given : Status) → most ≡ most'
+    → AllServed views seen budget most coming coming' closed closed' given → AllServed views seen budget most' coming coming' closed closed' given
+all_served_as views seen budget most most' coming coming' closed closed' given same all = subst (λ (n : ℕ). AllServed views seen budget n coming coming' closed closed' given) same all

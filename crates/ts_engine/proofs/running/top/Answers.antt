@@ -4,6 +4,7 @@ use Rattle.ts_words.specs.declared.status.Status.{Status}
 use Rattle.ts_engine.specs.declared.piped.End.TheVariants as end
 use Rattle.ts_engine.specs.Status.{status_of, place_of}
 use Rattle.ts_engine.specs.Top.{Reports}
+use Rattle.ts_engine.proofs.Links.{same_links, all_served_as}
 use Rattle.ts_engine.proofs.Spending.{by_budget}
 use Rattle.ts_engine.proofs.Taking.{piped_taken, piped_writes}
 use Rattle.ts_engine.proofs.Tops.{by_grammar, answered_as, as_meant, not_meant, answered_or_memory}
@@ -56,3 +57,8 @@ returns-in-Some-Pipe-clause-no_write_fault g c = λ no_write.
 pub returns-in-Some-Gen-clause-gen_complete : goal.returns-in-Some-Gen-clause-gen_complete
 returns-in-Some-Gen-clause-gen_complete g c = λ is_gen no_write no_error.
     answered_or_memory c.answer_workload.result c.answer_workload.ensures.statuses c.answer_workload.ensures.write_fault no_write no_error
+
+pub returns-in-Some-Serve-clause-serve_complete : goal.returns-in-Some-Serve-clause-serve_complete
+returns-in-Some-Serve-clause-serve_complete g c = λ links is no_accept no_write.
+    all_served_as _ _ c.args.budget c.in-Some-Serve.links links _ _ _ _ c.serve_address.result (same_links _ c.in-Some-Serve.links links c.in-Some-Serve.ensures.mode is)
+    (c.serve_address.ensures.complete no_accept no_write)
