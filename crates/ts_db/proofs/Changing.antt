@@ -31,10 +31,10 @@ few-altered limit None old fits le = le
 few-altered limit (Some labels) old fits le = grind (arith, fits)
 
 -- a plan of new options leaves no more samples
-pub altered-within : (n : Node) (plan : Plan) (c : Change) (limit : ℕ) → plan ≡ with_change plan (alters (options_with c.retention c.chunk_size c.policy n.series.options)) → length (list_of n.series) ≤ limit
+pub altered-within : (n : Node) (plan : Plan) (c : Change) (limit : ℕ) → plan ≡ with_change plan (alters (options_with c.retention c.chunk_size c.policy c.ignore n.series.options)) → length (list_of n.series) ≤ limit
     → length (list_of (after plan n.series)) ≤ limit
 altered-within n plan c limit is le =
-    let fewer : length (list_of (after (alters (options_with c.retention c.chunk_size c.policy n.series.options)) n.series)) ≤ length (list_of n.series) =
+    let fewer : length (list_of (after (alters (options_with c.retention c.chunk_size c.policy c.ignore n.series.options)) n.series)) ≤ length (list_of n.series) =
     times-length (nat_le (edge_of (unwrap_or c.retention n.series.options.retention) n.series.high)) n.series.samples in
     subst (λ (p : Plan). length (list_of (after p n.series)) ≤ limit) (sym is) (omega (arith, fewer, le))
 
@@ -50,7 +50,7 @@ module _ (s : Store) (store : IsInOrder s) (key : Key) (id : Id) (n : Node) (hol
       (sym (ap (kept_alter_at s.limits (stock_of s).keys key c) (there s store key id n holds)
       ∙ ap (λ b. if b then kept_refused (stock_of s).keys refusal.LabelsFull else record { keys = keep_changed key (kept_altered c) (stock_of s).keys; response = Done }) fits)) tt
 
-  pub alter-answers : (c : Change) (plan : Plan) (new : Contents) → is_longer s.limits.labels c.labels ≡ false → plan ≡ with_change plan (alters (options_with c.retention c.chunk_size c.policy n.series.options))
+  pub alter-answers : (c : Change) (plan : Plan) (new : Contents) → is_longer s.limits.labels c.labels ≡ false → plan ≡ with_change plan (alters (options_with c.retention c.chunk_size c.policy c.ignore n.series.options))
       → new ≡ record (contents_of s) { keys = with_key key (kept_at s.nodes (node_after plan c.labels None n)) (stock_of s).keys }
       → kept_alter_at s.limits (stock_of s).keys key c (get key (stock_of s).keys) ≡ record { keys = new.keys; response = Done }
   alter-answers c plan new fits is applied =

@@ -1,6 +1,6 @@
 -- How a change of the last value answers.
-use Rattle.std.proofs.Common.{◌≡◌, ℕ, ℤ, Bool, true, false, refl, sym, ◌∙◌, ap}
-use Rattle.std.specs.Prelude.{nat_lt, nat_le, unsigned_abs, if◌then◌else◌, None, Some}
+use Rattle.std.proofs.Common.{◌≡◌, ℕ, ℤ, Bool, true, false, refl, sym, ◌∙◌, ap, subst}
+use Rattle.std.specs.Prelude.{nat_lt, nat_le, unsigned_abs, if◌then◌else◌, Option, None, Some}
 use Rattle.ts_spec.specs.Value.{bound}
 use Rattle.ts_spec.specs.Refusal as refusal
 use Rattle.ts_spec.specs.declared.series.Merge.TheVariants.{Set}
@@ -10,28 +10,32 @@ use Rattle.ts_spec.specs.Keyed.{get}
 use Rattle.ts_spec.specs.Command.{Spec}
 use Rattle.ts_spec.specs.Rules.{Refuse, To, within_bound}
 use Rattle.ts_spec.specs.Step.{is_before_last, changed_value}
-use Rattle.ts_spec.specs.KeptStep.{kept_refused, kept_write_merged, kept_incr_at}
+use Rattle.ts_spec.specs.Response.{Count}
+use Rattle.ts_spec.specs.Kept.{Kept}
+use Rattle.ts_spec.specs.KeptStep.{kept_refused, unchanged_with, list_at, kept_write_merged, kept_unless_ignored, kept_increased, kept_incr_at}
 use Rattle.ts_sample.specs.declared.id.Id.{Id}
 use Rattle.ts_series.specs.History.{list_of, low}
 use Rattle.ts_series.specs.Put.{met}
 use Rattle.ts_db.specs.declared.node.Node.{Node}
 use Rattle.ts_db.specs.declared.store.Store.{Store}
-use Rattle.ts_db.specs.Store.{stock_of, IsInOrder, Holds}
-use Rattle.ts_db.specs.Writes.{IsChanged}
+use Rattle.ts_db.specs.Store.{kept_at, stock_of, IsInOrder, Holds}
+use Rattle.ts_db.specs.Writes.{IsChanged, ignored_by}
+use Rattle.ts_db.specs.Bounds.{IsIgnored, IsChangeIgnored}
 use Rattle.ts_db.proofs.Applying.{there}
+use Rattle.ts_db.proofs.Ignoring.{kept-by, not-ignored}
 use Rattle.ts_db.proofs.Writing.{set-met}
 
 module _ (s : Store) (store : IsInOrder s) (key : Key) (id : Id) (n : Node) (holds : Holds s key id n) (x : ℤ) (t : ℕ) (spec : Spec) where
   -- the step, by what its tests say
   tested : (a b : Bool) → is_before_last t (last_of (list_of n.series)) ≡ a → nat_lt t (low n.series) ≡ b
       → kept_incr_at s.limits (stock_of s).keys key x t spec (get key (stock_of s).keys) ≡ (if a then kept_refused (stock_of s).keys refusal.BeforeLast
-      else (if b then kept_refused (stock_of s).keys refusal.TooOld else kept_write_merged s.limits (stock_of s).keys key t (within_bound (changed_value x (last_of (list_of n.series))))))
+      else (if b then kept_refused (stock_of s).keys refusal.TooOld else kept_increased s.limits (stock_of s).keys key (kept_at s.nodes n) t (within_bound (changed_value x (last_of (list_of n.series))))))
   tested a b e f =
       ap (kept_incr_at s.limits (stock_of s).keys key x t spec) (there s store key id n holds)
       ∙ ap (λ c. if c then kept_refused (stock_of s).keys refusal.BeforeLast
-      else (if nat_lt t (low n.series) then kept_refused (stock_of s).keys refusal.TooOld else kept_write_merged s.limits (stock_of s).keys key t (within_bound (changed_value x (last_of (list_of n.series)))))) e
+      else (if nat_lt t (low n.series) then kept_refused (stock_of s).keys refusal.TooOld else kept_increased s.limits (stock_of s).keys key (kept_at s.nodes n) t (within_bound (changed_value x (last_of (list_of n.series)))))) e
       ∙ ap (λ c. if a then kept_refused (stock_of s).keys refusal.BeforeLast
-      else (if c then kept_refused (stock_of s).keys refusal.TooOld else kept_write_merged s.limits (stock_of s).keys key t (within_bound (changed_value x (last_of (list_of n.series)))))) f
+      else (if c then kept_refused (stock_of s).keys refusal.TooOld else kept_increased s.limits (stock_of s).keys key (kept_at s.nodes n) t (within_bound (changed_value x (last_of (list_of n.series)))))) f
 
   pub incr-before : is_before_last t (last_of (list_of n.series)) ≡ true → kept_incr_at s.limits (stock_of s).keys key x t spec (get key (stock_of s).keys) ≡ kept_refused (stock_of s).keys refusal.BeforeLast
   incr-before e = tested true (nat_lt t (low n.series)) e refl
@@ -49,7 +53,7 @@ module _ (s : Store) (store : IsInOrder s) (key : Key) (id : Id) (n : Node) (hol
 
   pub incr-out : is_before_last t (last_of (list_of n.series)) ≡ false → nat_lt t (low n.series) ≡ false → IsChanged (within_bound (changed_value x (last_of (list_of n.series)))) None
       → kept_incr_at s.limits (stock_of s).keys key x t spec (get key (stock_of s).keys) ≡ kept_refused (stock_of s).keys refusal.OutOfRange
-  incr-out e f is = tested false false e f ∙ ap (kept_write_merged s.limits (stock_of s).keys key t) (out (changed_value x (last_of (list_of n.series))) is)
+  incr-out e f is = tested false false e f ∙ ap (kept_increased s.limits (stock_of s).keys key (kept_at s.nodes n) t) (out (changed_value x (last_of (list_of n.series))) is)
 
   within : (w v : ℤ) → IsChanged (within_bound w) (Some v) → within_bound w ≡ To v
   within w v is = go (nat_le (unsigned_abs w) bound) is
@@ -58,8 +62,38 @@ module _ (s : Store) (store : IsInOrder s) (key : Key) (id : Id) (n : Node) (hol
       go true e = let same : w ≡ v = cc e in ap (λ (y : ℤ). To y) same
       go false e = absurd (cc e)
 
-  pub incr-write : (v : ℤ) → is_before_last t (last_of (list_of n.series)) ≡ false → nat_lt t (low n.series) ≡ false → IsChanged (within_bound (changed_value x (last_of (list_of n.series)))) (Some v)
-      → kept_incr_at s.limits (stock_of s).keys key x t spec (get key (stock_of s).keys) ≡ kept_write_merged s.limits (stock_of s).keys key t (met Set t v n.series)
-  incr-write v e f is =
+  -- where the result is in range, by whether it is ignored
+  in-range : (v : ℤ) → is_before_last t (last_of (list_of n.series)) ≡ false → nat_lt t (low n.series) ≡ false → IsChanged (within_bound (changed_value x (last_of (list_of n.series)))) (Some v)
+      → kept_incr_at s.limits (stock_of s).keys key x t spec (get key (stock_of s).keys) ≡ kept_unless_ignored (stock_of s).keys (ignored_by n t v) (kept_write_merged s.limits (stock_of s).keys key t (To v))
+  in-range v e f is =
       tested false false e f
-      ∙ ap (kept_write_merged s.limits (stock_of s).keys key t) (within (changed_value x (last_of (list_of n.series))) v is ∙ sym (set-met t v n.series f))
+      ∙ ap (kept_increased s.limits (stock_of s).keys key (kept_at s.nodes n) t) (within (changed_value x (last_of (list_of n.series))) v is)
+      ∙ ap (λ (o : Option ℕ). kept_unless_ignored (stock_of s).keys o (kept_write_merged s.limits (stock_of s).keys key t (To v))) (kept-by s store key id n holds t v)
+
+  pub incr-ignored : (v : ℤ) (last : ℕ) → is_before_last t (last_of (list_of n.series)) ≡ false → nat_lt t (low n.series) ≡ false
+      → IsChanged (within_bound (changed_value x (last_of (list_of n.series)))) (Some v) → Some last ≡ ignored_by n t v
+      → kept_incr_at s.limits (stock_of s).keys key x t spec (get key (stock_of s).keys) ≡ unchanged_with (stock_of s).keys (Count last)
+  incr-ignored v last e f is same =
+      in-range v e f is ∙ ap (λ (o : Option ℕ). kept_unless_ignored (stock_of s).keys o (kept_write_merged s.limits (stock_of s).keys key t (To v))) (sym same)
+
+  pub incr-write : (v : ℤ) → is_before_last t (last_of (list_of n.series)) ≡ false → nat_lt t (low n.series) ≡ false
+      → IsChanged (within_bound (changed_value x (last_of (list_of n.series)))) (Some v) → None ≡ ignored_by n t v
+      → kept_incr_at s.limits (stock_of s).keys key x t spec (get key (stock_of s).keys) ≡ kept_write_merged s.limits (stock_of s).keys key t (met Set t v n.series)
+  incr-write v e f is none =
+      in-range v e f is
+      ∙ ap (λ (o : Option ℕ). kept_unless_ignored (stock_of s).keys o (kept_write_merged s.limits (stock_of s).keys key t (To v))) (sym none)
+      ∙ ap (kept_write_merged s.limits (stock_of s).keys key t) (sym (set-met t v n.series f))
+
+  -- a result that is not ignored is not told to be
+  pub incr-not-ignored : (v : ℤ) → IsChanged (within_bound (changed_value x (last_of (list_of n.series)))) (Some v) → None ≡ ignored_by n t v → IsChangeIgnored (stock_of s) key t x → false ≡ true
+  incr-not-ignored v is none told =
+      not-ignored s store key id n holds t v none
+      (subst (λ (w : ℤ). IsIgnored (stock_of s) key t w) (value-of (changed_value x (last_of (list_of n.series))) v is)
+      (subst (λ (o : Option Kept). IsIgnored (stock_of s) key t (changed_value x (last_of (list_at o)))) (there s store key id n holds) told))
+    where
+      value-of : (w y : ℤ) → IsChanged (within_bound w) (Some y) → w ≡ y
+      value-of w y h = go (nat_le (unsigned_abs w) bound) h
+        where
+          go : (b : Bool) → IsChanged (if b then To w else Refuse refusal.OutOfRange) (Some y) → w ≡ y
+          go true e = cc e
+          go false e = absurd (cc e)

@@ -20,6 +20,7 @@ pub mod Working
 pub mod StayingOpen
 pub mod GrownNode
 pub mod Writing
+pub mod Ignoring
 pub mod NewLinks
 pub mod Freed
 pub mod NewRules

@@ -16,7 +16,8 @@ use Rattle.ts_spec.specs.Refusal.{Refusal, DestinationFull}
 use Rattle.ts_spec.specs.Response.{Response, Done, Count, Refused}
 use Rattle.ts_spec.specs.Command.{Spec, Change}
 use Rattle.ts_spec.specs.Rules.{shown, Merged, Refuse, Keep, To, merge, within_bound}
-use Rattle.ts_spec.specs.Step.{Outcome, refused, create, created, alter_at, is_longer, value_at, write, write_merged, within_destinations, first_full, unless_full, rules_at, add_at, put_at, incr_at, is_before_last, changed_value, meets_expired, delete_at, has_rules, create_rule, create_rule_at, delete_rule_at}
+use Rattle.ts_spec.specs.Ignoring.{ignored}
+use Rattle.ts_spec.specs.Step.{Outcome, refused, create, created, alter_at, is_longer, value_at, unless_ignored, write, write_merged, increased, within_destinations, first_full, unless_full, rules_at, add_at, put_at, incr_at, is_before_last, changed_value, meets_expired, delete_at, has_rules, create_rule, create_rule_at, delete_rule_at}
 
 abbrev pub Refuses : State → Outcome → Type 0
 Refuses m o = (r : Refusal) → o.response ≡ Refused r → o ≡ refused m r
@@ -46,8 +47,18 @@ merged limits m key t (Refuse q) = refusal m q
 merged limits m key t Keep = counts m m t
 merged limits m key t (To v) = choice m _ _ _ (refusal m _) (destinations limits m key _ (counts m _ t))
 
+unless : (m : State) (o : Option ℕ) (done : Outcome) → Refuses m done → Refuses m (unless_ignored m o done)
+unless m None done f = f
+unless m (Some last) done f = counts m m last
+
+increases : (limits : Limits) (m : State) (key : Key) (d : Record) (t : ℕ) (what : Merged) → Refuses m (increased limits m key d t what)
+increases limits m key d t (Refuse q) = refusal m q
+increases limits m key d t Keep = counts m m t
+increases limits m key d t (To v) = unless m (ignored m key d t v) (write_merged limits m key t (To v)) (merged limits m key t (To v))
+
 writes : (limits : Limits) (m : State) (key : Key) (d : Record) (how : Merge) (t : ℕ) (v : ℤ) → Refuses m (write limits m key d how t v)
-writes limits m key d how t v = choice m (nat_lt t (edge d)) _ _ (refusal m _) (merged limits m key t (merge how (value_at t (shown m key)) v))
+writes limits m key d how t v = choice m (nat_lt t (edge d)) _ _ (refusal m _)
+    (unless m (ignored m key d t v) (write_merged limits m key t (merge how (value_at t (shown m key)) v)) (merged limits m key t (merge how (value_at t (shown m key)) v)))
 
 makes : (limits : Limits) (m : State) (key : Key) (d : Record) (k : Response) → ((n : State) → Refuses m (record { state = n; response = k })) → Refuses m (created limits m key d k)
 makes limits m key d k f = choice m (nat_lt limits.labels (length d.labels)) _ _ (refusal m _) (choice m (nat_le limits.keys (count_keys m)) _ _ (refusal m _) (f _))
@@ -71,7 +82,7 @@ pub incr-refuses : (limits : Limits) (m : State) (key : Key) (x : ℤ) (t : ℕ)
 incr-refuses limits m key x t spec None = makes limits m key _ (Count t) (λ n. counts m n t)
 incr-refuses limits m key x t spec (Some d) =
     choice m (is_before_last t (last_of (shown m key))) _ _ (refusal m _)
-    (choice m (nat_lt t (edge d)) _ _ (refusal m _) (merged limits m key t (within_bound (changed_value x (last_of (shown m key))))))
+    (choice m (nat_lt t (edge d)) _ _ (refusal m _) (increases limits m key d t (within_bound (changed_value x (last_of (shown m key))))))
 
 pub delete-refuses : (limits : Limits) (m : State) (key : Key) (from to : ℕ) (o : Option Record) → Refuses m (delete_at limits m key from to o)
 delete-refuses limits m key from to None = refusal m _

@@ -15,7 +15,8 @@ use Rattle.ts_spec.specs.Rules.{Merged, Refuse, Keep, To, merge, raised}
 use Rattle.ts_spec.specs.State.{edge_of}
 use Rattle.ts_spec.specs.Response.{Count}
 use Rattle.ts_spec.specs.Step.{value_at}
-use Rattle.ts_spec.specs.KeptStep.{KeptOutcome, kept_refused, list_at, kept_unless_full, kept_within_destinations, kept_within_samples, kept_write_merged, kept_write}
+use Rattle.ts_spec.specs.KeptStep.{KeptOutcome, kept_refused, list_at, kept_unless_full, kept_within_destinations, kept_within_samples, kept_write_merged, kept_unless_ignored, kept_write}
+use Rattle.ts_spec.specs.Ignoring.{kept_ignored}
 use Rattle.ts_spec.proofs.Tidy.{some-same}
 use Rattle.ts_sample.specs.declared.id.Id.{Id}
 use Rattle.ts_series.specs.History.{History, list_of, low, IsKept}
@@ -182,9 +183,13 @@ module _ (s : Store) (db : IsDb s) (key : Key) (id : Id) (n : Node) (holds : Hol
       full (Unwritten p) none x = absurd (cc none)
       full (Memory e) none x = absurd x
 
--- what a write comes to, by what is kept and by the series
-pub write-met : (m : Keeping) (s : Store) (key : Key) (n : Node) (how : Merge) (t : ℕ) (v : ℤ) → kept_write s.limits m key (kept_at s.nodes n) how t v ≡ kept_write_merged s.limits m key t (met how t v n.series)
-write-met m s key n how t v = go (nat_lt t (low n.series))
+-- what a write comes to that is not ignored, by what is kept and by the series
+pub write-met : (m : Keeping) (s : Store) (key : Key) (n : Node) (how : Merge) (t : ℕ) (v : ℤ) → kept_ignored (kept_at s.nodes n) t v ≡ None
+    → kept_write s.limits m key (kept_at s.nodes n) how t v ≡ kept_write_merged s.limits m key t (met how t v n.series)
+write-met m s key n how t v none =
+    ap (λ (o : Option ℕ). if nat_lt t (low n.series) then kept_refused m refusal.TooOld
+    else kept_unless_ignored m o (kept_write_merged s.limits m key t (merge how (value_at t (list_of n.series)) v))) none
+    ∙ go (nat_lt t (low n.series))
   where
     go : (b : Bool) → (if b then kept_refused m refusal.TooOld else kept_write_merged s.limits m key t (merge how (value_at t (list_of n.series)) v))
         ≡ kept_write_merged s.limits m key t (if b then Refuse refusal.TooOld else merge how (value_at t (list_of n.series)) v)

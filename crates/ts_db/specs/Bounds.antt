@@ -1,10 +1,12 @@
 -- How many samples a call may decode at most, by what contracts see of a database. Each sample that is decoded is a step.
-use Rattle.std.specs.Prelude.{ℕ, ◌+◌, ◌*◌, length, sum_by, ◌≡◌, ◌<◌, true, ⊤, List, [], ◌∷◌, Option, None, Some}
+use Rattle.std.specs.Prelude.{ℕ, ℤ, IsSome, ◌+◌, ◌*◌, length, sum_by, ◌≡◌, ◌<◌, true, ⊤, List, [], ◌∷◌, Option, None, Some}
 use Rattle.ts_spec.specs.Sample.{between, last_of}
 use Rattle.ts_spec.specs.Filter.{Filter}
 use Rattle.ts_spec.specs.Key.{Key}
 use Rattle.ts_spec.specs.Keyed.{get}
+use Rattle.ts_spec.specs.Step.{changed_value}
 use Rattle.ts_spec.specs.KeptStep.{list_at, kept_rules_at}
+use Rattle.ts_spec.specs.Ignoring.{kept_ignored}
 use Rattle.ts_spec.specs.Bucket.{start, members}
 use Rattle.ts_spec.specs.Rules.{is_append}
 use Rattle.ts_spec.specs.Kept.{KeptRule, Kept}
@@ -57,6 +59,21 @@ pub record IsEasyAppend (stock : Stock) (key : Key) (t : ℕ) : Type 0 where
   pub append : is_append t (high_at (get key stock.keys)) ≡ true
   pub past : IsPastAll stock key t
   pub closes : AllClosePastAll stock t (kept_rules_at (get key stock.keys))
+
+-- ---- a sample that is ignored
+
+-- the time of the last sample of a key, where it ignores a sample for being close to that one
+abbrev pub ignored_at : Option Kept → (time : ℕ) → (value : ℤ) → Option ℕ
+ignored_at None t v = None
+ignored_at (Some d) t v = kept_ignored d t v
+
+-- the key ignores a sample at this time with this value
+abbrev pub IsIgnored : Stock → Key → (time : ℕ) → (value : ℤ) → Type 0
+IsIgnored stock key t v = IsSome (ignored_at (get key stock.keys) t v)
+
+-- it ignores what a change of its last value would write
+abbrev pub IsChangeIgnored : Stock → Key → (time : ℕ) → (change : ℤ) → Type 0
+IsChangeIgnored stock key t x = IsIgnored stock key t (changed_value x (last_of (list_at (get key stock.keys))))
 
 -- ---- a deletion
 

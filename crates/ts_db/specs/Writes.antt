@@ -1,6 +1,14 @@
--- What a change of the last value comes to.
-use Rattle.std.specs.Prelude.{◌≡◌, ℤ, Option, None, Some}
+-- What a change of the last value comes to, and which samples a series ignores.
+use Rattle.std.specs.Prelude.{◌≡◌, ℕ, ℤ, if◌then◌else◌, Option, None, Some, is_some}
+use Rattle.ts_spec.specs.Sample.{last_of}
 use Rattle.ts_spec.specs.Rules.{Merged, To}
+use Rattle.ts_spec.specs.Ignoring.{ignored_after}
+use Rattle.ts_series.specs.History.{list_of}
+use Rattle.ts_db.specs.declared.node.Node.{Node}
+
+-- the time of the last sample of a series, where it ignores a sample for being close to that one: no rule leads to it
+abbrev pub ignored_by : Node → (time : ℕ) → (value : ℤ) → Option ℕ
+ignored_by n t v = if is_some n.source then None else ignored_after n.series.options (last_of (list_of n.series)) t v
 
 -- a value in range, or none
 abbrev pub IsChanged : Merged → Option ℤ → Type 0

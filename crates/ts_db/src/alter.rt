@@ -39,10 +39,13 @@ impl Store {
         if are_too_many(self.limits.labels, &change.labels) {
             return Err(DbFault::LabelsFull);
         }
-        match node
-            .series
-            .alter(change.retention, change.chunk_size, change.policy, steps)
-        {
+        match node.series.alter(
+            change.retention,
+            change.chunk_size,
+            change.policy,
+            change.ignore,
+            steps,
+        ) {
             Ok(plan) => {
                 self.apply(id, plan, change.labels, None);
                 Ok(())

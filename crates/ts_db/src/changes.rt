@@ -7,7 +7,7 @@ ghost use Rattle.ts_labels.specs.Spec.{spec_of, change_of};
 ghost use Rattle.ts_db.specs.Faults.{IsRefusal};
 ghost use Rattle.ts_db.specs.Held.{Held, Stands, AnswersDone, AnswersNumber, IsOwn, Drops, reach_at};
 ghost use Rattle.ts_db.specs.PutBy.{put_by};
-ghost use Rattle.ts_db.specs.Bounds.{write_steps, IsEasyAppend, deletion_steps};
+ghost use Rattle.ts_db.specs.Bounds.{write_steps, IsEasyAppend, IsIgnored, IsChangeIgnored, deletion_steps};
 
 use crate::db::Db;
 use crate::fault::DbFault;
@@ -45,7 +45,8 @@ impl Db {
     }
 
     /// Adds a sample to the series of a key, by this policy or else its own where the time has one. Where
-    /// the key is missing it begins with the sample. Answers the time.
+    /// the key is missing it begins with the sample. Answers the time, or that of the last sample where this one is
+    /// ignored: it is close to it, the series' own policy is `Last`, and no rule leads to the series.
     pub fn add<L: Ledger>(
         &mut self,
         key: Word,
@@ -63,12 +64,14 @@ impl Db {
         ensures counted { steps.old ≤ steps.new }
         ensures steps { steps.new ≤ steps.old + write_steps self.old key time }
         ensures easy { IsEasyAppend self.old key time → steps.new ≡ steps.old }
+        ensures spared { IsIgnored self.old key time value → steps.new ≡ steps.old }
     {
         self.store.add(key, time, value, on, spec, steps)
     }
 
     /// Adds a sample with the last value and a change, or changes the last sample where it has the time.
-    /// Where the key is missing it begins with the change. Answers the time.
+    /// Where the key is missing it begins with the change. Answers the time, or that of the last sample where the new
+    /// one is ignored.
     pub fn incr<L: Ledger>(
         &mut self,
         key: Word,
@@ -85,11 +88,13 @@ impl Db {
         ensures counted { steps.old ≤ steps.new }
         ensures steps { steps.new ≤ steps.old + write_steps self.old key time }
         ensures easy { IsEasyAppend self.old key time → steps.new ≡ steps.old }
+        ensures spared { IsChangeIgnored self.old key time change → steps.new ≡ steps.old }
     {
         self.store.incr(key, change, time, spec, steps)
     }
 
-    /// Adds a sample to the series of a key, by its own policy where the time has one. Answers the time.
+    /// Adds a sample to the series of a key, by its own policy where the time has one. Answers the time, or that of
+    /// the last sample where this one is ignored.
     pub fn put<L: Ledger>(
         &mut self,
         key: &Word,
@@ -105,11 +110,13 @@ impl Db {
         ensures counted { steps.old ≤ steps.new }
         ensures steps { steps.new ≤ steps.old + write_steps self.old key.now time }
         ensures easy { IsEasyAppend self.old key.now time → steps.new ≡ steps.old }
+        ensures spared { IsIgnored self.old key.now time value → steps.new ≡ steps.old }
     {
         self.store.put(key, time, value, steps)
     }
 
-    /// Adds a sample to the series of a key, by this policy or else its own where the time has one. Answers the time.
+    /// Adds a sample to the series of a key, by this policy or else its own where the time has one. Answers the time,
+    /// or that of the last sample where this one is ignored.
     pub fn put_by<L: Ledger>(
         &mut self,
         key: &Word,
@@ -126,6 +133,7 @@ impl Db {
         ensures counted { steps.old ≤ steps.new }
         ensures steps { steps.new ≤ steps.old + write_steps self.old key.now time }
         ensures easy { IsEasyAppend self.old key.now time → steps.new ≡ steps.old }
+        ensures spared { IsIgnored self.old key.now time value → steps.new ≡ steps.old }
     {
         self.store.put_by(key, time, value, on, steps)
     }

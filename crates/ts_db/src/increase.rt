@@ -11,9 +11,10 @@ ghost use Rattle.ts_db.specs.Held.{IsOwn};
 ghost use Rattle.ts_db.specs.Store.{stock_of, IsInOrder, IsDb};
 ghost use Rattle.ts_db.specs.Answering.{KeptNumber};
 ghost use Rattle.ts_db.specs.Writes.{IsChanged};
-ghost use Rattle.ts_db.specs.Bounds.{write_steps, IsEasyAppend};
+ghost use Rattle.ts_db.specs.Bounds.{write_steps, IsEasyAppend, IsChangeIgnored};
 
 use crate::fault::DbFault;
+use crate::ignored::ignored;
 use crate::store::Store;
 use std::sync::ledger::Ledger;
 use ts_labels::Spec;
@@ -24,7 +25,8 @@ use ts_spec::Merge;
 
 impl Store {
     // Adds a sample with the last value and a change, or changes the last sample where it has the time. Where
-    // the key is missing it begins with the change. Answers the time.
+    // the key is missing it begins with the change. Answers the time, or that of the last sample where the new one is
+    // ignored.
     pub(crate) fn incr<L: Ledger>(
         &mut self,
         key: Word,
@@ -42,6 +44,7 @@ impl Store {
         ensures counted { steps.old ≤ steps.new }
         ensures steps { steps.new ≤ steps.old + write_steps (stock_of self.old) key time }
         ensures easy { IsEasyAppend (stock_of self.old) key time → steps.new ≡ steps.old }
+        ensures spared { IsChangeIgnored (stock_of self.old) key time change → steps.new ≡ steps.old }
     {
         let Some(id) = self.keys.get(&key).copied() else {
             return self.begin(key, spec, time, change, steps);
@@ -55,10 +58,13 @@ impl Store {
         if time < node.series.edge() {
             return Err(DbFault::TooOld);
         }
-        match changed(&node.series, change) {
-            Some(value) => self.write(id, Merge::Set, time, value, steps),
-            None => Err(DbFault::OutOfRange),
+        let Some(value) = changed(&node.series, change) else {
+            return Err(DbFault::OutOfRange);
+        };
+        if let Some(last) = ignored(node, time, value) {
+            return Ok(last);
         }
+        self.write(id, Merge::Set, time, value, steps)
     }
 }
 

@@ -14,6 +14,7 @@ mod fault;
 mod feeding;
 mod growing;
 mod hints;
+mod ignored;
 mod increase;
 mod info;
 mod information;

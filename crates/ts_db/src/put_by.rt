@@ -6,10 +6,11 @@ ghost use Rattle.ts_db.specs.Held.{IsOwn};
 ghost use Rattle.ts_db.specs.Store.{stock_of, number_of, IsInOrder, IsDb};
 ghost use Rattle.ts_db.specs.Answering.{KeptNumber};
 ghost use Rattle.ts_db.specs.PutBy.{kept_put_by};
-ghost use Rattle.ts_db.specs.Bounds.{write_steps, IsEasyAppend};
+ghost use Rattle.ts_db.specs.Bounds.{write_steps, IsEasyAppend, IsIgnored};
 
 use crate::fault::DbFault;
 use crate::hints::place_of;
+use crate::ignored::ignored;
 use crate::store::Store;
 use std::sync::ledger::Ledger;
 use ts_resp::Word;
@@ -17,7 +18,8 @@ use ts_sample::{Id, Steps, Units};
 use ts_spec::{Merge, Policy};
 
 impl Store {
-    // Adds a sample to the series of a key, by this policy or else its own where the time has one. Answers the time.
+    // Adds a sample to the series of a key, by this policy or else its own where the time has one. Answers the time, or
+    // that of the last sample where this one is ignored.
     pub(crate) fn put_by<L: Ledger>(
         &mut self,
         key: &Word,
@@ -35,6 +37,7 @@ impl Store {
         ensures counted { steps.old ≤ steps.new }
         ensures steps { steps.new ≤ steps.old + write_steps (stock_of self.old) key.now time }
         ensures easy { IsEasyAppend (stock_of self.old) key.now time → steps.new ≡ steps.old }
+        ensures spared { IsIgnored (stock_of self.old) key.now time value → steps.new ≡ steps.old }
     {
         let place = place_of(key);
         let Some(id) = self.number_near(key, place) else {
@@ -43,7 +46,11 @@ impl Store {
         let Some(node) = self.nodes.get(id.0) else {
             unreachable!();
         };
-        let how = Merge::By(on.unwrap_or(node.series.options().policy));
+        if let Some(last) = ignored(node, time, value) {
+            self.hints.keep(place, id);
+            return Ok(last);
+        }
+        let how = Merge::By(on.unwrap_or(node.series.policy()));
         let answer = self.write(id, how, time, value, steps);
         self.hints.keep(place, id);
         answer

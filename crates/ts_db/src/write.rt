@@ -10,10 +10,11 @@ ghost use Rattle.ts_db.specs.declared.node.Node.{Node as TheNode};
 ghost use Rattle.ts_db.specs.Held.{IsOwn};
 ghost use Rattle.ts_db.specs.Store.{stock_of, number_of, IsInOrder, IsDb, IsThere, Holds};
 ghost use Rattle.ts_db.specs.Answering.{KeptNumber};
-ghost use Rattle.ts_db.specs.Bounds.{write_steps, IsEasyAppend};
+ghost use Rattle.ts_db.specs.Bounds.{write_steps, IsEasyAppend, IsIgnored};
 
 use crate::fault::{DbFault, fault_at};
 use crate::growing::stays_open;
+use crate::ignored::ignored;
 use crate::store::Store;
 use crate::work::Work;
 use std::sync::ledger::Ledger;
@@ -24,7 +25,7 @@ use ts_spec::{Merge, Policy};
 
 impl Store {
     // Adds a sample to the series of a key, by this policy or else its own where the time has one. Where the key
-    // is missing it begins with the sample. Answers the time.
+    // is missing it begins with the sample. Answers the time, or that of the last sample where this one is ignored.
     pub(crate) fn add<L: Ledger>(
         &mut self,
         key: Word,
@@ -43,6 +44,7 @@ impl Store {
         ensures counted { steps.old ≤ steps.new }
         ensures steps { steps.new ≤ steps.old + write_steps (stock_of self.old) key time }
         ensures easy { IsEasyAppend (stock_of self.old) key time → steps.new ≡ steps.old }
+        ensures spared { IsIgnored (stock_of self.old) key time value → steps.new ≡ steps.old }
     {
         let Some(id) = self.keys.get(&key).copied() else {
             return self.begin(key, spec, time, value, steps);
@@ -50,11 +52,15 @@ impl Store {
         let Some(node) = self.nodes.get(id.0) else {
             unreachable!();
         };
-        let how = Merge::By(on.unwrap_or(node.series.options().policy));
+        if let Some(last) = ignored(node, time, value) {
+            return Ok(last);
+        }
+        let how = Merge::By(on.unwrap_or(node.series.policy()));
         self.write(id, how, time, value, steps)
     }
 
-    // Adds a sample to the series of a key, by its own policy where the time has one. Answers the time.
+    // Adds a sample to the series of a key, by its own policy where the time has one. Answers the time, or that of the
+    // last sample where this one is ignored.
     pub(crate) fn put<L: Ledger>(
         &mut self,
         key: &Word,
@@ -71,6 +77,7 @@ impl Store {
         ensures counted { steps.old ≤ steps.new }
         ensures steps { steps.new ≤ steps.old + write_steps (stock_of self.old) key.now time }
         ensures easy { IsEasyAppend (stock_of self.old) key.now time → steps.new ≡ steps.old }
+        ensures spared { IsIgnored (stock_of self.old) key.now time value → steps.new ≡ steps.old }
     {
         self.put_by(key, time, value, None, steps)
     }

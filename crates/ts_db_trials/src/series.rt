@@ -6,7 +6,7 @@ use std::marker::Brand;
 use std::sync::ledger::{Blank, Ledger};
 use ts_sample::{Steps, Units};
 use ts_series::{Series, SeriesPlan};
-use ts_spec::{Encoding, Merge, Options, Policy};
+use ts_spec::{Encoding, Ignore, Merge, Options, Policy};
 
 // Writes a sample at a time of at most 1,000.
 fn put<L: Ledger>(series: &mut Series, time: u64, steps: &mut Steps<L>) {
@@ -23,6 +23,7 @@ fn nine<L: Ledger>(alloc: Global, chunk_size: u32, steps: &mut Steps<L>) -> Seri
         encoding: Encoding::Uncompressed,
         chunk_size,
         policy: Policy::Block,
+        ignore: Ignore::EQUAL,
     };
     let mut series = Series::new(alloc, options);
     for time in 1..10 {
@@ -86,7 +87,7 @@ fn changes<L: Ledger>(alloc: Global, blank: Blank) -> Option<[[u64; 9]; 4]>
     };
     left.commit(plan);
     let mut short = nine(alloc, 88, &mut steps);
-    let Ok(plan) = short.alter(Some(30), None, None, &mut steps) else {
+    let Ok(plan) = short.alter(Some(30), None, None, None, &mut steps) else {
         return None;
     };
     short.commit(plan);

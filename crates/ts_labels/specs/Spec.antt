@@ -7,4 +7,4 @@ abbrev pub spec_of : Spec → command.Spec
 spec_of s = record { options = s.options; labels = s.labels }
 
 abbrev pub change_of : Change → command.Change
-change_of c = record { retention = c.retention; chunk_size = c.chunk_size; policy = c.policy; labels = c.labels }
+change_of c = record { retention = c.retention; chunk_size = c.chunk_size; policy = c.policy; ignore = c.ignore; labels = c.labels }

@@ -3,6 +3,7 @@ use Rattle.std.specs.Prelude.{◌≡◌, ℕ, ◌≤◌, nat_le, ⊤, List, [], 
 use Rattle.std.specs.Option.{unwrap_or}
 use Rattle.ts_spec.specs.declared.series.Encoding.{Encoding}
 use Rattle.ts_spec.specs.declared.series.Encoding.TheVariants.{Compressed}
+use Rattle.ts_spec.specs.declared.series.Ignore.{Ignore}
 use Rattle.ts_spec.specs.declared.series.Options.{Options}
 use Rattle.ts_spec.specs.declared.series.Policy.{Policy}
 use Rattle.ts_spec.specs.Sample.{Point, at_times, outside, put_all}
@@ -95,12 +96,13 @@ pub record Alters (options : Options) (plan : Plan) : Type 0 where
   pub altered : plan.options ≡ Some options
 
 -- options with what is given anew
-abbrev pub options_with : (retention chunk_size : Option ℕ) → Option Policy → Options → Options
-options_with retention chunk_size policy old = record {
+abbrev pub options_with : (retention chunk_size : Option ℕ) → Option Policy → Option Ignore → Options → Options
+options_with retention chunk_size policy ignore old = record {
   retention = unwrap_or retention old.retention;
   encoding = old.encoding;
   chunk_size = unwrap_or chunk_size old.chunk_size;
   policy = unwrap_or policy old.policy;
+  ignore = unwrap_or ignore old.ignore;
 }
 
 -- how many chunks there may be once the plan's own room, if it has one, is there

@@ -14,21 +14,22 @@ use crate::line_plan::LinePlan;
 use std::alloc::AllocError;
 use std::sync::ledger::Ledger;
 use ts_sample::{Chunk, Steps};
-use ts_spec::{Options, Policy};
+use ts_spec::{Ignore, Options, Policy};
 
 impl<C: Chunk> Line<C> {
     // Plans new options, where they are given: a retention in milliseconds (0 keeps samples for ever), the
-    // bytes of a chunk, and a policy. Samples before the old or the new edge are dropped. The size of chunks
+    // bytes of a chunk, a policy, and what is ignored. Samples before the old or the new edge are dropped. The size of chunks
     // is that of the chunks begun afterwards.
     pub(crate) fn alter<L: Ledger>(
         &self,
         retention: Option<u64>,
         chunk_size: Option<u32>,
         policy: Option<Policy>,
+        ignore: Option<Ignore>,
         steps: &mut Steps<L>,
     ) -> Result<LinePlan<C>, AllocError>
         ensures planned { IfOk result (λ plan. IsForIn C.format plan self.now) }
-        ensures options { IfOk result (Alters (options_with retention chunk_size policy self.now.options)) }
+        ensures options { IfOk result (Alters (options_with retention chunk_size policy ignore self.now.options)) }
         ensures counted { steps.old ≤ steps.new }
         ensures bounded { steps.new ≤ steps.old + 2 * reach self.now }
     {
@@ -38,6 +39,7 @@ impl<C: Chunk> Line<C> {
             encoding: old.encoding,
             chunk_size: chunk_size.unwrap_or(old.chunk_size),
             policy: policy.unwrap_or(old.policy),
+            ignore: ignore.unwrap_or(old.ignore),
         };
         let change = self.without_expired(edge_at(options.retention, self.high), steps)?;
         let larger = self.chunks.larger(&change, self.alloc)?;

@@ -14,7 +14,7 @@ use crate::series::{Lines, Series};
 use std::alloc::AllocError;
 use std::sync::ledger::Ledger;
 use ts_sample::{Sample, Steps, Units};
-use ts_spec::{Merge, Policy};
+use ts_spec::{Ignore, Merge, Policy};
 
 impl Series {
     /// Plans a write: at a time that has a sample as `how` says, and else as a new sample, if the series
@@ -100,27 +100,28 @@ impl Series {
     }
 
     /// Plans new options, where they are given: a retention in milliseconds (0 keeps samples for ever), the
-    /// bytes of a chunk, and a policy. Samples before the old or the new edge are dropped. The size of chunks
+    /// bytes of a chunk, a policy, and what is ignored. Samples before the old or the new edge are dropped. The size of chunks
     /// is that of the chunks begun afterwards.
     pub fn alter<L: Ledger>(
         &self,
         retention: Option<u64>,
         chunk_size: Option<u32>,
         policy: Option<Policy>,
+        ignore: Option<Ignore>,
         steps: &mut Steps<L>,
     ) -> Result<SeriesPlan, AllocError>
         ensures planned { IfOk result (λ plan. IsFor plan self.now) }
-        ensures options { IfOk result (Alters (options_with retention chunk_size policy self.now.options)) }
+        ensures options { IfOk result (Alters (options_with retention chunk_size policy ignore self.now.options)) }
         ensures counted { steps.old ≤ steps.new }
         ensures bounded { steps.new ≤ steps.old + 2 * reach self.now }
     {
         match &self.lines {
             Lines::Plain(line) => {
-                let plan = line.alter(retention, chunk_size, policy, steps)?;
+                let plan = line.alter(retention, chunk_size, policy, ignore, steps)?;
                 Ok(SeriesPlan::plain(plan))
             }
             Lines::Packed(line) => {
-                let plan = line.alter(retention, chunk_size, policy, steps)?;
+                let plan = line.alter(retention, chunk_size, policy, ignore, steps)?;
                 Ok(SeriesPlan::packed(plan))
             }
         }

@@ -12,7 +12,7 @@ use crate::line_plan::LinePlan;
 use std::alloc::Global;
 use std::marker::Model;
 use ts_sample::{Chunk, Sample};
-use ts_spec::Options;
+use ts_spec::{Options, Policy};
 
 // A list of samples in order of time, and how it is kept.
 #[derive(Drop)]
@@ -57,6 +57,13 @@ impl<C: Chunk> Line<C> {
         ensures { result ≡ self.now.options }
     {
         self.options
+    }
+
+    // What a write does where its time already has a sample.
+    pub(crate) fn policy(&self) -> Policy
+        ensures { result ≡ self.now.options.policy }
+    {
+        self.options.policy
     }
 
     // The highest time that it ever had a sample at.

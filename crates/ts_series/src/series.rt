@@ -13,7 +13,7 @@ use std::marker::Model;
 use ts_chunk_packed::PackedChunk;
 use ts_chunk_plain::PlainChunk;
 use ts_sample::Sample;
-use ts_spec::{Encoding, Options};
+use ts_spec::{Encoding, Options, Policy};
 
 /// A list of samples in order of time, and how it is kept.
 #[derive(Drop)]
@@ -62,6 +62,16 @@ impl Series {
         match &self.lines {
             Lines::Plain(line) => line.options(),
             Lines::Packed(line) => line.options(),
+        }
+    }
+
+    /// What a write does where its time already has a sample.
+    pub fn policy(&self) -> Policy
+        ensures { result ≡ self.now.options.policy }
+    {
+        match &self.lines {
+            Lines::Plain(line) => line.policy(),
+            Lines::Packed(line) => line.policy(),
         }
     }
 

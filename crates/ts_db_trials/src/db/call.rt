@@ -6,7 +6,7 @@ use ts_db::{Db, DbFault};
 use ts_labels::{Labels, Spec};
 use ts_resp::Word;
 use ts_sample::{Steps, Units};
-use ts_spec::{Aggregator, Encoding, Options, Policy};
+use ts_spec::{Aggregator, Encoding, Ignore, Options, Policy};
 
 #[derive(Clone, Copy)]
 pub(crate) enum Call {
@@ -58,6 +58,7 @@ fn spec(alloc: Global) -> Spec {
             encoding: Encoding::Compressed,
             chunk_size: 4096,
             policy: Policy::Block,
+            ignore: Ignore::EQUAL,
         },
         labels: Labels::new(alloc),
     }

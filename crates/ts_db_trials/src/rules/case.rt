@@ -8,7 +8,7 @@ use ts_agg::{Aggregator, Running};
 use ts_bucket::Grid;
 use ts_rules::Rule;
 use ts_sample::{Gathered, Id, MAX_TIME, Sample, Steps, Units};
-use ts_series::{Encoding, Merge, Options, Policy, Series, SeriesPlan};
+use ts_series::{Encoding, Ignore, Merge, Options, Policy, Series, SeriesPlan};
 
 // What is done to the source.
 #[derive(Clone, Copy)]
@@ -103,6 +103,7 @@ pub(crate) fn empty(alloc: Global) -> Series {
             encoding: Encoding::Compressed,
             chunk_size: 4096,
             policy: Policy::Block,
+            ignore: Ignore::EQUAL,
         },
     )
 }

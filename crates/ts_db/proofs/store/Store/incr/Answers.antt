@@ -1,4 +1,5 @@
-use Rattle.std.proofs.Common.{◌≡◌, false, refl, sym, ◌∙◌, ap, subst, lt-ltb, le-ltb}
+use Rattle.std.proofs.Common.{◌≡◌, ◌≤◌, false, refl, sym, ◌∙◌, ap, subst, arith, lt-ltb, le-ltb}
+use Rattle.std.proofs.lemmas.Bool.{false≢true}
 use Rattle.std.specs.Prelude.{nat_lt, Option}
 use Rattle.ts_spec.specs.Kept.{Kept}
 use Rattle.ts_spec.specs.KeptStep.{KeptOutcome, kept_incr_at}
@@ -7,7 +8,8 @@ use Rattle.ts_series.specs.History.{low}
 use Rattle.ts_db.specs.Store.{stock_of, Holds}
 use Rattle.ts_db.specs.Answering.{KeptNumber}
 use Rattle.ts_db.proofs.Storing.{missing}
-use Rattle.ts_db.proofs.Increasing.{incr-before, incr-old, incr-out, incr-write}
+use Rattle.ts_db.proofs.Ignoring.{ignored-upto}
+use Rattle.ts_db.proofs.Increasing.{incr-before, incr-old, incr-out, incr-write, incr-ignored, incr-not-ignored}
 use Rattle.ts_db.proofs.store.Store.incr.Goals as goal
 
 pub begin-requires-clause-absent : goal.begin-requires-clause-absent
@@ -28,26 +30,50 @@ returns-then-time-edge-clause-changed g c =
     let holds : Holds c.args.self.now c.args.key c.in-Some.id c.in-Some-get.node.now = record { number = sym (c.in-Some.ensures ∙ c.get.ensures.value); node = sym c.in-Some-get.ensures } in
     (incr-old c.args.self.now c.requires.db.store c.args.key c.in-Some.id c.in-Some-get.node.now holds c.args.change c.args.time (spec_of c.args.spec) (sym c.is_before.ensures ∙ c.if-is_before.false) (ap (nat_lt c.args.time) (sym c.edge.ensures) ∙ lt-ltb c.args.time c.edge.result c.if-time-edge.true), refl)
 
-pub returns-in-Some-changed-clause-changed : goal.returns-in-Some-changed-clause-changed
-returns-in-Some-changed-clause-changed g c =
-    let holds : Holds c.args.self.now c.args.key c.in-Some.id c.in-Some-get.node.now = record { number = sym (c.in-Some.ensures ∙ c.get.ensures.value); node = sym c.in-Some-get.ensures } in
-    let late : nat_lt c.args.time (low c.in-Some-get.node.now.series) ≡ false = ap (nat_lt c.args.time) (sym c.edge.ensures) ∙ le-ltb c.args.time c.edge.result c.if-time-edge.false in
-    subst (λ (step : KeptOutcome). KeptNumber (stock_of c.args.self.now) step c.write.result (stock_of c.write.new.self))
-    (sym (incr-write c.args.self.now c.requires.db.store c.args.key c.in-Some.id c.in-Some-get.node.now holds c.args.change c.args.time (spec_of c.args.spec) c.in-Some-changed.value (sym c.is_before.ensures ∙ c.if-is_before.false) late c.in-Some-changed.ensures))
-    (c.write.ensures.written c.args.key c.in-Some-get.node.now holds)
-
 pub returns-clause-changed : goal.returns-clause-changed
 returns-clause-changed g c =
     let holds : Holds c.args.self.now c.args.key c.in-Some.id c.in-Some-get.node.now = record { number = sym (c.in-Some.ensures ∙ c.get.ensures.value); node = sym c.in-Some-get.ensures } in
     let late : nat_lt c.args.time (low c.in-Some-get.node.now.series) ≡ false = ap (nat_lt c.args.time) (sym c.edge.ensures) ∙ le-ltb c.args.time c.edge.result c.if-time-edge.false in
-    (incr-out c.args.self.now c.requires.db.store c.args.key c.in-Some.id c.in-Some-get.node.now holds c.args.change c.args.time (spec_of c.args.spec) (sym c.is_before.ensures ∙ c.if-is_before.false) late c.in-None.ensures, refl)
+    subst (λ (step : KeptOutcome). KeptNumber (stock_of c.args.self.now) step c.write.result (stock_of c.write.new.self))
+    (sym (incr-write c.args.self.now c.requires.db.store c.args.key c.in-Some.id c.in-Some-get.node.now holds c.args.change c.args.time (spec_of c.args.spec) c.in-Some-changed.value (sym c.is_before.ensures ∙ c.if-is_before.false) late c.in-Some-changed.ensures
+    c.in_default-ignored.ensures))
+    (c.write.ensures.written c.args.key c.in-Some-get.node.now holds)
+
+pub returns-in_default-changed-clause-changed : goal.returns-in_default-changed-clause-changed
+returns-in_default-changed-clause-changed g c =
+    let holds : Holds c.args.self.now c.args.key c.in-Some.id c.in-Some-get.node.now = record { number = sym (c.in-Some.ensures ∙ c.get.ensures.value); node = sym c.in-Some-get.ensures } in
+    let late : nat_lt c.args.time (low c.in-Some-get.node.now.series) ≡ false = ap (nat_lt c.args.time) (sym c.edge.ensures) ∙ le-ltb c.args.time c.edge.result c.if-time-edge.false in
+    (incr-out c.args.self.now c.requires.db.store c.args.key c.in-Some.id c.in-Some-get.node.now holds c.args.change c.args.time (spec_of c.args.spec) (sym c.is_before.ensures ∙ c.if-is_before.false) late c.in_default-changed.ensures, refl)
 
 pub write-requires-clause-there : goal.write-requires-clause-there
 write-requires-clause-there g c =
     record { key = c.args.key; node = c.in-Some-get.node.now; holds = record { number = sym (c.in-Some.ensures ∙ c.get.ensures.value); node = sym c.in-Some-get.ensures } }
 
-pub returns-in-Some-changed-clause-steps : goal.returns-in-Some-changed-clause-steps
-returns-in-Some-changed-clause-steps g c = c.write.ensures.steps c.args.key (sym (c.in-Some.ensures ∙ c.get.ensures.value))
+pub returns-clause-steps : goal.returns-clause-steps
+returns-clause-steps g c = c.write.ensures.steps c.args.key (sym (c.in-Some.ensures ∙ c.get.ensures.value))
 
-pub returns-in-Some-changed-clause-easy : goal.returns-in-Some-changed-clause-easy
-returns-in-Some-changed-clause-easy g c = c.write.ensures.easy c.args.key (sym (c.in-Some.ensures ∙ c.get.ensures.value))
+pub returns-clause-easy : goal.returns-clause-easy
+returns-clause-easy g c = c.write.ensures.easy c.args.key (sym (c.in-Some.ensures ∙ c.get.ensures.value))
+
+-- a result that is ignored
+
+pub returns-in-Some-ignored-clause-changed : goal.returns-in-Some-ignored-clause-changed
+returns-in-Some-ignored-clause-changed g c =
+    let holds : Holds c.args.self.now c.args.key c.in-Some.id c.in-Some-get.node.now = record { number = sym (c.in-Some.ensures ∙ c.get.ensures.value); node = sym c.in-Some-get.ensures } in
+    let late : nat_lt c.args.time (low c.in-Some-get.node.now.series) ≡ false = ap (nat_lt c.args.time) (sym c.edge.ensures) ∙ le-ltb c.args.time c.edge.result c.if-time-edge.false in (
+      incr-ignored c.args.self.now c.requires.db.store c.args.key c.in-Some.id c.in-Some-get.node.now holds c.args.change c.args.time (spec_of c.args.spec) c.in-Some-changed.value c.in-Some-ignored.last
+          (sym c.is_before.ensures ∙ c.if-is_before.false) late c.in-Some-changed.ensures c.in-Some-ignored.ensures,
+      refl,
+    )
+
+pub returns-in-Some-ignored-clause-bounded : goal.returns-in-Some-ignored-clause-bounded
+returns-in-Some-ignored-clause-bounded g c =
+    let holds : Holds c.args.self.now c.args.key c.in-Some.id c.in-Some-get.node.now = record { number = sym (c.in-Some.ensures ∙ c.get.ensures.value); node = sym c.in-Some-get.ensures } in
+    let upto : c.in-Some-ignored.last ≤ c.args.time =
+    ignored-upto c.args.self.now c.requires.db.store c.args.key c.in-Some.id c.in-Some-get.node.now holds c.args.time c.in-Some-changed.value c.in-Some-ignored.last c.in-Some-ignored.ensures in
+    omega (arith, c.requires.time)
+
+pub returns-clause-spared : goal.returns-clause-spared
+returns-clause-spared g c told =
+    let holds : Holds c.args.self.now c.args.key c.in-Some.id c.in-Some-get.node.now = record { number = sym (c.in-Some.ensures ∙ c.get.ensures.value); node = sym c.in-Some-get.ensures } in
+    absurd (false≢true (incr-not-ignored c.args.self.now c.requires.db.store c.args.key c.in-Some.id c.in-Some-get.node.now holds c.args.change c.args.time (spec_of c.args.spec) c.in-Some-changed.value c.in-Some-changed.ensures c.in_default-ignored.ensures told))

@@ -27,7 +27,7 @@ returns-clause-planned g c =
     let change = c.in_ok-change.change in
     let enough = subst (λ (x : History). length x.held.pieces + length change.pieces ≤ places_for (option_map (λ q. deque_capacity q) c.in_ok-larger.larger) x.held) c.self.view_is
     c.in_ok-larger.ensures.enough in
-    let options : Options = record { retention = c.unwrap_or.result; encoding = c.self.inside.options.encoding; chunk_size = c.unwrap_or-2.result; policy = c.unwrap_or-3.result } in
+    let options : Options = record { retention = c.unwrap_or.result; encoding = c.self.inside.options.encoding; chunk_size = c.unwrap_or-2.result; policy = c.unwrap_or-3.result; ignore = c.unwrap_or-4.result } in
     let plan : Plan = record {
       cut = None;
       removed = 0;

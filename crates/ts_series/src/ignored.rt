@@ -1,0 +1,63 @@
+// Which samples a series ignores: those that are close to its last one.
+ghost use Rattle.std.specs.Prelude.{◌≡◌};
+ghost use Rattle.ts_spec.specs.Ignoring.{is_near, is_close, ignored_after};
+ghost use Rattle.ts_spec.specs.Sample.{last_of};
+ghost use Rattle.ts_series.specs.History.{list_of};
+
+use crate::line::Line;
+use crate::series::{Lines, Series};
+use ts_sample::{Chunk, Sample, Units};
+use ts_spec::{Ignore, Policy};
+
+impl Series {
+    /// The time of its last sample, where a sample at this time with this value is ignored for being close to that
+    /// one: the policy is `Last`, and no rule leads to the series, as the caller knows. It decodes nothing.
+    pub fn ignored(&self, time: u64, value: Units) -> Option<u64>
+        ensures { result ≡ ignored_after self.now.options (last_of (list_of self.now)) time value }
+    {
+        match &self.lines {
+            Lines::Plain(line) => line.ignored(time, value),
+            Lines::Packed(line) => line.ignored(time, value),
+        }
+    }
+}
+
+impl<C: Chunk> Line<C> {
+    // The time of its last sample, where this one is ignored.
+    fn ignored(&self, time: u64, value: Units) -> Option<u64>
+        ensures { result ≡ ignored_after self.now.options (last_of (list_of self.now)) time value }
+    {
+        if self.options.policy != Policy::Last {
+            return None;
+        }
+        let Some(last) = self.last() else {
+            return None;
+        };
+        if is_close(&self.options.ignore, &last, time, value) {
+            Some(last.time)
+        } else {
+            None
+        }
+    }
+}
+
+// Whether a sample is close to the last one: at its time or at most so much later, with a value that differs by at
+// most so much.
+fn is_close(most: &Ignore, last: &Sample, time: u64, value: Units) -> bool
+    ensures { result ≡ is_close most.now last.now time value }
+{
+    if time < last.time {
+        return false;
+    }
+    if time - last.time > most.time {
+        return false;
+    }
+    is_near(most.value, last.value, value)
+}
+
+// Whether a value differs from another one by at most so much.
+fn is_near(most: Units, old: Units, new: Units) -> bool
+    ensures { result ≡ is_near most old new }
+{
+    (new.get() - old.get()).abs() <= most.get()
+}
