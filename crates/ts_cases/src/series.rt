@@ -12,13 +12,14 @@ pub(crate) fn spec_text(alloc: Global, spec: &Spec) -> Result<String, AllocError
 
 // What a series gets anew.
 pub(crate) fn change_text(alloc: Global, change: &Change) -> Result<String, AllocError> {
-    let (retention, chunk_size, policy) = (change.retention, change.chunk_size, change.policy);
+    let (retention, chunk_size) = (change.retention, change.chunk_size);
+    let (policy, ignore) = (change.policy, change.ignore);
     let labels = match &change.labels {
         Some(given) => labels(alloc, given)?,
         None => String::from_str(alloc, "no labels")?,
     };
     format!(in alloc;
-        "retention {retention:?} chunk_size {chunk_size:?} policy {policy:?} {labels}"
+        "retention {retention:?} chunk_size {chunk_size:?} policy {policy:?} ignore {ignore:?} {labels}"
     )
 }
 

@@ -20,6 +20,7 @@ setting_of code.Retention = series.retention
 setting_of code.Encoding = series.encoding
 setting_of code.ChunkSize = series.chunk_size
 setting_of code.DuplicatePolicy = series.duplicate_policy
+setting_of code.Ignore = series.ignore
 setting_of code.OnDuplicate = series.on_duplicate
 setting_of code.Timestamp = series.timestamp
 setting_of code.Labels = series.labels

@@ -8,7 +8,7 @@ ghost use Rattle.ts_spec.specs.SeriesOptions.{IsChunkSize};
 use crate::range_given::RangeGiven;
 use std::alloc::Global;
 use ts_labels::{Change, Filter, Labels, Show, Spec};
-use ts_spec::{At, Encoding, Options, Policy};
+use ts_spec::{At, Encoding, Ignore, Options, Policy};
 
 // The bytes of a chunk where none are given.
 const USUAL_CHUNK: u32 = 4096;
@@ -20,6 +20,7 @@ pub(crate) struct Given {
     pub(crate) encoding: Option<Encoding>,
     pub(crate) chunk_size: Option<u32>,
     pub(crate) policy: Option<Policy>,
+    pub(crate) ignore: Option<Ignore>,
     pub(crate) on: Option<Policy>,
     pub(crate) at: Option<At>,
     pub(crate) labels: Option<Labels>,
@@ -30,6 +31,7 @@ pub(crate) struct Given {
     pub(crate) filters: Option<Vec<Filter>>,
     ghost retention_fits: { ForSome retention (λ n. n ≤ MAX_TIME) },
     ghost chunk_size_fits: { ForSome chunk_size IsChunkSize },
+    ghost ignore_fits: { ForSome ignore (λ i. i.time ≤ MAX_TIME) },
     ghost at_fits: { ForSome at IsTime },
 }
 
@@ -47,6 +49,7 @@ impl Given {
             encoding: None,
             chunk_size: None,
             policy: None,
+            ignore: None,
             on: None,
             at: None,
             labels: None,
@@ -67,6 +70,7 @@ impl Given {
                 encoding: Encoding::Compressed,
                 chunk_size: USUAL_CHUNK,
                 policy: Policy::Block,
+                ignore: Ignore::EQUAL,
             },
             labels: Labels::new(alloc),
         }
@@ -82,6 +86,7 @@ impl Given {
                 encoding: self.encoding.unwrap_or(Encoding::Compressed),
                 chunk_size: self.chunk_size.unwrap_or(USUAL_CHUNK),
                 policy: self.policy.unwrap_or(Policy::Block),
+                ignore: self.ignore.unwrap_or(Ignore::EQUAL),
             },
             labels: labels_or_none(alloc, self.labels),
         }
@@ -95,6 +100,7 @@ impl Given {
             retention: self.retention,
             chunk_size: self.chunk_size,
             policy: self.policy,
+            ignore: self.ignore,
             labels: self.labels,
         }
     }

@@ -12,6 +12,7 @@ pub(crate) enum OptionWord {
     Encoding,
     ChunkSize,
     DuplicatePolicy,
+    Ignore,
     OnDuplicate,
     Timestamp,
     Labels,
@@ -40,36 +41,40 @@ pub(crate) enum OptionSet {
     ManyLast,
 }
 
-const CREATE: [(&[u8], OptionWord); 5] = [
+const CREATE: [(&[u8], OptionWord); 6] = [
     (b"RETENTION", OptionWord::Retention),
     (b"ENCODING", OptionWord::Encoding),
     (b"CHUNK_SIZE", OptionWord::ChunkSize),
     (b"DUPLICATE_POLICY", OptionWord::DuplicatePolicy),
+    (b"IGNORE", OptionWord::Ignore),
     (b"LABELS", OptionWord::Labels),
 ];
 
-const ALTER: [(&[u8], OptionWord); 4] = [
+const ALTER: [(&[u8], OptionWord); 5] = [
     (b"RETENTION", OptionWord::Retention),
     (b"CHUNK_SIZE", OptionWord::ChunkSize),
     (b"DUPLICATE_POLICY", OptionWord::DuplicatePolicy),
+    (b"IGNORE", OptionWord::Ignore),
     (b"LABELS", OptionWord::Labels),
 ];
 
-const ADD: [(&[u8], OptionWord); 6] = [
+const ADD: [(&[u8], OptionWord); 7] = [
     (b"ON_DUPLICATE", OptionWord::OnDuplicate),
     (b"RETENTION", OptionWord::Retention),
     (b"ENCODING", OptionWord::Encoding),
     (b"CHUNK_SIZE", OptionWord::ChunkSize),
     (b"DUPLICATE_POLICY", OptionWord::DuplicatePolicy),
+    (b"IGNORE", OptionWord::Ignore),
     (b"LABELS", OptionWord::Labels),
 ];
 
-const INCR: [(&[u8], OptionWord); 6] = [
+const INCR: [(&[u8], OptionWord); 7] = [
     (b"TIMESTAMP", OptionWord::Timestamp),
     (b"RETENTION", OptionWord::Retention),
     (b"ENCODING", OptionWord::Encoding),
     (b"CHUNK_SIZE", OptionWord::ChunkSize),
     (b"DUPLICATE_POLICY", OptionWord::DuplicatePolicy),
+    (b"IGNORE", OptionWord::Ignore),
     (b"LABELS", OptionWord::Labels),
 ];
 

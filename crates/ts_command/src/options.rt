@@ -7,6 +7,7 @@ ghost use Rattle.ts_command.specs.Given.{given_of};
 ghost use Rattle.ts_command.specs.Options.{setting_of, table_of, is_list, lister, is_lister, may_list};
 
 use crate::given::Given;
+use crate::ignore_option::add_ignore;
 use crate::labels_option::{count_pairs, read_labels};
 use crate::lists::{read_filters, read_names, read_times};
 use crate::option_word::{OptionSet, OptionWord};
@@ -30,6 +31,7 @@ impl OptionWord {
             OptionWord::Encoding => given.encoding.is_some(),
             OptionWord::ChunkSize => given.chunk_size.is_some(),
             OptionWord::DuplicatePolicy => given.policy.is_some(),
+            OptionWord::Ignore => given.ignore.is_some(),
             OptionWord::OnDuplicate => given.on.is_some(),
             OptionWord::Timestamp => given.at.is_some(),
             OptionWord::Labels => given.labels.is_some(),
@@ -55,7 +57,7 @@ impl OptionWord {
             OptionWord::FilterByTs | OptionWord::SelectedLabels | OptionWord::Filter => {
                 count_own(set, words)
             }
-            OptionWord::FilterByValue | OptionWord::Aggregation => 2,
+            OptionWord::Ignore | OptionWord::FilterByValue | OptionWord::Aggregation => 2,
             OptionWord::Latest | OptionWord::Empty | OptionWord::WithLabels => 0,
             _ => 1,
         }
@@ -100,6 +102,7 @@ fn add_own(
         OptionWord::Encoding => given.encoding = Some(encoding_word(own_word(own)?)?),
         OptionWord::ChunkSize => given.chunk_size = Some(chunk_size_word(own_word(own)?)?),
         OptionWord::DuplicatePolicy => given.policy = Some(policy_word(own_word(own)?)?),
+        OptionWord::Ignore => add_ignore(own, given)?,
         OptionWord::OnDuplicate => given.on = Some(policy_word(own_word(own)?)?),
         OptionWord::Timestamp => given.at = Some(at_word(own_word(own)?)?),
         OptionWord::Labels => given.labels = Some(read_labels(alloc, own)?),

@@ -15,7 +15,8 @@ use Rattle.ts_spec.specs.Response.{Response, Count, Refused}
 use Rattle.ts_spec.specs.Rules.{shown, written, Merged, Refuse, Keep, To, merge}
 use Rattle.ts_spec.specs.Merging.{within_bound}
 use Rattle.ts_spec.specs.State.{Record, State, edge}
-use Rattle.ts_spec.specs.Step.{Outcome, refused, fresh, first_full, rules_at, unless_full, shows_more, within_destinations, write_merged, value_at, write, add_at}
+use Rattle.ts_spec.specs.Step.{Outcome, refused, fresh, first_full, rules_at, unless_full, shows_more, within_destinations, write_merged, value_at, unless_ignored, write, add_at}
+use Rattle.ts_spec.specs.Ignoring.{ignored}
 use Rattle.ts_spec.specs.Value.{bound}
 use Rattle.ts_db.specs.Held.{YieldsToMemory}
 use Rattle.ts_db.specs.PutBy.{put_by}
@@ -70,10 +71,15 @@ module _ (limits : Limits) (m : State) (key : Key) (t : ℕ) where
   met Max (Some old) v is = kept (int_lt old v) v is
   met Sum (Some old) v is = bounded (old +ℤ v) is
 
+  unless : (o : Option ℕ) (step : Outcome) → Knows step.response → Knows (unless_ignored m o step).response
+  unless None step f = f
+  unless (Some last) step f is = absurd (cc is)
+
   writes : (policy : Policy) (d : Record) (v : ℤ) → Knows (write limits m key d (By policy) t v).response
   writes policy d v =
-      choice (nat_lt t (edge d)) (refused m TooOld) (write_merged limits m key t (merge (By policy) (value_at t (shown m key)) v)) (other TooOld (λ is. absurd (cc is)))
-      (merged (merge (By policy) (value_at t (shown m key)) v) (met policy (value_at t (shown m key)) v))
+      let step = write_merged limits m key t (merge (By policy) (value_at t (shown m key)) v) in
+      choice (nat_lt t (edge d)) (refused m TooOld) (unless_ignored m (ignored m key d t v) step) (other TooOld (λ is. absurd (cc is)))
+      (unless (ignored m key d t v) step (merged (merge (By policy) (value_at t (shown m key)) v) (met policy (value_at t (shown m key)) v)))
 
   pub missing : (v : ℤ) (on : Option Policy) (o : Option Record) → put_by limits m key t v on o ≡ refused m NoKey → o ≡ None
   missing v on None is = refl

@@ -1,9 +1,9 @@
 // TS.INFO: what is told of a series and of how it is kept.
-ghost use Rattle.std.specs.Prelude.{◌≡◌, ◌+◌, ◌≤◌, [], length, map, IfOk};
+ghost use Rattle.std.specs.Prelude.{◌≡◌, ◌+◌, ◌≤◌, [], length, map, Some, IfOk};
 ghost use Rattle.ts_spec.specs.Keyed.{get};
 ghost use Rattle.ts_spec.specs.Questions.{info_response};
 ghost use Rattle.ts_spec.specs.Replies as spec;
-ghost use Rattle.ts_spec.specs.Text.{Simple};
+ghost use Rattle.ts_spec.specs.Text.{Simple, Value};
 ghost use Rattle.ts_resp.specs.Replies.{reply_of};
 ghost use Rattle.ts_db.specs.Held.{Held, Stands};
 ghost use Rattle.ts_db.specs.Information.{info_of, rule_info_of};
@@ -18,7 +18,7 @@ use ts_agg::name;
 use ts_db::{Db, Info, RuleInfo};
 use ts_labels::Labels;
 use ts_resp::{Out, Reply, Word, put};
-use ts_sample::Steps;
+use ts_sample::{Cell, Steps, Units};
 
 /// Writes the reply to TS.INFO.
 pub(crate) fn put_info<L: Ledger>(db: &Db, key: &Word, out: &mut Out, steps: &mut Steps<L>)
@@ -36,7 +36,7 @@ pub(crate) fn put_info<L: Ledger>(db: &Db, key: &Word, out: &mut Out, steps: &mu
     }
 }
 
-// Ten names, each followed by its value.
+// Twelve names, each followed by its value.
 fn info_reply(info: Info) -> Result<Reply, AllocError>
     ensures { IfOk result (λ reply. reply_of reply ≡ spec.info_reply (info_of info)) }
 {
@@ -47,6 +47,7 @@ fn info_reply(info: Info) -> Result<Reply, AllocError>
     let last = number(info.last)?;
     let retention = number(options.retention)?;
     let chunk_size = number(options.chunk_size as u64)?;
+    let ignore_time = number(options.ignore.time)?;
     let labels = labels_reply(alloc, &info.labels)?;
     let rules = rules_reply(alloc, info.rules)?;
     let values = vec![in alloc;
@@ -70,6 +71,10 @@ fn info_reply(info: Info) -> Result<Reply, AllocError>
         word_or_nil(info.source),
         simple("rules"),
         rules,
+        simple("ignoreMaxTimeDiff"),
+        ignore_time,
+        simple("ignoreMaxValDiff"),
+        value(options.ignore.value),
     ]?;
     Ok(array(values))
 }
@@ -96,6 +101,13 @@ fn number(number: u64) -> Result<Reply, AllocError>
         Ok(number) => Ok(Reply::Int(number)),
         Err(_) => Err(AllocError),
     }
+}
+
+// A value.
+fn value(value: Units) -> Reply
+    ensures { reply_of result ≡ Value (Some value) }
+{
+    Reply::Value(Cell::Number(value))
 }
 
 // A word, or nil.

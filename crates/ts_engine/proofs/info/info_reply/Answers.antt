@@ -29,4 +29,8 @@ returns c =
     ∷ c.word_or_nil.ensures i
     ∷ c.simple-12.ensures i
     ∷ c.in_ok-rules.ensures i
+    ∷ c.simple-13.ensures i
+    ∷ c.in_ok-ignore_time.ensures i
+    ∷ c.simple-14.ensures i
+    ∷ c.value.ensures i
     ∷ []))

@@ -1,0 +1,52 @@
+// What IGNORE adds by its own words.
+ghost use Rattle.std.specs.Prelude.{◌≤◌, IfOk};
+ghost use Rattle.ts_spec.specs.Sample.{MAX_TIME};
+ghost use Rattle.ts_spec.specs.SeriesOptions.{ignore, ignore_time_word, ignore_value_word, from_zero};
+ghost use Rattle.ts_command.specs.Faults.{Says, SaysSame};
+ghost use Rattle.ts_command.specs.Given.{given_of};
+
+use crate::given::Given;
+use crate::number::number_of;
+use crate::word_fault::WordFault;
+use crate::words::value_word;
+use ts_resp::Word;
+use ts_sample::Units;
+use ts_spec::Ignore;
+
+// How close to its last sample a series ignores one: how much later, and how far its value may be from that one's.
+pub(crate) fn add_ignore(own: &[Word], given: &mut Given) -> Result<(), WordFault>
+    ensures { Says (λ done. given_of given.new) result (ignore.says own.now (given_of given.old)) }
+{
+    let [time, value, ..] = own else {
+        return Err(WordFault::BadOption);
+    };
+    let time = ignore_time_word(time.bytes())?;
+    let value = ignore_value_word(value.bytes())?;
+    given.ignore = Some(Ignore { time, value });
+    Ok(())
+}
+
+#[tactic(auto, unfolding(ts_spec::specs::SeriesOptions::ignore_time_word))]
+fn ignore_time_word(word: &[u8]) -> Result<u64, WordFault>
+    ensures answer { SaysSame result (ignore_time_word word.now) }
+    ensures bound { IfOk result (λ n. n ≤ MAX_TIME) }
+{
+    number_of(word).ok_or(WordFault::BadOption)
+}
+
+#[tactic(auto, unfolding(ts_spec::specs::SeriesOptions::ignore_value_word))]
+fn ignore_value_word(word: &[u8]) -> Result<Units, WordFault>
+    ensures { SaysSame result (ignore_value_word word.now) }
+{
+    from_zero(value_word(word)?)
+}
+
+// A value, unless it is below 0.
+fn from_zero(value: Units) -> Result<Units, WordFault>
+    ensures { SaysSame result (from_zero value) }
+{
+    if value < Units::ZERO {
+        return Err(WordFault::BadOption);
+    }
+    Ok(value)
+}
