@@ -4,3 +4,4 @@ pub mod ListLemmas
 pub mod LabelLemmas
 pub mod RangeLemmas
 pub mod AnswerLemmas
+mod AddLemmas
