@@ -72,7 +72,7 @@ module _ (limits : Limits) (m : State) (key : Key) (t : ℕ) where
   met Sum (Some old) v is = bounded (old +ℤ v) is
 
   unless : (o : Option ℕ) (step : Outcome) → Knows step.response → Knows (unless_ignored m o step).response
-  unless None step f = f
+  unless None step f is = f is
   unless (Some last) step f is = absurd (cc is)
 
   writes : (policy : Policy) (d : Record) (v : ℤ) → Knows (write limits m key d (By policy) t v).response

@@ -2,7 +2,7 @@
 use Rattle.std.proofs.Common.{ℕ, ◌+◌, ◌≤◌, ◌<◌, List, [], ◌∷◌, ◌++◌, length, Option, None, Some, refl, sym, ◌∙◌, ap, subst, append-nil, arith}
 use Rattle.ts_resp.specs.Reading.{stream_of, fed, mode_of, ended_at, unfinished}
 use Rattle.ts_spec.specs.Run.{Placed, then_all}
-use Rattle.ts_spec.specs.Wire.{Stream, Then, Ended, Inside, Broken, Mode, Start, Count, CountFeed, Mark, Length, LengthFeed, Body, WordReturn, WordFeed, Move, Goto, Whole, Fault, move, at_end, after_move, read_on}
+use Rattle.ts_spec.specs.Wire.{Stream, Then, Ended, Inside, Broken, Mode, Start, Text, Count, CountFeed, Mark, Length, LengthFeed, Body, WordReturn, WordFeed, Move, Goto, Whole, Fault, move, at_end, after_move, read_on}
 use Rattle.ts_spec.specs.declared.wire.Kind.{Kind}
 use Rattle.ts_spec.specs.declared.wire.WireLimits.{WireLimits}
 use Rattle.ts_spec.proofs.Streams.{read_on-nil, read_on-byte}
@@ -26,6 +26,7 @@ lower high low (Broken kind at) less past = omega (arith, less, past)
 
 at_end-past : (place : ℕ) (mode : Mode) (begin : ℕ) → IsPast place (at_end mode begin)
 at_end-past place Start begin = tt
+at_end-past place (Text line) begin = tt
 at_end-past place (Count line) begin = tt
 at_end-past place (CountFeed n) begin = tt
 at_end-past place (Mark so_far) begin = tt

@@ -60,5 +60,5 @@ returns-in-Some-Gen-clause-gen_complete g c = λ is_gen no_write no_error.
 
 pub returns-in-Some-Serve-clause-serve_complete : goal.returns-in-Some-Serve-clause-serve_complete
 returns-in-Some-Serve-clause-serve_complete g c = λ links is no_accept no_write.
-    all_served_as _ _ c.args.budget c.in-Some-Serve.links links _ _ _ _ c.serve_address.result (same_links _ c.in-Some-Serve.links links c.in-Some-Serve.ensures.mode is)
+    all_served_as _ _ c.args.budget c.in-Some-Serve.links links _ _ _ _ c.serve_address.result (same_links _ c.in-Some-Serve.links links (rw c.in-Some-Serve.field-0-is at c.in-Some-Serve.ensures.mode) is)
     (c.serve_address.ensures.complete no_accept no_write)
