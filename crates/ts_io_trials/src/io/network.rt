@@ -1,4 +1,7 @@
 // Links over the network of this machine.
+ghost use Rattle.std.specs.Prelude.{◌≡◌, false, IfOk};
+ghost use Rattle.ts_io.specs.Adapters.{hands_out};
+
 use crate::io::calls::{read_two, write_once};
 use std::io;
 use std::io::{Read, Write};
@@ -33,7 +36,9 @@ fn a_connection_is_a_link(rt: HostRuntime) -> Result<(), Fail> {
 }
 
 // A listener, and a client that is connected to it.
-fn connected(rt: &HostRuntime) -> Result<(TcpNet<&HostRuntime>, TcpStream), Fail> {
+fn connected(rt: &HostRuntime) -> Result<(TcpNet<&HostRuntime>, TcpStream), Fail>
+    ensures { IfOk result (λ r. hands_out r.0 ≡ false) }
+{
     let address = free_address(rt)?;
     let text = format!(in rt.alloc(); "{address}")?;
     let mut net = TcpNet::new(rt);

@@ -1,5 +1,5 @@
 // A peer in memory, which takes so many bytes a call, or none, or fails.
-ghost use Rattle.std.specs.Prelude.{◌≡◌, ◌<◌, None};
+ghost use Rattle.std.specs.Prelude.{◌≡◌, ◌<◌, ◌≤◌, None};
 ghost use Rattle.ts_io.specs.Causes.{Rose};
 
 use std::alloc::Global;
@@ -42,7 +42,8 @@ impl Peer {
 }
 
 fn counted(faults: &mut u64) -> Failed
-    ensures { Rose faults.old faults.new }
+    ensures rose { Rose faults.old faults.new }
+    ensures later { faults.old ≤ faults.new }
 {
     *faults = faults.saturating_add(1);
     Failed
