@@ -156,5 +156,5 @@ fn times_from_so_many(rt: HostRuntime) {
 
 #[test]
 fn a_plan_is_small(rt: HostRuntime) {
-    assert!(rt; size_of::<SeriesPlan>() <= 320);
+    assert!(rt; size_of::<SeriesPlan>() <= 384);
 }
