@@ -1,5 +1,5 @@
 -- The open bucket of a rule has room for one more sample: with an appended one it still has at most as many as it has milliseconds.
-use Rattle.std.proofs.Common.{◌≡◌, ℕ, suc, ◌+◌, ◌-◌, ◌<◌, ◌≤◌, Bool, true, false, ◌==◌, nat_le, if◌then◌else◌, List, [], ◌∷◌, map, filter, length, Option, Some, None, refl, sym, ap, ◌∙◌, subst, arith, ltb-true}
+use Rattle.std.proofs.Common.{◌≡◌, ℕ, suc, ◌+◌, ◌-◌, ◌<◌, ◌≤◌, Bool, true, false, ◌==◌, if◌then◌else◌, List, [], ◌∷◌, map, length, Option, Some, None, refl, sym, ap, ◌∙◌, subst, arith, ltb-true}
 use Rattle.std.specs.Bool.{⊤}
 use Rattle.ts_spec.specs.declared.limits.Limits.{Limits}
 use Rattle.ts_spec.specs.Sample.{Point, IsAscending, at}
@@ -10,13 +10,12 @@ use Rattle.ts_spec.specs.State.{Rule, Record, State, link_to}
 use Rattle.ts_spec.specs.Rules.{open_of, is_append}
 use Rattle.ts_spec.specs.Valid.{EachRule, IsUpTo, IsSoundRule}
 use Rattle.ts_spec.specs.Kept.{KeptRule, Kept, Keeping, summary_at, kept_rule, kept_record}
-use Rattle.ts_spec.specs.Mending.{counted_anew}
 use Rattle.ts_spec.specs.Stands.{StandsFor, HaveDurations, AllHaveDurations}
 use Rattle.ts_spec.proofs.Samples.{IsBefore, each_before, at-times, ascending-times}
 use Rattle.ts_spec.proofs.Linked.{From, mapped-from}
 use Rattle.ts_spec.proofs.KeptMaps.{get-kept}
 use Rattle.ts_spec.proofs.DeletedRules.{count-summary}
-use Rattle.ts_spec.proofs.BucketSize.{IsIn, members-in, same-bucket, few-between, members-few}
+use Rattle.ts_spec.proofs.BucketSize.{IsIn, members-in, same-bucket, few-between}
 
 -- The members of a bucket before one of its times are fewer than it has milliseconds.
 pub members-room : (g : Grid) (t : ℕ) (ps : List Point) → 1 ≤ g.duration → IsAscending ps → IsBefore t (members g (start g t) ps) → length (members g (start g t) ps) < g.duration
@@ -77,21 +76,3 @@ stands-room limits keys m k c t s h x fresh =
     let same_high : from.value.high ≡ c.high = ap (λ (q : Kept). q.high) from.gives in
     subst (HaveRoom t) same_rules
     (rules-room from.value t from.value.rules (ap (is_append t) same_high ∙ fresh) (subst HaveDurations (sym same_rules) (h k c x)) (s.valid.sound k from.value from.is).rules)
-
--- ---- a bucket told anew
-
-length-passing : (test : Point → Bool) (ps : List Point) → length (filter test ps) ≤ length ps
-length-passing test [] = omega arith
-length-passing test (p ∷ ps) = go (test p) (length-passing test ps)
-  where
-    go : (b : Bool) → length (filter test ps) ≤ length ps → length (if b then p ∷ filter test ps else filter test ps) ≤ suc (length ps)
-    go true ih = omega arith
-    go false ih = omega arith
-
--- A bucket that is told anew counts no more samples than it has milliseconds.
-pub anew-few : (q : KeptRule) (b : ℕ) (ps : List Point) → 1 ≤ q.grid.duration → IsAscending ps → (counted_anew q b ps).count ≤ q.grid.duration
-anew-few q b ps h a =
-    let count : (counted_anew q b ps).count ≡ length (filter (λ p. nat_le q.made p.made) (members q.grid b ps)) = count-summary (filter (λ p. nat_le q.made p.made) (members q.grid b ps)) in
-    let fewer : length (filter (λ p. nat_le q.made p.made) (members q.grid b ps)) ≤ length (members q.grid b ps) = length-passing (λ p. nat_le q.made p.made) (members q.grid b ps) in
-    let few : length (members q.grid b ps) ≤ q.grid.duration = members-few q.grid b ps h a in
-    omega arith

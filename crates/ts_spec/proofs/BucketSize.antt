@@ -1,23 +1,11 @@
--- One bucket has at most as many samples as it has milliseconds, and so has what a rule counts in its open one.
-use Rattle.std.proofs.Common.{◌≡◌, ℕ, suc, ◌+◌, ◌-◌, ◌*◌, ◌/◌, ◌<◌, ◌≤◌, Bool, true, false, cond, ◌==◌, List, [], ◌∷◌, map, length, Option, Some, None, ◌⊎◌, inl, inr, refl, sym, ap, ◌∙◌, subst, arith, eqb-true, mul-suc}
-use Rattle.std.specs.Bool.{⊤}
+-- One bucket has at most as many samples as it has milliseconds.
+use Rattle.std.proofs.Common.{◌≡◌, ℕ, suc, ◌+◌, ◌-◌, ◌*◌, ◌/◌, ◌<◌, ◌≤◌, Bool, true, false, cond, ◌==◌, List, [], ◌∷◌, length, ◌⊎◌, inl, inr, refl, sym, ◌∙◌, arith, eqb-true, mul-suc}
 use Rattle.std.proofs.lemmas.Bool.{cases_lt}
 use Rattle.std.proofs.Math.Nat.{mul-div-le}
-use Rattle.ts_spec.specs.declared.limits.Limits.{Limits}
 use Rattle.ts_spec.specs.Sample.{Point, IsAfter, IsAscending}
 use Rattle.ts_spec.specs.Bucket.{Grid, start, members}
-use Rattle.ts_spec.specs.Key.{Key}
-use Rattle.ts_spec.specs.Keyed.{get}
-use Rattle.ts_spec.specs.State.{Rule, Record, State, link_to}
-use Rattle.ts_spec.specs.Rules.{open_of}
-use Rattle.ts_spec.specs.Valid.{EachRule, IsSoundRule}
-use Rattle.ts_spec.specs.Kept.{KeptRule, Kept, Keeping, summary_at, kept_rule, kept_record}
-use Rattle.ts_spec.specs.Stands.{StandsFor, HaveDurations, AllHaveDurations}
 use Rattle.ts_spec.proofs.Buckets.{start-late, start-early, start-le, past-div}
 use Rattle.ts_spec.proofs.Samples.{IsBefore, ascending-times}
-use Rattle.ts_spec.proofs.Linked.{From, mapped-from}
-use Rattle.ts_spec.proofs.KeptMaps.{get-kept}
-use Rattle.ts_spec.proofs.DeletedRules.{count-summary}
 
 -- Two times of one bucket are less than its duration apart. A bucket that would begin before time 0 is cut there, and so shorter.
 pub same-bucket : (g : Grid) (t u : ℕ) → 1 ≤ g.duration → start g t ≡ start g u → u < t + g.duration
@@ -70,29 +58,3 @@ members-few g b ps h a = go (members g b ps) (ascending-times (λ t. start g t =
     go (q ∷ qs) k x =
         let rest : length qs ≤ q.time + g.duration - suc q.time = few-between q.time (q.time + g.duration) qs k.1 k.0 (in-before g b q.time qs h x.0 x.1) in
         omega arith
-
--- ---- what rules count
-
--- The running summary of a rule counts no more samples than its open bucket has milliseconds.
-pub running-few : (r : Rule) → 1 ≤ r.grid.duration → IsAscending r.seen → (kept_rule r).running.count ≤ r.grid.duration
-running-few r h a = go (open_of r)
-  where
-    go : (o : Option ℕ) → (summary_at r o).count ≤ r.grid.duration
-    go None = omega arith
-    go (Some b) = subst (λ (n : ℕ). n ≤ r.grid.duration) (sym (count-summary (members r.grid b r.seen))) (members-few r.grid b r.seen h a)
-
--- each of these rules counts no more than that
-abbrev pub RunningIsFew : List KeptRule → Type 0
-RunningIsFew [] = ⊤
-RunningIsFew (q ∷ qs) = (q.running.count ≤ q.grid.duration) × RunningIsFew qs
-
-rules-few : (d : Record) (rs : List Rule) → HaveDurations (map kept_rule rs) → EachRule (IsSoundRule d) rs → RunningIsFew (map kept_rule rs)
-rules-few d [] h x = tt
-rules-few d (r ∷ rs) h x = (running-few r h.0 x.0.ascending, rules-few d rs h.1 x.1)
-
--- So does each rule of what stands for a state.
-pub stands-few : (limits : Limits) (keys : Keeping) (m : State) (k : Key) (c : Kept) → StandsFor limits keys m → AllHaveDurations keys → get k keys ≡ Some c → RunningIsFew c.rules
-stands-few limits keys m k c s h x =
-    let from : From (kept_record (link_to m k)) (get k m) c = mapped-from (kept_record (link_to m k)) (get k m) c (sym (get-kept m k) ∙ ap (get k) (sym s.kept) ∙ x) in
-    let same_rules : map kept_rule from.value.rules ≡ c.rules = ap (λ (q : Kept). q.rules) from.gives in
-    subst RunningIsFew same_rules (rules-few from.value from.value.rules (subst HaveDurations (sym same_rules) (h k c x)) (s.valid.sound k from.value from.is).rules)

@@ -1,58 +1,43 @@
--- A deletion over what is kept answers as that of the state, and what is then kept stands for the state that it leads to.
-use Rattle.std.proofs.Common.{◌≡◌, ℕ, List, length, Option, Some, None, nat_lt, refl, sym, ap, subst}
+-- A deletion over what is kept is a step of the state.
+use Rattle.std.proofs.Common.{◌≡◌, ℕ, List, length, nat_lt, refl, sym, ap}
+use Rattle.std.specs.Prelude.{⊤}
 use Rattle.ts_spec.specs.declared.limits.Limits.{Limits}
 use Rattle.ts_spec.specs.Sample.{Point, between}
-use Rattle.ts_spec.specs.Key.{Key}
+use Rattle.ts_spec.specs.Key.{Key, same}
 use Rattle.ts_spec.specs.Keyed.{get}
-use Rattle.ts_spec.specs.State.{Record, State, link_to, edge}
-use Rattle.ts_spec.specs.Rules.{shown, deleted}
+use Rattle.ts_spec.specs.State.{Rule, State, edge}
+use Rattle.ts_spec.specs.Rules.{deleted}
 use Rattle.ts_spec.specs.Refusal.{NoKey, DeleteBeyondRetention}
 use Rattle.ts_spec.specs.Response.{Count}
-use Rattle.ts_spec.specs.Outcome.{refused, answer_only}
 use Rattle.ts_spec.specs.Writing.{meets_expired, delete_at}
 use Rattle.ts_spec.specs.Valid.{IsValid}
-use Rattle.ts_spec.specs.Kept.{Kept, Keeping, kept_record, kept}
+use Rattle.ts_spec.specs.Kept.{Keeping, kept}
 use Rattle.ts_spec.specs.Mending.{keep_deleted}
-use Rattle.ts_spec.specs.KeptStep.{kept_refused, unchanged_with, kept_meets_expired, kept_delete_at}
+use Rattle.ts_spec.specs.KeptStep.{kept_delete_at}
 use Rattle.ts_spec.specs.Stands.{StandsFor, IsStepOf}
 use Rattle.ts_spec.proofs.Keeps.{shown-there}
-use Rattle.ts_spec.proofs.StepKeeps.{delete-good}
-use Rattle.ts_spec.proofs.KeptMaps.{kept-there, kept-missing, meets-kept, Agrees, agreed, agrees-told, agrees-refused, agrees-if, agrees-destinations}
+use Rattle.ts_spec.proofs.ClientChanges.{deletion-valid}
+use Rattle.ts_spec.proofs.CountsOn.{counts-on-deleted}
+use Rattle.ts_spec.proofs.KeptMaps.{meets-kept}
+use Rattle.ts_spec.proofs.Led.{IsLed, led-told, led-refused, led-if, led-unless, led-destinations, led-at, led-stands}
 use Rattle.ts_spec.proofs.Deleted.{kept-deleted}
 
--- on a key that is there
-deletion-agrees : (limits : Limits) (m : State) (key : Key) (d : Record) (from to : ℕ) → IsValid limits m → get key m ≡ Some d →
-    Agrees (delete_at limits m key from to (Some d)) (kept_delete_at limits (kept m) key from to (Some (kept_record (link_to m key) d)))
-deletion-agrees limits m key d from to v there =
-    agrees-if (nat_lt to from) (nat_lt to from) (answer_only m (Count 0)) _ (unchanged_with (kept m) (Count 0)) _ refl
-    (λ x. agrees-told m (kept m) (Count 0) (Count 0) refl refl)
-    (λ x. agrees-if (meets_expired from (edge d) d.rules) (kept_meets_expired from (edge d) (kept_record (link_to m key) d).rules)
-    (refused m DeleteBeyondRetention) _ (kept_refused (kept m) DeleteBeyondRetention) _ (sym (meets-kept from (edge d) d.rules))
-    (λ y. agrees-refused m (kept m) DeleteBeyondRetention refl)
-    (λ y. agrees-destinations limits m (kept m) key
-    (record { state = deleted key from to m; response = Count (length (between from to (shown m key))) })
-    (record { keys = keep_deleted key from to (kept m); response = Count (length (between from to (kept_record (link_to m key) d).list)) }) refl
-    (record {
-      response = ap (λ (ps : List Point). Count (length (between from to ps))) (shown-there m key d there);
-      keys = sym (kept-deleted limits m key d from to v there);
-    })))
+pub led-deleted : {Room : Type 0} {Known : Key → Key → Rule → Type 0} (limits : Limits) (m : State) → IsValid limits m → (key : Key) (from to : ℕ) →
+    IsLed limits Room (λ k. same k key) Known m (delete_at limits m key from to (get key m)) (kept_delete_at limits (kept m) key from to (get key (kept m)))
+led-deleted limits m v key from to =
+    led-at limits m v key (delete_at limits m key from to) (kept_delete_at limits (kept m) key from to) (λ e. led-refused limits m v NoKey)
+    (λ d there. (let keys : keep_deleted key from to (kept m) ≡ kept (deleted key from to m) = sym (kept-deleted limits m key d from to v there) in
+    led-if limits m v (nat_lt to from) _ _ _ _ (led-told limits m v (Count 0) (Count 0) refl)
+    (led-unless limits m v (meets_expired from (edge d) d.rules) _ DeleteBeyondRetention _ _ (meets-kept from (edge d) d.rules)
+    (λ y. led-destinations limits m v key d _ _ there keys
+    (λ dests. record {
+      is_step = λ room. record {
+        response = ap (λ (ps : List Point). Count (length (between from to ps))) (shown-there m key d there);
+        stands = record { valid = deletion-valid limits m key d from to v there dests; kept = keys };
+      };
+      counts = λ s k old other known h. counts-on-deleted limits m s k key old d from to v there other h;
+    })))))
 
--- Over what is kept of a valid state a deletion answers the same, and keeps of the state that it leads to what is kept of it.
-pub delete-agrees : (limits : Limits) (keys : Keeping) (m : State) (key : Key) (from to : ℕ) → StandsFor limits keys m →
-    Agrees (delete_at limits m key from to (get key m)) (kept_delete_at limits keys key from to (get key keys))
-delete-agrees limits keys m key from to s =
-    subst (λ (n : Keeping). Agrees (delete_at limits m key from to (get key m)) (kept_delete_at limits n key from to (get key n))) (sym s.kept) (go (get key m) refl)
-  where
-    go : (o : Option Record) → get key m ≡ o → Agrees (delete_at limits m key from to o) (kept_delete_at limits (kept m) key from to (get key (kept m)))
-    go None x =
-        subst (λ (o : Option Kept). Agrees (refused m NoKey) (kept_delete_at limits (kept m) key from to o)) (sym (kept-missing m key x)) (agrees-refused m (kept m) NoKey refl)
-    go (Some d) x =
-        subst (λ (o : Option Kept). Agrees (delete_at limits m key from to (Some d)) (kept_delete_at limits (kept m) key from to o)) (sym (kept-there m key d x))
-        (deletion-agrees limits m key d from to s.valid x)
-
--- A deletion over what is kept is a step of the state.
 pub delete-step : (limits : Limits) (keys : Keeping) (m : State) (key : Key) (from to : ℕ) → StandsFor limits keys m →
     IsStepOf limits (delete_at limits m key from to (get key m)) (kept_delete_at limits keys key from to (get key keys))
-delete-step limits keys m key from to s =
-    agreed limits (delete_at limits m key from to (get key m)) (kept_delete_at limits keys key from to (get key keys))
-    (delete-good limits m key from to (get key m) s.valid refl) (delete-agrees limits keys m key from to s)
+delete-step limits keys m key from to s = led-stands limits keys m s {Room = ⊤} (λ n. kept_delete_at limits n key from to (get key n)) tt (led-deleted limits m s.valid key from to)

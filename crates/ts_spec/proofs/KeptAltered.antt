@@ -10,7 +10,7 @@ use Rattle.ts_spec.specs.Command.{Change}
 use Rattle.ts_spec.specs.Refusal.{NoKey, LabelsFull}
 use Rattle.ts_spec.specs.Step.{altered, is_longer, alter_at}
 use Rattle.ts_spec.specs.Valid.{IsSoleLink, IsValid}
-use Rattle.ts_spec.specs.Kept.{Kept, kept_record, kept}
+use Rattle.ts_spec.specs.Kept.{kept_record, kept}
 use Rattle.ts_spec.specs.Keeping.{kept_altered, keep_changed}
 use Rattle.ts_spec.specs.KeptStep.{kept_alter_at}
 use Rattle.ts_spec.proofs.Keys.{same-true}
@@ -20,8 +20,10 @@ use Rattle.ts_spec.proofs.Linked.{rule-uniform, link-sole, link-dest}
 use Rattle.ts_spec.proofs.Tidy.{record-tidy, map-id-rules}
 use Rattle.ts_spec.proofs.Bodies.{bodies}
 use Rattle.ts_spec.proofs.Keeps.{Place, Here, Destination, Elsewhere, place-of, shown-there, shown-elsewhere}
-use Rattle.ts_spec.proofs.Altering.{bodies-nothing, altered-keeps, shown-altered, shown-dest-altered}
-use Rattle.ts_spec.proofs.KeptMaps.{get-kept, Agrees, agrees-refused, agrees-if}
+use Rattle.ts_spec.proofs.Altering.{bodies-nothing, altered-keeps, shown-altered, shown-dest-altered, valid-altered}
+use Rattle.ts_spec.proofs.KeptMaps.{get-kept}
+use Rattle.ts_spec.proofs.CountsAfter.{counts-on-altered}
+use Rattle.ts_spec.proofs.Led.{IsKnown, IsLed, led-refused, led-unless, led-at}
 use Rattle.ts_spec.proofs.KeptBodies.{kept-bodies, kept-bodies-missing}
 
 -- rules lead where they did
@@ -88,11 +90,12 @@ module _ (limits : Limits) (m : State) (key : Key) (d : Record) (c : Change) (v 
       go k None x = sym (kept-bodies-missing key (altered c) (λ d r. r) (λ r b. false) (λ b. false) m (altered-keeps c) k x)
       go k (Some e) x = sym (each-altered k e x)
 
-pub alter-agrees : (limits : Limits) (m : State) (key : Key) (c : Change) → IsValid limits m → Agrees (alter_at limits m key c (get key m)) (kept_alter_at limits (kept m) key c (get key (kept m)))
-alter-agrees limits m key c v = subst (λ (o : Option Kept). Agrees (alter_at limits m key c (get key m)) (kept_alter_at limits (kept m) key c o)) (sym (get-kept m key)) (go (get key m) refl)
-  where
-    go : (o : Option Record) → get key m ≡ o → Agrees (alter_at limits m key c o) (kept_alter_at limits (kept m) key c (option_map (kept_record (link_to m key)) o))
-    go None x = agrees-refused m (kept m) NoKey refl
-    go (Some d) x =
-        agrees-if (is_longer limits.labels c.labels) (is_longer limits.labels c.labels) _ _ _ _ refl (λ y. agrees-refused m (kept m) LabelsFull refl)
-        (λ y. record { response = refl; keys = kept-altered limits m key d c v x })
+pub led-altered : {Room : Type 0} {changed : Key → Bool} (limits : Limits) (m : State) → IsValid limits m → (key : Key) (c : Change) →
+    IsLed limits Room changed (IsKnown m) m (alter_at limits m key c (get key m)) (kept_alter_at limits (kept m) key c (get key (kept m)))
+led-altered limits m v key c =
+    led-at limits m v key (alter_at limits m key c) (kept_alter_at limits (kept m) key c) (λ x. led-refused limits m v NoKey)
+    (λ d x. led-unless limits m v (is_longer limits.labels c.labels) _ LabelsFull _ _ refl
+    (λ few. record {
+      is_step = λ room. record { response = refl; stands = record { valid = valid-altered limits m key d c v x few; kept = kept-altered limits m key d c v x } };
+      counts = λ s k old other known h. counts-on-altered limits m s k key c old v known.joins.linked known.joins.source_for_ever known.joins.dest_for_ever known.counts;
+    }))

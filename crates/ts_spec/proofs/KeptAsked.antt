@@ -14,14 +14,14 @@ use Rattle.ts_spec.specs.Rules.{shown, latest}
 use Rattle.ts_spec.specs.Filter.{Filter, all_hold, selected_in, keys_of, selection}
 use Rattle.ts_spec.specs.Command.{Query, Show}
 use Rattle.ts_spec.specs.Answer.{Row, answer}
-use Rattle.ts_spec.specs.Response.{Member, Info, LastRow, Told}
+use Rattle.ts_spec.specs.Response.{Member, LastRow, Told}
 use Rattle.ts_spec.specs.Questions.{asked, range_response, rows_response, labels_shown, labels_at, member, member_then, members_of, last_row, row_list, last_response, last_member, rule_info, time_or_0, info_of, info_response}
 use Rattle.ts_spec.specs.Kept.{KeptRule, summary_at, kept_rule, kept_record, kept}
 use Rattle.ts_spec.specs.Mending.{bucket_row}
-use Rattle.ts_spec.specs.KeptQuestions.{open_row, with_open, latest_list_at, kept_asked, kept_range_response, kept_labels_at, kept_member, kept_member_then, kept_members_of, kept_last_response, kept_last_member, kept_selected_in, kept_selection, kept_rule_info, kept_info_of, kept_info_response}
+use Rattle.ts_spec.specs.KeptQuestions.{open_row, with_open, latest_list_at, kept_asked, kept_range_response, kept_labels_at, kept_member, kept_member_then, kept_members_of, kept_last_response, kept_last_member, kept_selected_in, kept_selection, kept_rule_info, kept_info_response}
 use Rattle.ts_spec.proofs.Aggregates.{summary-count}
 use Rattle.ts_spec.proofs.Keeps.{shown-there}
-use Rattle.ts_spec.proofs.KeptMaps.{get-kept, kept-there, kept-missing, list-kept, rule_from-kept}
+use Rattle.ts_spec.proofs.KeptMaps.{read-kept, list-kept, rule_from-kept}
 
 -- ---- the open bucket
 
@@ -61,13 +61,9 @@ with-open (Some r) l d x =
     ∙ ap (λ (o : Option Rule). put_all (opened r (edge d) d.born (open_of r)) (shown_by o d)) x
 
 latest-kept : (m : State) (k : Key) → latest_list_at (kept m) k (get k (kept m)) ≡ latest m k
-latest-kept m k = ap (latest_list_at (kept m) k) (get-kept m k) ∙ go (get k m)
-  where
-    go : (o : Option Record) → latest_list_at (kept m) k (option_map (kept_record (link_to m k)) o) ≡ latest_at o (rule_into m k)
-    go None = refl
-    go (Some d) =
-        ap (λ (o : Option KeptRule). with_open o (kept_record (link_to m k) d)) (rule_from-kept m k)
-        ∙ with-open (rule_into m k) (link_to m k) d refl
+latest-kept m k =
+    read-kept m k (latest_list_at (kept m) k) (λ o. latest_at o (rule_into m k)) refl
+    (λ d x. ap (λ (o : Option KeptRule). with_open o (kept_record (link_to m k) d)) (rule_from-kept m k) ∙ with-open (rule_into m k) (link_to m k) d refl)
 
 -- The samples asked are those of the state.
 pub asked-kept : (m : State) (and_open : Bool) (k : Key) → kept_asked (kept m) and_open k ≡ asked m and_open k
@@ -77,40 +73,25 @@ asked-kept m false k = list-kept m k
 -- ---- answers over one series
 
 pub range-kept : (limits : Limits) (m : State) (k : Key) (and_open : Bool) (q : Query) → kept_range_response limits (kept m) k and_open q (get k (kept m)) ≡ range_response limits m k and_open q (get k m)
-range-kept limits m k and_open q = ap (kept_range_response limits (kept m) k and_open q) (get-kept m k) ∙ go (get k m)
-  where
-    go : (o : Option Record) → kept_range_response limits (kept m) k and_open q (option_map (kept_record (link_to m k)) o) ≡ range_response limits m k and_open q o
-    go None = refl
-    go (Some d) = ap (λ (ps : List Point). rows_response (answer limits.empty_rows q ps)) (asked-kept m and_open k)
+range-kept limits m k and_open q =
+    read-kept m k (kept_range_response limits (kept m) k and_open q) (range_response limits m k and_open q) refl
+    (λ d x. ap (λ (ps : List Point). rows_response (answer limits.empty_rows q ps)) (asked-kept m and_open k))
 
 pub last-kept : (m : State) (k : Key) (and_open : Bool) → kept_last_response (kept m) k and_open (get k (kept m)) ≡ last_response m k and_open (get k m)
-last-kept m k and_open = ap (kept_last_response (kept m) k and_open) (get-kept m k) ∙ go (get k m)
-  where
-    go : (o : Option Record) → kept_last_response (kept m) k and_open (option_map (kept_record (link_to m k)) o) ≡ last_response m k and_open o
-    go None = refl
-    go (Some d) = ap (λ (ps : List Point). LastRow (last_row ps)) (asked-kept m and_open k)
+last-kept m k and_open =
+    read-kept m k (kept_last_response (kept m) k and_open) (last_response m k and_open) refl (λ d x. ap (λ (ps : List Point). LastRow (last_row ps)) (asked-kept m and_open k))
 
 pub info-kept : (m : State) (k : Key) → kept_info_response (get k (kept m)) ≡ info_response m k (get k m)
-info-kept m k = go (get k m) refl
-  where
-    told : (d : Record) → get k m ≡ Some d → kept_info_of (kept_record (link_to m k) d) ≡ info_of m k d
-    told d x =
-        let list : shown_by (rule_into m k) d ≡ shown m k = sym (shown-there m k d x) in
-        let rules : map kept_rule_info (map kept_rule d.rules) ≡ map rule_info d.rules = map-map kept_rule_info kept_rule d.rules in
-        λ i. record (info_of m k d) { total = length (list i); first = time_or_0 (first_of (list i)); last = time_or_0 (last_of (list i)); rules = rules i }
-
-    go : (o : Option Record) → get k m ≡ o → kept_info_response (get k (kept m)) ≡ info_response m k o
-    go None x = ap kept_info_response (kept-missing m k x)
-    go (Some d) x = ap kept_info_response (kept-there m k d x) ∙ ap (λ (t : Info). Told t) (told d x)
+info-kept m k =
+    read-kept m k kept_info_response (info_response m k) refl
+    (λ d x. (let list : shown_by (rule_into m k) d ≡ shown m k = sym (shown-there m k d x) in
+    let rules : map kept_rule_info (map kept_rule d.rules) ≡ map rule_info d.rules = map-map kept_rule_info kept_rule d.rules in
+    λ i. Told (record (info_of m k d) { total = length (list i); first = time_or_0 (first_of (list i)); last = time_or_0 (last_of (list i)); rules = rules i })))
 
 -- ---- answers over many
 
 pub labels-kept : (m : State) (k : Key) → kept_labels_at (get k (kept m)) ≡ labels_at (get k m)
-labels-kept m k = ap kept_labels_at (get-kept m k) ∙ go (get k m)
-  where
-    go : (o : Option Record) → kept_labels_at (option_map (kept_record (link_to m k)) o) ≡ labels_at o
-    go None = refl
-    go (Some d) = refl
+labels-kept m k = read-kept m k kept_labels_at labels_at refl (λ d x. refl)
 
 member-kept : (m : State) (show : Show) (k : Key) (rows : List Row) → kept_member (kept m) show k rows ≡ member m show k rows
 member-kept m show k rows = let labels : kept_labels_at (get k (kept m)) ≡ labels_at (get k m) = labels-kept m k in λ i. record { key = k; labels = labels_shown show (labels i); rows = rows }
@@ -133,21 +114,15 @@ last_member-kept m and_open show k =
     ∙ member-kept m show k (row_list (last_row (asked m and_open k)))
 
 pub last_members-kept : (m : State) (and_open : Bool) (show : Show) (ks : List Key) → map (kept_last_member (kept m) and_open show) ks ≡ map (last_member m and_open show) ks
-last_members-kept m and_open show [] = refl
-last_members-kept m and_open show (k ∷ ks) =
-    let first : kept_last_member (kept m) and_open show k ≡ last_member m and_open show k = last_member-kept m and_open show k in
-    let rest : map (kept_last_member (kept m) and_open show) ks ≡ map (last_member m and_open show) ks = last_members-kept m and_open show ks in
-    λ i. first i ∷ rest i
+last_members-kept m and_open show ks = λ i. map (λ k. last_member-kept m and_open show k i) ks
 
 selected-kept : (filters : List Filter) (m : State) (es : List (Entry Record)) → kept_selected_in filters (each_in (λ k d. kept_record (link_to m k) d) es) ≡ keys_of (selected_in filters es)
 selected-kept filters m [] = refl
-selected-kept filters m (e ∷ es) = go (all_hold filters e.value.labels) (selected-kept filters m es)
+selected-kept filters m (e ∷ es) = rw (selected-kept filters m es) (go (all_hold filters e.value.labels))
   where
-    go : (b : Bool) → kept_selected_in filters (each_in (λ k d. kept_record (link_to m k) d) es) ≡ keys_of (selected_in filters es) →
-        (if b then e.key ∷ kept_selected_in filters (each_in (λ k d. kept_record (link_to m k) d) es) else kept_selected_in filters (each_in (λ k d. kept_record (link_to m k) d) es))
-        ≡ keys_of (if b then e ∷ selected_in filters es else selected_in filters es)
-    go true ih = ap (λ (ks : List Key). e.key ∷ ks) ih
-    go false ih = ih
+    go : (b : Bool) → (if b then e.key ∷ keys_of (selected_in filters es) else keys_of (selected_in filters es)) ≡ keys_of (if b then e ∷ selected_in filters es else selected_in filters es)
+    go true = refl
+    go false = refl
 
 pub selection-kept : (m : State) (filters : List Filter) → kept_selection (kept m) filters ≡ selection m filters
 selection-kept m filters = selected-kept filters m m.entries

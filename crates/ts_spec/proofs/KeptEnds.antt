@@ -1,5 +1,6 @@
 -- What is kept after the end of rules and of keys.
-use Rattle.std.proofs.Common.{◌≡◌, ℕ, suc, ◌+◌, Bool, true, false, not, ◌&&◌, ◌||◌, if◌then◌else◌, cond, List, [], ◌∷◌, map, filter, Option, Some, None, is_some, option_map, refl, sym, ap, ◌∙◌, subst}
+use Rattle.std.proofs.Common.{◌≡◌, ℕ, ◌+◌, Bool, true, false, not, ◌&&◌, ◌||◌, if◌then◌else◌, cond, List, [], ◌∷◌, map, filter, Option, Some, None, is_some, option_map, refl, sym, ap, ◌∙◌}
+use Rattle.std.specs.Prelude.{⊤}
 use Rattle.ts_spec.specs.declared.limits.Limits.{Limits}
 use Rattle.ts_spec.specs.Key.{Key, same}
 use Rattle.ts_spec.specs.Keyed.{get, without_key}
@@ -9,15 +10,16 @@ use Rattle.ts_spec.specs.Refusal.{NoKey, NoRule}
 use Rattle.ts_spec.specs.Response.{Count}
 use Rattle.ts_spec.specs.Step.{delete_rule_at, drop_keys, count_there}
 use Rattle.ts_spec.specs.Valid.{IsValid}
-use Rattle.ts_spec.specs.Kept.{Kept, KeptRule, Keeping, kept_rule, kept_record, kept}
-use Rattle.ts_spec.specs.Mending.{kept_rule_to}
+use Rattle.ts_spec.specs.Kept.{Kept, KeptRule, kept_rule, kept_record, kept}
 use Rattle.ts_spec.specs.Keeping.{source_left, kept_ended, keep_ended, keep_dropped}
 use Rattle.ts_spec.specs.KeptStep.{kept_delete_rule_at, kept_drop_keys, kept_count_there}
 use Rattle.ts_spec.proofs.Maps.{get-each, get-without}
 use Rattle.ts_spec.proofs.Keeps.{shown-there}
 use Rattle.ts_spec.proofs.EndingRules as ending
 use Rattle.ts_spec.proofs.KeysGo.{valid-dropped, loose-ended, links-left}
-use Rattle.ts_spec.proofs.KeptMaps.{get-kept, some-kept, kept-same, rule_to-kept, Agrees, agrees-told, agrees-refused, agrees-if}
+use Rattle.ts_spec.proofs.KeptMaps.{get-kept, some-mapped, some-kept, kept-same, kept-each, rule_to-kept}
+use Rattle.ts_spec.proofs.CountsAfter.{counts-on-ended, counts-on-dropped}
+use Rattle.ts_spec.proofs.Led.{IsLed, led-told, led-refused, led-if, led-at}
 
 filter-kept : (test : Key → Bool) (rs : List Rule) → filter (λ q. test q.dest) (map kept_rule rs) ≡ map kept_rule (filter (λ r. test r.dest) rs)
 filter-kept test [] = refl
@@ -53,29 +55,24 @@ module _ (limits : Limits) (m : State) (ends : Key → Key → Bool) (v : IsVali
 
   pub kept-ended : keep_ended ends (kept m) ≡ kept (ended ends m)
   kept-ended =
-      kept-same (keep_ended ends (kept m)) (ended ends m)
-      (λ k. get-each (kept_ended ends) k (kept m) ∙ ap (option_map (kept_ended ends k)) (get-kept m k)
-      ∙ go k (get k m) refl
-      ∙ ap (option_map (kept_record (link_to (ended ends m) k))) (sym (get-each (λ j c. ended_in ends m j c) k m)))
+      kept-each (kept m) (kept_ended ends) m (ended ends m) refl
+      (λ k. go k (get k m) refl ∙ ap (option_map (kept_record (link_to (ended ends m) k))) (sym (get-each (λ j c. ended_in ends m j c) k m)))
     where
       go : (k : Key) (o : Option Record) → get k m ≡ o → option_map (kept_ended ends k) (option_map (kept_record (link_to m k)) o) ≡ option_map (kept_record (link_to (ended ends m) k)) (option_map (ended_in ends m k) o)
       go k None x = refl
       go k (Some d) x = ap (λ (q : Kept). Some q) (record-ended k d x)
 
-some-rule : (o : Option Rule) → is_some (option_map kept_rule o) ≡ is_some o
-some-rule None = refl
-some-rule (Some r) = refl
-
-pub delete_rule-agrees : (limits : Limits) (m : State) (source dest : Key) → IsValid limits m → Agrees (delete_rule_at m source dest (get source m)) (kept_delete_rule_at (kept m) source dest (get source (kept m)))
-delete_rule-agrees limits m source dest v =
-    subst (λ (o : Option Kept). Agrees (delete_rule_at m source dest (get source m)) (kept_delete_rule_at (kept m) source dest o)) (sym (get-kept m source)) (go (get source m))
-  where
-    go : (o : Option Record) → Agrees (delete_rule_at m source dest o) (kept_delete_rule_at (kept m) source dest (option_map (kept_record (link_to m source)) o))
-    go None = agrees-refused m (kept m) NoKey refl
-    go (Some d) =
-        agrees-if (is_some (rule_to dest d.rules)) (is_some (kept_rule_to dest (map kept_rule d.rules))) _ _ _ _ (sym (ap is_some (rule_to-kept dest d.rules) ∙ some-rule (rule_to dest d.rules)))
-        (λ x. record { response = refl; keys = kept-ended limits m (λ s d. same s source && same d dest) v })
-        (λ x. agrees-refused m (kept m) NoRule refl)
+pub led-without_rule : {Room : Type 0} {changed : Key → Bool} {Known : Key → Key → Rule → Type 0} (limits : Limits) (m : State) → IsValid limits m → (source dest : Key) →
+    IsLed limits Room changed Known m (delete_rule_at m source dest (get source m)) (kept_delete_rule_at (kept m) source dest (get source (kept m)))
+led-without_rule {Room} {changed} {Known} limits m v source dest =
+    led-at limits m v source (delete_rule_at m source dest) (kept_delete_rule_at (kept m) source dest) (λ x. led-refused limits m v NoKey)
+    (λ d x. rw (ap is_some (rule_to-kept dest d.rules) ∙ some-mapped kept_rule (rule_to dest d.rules))
+    (led-if limits m v (is_some (rule_to dest d.rules)) _ _ _ _
+    (record {
+      is_step = λ room. record { response = refl; stands = record { valid = ending.valid-ended limits m (λ s e. same s source && same e dest) v; kept = kept-ended limits m (λ s e. same s source && same e dest) v } };
+      counts = λ s k old other known h. counts-on-ended limits m (λ i j. same i source && same j dest) v s k old h;
+    })
+    (led-refused limits m v NoRule)))
 
 -- ---- the end of keys
 
@@ -94,20 +91,18 @@ kept-dropped limits m key v =
     go k true = refl
     go k false = get-kept n k
 
-pub drop-agrees : (limits : Limits) (m : State) (so_far : ℕ) (ks : List Key) → IsValid limits m → Agrees (drop_keys m so_far ks) (kept_drop_keys (kept m) so_far ks)
-drop-agrees limits m so_far [] v = agrees-told m (kept m) (Count so_far) (Count so_far) refl refl
-drop-agrees limits m so_far (k ∷ ks) v =
-    go (is_some (get k m)) (is_some (get k (kept m))) (sym (some-kept m k)) (drop-agrees limits (dropped k m) (so_far + 1) ks (valid-dropped limits m k v)) (drop-agrees limits m so_far ks v)
+-- the keys go one after another
+pub led-dropped : {changed : Key → Bool} (limits : Limits) (m : State) → IsValid limits m → (so_far : ℕ) (ks : List Key) → IsLed limits ⊤ changed (λ s k old. ⊤) m (drop_keys m so_far ks) (kept_drop_keys (kept m) so_far ks)
+led-dropped limits m v so_far [] = led-told limits m v (Count so_far) (Count so_far) refl
+led-dropped {changed} limits m v so_far (k ∷ ks) =
+    rw (some-kept m k) (go (is_some (get k m)) (led-dropped limits (dropped k m) (valid-dropped limits m k v) (so_far + 1) ks) (led-dropped limits m v so_far ks))
   where
-    go : (a b : Bool) → a ≡ b → Agrees (drop_keys (dropped k m) (so_far + 1) ks) (kept_drop_keys (kept (dropped k m)) (so_far + 1) ks) → Agrees (drop_keys m so_far ks) (kept_drop_keys (kept m) so_far ks) →
-        Agrees (drop_keys (if a then dropped k m else m) (if a then so_far + 1 else so_far) ks) (kept_drop_keys (if b then keep_dropped k (kept m) else kept m) (if b then so_far + 1 else so_far) ks)
-    go true true e there gone = subst (λ (keys : Keeping). Agrees (drop_keys (dropped k m) (so_far + 1) ks) (kept_drop_keys keys (so_far + 1) ks)) (sym (kept-dropped limits m k v)) there
-    go true false e there gone = absurd (cc e)
-    go false true e there gone = absurd (cc e)
-    go false false e there gone = gone
+    go : (b : Bool) → IsLed limits ⊤ changed (λ s k old. ⊤) (dropped k m) (drop_keys (dropped k m) (so_far + 1) ks) (kept_drop_keys (kept (dropped k m)) (so_far + 1) ks) →
+        IsLed limits ⊤ changed (λ s k old. ⊤) m (drop_keys m so_far ks) (kept_drop_keys (kept m) so_far ks) →
+        IsLed limits ⊤ changed (λ s k old. ⊤) m (drop_keys (if b then dropped k m else m) (if b then so_far + 1 else so_far) ks) (kept_drop_keys (if b then keep_dropped k (kept m) else kept m) (if b then so_far + 1 else so_far) ks)
+    go true there gone = rw (kept-dropped limits m k v) (record { is_step = there.is_step; counts = λ s j old other known h. there.counts s j old other tt (counts-on-dropped limits m s j k old v h) })
+    go false there gone = gone
 
 pub there-kept : (m : State) (ks : List Key) → kept_count_there (kept m) ks ≡ count_there m ks
 there-kept m [] = refl
-there-kept m (k ∷ ks) =
-    ap (λ (b : Bool). if b then suc (kept_count_there (kept m) ks) else kept_count_there (kept m) ks) (some-kept m k)
-    ∙ ap (λ (n : ℕ). if is_some (get k m) then suc n else n) (there-kept m ks)
+there-kept m (k ∷ ks) = rw (some-kept m k, there-kept m ks) refl

@@ -1,5 +1,5 @@
 -- What is kept after a new series and after a new rule.
-use Rattle.std.proofs.Common.{◌≡◌, ℕ, ℤ, Bool, true, false, nat_lt, nat_le, if◌then◌else◌, [], ◌∷◌, ◌++◌, map, length, Option, Some, None, is_some, option_map, refl, sym, ap, ◌∙◌, subst}
+use Rattle.std.proofs.Common.{◌≡◌, ℕ, ℤ, ◌≤◌, Bool, true, false, nat_lt, nat_le, if◌then◌else◌, [], ◌∷◌, ◌++◌, map, length, Option, Some, None, is_some, option_map, refl, sym, ap, ◌∙◌}
 use Rattle.std.proofs.lemmas.Bool.{false≢true}
 use Rattle.std.proofs.lemmas.List.{map-append}
 use Rattle.ts_spec.specs.declared.limits.Limits.{Limits}
@@ -8,7 +8,7 @@ use Rattle.ts_spec.specs.Sample.{at_times}
 use Rattle.ts_spec.specs.Bucket.{Grid}
 use Rattle.ts_spec.specs.Key.{Key, same}
 use Rattle.ts_spec.specs.Keyed.{get, with_key, count_keys}
-use Rattle.ts_spec.specs.State.{Record, State, Link, link_to, edge}
+use Rattle.ts_spec.specs.State.{Rule, Record, State, Link, link_to, edge}
 use Rattle.ts_spec.specs.Command.{Spec}
 use Rattle.ts_spec.specs.Response.{Response, Done, Count}
 use Rattle.ts_spec.specs.Refusal.{KeyExists, LabelsFull, KeysFull, NoKey, SameKey, SourceIsDest, DestIsSource, DestHasSource, RulesSpent, RulesFull}
@@ -16,14 +16,16 @@ use Rattle.ts_spec.specs.Step.{fresh, created, create, create_with, has_rules, w
 use Rattle.ts_spec.specs.Valid.{IsLinked, IsValid}
 use Rattle.ts_spec.specs.Kept.{Kept, kept_rule, kept_record, kept}
 use Rattle.ts_spec.specs.Keeping.{kept_with_rule, keep_ruled, keep_changed}
-use Rattle.ts_spec.specs.KeptStep.{kept_created, kept_create, kept_create_with, any_rules, kept_create_rule_at, kept_create_rule}
+use Rattle.ts_spec.specs.KeptStep.{kept_created, kept_create, kept_create_with, kept_create_rule_at, kept_create_rule}
 use Rattle.ts_spec.proofs.Keys.{same-true, same-sym}
 use Rattle.ts_spec.proofs.Maps.{get-with, get-each}
 use Rattle.ts_spec.proofs.PlainWrite.{get-change, own-kept}
-use Rattle.ts_spec.proofs.KeysComeAndGo.{unlinked-new, links-new}
-use Rattle.ts_spec.proofs.MakingRules.{new_rule, IsRulable, link-made, link-stays, dest-not-source}
-use Rattle.ts_spec.proofs.StepKeeps.{rulable}
-use Rattle.ts_spec.proofs.KeptMaps.{get-kept, count-kept, some-kept, kept-same, any-rules, count-rules, Agrees, agrees-refused, agrees-if}
+use Rattle.ts_spec.proofs.KeysComeAndGo.{unlinked-new, links-new, valid-with}
+use Rattle.ts_spec.proofs.MakingRules.{new_rule, IsRulable, link-made, link-stays, dest-not-source, valid-ruled}
+use Rattle.ts_spec.proofs.KeptMaps.{get-kept, count-kept, some-mapped, some-kept, kept-same, any-rules, count-rules}
+use Rattle.ts_spec.proofs.CountsAfter.{counts-on-new, counts-on-ruled}
+use Rattle.ts_spec.proofs.Allowed.{missing, IsNewRecord, empty-new, one-new, is-new, rulable}
+use Rattle.ts_spec.proofs.Led.{IsKnown, IsLed, led-refused, led-unless, led-at}
 
 -- ---- a new series
 
@@ -39,25 +41,29 @@ kept-with m key c linked missing none =
     go k true x = ap (λ (l : Option Link). Some (kept_record l c)) (sym (ap (link_to m) (sym (same-true key k x)) ∙ unlinked-new m key c linked missing none))
     go k false x = get-kept m k
 
-pub created-agrees : (limits : Limits) (m : State) (key : Key) (c : Record) (r : Response) → IsLinked m → get key m ≡ None → c.rules ≡ [] →
-    Agrees (created limits m key c r) (kept_created limits (kept m) key (kept_record None c) r)
-created-agrees limits m key c r linked missing none =
-    agrees-if (nat_lt limits.labels (length c.labels)) (nat_lt limits.labels (length c.labels)) _ _ _ _ refl (λ x. agrees-refused m (kept m) LabelsFull refl)
-    (λ x. agrees-if (nat_le limits.keys (count_keys m)) (nat_le limits.keys (count_keys (kept m))) _ _ _ _ (ap (nat_le limits.keys) (sym (count-kept m))) (λ y. agrees-refused m (kept m) KeysFull refl)
-    (λ y. record { response = refl; keys = kept-with m key c linked missing none }))
+module _ {Room : Type 0} {changed : Key → Bool} {Known : Key → Key → Rule → Type 0} (limits : Limits) (m : State) (v : IsValid limits m) where
+  -- a new series answers the same, and leads to what is kept of the state with it
+  led-created : (key : Key) (c : Record) (r : Response) → get key m ≡ None →
+      c.rules ≡ [] → (Room → IsNewRecord limits c) → IsLed limits Room changed Known m (created limits m key c r) (kept_created limits (kept m) key (kept_record None c) r)
+  led-created key c r missing none new =
+      led-unless limits m v (nat_lt limits.labels (length c.labels)) _ LabelsFull _ _ refl
+      (λ few. led-unless limits m v (nat_le limits.keys (count_keys m)) _ KeysFull _ _ (ap (nat_le limits.keys) (count-kept m))
+      (λ free. record {
+        is_step = λ room. record { response = refl; stands = record { valid = valid-with limits m key c v (is-new limits m key c missing (new room) few free); kept = kept-with m key c v.linked missing none } };
+        counts = λ s k old other known h. counts-on-new m s k key old c limits v missing none h;
+      }))
 
-pub create-agrees : (limits : Limits) (m : State) (key : Key) (spec : Spec) → IsLinked m → Agrees (create limits m key spec) (kept_create limits (kept m) key spec)
-create-agrees limits m key spec linked =
-    agrees-if (is_some (get key m)) (is_some (get key (kept m))) _ _ _ _ (sym (some-kept m key)) (λ x. agrees-refused m (kept m) KeyExists refl)
-    (λ x. created-agrees limits m key (fresh spec [] None) Done linked (missing (get key m) x) refl)
-  where
-    missing : (o : Option Record) → is_some o ≡ false → o ≡ None
-    missing None e = refl
-    missing (Some d) e = absurd (false≢true (sym e))
+  pub led-create : (key : Key) (spec : Spec) →
+      IsLed limits Room changed Known m (create limits m key spec) (kept_create limits (kept m) key spec)
+  led-create key spec =
+      led-unless limits m v (is_some (get key m)) _ KeyExists _ _ (some-kept m key)
+      (λ x. led-created key (fresh spec [] None) Done (missing (get key m) x) refl (λ room. empty-new limits spec))
 
--- a new series with one sample
-pub create_with-agrees : (limits : Limits) (m : State) (key : Key) (spec : Spec) (t : ℕ) (v : ℤ) → IsLinked m → get key m ≡ None → Agrees (create_with limits m key spec t v) (kept_create_with limits (kept m) key spec t v)
-create_with-agrees limits m key spec t v linked missing = created-agrees limits m key (fresh spec (record { time = t; value = v; made = 0 } ∷ []) (Some t)) (Count t) linked missing refl
+  -- a new series with one sample
+  pub led-created_with : (key : Key) (spec : Spec) (t : ℕ) (x : ℤ) →
+      (Room → 1 ≤ limits.samples) → get key m ≡ None → IsLed limits Room changed Known m (create_with limits m key spec t x) (kept_create_with limits (kept m) key spec t x)
+  led-created_with key spec t x room missing =
+      led-created key (fresh spec (record { time = t; value = x; made = 0 } ∷ []) (Some t)) (Count t) missing refl (λ r. one-new limits spec t x (room r))
 
 -- ---- a new rule
 
@@ -106,27 +112,21 @@ module _ (limits : Limits) (m : State) (source dest : Key) (agg : Aggregator) (g
       ∙ each-key k (same k source) (same k dest) refl refl (get k m) refl
       ∙ ap (option_map (kept_record (link_to (ruled source dest agg grid m) k))) (sym (get-change m source k (with_rule dest agg grid))))
 
-some-source : (l : Option Link) → is_some (option_map (λ q. q.source) l) ≡ is_some l
-some-source None = refl
-some-source (Some q) = refl
-
-create_rule_at-agrees : (limits : Limits) (m : State) (source dest : Key) (agg : Aggregator) (grid : Grid) (o p : Option Record) → IsValid limits m → get source m ≡ o → get dest m ≡ p → same source dest ≡ false →
-    Agrees (create_rule_at limits m source dest agg grid o p)
-    (kept_create_rule_at limits (kept m) source dest agg grid (option_map (kept_record (link_to m source)) o) (option_map (kept_record (link_to m dest)) p))
-create_rule_at-agrees limits m source dest agg grid None p v x y other = agrees-refused m (kept m) NoKey refl
-create_rule_at-agrees limits m source dest agg grid (Some s) None v x y other = agrees-refused m (kept m) NoKey refl
-create_rule_at-agrees limits m source dest agg grid (Some s) (Some d) v x y other =
-    agrees-if (is_some (link_to m source)) _ _ _ _ _ (sym (some-source (link_to m source))) (λ e. agrees-refused m (kept m) SourceIsDest refl)
-    (λ a. agrees-if (has_rules d.rules) (any_rules (map kept_rule d.rules)) _ _ _ _ (sym (any-rules d.rules)) (λ e. agrees-refused m (kept m) DestIsSource refl)
-    (λ b. agrees-if (is_some (link_to m dest)) _ _ _ _ _ (sym (some-source (link_to m dest))) (λ e. agrees-refused m (kept m) DestHasSource refl)
-    (λ c. agrees-if (nat_le limits.born s.born) (nat_le limits.born s.born) _ _ _ _ refl (λ e. agrees-refused m (kept m) RulesSpent refl)
-    (λ g. agrees-if (nat_le limits.rules (length s.rules)) (nat_le limits.rules (length (map kept_rule s.rules))) _ _ _ _ (ap (nat_le limits.rules) (sym (count-rules s.rules))) (λ e. agrees-refused m (kept m) RulesFull refl)
-    (λ h. record { response = refl; keys = kept-ruled limits m source dest agg grid s d v (rulable limits m source dest s d x y other a b c g h) })))))
-
-pub create_rule-agrees : (limits : Limits) (m : State) (source dest : Key) (agg : Aggregator) (grid : Grid) → IsValid limits m →
-    Agrees (create_rule limits m source dest agg grid) (kept_create_rule limits (kept m) source dest agg grid)
-create_rule-agrees limits m source dest agg grid v =
-    agrees-if (same source dest) (same source dest) _ _ _ _ refl (λ x. agrees-refused m (kept m) SameKey refl)
-    (λ x. subst (λ (o : Option Kept). Agrees (create_rule_at limits m source dest agg grid (get source m) (get dest m)) (kept_create_rule_at limits (kept m) source dest agg grid o (get dest (kept m)))) (sym (get-kept m source))
-    (subst (λ (o : Option Kept). Agrees (create_rule_at limits m source dest agg grid (get source m) (get dest m)) (kept_create_rule_at limits (kept m) source dest agg grid (option_map (kept_record (link_to m source)) (get source m)) o)) (sym (get-kept m dest))
-    (create_rule_at-agrees limits m source dest agg grid (get source m) (get dest m) v refl refl x)))
+pub led-create_rule : {Room : Type 0} {changed : Key → Bool} (limits : Limits) (m : State) → IsValid limits m → (source dest : Key) (agg : Aggregator) (grid : Grid) →
+    IsLed limits Room changed (IsKnown m) m (create_rule limits m source dest agg grid) (kept_create_rule limits (kept m) source dest agg grid)
+led-create_rule limits m v source dest agg grid =
+    led-unless limits m v (same source dest) _ SameKey _ _ refl
+    (λ other. led-at limits m v source (λ o. create_rule_at limits m source dest agg grid o (get dest m)) (λ o. kept_create_rule_at limits (kept m) source dest agg grid o (get dest (kept m)))
+    (λ x. led-refused limits m v NoKey)
+    (λ s x. led-at limits m v dest (create_rule_at limits m source dest agg grid (Some s)) (kept_create_rule_at limits (kept m) source dest agg grid (Some (kept_record (link_to m source) s)))
+    (λ y. led-refused limits m v NoKey)
+    (λ d y. led-unless limits m v (is_some (link_to m source)) _ SourceIsDest _ _ (some-mapped (λ l. l.source) (link_to m source))
+    (λ a. led-unless limits m v (has_rules d.rules) _ DestIsSource _ _ (any-rules d.rules)
+    (λ b. led-unless limits m v (is_some (link_to m dest)) _ DestHasSource _ _ (some-mapped (λ l. l.source) (link_to m dest))
+    (λ c. led-unless limits m v (nat_le limits.born s.born) _ RulesSpent _ _ refl
+    (λ g. led-unless limits m v (nat_le limits.rules (length s.rules)) _ RulesFull _ _ (ap (nat_le limits.rules) (count-rules s.rules))
+    (λ h. (let i : IsRulable limits m source dest s d = rulable limits m source dest s d x y other a b c g h in
+    record {
+      is_step = λ room. record { response = refl; stands = record { valid = valid-ruled limits m source dest agg grid s d v i; kept = kept-ruled limits m source dest agg grid s d v i } };
+      counts = λ j k old other known. counts-on-ruled limits m j k source dest agg grid s d old v i known.joins.linked;
+    })))))))))

@@ -1,21 +1,16 @@
 -- What is kept of a state, read off at each key, and the tests of a step on it.
-use Rattle.std.proofs.Common.{◌≡◌, ℕ, Bool, true, false, cond, ◌||◌, nat_lt, if◌then◌else◌, List, [], ◌∷◌, map, length, Option, Some, None, is_some, option_map, refl, sym, ap, ◌∙◌}
+use Rattle.std.proofs.Common.{◌≡◌, ℕ, Bool, true, false, cond, ◌||◌, nat_lt, List, [], ◌∷◌, map, length, Option, Some, None, is_some, option_map, refl, sym, ap, ◌∙◌}
 use Rattle.std.proofs.lemmas.List.{length-map}
-use Rattle.ts_spec.specs.declared.limits.Limits.{Limits}
 use Rattle.ts_spec.specs.Bucket.{start}
 use Rattle.ts_spec.specs.Key.{Key, same}
 use Rattle.ts_spec.specs.Keyed.{get, each, count_keys}
-use Rattle.ts_spec.specs.State.{Rule, Record, State, Link, rule_to, link_to, rule_into, edge}
+use Rattle.ts_spec.specs.State.{Rule, Record, State, Link, rule_to, link_to, rule_into}
 use Rattle.ts_spec.specs.Rules.{shown, shown_at}
-use Rattle.ts_spec.specs.Response.{Response}
-use Rattle.ts_spec.specs.Refusal.{Refusal}
-use Rattle.ts_spec.specs.Step.{Outcome, refused, answer_only, shows_more, first_full, rules_at, unless_full, within_destinations, meets_expired, has_rules}
-use Rattle.ts_spec.specs.Valid.{IsValid}
+use Rattle.ts_spec.specs.Step.{shows_more, first_full, rules_at, meets_expired, has_rules}
 use Rattle.ts_spec.specs.Kept.{Kept, Keeping, kept_rule, kept_record, kept}
 use Rattle.ts_spec.specs.Mending.{kept_rule_to}
-use Rattle.ts_spec.specs.KeptStep.{KeptOutcome, kept_refused, unchanged_with, kept_edge, list_at, keeps_more, kept_first_full, kept_rules_at, kept_unless_full, kept_within_destinations, kept_meets_expired, any_rules}
+use Rattle.ts_spec.specs.KeptStep.{list_at, keeps_more, kept_first_full, kept_rules_at, kept_meets_expired, any_rules}
 use Rattle.ts_spec.specs.KeptQuestions.{rule_from}
-use Rattle.ts_spec.specs.Stands.{IsStepOf}
 use Rattle.ts_spec.proofs.Maps.{get-each, count-each, maps-same}
 use Rattle.ts_spec.proofs.Links.{Found, link-found}
 
@@ -33,12 +28,21 @@ kept-missing m k x = get-kept m k ∙ ap (option_map (kept_record (link_to m k))
 pub count-kept : (m : State) → count_keys (kept m) ≡ count_keys m
 count-kept m = count-each (λ j d. kept_record (link_to m j) d) m
 
-some-mapped : {X Y : Type 0} (f : X → Y) (o : Option X) → is_some (option_map f o) ≡ is_some o
+pub some-mapped : {X Y : Type 0} (f : X → Y) (o : Option X) → is_some (option_map f o) ≡ is_some o
 some-mapped f None = refl
 some-mapped f (Some x) = refl
 
 pub some-kept : (m : State) (k : Key) → is_some (get k (kept m)) ≡ is_some (get k m)
 some-kept m k = ap is_some (get-kept m k) ∙ some-mapped (kept_record (link_to m k)) (get k m)
+
+-- what is read off what is kept of a key is what is read off its record, where it is for none and for some
+pub read-kept : {X : Type 0} (m : State) (k : Key) (f : Option Kept → X) (g : Option Record → X) → f None ≡ g None → ((d : Record) → get k m ≡ Some d → f (Some (kept_record (link_to m k) d)) ≡ g (Some d)) →
+    f (get k (kept m)) ≡ g (get k m)
+read-kept m k f g none some = ap f (get-kept m k) ∙ go (get k m) refl
+  where
+    go : (o : Option Record) → get k m ≡ o → f (option_map (kept_record (link_to m k)) o) ≡ g o
+    go None x = none
+    go (Some d) x = some d x
 
 -- What is kept of each key of a state is what is kept of the state.
 pub kept-same : (keys : Keeping) (n : State) → ((k : Key) → get k keys ≡ option_map (kept_record (link_to n k)) (get k n)) → keys ≡ kept n
@@ -52,21 +56,10 @@ kept-each keys f m n e h = ap (each f) e ∙ kept-same (each f (kept m)) n (λ k
 -- ---- what a key shows, its rules and its edge
 
 pub list-kept : (m : State) (k : Key) → list_at (get k (kept m)) ≡ shown m k
-list-kept m k = ap list_at (get-kept m k) ∙ go (get k m)
-  where
-    go : (o : Option Record) → list_at (option_map (kept_record (link_to m k)) o) ≡ shown_at o (rule_into m k)
-    go None = refl
-    go (Some d) = refl
+list-kept m k = read-kept m k list_at (λ o. shown_at o (rule_into m k)) refl (λ d x. refl)
 
 pub rules-kept : (m : State) (k : Key) → kept_rules_at (get k (kept m)) ≡ map kept_rule (rules_at (get k m))
-rules-kept m k = ap kept_rules_at (get-kept m k) ∙ go (get k m)
-  where
-    go : (o : Option Record) → kept_rules_at (option_map (kept_record (link_to m k)) o) ≡ map kept_rule (rules_at o)
-    go None = refl
-    go (Some d) = refl
-
-pub edge-kept : (l : Option Link) (d : Record) → kept_edge (kept_record l d) ≡ edge d
-edge-kept l d = refl
+rules-kept m k = read-kept m k kept_rules_at (λ o. map kept_rule (rules_at o)) refl (λ d x. refl)
 
 -- ---- rules
 
@@ -104,53 +97,8 @@ more-kept limit m k = ap (λ ps. nat_lt limit (length ps)) (list-kept m k)
 
 pub first_full-kept : (limit : ℕ) (n : State) (rs : List Rule) → kept_first_full limit (kept n) (map kept_rule rs) ≡ first_full limit n rs
 first_full-kept limit n [] = refl
-first_full-kept limit n (r ∷ rs) =
-    ap (λ (b : Bool). if b then Some r.dest else kept_first_full limit (kept n) (map kept_rule rs)) (more-kept limit n r.dest)
-    ∙ ap (λ (o : Option Key). if shows_more limit n r.dest then Some r.dest else o) (first_full-kept limit n rs)
+first_full-kept limit n (r ∷ rs) = rw (more-kept limit n r.dest, first_full-kept limit n rs) refl
 
 pub meets-kept : (from low : ℕ) (rs : List Rule) → kept_meets_expired from low (map kept_rule rs) ≡ meets_expired from low rs
 meets-kept from low [] = refl
 meets-kept from low (r ∷ rs) = ap (λ (b : Bool). nat_lt (start r.grid from) low || b) (meets-kept from low rs)
-
--- ---- outcomes
-
--- a step over what is kept answers as that of the state, and keeps of the state that it leads to what is kept of it
-pub record Agrees (done : Outcome) (kept_done : KeptOutcome) : Type 0 where
-  pub response : done.response ≡ kept_done.response
-  pub keys : kept_done.keys ≡ kept done.state
-
--- and where that state is valid, it is its step
-pub agreed : (limits : Limits) (done : Outcome) (kept_done : KeptOutcome) → IsValid limits done.state → Agrees done kept_done → IsStepOf limits done kept_done
-agreed limits done kept_done v a = record { response = a.response; stands = record { valid = v; kept = a.keys } }
-
-pub agrees-told : (m : State) (keys : Keeping) (r q : Response) → keys ≡ kept m → r ≡ q → Agrees (answer_only m r) (unchanged_with keys q)
-agrees-told m keys r q e x = record { response = x; keys = e }
-
-pub agrees-refused : (m : State) (keys : Keeping) (refusal : Refusal) → keys ≡ kept m → Agrees (refused m refusal) (kept_refused keys refusal)
-agrees-refused m keys refusal e = record { response = refl; keys = e }
-
--- a choice by the same test
-pub agrees-if : (a b : Bool) (x y : Outcome) (p q : KeptOutcome) → a ≡ b → (a ≡ true → Agrees x p) → (a ≡ false → Agrees y q) → Agrees (if a then x else y) (if b then p else q)
-agrees-if true true x y p q e f g = f refl
-agrees-if true false x y p q e f g = absurd (cc e)
-agrees-if false true x y p q e f g = absurd (cc e)
-agrees-if false false x y p q e f g = g refl
-
--- an outcome, unless a destination of the key is full
-pub agrees-destinations : (limits : Limits) (m : State) (keys : Keeping) (key : Key) (done : Outcome) (kept_done : KeptOutcome) → keys ≡ kept m → Agrees done kept_done →
-    Agrees (within_destinations limits m key done) (kept_within_destinations limits keys key kept_done)
-agrees-destinations limits m keys key done kept_done e a =
-    go (first_full limits.samples done.state (rules_at (get key m))) (kept_first_full limits.samples kept_done.keys (kept_rules_at (get key keys))) same_key
-  where
-    same_key : first_full limits.samples done.state (rules_at (get key m)) ≡ kept_first_full limits.samples kept_done.keys (kept_rules_at (get key keys))
-    same_key =
-        sym (ap (λ (n : Keeping). kept_first_full limits.samples n (kept_rules_at (get key keys))) a.keys
-        ∙ ap (λ (n : Keeping). kept_first_full limits.samples (kept done.state) (kept_rules_at (get key n))) e
-        ∙ ap (kept_first_full limits.samples (kept done.state)) (rules-kept m key)
-        ∙ first_full-kept limits.samples done.state (rules_at (get key m)))
-
-    go : (o p : Option Key) → o ≡ p → Agrees (unless_full m o done) (kept_unless_full keys p kept_done)
-    go None None x = a
-    go None (Some k) x = absurd (cc x)
-    go (Some k) None x = absurd (cc x)
-    go (Some j) (Some k) x = record { response = ap (λ (o : Option Key). (unless_full m o done).response) x; keys = e }

@@ -1,88 +1,102 @@
--- A step over what is kept of a state is what is kept of the step of the state.
-use Rattle.std.proofs.Common.{◌≡◌, ℕ, ℤ, ◌≤◌, ◌++◌, List, [], ◌∷◌, map, Result, Ok, Err, refl, sym, ap, ◌∙◌, subst}
+-- The laws of steps, read off one walk: a step over what is kept is that of the state, it keeps the state valid, and a rule counts on.
+use Rattle.std.proofs.Common.{◌≡◌, ℕ, ℤ, ◌≤◌, ◌++◌, Bool, false, List, [], ◌∷◌, map, Result, Ok, Err, refl, ap, ◌∙◌}
+use Rattle.std.specs.Prelude.{⊤}
+use Rattle.std.proofs.lemmas.Bool.{or_parts}
 use Rattle.ts_spec.specs.declared.limits.Limits.{Limits}
 use Rattle.ts_spec.specs.declared.command.At.{At}
-use Rattle.ts_spec.specs.Key.{Key}
-use Rattle.ts_spec.specs.Keyed.{none}
-use Rattle.ts_spec.specs.State.{State, empty}
+use Rattle.ts_spec.specs.Key.{Key, same}
+use Rattle.ts_spec.specs.Keyed.{get, none}
+use Rattle.ts_spec.specs.State.{Rule, State, empty}
+use Rattle.ts_spec.specs.Rules.{plain_at}
 use Rattle.ts_spec.specs.Filter.{selection}
 use Rattle.ts_spec.specs.Refusal.{Fault}
 use Rattle.ts_spec.specs.Command.{Triple, Command, Create, Alter, Add, Madd, Incr, DelRange, CreateRule, DeleteRule, Range, MRange, Get, MGet, QueryIndex, InfoOf, Ping, Echo, Quit, Drop, Exists}
-use Rattle.ts_spec.specs.Response.{Item, IsWrong, Response, Done, Count, Items, LastRows, Keys, Word}
+use Rattle.ts_spec.specs.Response.{Item, IsWrong, Done, Count, Items, LastRows, Keys, Word}
 use Rattle.ts_spec.specs.Step.{step, Outcome, time_of, triple_step, item_of, madd, members_response, ping_response}
+use Rattle.ts_spec.specs.CountsAll.{CountsAll, JoinsForEver, StillCountsAll, names, changes}
 use Rattle.ts_spec.specs.Valid.{IsValid}
 use Rattle.ts_spec.specs.Kept.{Keeping, kept}
-use Rattle.ts_spec.specs.KeptStep.{KeptOutcome, unchanged_with, kept_triple, kept_madd}
+use Rattle.ts_spec.specs.KeptStep.{KeptOutcome, kept_triple, kept_madd}
 use Rattle.ts_spec.specs.KeptQuestions.{kept_members_of, kept_last_member, kept_step}
 use Rattle.ts_spec.specs.Stands.{StandsFor, IsStepOf}
-use Rattle.ts_spec.proofs.StepKeeps.{triple-good, step-valid, empty-valid}
-use Rattle.ts_spec.proofs.KeptMaps.{kept-same, Agrees, agreed, agrees-told}
+use Rattle.ts_spec.proofs.KeptMaps.{kept-same}
 use Rattle.ts_spec.proofs.KeptAsked.{range-kept, members-kept, last-kept, last_members-kept, selection-kept, info-kept}
-use Rattle.ts_spec.proofs.KeptMaking.{create-agrees, create_rule-agrees}
-use Rattle.ts_spec.proofs.KeptAltered.{alter-agrees}
-use Rattle.ts_spec.proofs.KeptEnds.{delete_rule-agrees, drop-agrees, there-kept}
-use Rattle.ts_spec.proofs.DeleteStep.{delete-agrees}
-use Rattle.ts_spec.proofs.WriteSteps.{add-agrees, put-agrees, incr-agrees}
+use Rattle.ts_spec.proofs.CountsAfter.{counts-now}
+use Rattle.ts_spec.proofs.Allowed.{empty-valid}
+use Rattle.ts_spec.proofs.Led.{IsKnown, IsLed, led-told}
+use Rattle.ts_spec.proofs.KeptMaking.{led-create, led-create_rule}
+use Rattle.ts_spec.proofs.KeptAltered.{led-altered}
+use Rattle.ts_spec.proofs.KeptEnds.{led-without_rule, led-dropped, there-kept}
+use Rattle.ts_spec.proofs.DeleteStep.{led-deleted}
+use Rattle.ts_spec.proofs.WriteSteps.{led-add, led-put, led-incr}
 
 -- ---- triples
 
-pub triple-agrees : (limits : Limits) (m : State) (reading : ℕ) (key : Key) (at : Result At Fault) (value : Result ℤ Fault) → IsValid limits m →
-    Agrees (triple_step limits m reading key at value) (kept_triple limits (kept m) reading key at value)
-triple-agrees limits m reading key (Err fault) value v = agrees-told m (kept m) (Items (IsWrong fault ∷ [])) (Items (IsWrong fault ∷ [])) refl refl
-triple-agrees limits m reading key (Ok at) (Err fault) v = agrees-told m (kept m) (Items (IsWrong fault ∷ [])) (Items (IsWrong fault ∷ [])) refl refl
-triple-agrees limits m reading key (Ok at) (Ok x) v = put-agrees limits m key (time_of reading at) x v
+led-triple : (limits : Limits) (m : State) → IsValid limits m → (reading : ℕ) (key : Key) (at : Result At Fault) (value : Result ℤ Fault) →
+    IsLed limits ⊤ (λ k. same k key) (λ s k old. ⊤) m (triple_step limits m reading key at value) (kept_triple limits (kept m) reading key at value)
+led-triple limits m v reading key (Err fault) value = led-told limits m v (Items (IsWrong fault ∷ [])) (Items (IsWrong fault ∷ [])) refl
+led-triple limits m v reading key (Ok at) (Err fault) = led-told limits m v (Items (IsWrong fault ∷ [])) (Items (IsWrong fault ∷ [])) refl
+led-triple limits m v reading key (Ok at) (Ok x) = led-put limits m v key (time_of reading at) x
 
--- and it is a step of each state that is stood for
-pub triple-step : (limits : Limits) (keys : Keeping) (m : State) (reading : ℕ) (key : Key) (at : Result At Fault) (value : Result ℤ Fault) → StandsFor limits keys m →
-    IsStepOf limits (triple_step limits m reading key at value) (kept_triple limits keys reading key at value)
-triple-step limits keys m reading key at value s =
-    agreed limits (triple_step limits m reading key at value) (kept_triple limits keys reading key at value) (triple-good limits m reading key at value s.valid)
-    (subst (λ (n : Keeping). Agrees (triple_step limits m reading key at value) (kept_triple limits n reading key at value)) (sym s.kept) (triple-agrees limits m reading key at value s.valid))
-
-pub madd-agrees : (limits : Limits) (m : State) (reading : ℕ) (items : List Item) (xs : List Triple) → IsValid limits m → Agrees (madd limits m reading items xs) (kept_madd limits (kept m) reading items xs)
-madd-agrees limits m reading items [] v = agrees-told m (kept m) (Items items) (Items items) refl refl
-madd-agrees limits m reading items (x ∷ xs) v =
-    go (triple_step limits m reading x.key x.at x.value) (kept_triple limits (kept m) reading x.key x.at x.value) (triple-agrees limits m reading x.key x.at x.value v)
-    (madd-agrees limits (triple_step limits m reading x.key x.at x.value).state reading (items ++ item_of (triple_step limits m reading x.key x.at x.value).response) xs (triple-good limits m reading x.key x.at x.value v))
+led-madd : (limits : Limits) (m : State) → IsValid limits m → (reading : ℕ) (items : List Item) (xs : List Triple) →
+    IsLed limits ⊤ (λ k. names k xs) (λ s k old. ⊤) m (madd limits m reading items xs) (kept_madd limits (kept m) reading items xs)
+led-madd limits m v reading items [] = led-told limits m v (Items items) (Items items) refl
+led-madd limits m v reading items (x ∷ xs) =
+    go (triple_step limits m reading x.key x.at x.value) (kept_triple limits (kept m) reading x.key x.at x.value) (led-triple limits m v reading x.key x.at x.value)
+    (led-madd limits (triple_step limits m reading x.key x.at x.value).state ((led-triple limits m v reading x.key x.at x.value).is_step tt).stands.valid reading (items ++ item_of (triple_step limits m reading x.key x.at x.value).response) xs)
   where
-    go : (done : Outcome) (kept_done : KeptOutcome) → Agrees done kept_done → Agrees (madd limits done.state reading (items ++ item_of done.response) xs) (kept_madd limits (kept done.state) reading (items ++ item_of done.response) xs) →
-        Agrees (madd limits done.state reading (items ++ item_of done.response) xs) (kept_madd limits kept_done.keys reading (items ++ item_of kept_done.response) xs)
-    go done kept_done a ih =
-        subst (λ (keys : Keeping). Agrees (madd limits done.state reading (items ++ item_of done.response) xs) (kept_madd limits keys reading (items ++ item_of kept_done.response) xs)) (sym a.keys)
-        (subst (λ (r : Response). Agrees (madd limits done.state reading (items ++ item_of done.response) xs) (kept_madd limits (kept done.state) reading (items ++ item_of r) xs)) a.response ih)
+    go : (done : Outcome) (kept_done : KeptOutcome) → IsLed limits ⊤ (λ k. same k x.key) (λ s k old. ⊤) m done kept_done →
+        IsLed limits ⊤ (λ k. names k xs) (λ s k old. ⊤) done.state (madd limits done.state reading (items ++ item_of done.response) xs) (kept_madd limits (kept done.state) reading (items ++ item_of done.response) xs) →
+        IsLed limits ⊤ (λ k. names k (x ∷ xs)) (λ s k old. ⊤) m (madd limits done.state reading (items ++ item_of done.response) xs) (kept_madd limits kept_done.keys reading (items ++ item_of kept_done.response) xs)
+    go done kept_done first rest = record {
+      is_step = λ room. (let s : IsStepOf limits done kept_done = first.is_step tt in rw (s.stands.kept, ← s.response) (rest.is_step tt));
+      counts = λ s k old other known h. rest.counts s k old (or_parts (same k x.key) (names k xs) other).1 tt (first.counts s k old (or_parts (same k x.key) (names k xs) other).0 tt h);
+    }
 
--- a question
-asked-agrees : (m : State) (r q : Response) → q ≡ r → Agrees (record { state = m; response = r }) (unchanged_with (kept m) q)
-asked-agrees m r q e = agrees-told m (kept m) r q refl (sym e)
+-- ---- steps
 
-pub step-agrees : (limits : Limits) (m : State) (reading : ℕ) (c : Command) → IsValid limits m → Agrees (step limits m reading c) (kept_step limits (kept m) reading c)
-step-agrees limits m reading (Create key spec) v = create-agrees limits m key spec v.linked
-step-agrees limits m reading (Alter key change) v = alter-agrees limits m key change v
-step-agrees limits m reading (Add key at x on spec) v = add-agrees limits m key (time_of reading at) x on spec v
-step-agrees limits m reading (Madd triples) v = madd-agrees limits m reading [] triples v
-step-agrees limits m reading (Incr key x at spec) v = incr-agrees limits m key x (time_of reading at) spec v
-step-agrees limits m reading (DelRange key from to) v = delete-agrees limits (kept m) m key from to (record { valid = v; kept = refl })
-step-agrees limits m reading (CreateRule source dest agg grid) v = create_rule-agrees limits m source dest agg grid v
-step-agrees limits m reading (DeleteRule source dest) v = delete_rule-agrees limits m source dest v
-step-agrees limits m reading (Range key latest q) v = asked-agrees m _ _ (range-kept limits m key latest q)
-step-agrees limits m reading (MRange latest show filters q) v =
-    asked-agrees m _ _ (ap (λ (ks : List Key). members_response (kept_members_of limits (kept m) latest show q ks)) (selection-kept m filters) ∙ ap members_response (members-kept limits m latest show q (selection m filters)))
-step-agrees limits m reading (Get key latest) v = asked-agrees m _ _ (last-kept m key latest)
-step-agrees limits m reading (MGet latest show filters) v =
-    asked-agrees m _ _ (ap (λ (ks : List Key). LastRows (map (kept_last_member (kept m) latest show) ks)) (selection-kept m filters) ∙ ap (λ ms. LastRows ms) (last_members-kept m latest show (selection m filters)))
-step-agrees limits m reading (QueryIndex filters) v = asked-agrees m _ _ (ap (λ (ks : List Key). Keys ks) (selection-kept m filters))
-step-agrees limits m reading (InfoOf key) v = asked-agrees m _ _ (info-kept m key)
-step-agrees limits m reading (Ping word) v = asked-agrees m (ping_response word) (ping_response word) refl
-step-agrees limits m reading (Echo word) v = asked-agrees m (Word word) (Word word) refl
-step-agrees limits m reading Quit v = asked-agrees m Done Done refl
-step-agrees limits m reading (Drop keys) v = drop-agrees limits m 0 keys v
-step-agrees limits m reading (Exists keys) v = asked-agrees m _ _ (ap (λ (n : ℕ). Count n) (there-kept m keys))
+-- where there is always room, and nothing is to be known
+known-all : {Room : Type 0} {changed : Key → Bool} {Known : Key → Key → Rule → Type 0} {limits : Limits} {m : State} {done : Outcome} {kept_done : KeptOutcome} →
+    IsLed limits ⊤ changed (λ s k old. ⊤) m done kept_done → IsLed limits Room changed Known m done kept_done
+known-all led = record { is_step = λ room. led.is_step tt; counts = λ s k old other known h. led.counts s k old other tt h }
+
+pub led-step : (limits : Limits) (m : State) → IsValid limits m → (reading : ℕ) (c : Command) →
+    IsLed limits (1 ≤ limits.samples) (λ k. changes k c) (IsKnown m) m (step limits m reading c) (kept_step limits (kept m) reading c)
+led-step limits m v reading (Create key spec) = led-create limits m v key spec
+led-step limits m v reading (Alter key change) = led-altered limits m v key change
+led-step limits m v reading (Add key at x on spec) = led-add limits m v key (time_of reading at) x on spec (λ room. room)
+led-step limits m v reading (Madd triples) = known-all (led-madd limits m v reading [] triples)
+led-step limits m v reading (Incr key x at spec) = led-incr limits m v key x (time_of reading at) spec (λ room. room)
+led-step limits m v reading (DelRange key from to) = led-deleted limits m v key from to
+led-step limits m v reading (CreateRule source dest agg grid) = led-create_rule limits m v source dest agg grid
+led-step limits m v reading (DeleteRule source dest) = led-without_rule limits m v source dest
+led-step limits m v reading (Range key latest q) = led-told limits m v _ _ (range-kept limits m key latest q)
+led-step limits m v reading (MRange latest show filters q) =
+    led-told limits m v _ _ (ap (λ (ks : List Key). members_response (kept_members_of limits (kept m) latest show q ks)) (selection-kept m filters) ∙ ap members_response (members-kept limits m latest show q (selection m filters)))
+led-step limits m v reading (Get key latest) = led-told limits m v _ _ (last-kept m key latest)
+led-step limits m v reading (MGet latest show filters) =
+    led-told limits m v _ _ (ap (λ (ks : List Key). LastRows (map (kept_last_member (kept m) latest show) ks)) (selection-kept m filters) ∙ ap (λ ms. LastRows ms) (last_members-kept m latest show (selection m filters)))
+led-step limits m v reading (QueryIndex filters) = led-told limits m v _ _ (ap (λ (ks : List Key). Keys ks) (selection-kept m filters))
+led-step limits m v reading (InfoOf key) = led-told limits m v _ _ (info-kept m key)
+led-step limits m v reading (Ping word) = led-told limits m v (ping_response word) (ping_response word) refl
+led-step limits m v reading (Echo word) = led-told limits m v (Word word) (Word word) refl
+led-step limits m v reading Quit = led-told limits m v Done Done refl
+led-step limits m v reading (Drop keys) = known-all (led-dropped limits m v 0 keys)
+led-step limits m v reading (Exists keys) = led-told limits m v _ _ (ap (λ (n : ℕ). Count n) (there-kept m keys))
 
 -- A step over what is kept is the step of each state that it stands for.
 pub kept-step : (limits : Limits) (m : State) (keys : Keeping) (reading : ℕ) (c : Command) → 1 ≤ limits.samples → StandsFor limits keys m → IsStepOf limits (step limits m reading c) (kept_step limits keys reading c)
-kept-step limits m keys reading c room s =
-    agreed limits (step limits m reading c) (kept_step limits keys reading c) (step-valid limits m reading c room s.valid)
-    (subst (λ (n : Keeping). Agrees (step limits m reading c) (kept_step limits n reading c)) (sym s.kept) (step-agrees limits m reading c s.valid))
+kept-step limits m keys reading c room s = rw s.kept ((led-step limits m s.valid reading c).is_step room)
+
+-- Each step keeps the state valid.
+pub step-valid : (limits : Limits) (m : State) (reading : ℕ) (c : Command) → 1 ≤ limits.samples → IsValid limits m → IsValid limits (step limits m reading c).state
+step-valid limits m reading c room v = ((led-step limits m v reading c).is_step room).stands.valid
+
+-- Where a rule leads from one key to another before a step and after it, and none of both has a retention, it is the same one, and counts all where it did before.
+pub still-counts : (limits : Limits) (m : State) (reading : ℕ) (c : Command) (s k : Key) (old new : Rule) → IsValid limits m → changes k c ≡ false →
+    JoinsForEver m s k old → JoinsForEver (step limits m reading c).state s k new → CountsAll (plain_at (get s m)) old → StillCountsAll (step limits m reading c).state s old new
+still-counts limits m reading c s k old new v other j n a =
+    (led-step limits m v reading c).counts s k old other (record { joins = j; counts = a }) (counts-now m s k old j.linked a) new n.linked n.source_for_ever n.dest_for_ever
 
 -- Nothing is kept of the empty state.
 pub empty-stands : (limits : Limits) → StandsFor limits none empty

@@ -37,12 +37,12 @@ pub mod ShownAfter
 pub mod Shows
 pub mod SoundWrites
 pub mod Sound
-pub mod StepKeeps
+pub mod Allowed
+pub mod Led
 pub mod Tidy
 pub mod WordsOfIgnore
 pub mod WordsOfLabels
 pub mod WordsOfQuestions
-pub mod Writes
 pub mod Texts
 pub mod KeptAltered
 pub mod KeptAsked
@@ -72,10 +72,8 @@ pub mod TwoRows
 pub mod Rising
 pub mod Spans
 pub mod BucketRoom
-pub mod KeptLists
 pub mod BucketSpan
 pub mod WordsOfRules
 pub mod CountsOn
 pub mod CountsAfter
-pub mod StepCounts
 pub mod NewCounts

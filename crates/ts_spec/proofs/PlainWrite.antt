@@ -6,16 +6,15 @@ use Rattle.ts_spec.specs.Sample.{is_within, Point, at_times, outside, between, p
 use Rattle.ts_spec.specs.Key.{Key, same}
 use Rattle.ts_spec.specs.Keyed.{get, with_key}
 use Rattle.ts_spec.specs.State.{Rule, Record, State, Link, link_to, rule_into, change, edge, edge_of}
-use Rattle.ts_spec.specs.Rules.{plain_at, meets, deleted, shown, shown_at, shown_by, risen_by, is_row_by, raised, sample_for, with_sample, counted, without, recounted, lost_from, lost, cleared_to, clear_record, clear_into, write_touches, high_at, tidied_by, edge_at, expired, expired_in, expire_record, tidied, settled, written}
-use Rattle.ts_spec.specs.Valid.{IsLinked, IsSoleLink, EachRule}
+use Rattle.ts_spec.specs.Rules.{plain_at, meets, deleted, risen_by, is_row_by, raised, sample_for, with_sample, counted, without, recounted, lost_from, lost, cleared_to, clear_record, clear_into, write_touches, high_at, tidied_by, edge_at, expired, expired_in, expire_record, tidied, settled, written}
 use Rattle.ts_spec.proofs.Keys.{same-true, same-refl, same-sym}
 use Rattle.ts_spec.proofs.Maps.{get-each, get-with, maps-same}
 use Rattle.ts_spec.proofs.Links.{Found, link-found, link-none, link-some}
 use Rattle.ts_spec.specs.Command.{Change}
 use Rattle.ts_spec.specs.Step.{altered}
 use Rattle.ts_spec.proofs.Settles.{stays, times-within, settled_record, get-settled, get-tidied}
-use Rattle.ts_spec.proofs.Tidy.{some-same, tidied-settled, record-tidy, record-expired, KeepsRules, map-id-rules, change-keeps, link-not-from}
-use Rattle.ts_spec.proofs.Unmoved.{HasNoRules, cleared-elsewhere, leads-elsewhere, lost-elsewhere, lost-unlinked, map-kept, map-same, no-link-no-rule, no-rules-no-link, times-same}
+use Rattle.ts_spec.proofs.Tidy.{tidied-settled, record-tidy, record-expired, KeepsRules, map-id-rules, change-keeps, link-not-from}
+use Rattle.ts_spec.proofs.Unmoved.{cleared-elsewhere, leads-elsewhere, lost-elsewhere, lost-unlinked, map-kept, map-same, no-link-no-rule, times-same}
 
 -- ---- a change of a series without rules or source
 
@@ -207,38 +206,3 @@ plain-deleted m key d from to h =
 -- New options of such a series take away the samples before its new edge.
 pub plain-altered : (m : State) (key : Key) (d : Record) (c : Change) → IsPlain m key d → settled (change key (altered c) m) ≡ with_key key (kept (altered c d)) m
 plain-altered m key d c h = settled-change m key d (altered c) (λ d r. r) h (record { rules = λ d. map-id-rules d.rules; dest = λ d r. refl })
-
--- what such a series shows is its own samples
-pub plain-shown : (m : State) (key : Key) (d : Record) → get key m ≡ Some d → link_to m key ≡ None → shown m key ≡ d.plain
-plain-shown m key d e h = ap (λ (o : Option Record). shown_at o (rule_into m key)) e ∙ ap (λ (l : Option Link). shown_by (option_map (λ (x : Link). x.rule) l) d) h
-
--- ---- that a state without rules stays so, and stays settled
-
--- a key put into a state without rules, with a record without rules
-pub no-rules-with : (m : State) (key : Key) (d : Record) → HasNoRules m → d.rules ≡ [] → HasNoRules (with_key key d m)
-no-rules-with m key d h e k c x = go (same key k) (sym (get-with k key d m) ∙ x)
-  where
-    go : (b : Bool) → (if b then Some d else get k m) ≡ Some c → c.rules ≡ []
-    go true y = ap (λ (q : Record). q.rules) (sym (some-same d c y)) ∙ e
-    go false y = h k c y
-
--- a state without rules whose records have no sample before their edge is settled
-pub no-rules-settled : (m : State) → HasNoRules m → ((k : Key) (d : Record) → get k m ≡ Some d → at_times (nat_le (edge d)) d.plain ≡ d.plain) → settled m ≡ m
-no-rules-settled m h low = maps-same (settled m) m (λ k. get-settled m k ∙ go k (get k m) refl)
-  where
-    here : (k : Key) (d : Record) → get k m ≡ Some d → settled_record m k d ≡ d
-    here k d x =
-        let none : d.rules ≡ [] = h k d x in
-        let rules : map (expired_in (tidied m)) d.rules ≡ d.rules = ap (map (expired_in (tidied m))) none ∙ sym none in
-        let plain : at_times (λ t. nat_le (edge d) t && true) d.plain ≡ d.plain =
-        times-same (λ t. nat_le (edge d) t && true) (nat_le (edge d)) d.plain (λ t. and-true (nat_le (edge d) t)) ∙ low k d x in
-        ap (λ (o : Option Link). expire_record (tidied m) (tidied_by (option_map (λ (l : Link). l.rule) o) d)) (no-rules-no-link m k h)
-        ∙ (λ i. record d { plain = plain i; rules = rules i })
-
-    go : (k : Key) (o : Option Record) → get k m ≡ o → option_map (settled_record m k) o ≡ o
-    go k None x = refl
-    go k (Some d) x = ap (λ (q : Record). Some q) (here k d x)
-
--- and linked
-pub no-rules-linked : (m : State) → HasNoRules m → IsLinked m
-no-rules-linked m h k d x = subst (EachRule (IsSoleLink m k)) (sym (h k d x)) tt

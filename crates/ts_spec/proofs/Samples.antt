@@ -1,7 +1,7 @@
 -- Lists of samples, by the sample at each time.
 use Rattle.std.proofs.Common.{◌≡◌, ℕ, ◌<◌, ◌≤◌, Bool, true, false, cond, ◌==◌, nat_lt, if◌then◌else◌, List, [], ◌∷◌, ◌++◌, Option, Some, None, filter, refl, sym, ap, ◌∙◌, subst, arith, inl, inr, eqb-true, ltb-true, lt-ltb, le-ltb, eq-eqb, ne_eqb}
 use Rattle.std.specs.Option.{option_or}
-use Rattle.std.proofs.lemmas.Bool.{cases_Bool, cases_order, false≢true}
+use Rattle.std.proofs.lemmas.Bool.{cases_order, false≢true}
 use Rattle.ts_spec.specs.Sample.{Point, IsAfter, IsAscending, at, at_times, put, put_all}
 
 pub at-time : (t : ℕ) (ps : List Point) (p : Point) → at t ps ≡ Some p → p.time ≡ t
@@ -214,11 +214,3 @@ at-filter t test (p ∷ ps) h = go (test p) (p.time == t) refl refl (at-filter t
 pub each_before : (u : ℕ) (ps : List Point) → IsAscending ps → ((t : ℕ) (p : Point) → at t ps ≡ Some p → p.time < u) → IsBefore u ps
 each_before u [] h f = tt
 each_before u (p ∷ ps) h f = (f p.time p (at-first p ps), each_before u ps h.1 (λ t q e. f t q (at-rest p ps t q h e)))
-
--- a test that each sample passes takes none away
-pub times-all : (test : ℕ → Bool) (ps : List Point) → IsAscending ps → ((t : ℕ) (p : Point) → at t ps ≡ Some p → test t ≡ true) → at_times test ps ≡ ps
-times-all test ps h f = ascending-same (at_times test ps) ps (ascending-times test ps h) h (λ t. rw (at-times t test ps) (go t (at t ps) refl))
-  where
-    go : (t : ℕ) (x : Option Point) → at t ps ≡ x → (if test t then at t ps else None) ≡ at t ps
-    go t None e = rw e (elim (cases_Bool (test t)) [ inl b ↦ rw b refl | inr b ↦ rw b refl ])
-    go t (Some p) e = rw (f t p e) refl

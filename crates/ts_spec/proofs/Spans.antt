@@ -80,22 +80,6 @@ mended-span retention high gone rows low up ps a inside below =
     cases t None p false true e f = or_none p
     cases t None p false false e f = refl
 
--- Where the test holds at each of its times in the interval, nothing stays there.
-pub mended-interval : (retention : ℕ) (high : Option ℕ) (gone : ℕ → Bool) (rows : List Point) (low up : ℕ) (ps : List Point) → IsAscending ps →
-    ((t : ℕ) → gone t ≡ true → is_within low up t ≡ true) → ((t : ℕ) (p : Point) → at t ps ≡ Some p → is_within low up t ≡ true → gone t ≡ true) →
-    mended retention high gone rows ps ≡ mended retention high (is_within low up) rows ps
-mended-interval retention high gone rows low up ps a inside all =
-    ap (λ (qs : List Point). at_times (nat_le (edge_of retention (high_with rows high))) (put_all rows qs))
-    (ascending-same (at_times (λ t. not (gone t)) ps) (outside low up ps) (ascending-times (λ t. not (gone t)) ps a) (ascending-times (λ t. not (is_within low up t)) ps a)
-    (λ t. at-times t (λ u. not (gone u)) ps ∙ cases t (at t ps) refl (gone t) (is_within low up t) refl refl ∙ sym (at-times t (λ u. not (is_within low up u)) ps)))
-  where
-    cases : (t : ℕ) (o : Option Point) → at t ps ≡ o → (x y : Bool) → gone t ≡ x → is_within low up t ≡ y → (if not x then at t ps else None) ≡ (if not y then at t ps else None)
-    cases t o e true true f g = refl
-    cases t o e true false f g = absurd (false≢true (sym g ∙ inside t f))
-    cases t None e false true f g = e
-    cases t (Some p) e false true f g = absurd (false≢true (sym f ∙ all t p e g))
-    cases t o e false false f g = refl
-
 -- ---- for a deletion
 
 -- A destination is mended after a deletion over the interval from the first start to the last: with the row of the first bucket and

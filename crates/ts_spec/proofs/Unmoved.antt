@@ -7,24 +7,9 @@ use Rattle.ts_spec.specs.Keyed.{Entry, get_in, get}
 use Rattle.ts_spec.specs.State.{Rule, Record, State, Link, rule_to, linked_or, link_in, link_to}
 use Rattle.ts_spec.specs.Rules.{is_closed, lost_by, lost_from, cleared_to}
 use Rattle.ts_spec.specs.Valid.{EachRule}
-use Rattle.ts_spec.proofs.Links.{Found, link-found}
 use Rattle.ts_spec.proofs.Tidy.{some-same}
 
 -- ---- states without rules
-
--- no record has rules
-abbrev pub HasNoRules : State → Type 0
-HasNoRules m = (k : Key) (d : Record) → get k m ≡ Some d → d.rules ≡ []
-
--- then no link leads to any key
-pub no-rules-no-link : (m : State) (k : Key) → HasNoRules m → link_to m k ≡ None
-no-rules-no-link m k h = go (link_to m k) refl
-  where
-    go : (o : Option Link) → link_to m k ≡ o → o ≡ None
-    go None x = refl
-    go (Some l) x =
-        let f : Found m.entries k l = link-found m k l x in
-        let one : None ≡ Some l.rule = sym (ap (rule_to k) (h l.source f.record_of f.there)) ∙ f.rule in absurd (cc one)
 
 -- ---- rules that do not lead to a key
 

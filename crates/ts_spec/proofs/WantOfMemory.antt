@@ -8,7 +8,7 @@ use Rattle.ts_spec.specs.Refusal.{Fault, UnknownCommand, Arity, BadTimestamp, Ba
 use Rattle.ts_spec.specs.Response as response
 use Rattle.ts_spec.specs.Response.{Item, Wrote, IsWrong, IsRefused, Response}
 use Rattle.ts_spec.specs.Answer.{Row}
-use Rattle.ts_spec.specs.Text.{Reply, Error, Array, Replies, text, fault_words, fault_text}
+use Rattle.ts_spec.specs.Text.{Reply, Error, text, fault_words, fault_text}
 use Rattle.ts_spec.specs.Replies.{fault_reply, refusal_reply, memory_reply, item_reply, last_row_reply, reply_to}
 
 -- the first byte of a text, and the second
@@ -83,9 +83,6 @@ kind-not-memory k = not-error (Error (fault_words k)) (kind-begins k)
 
 refusal-not-memory : (refusal : Refusal) → text (refusal_reply refusal) ≢ text memory_reply
 refusal-not-memory refusal = not-error (refusal_reply refusal) (refusal-begins refusal)
-
-array-not-memory : (rs : Replies) → text (Array rs) ≢ text memory_reply
-array-not-memory rs = not-sign (Array rs) 42 refl (eqb-false 42 45 refl)
 
 last-not-memory : (row : Option Row) → text (last_row_reply row) ≢ text memory_reply
 last-not-memory None = not-sign (last_row_reply None) 42 refl (eqb-false 42 45 refl)

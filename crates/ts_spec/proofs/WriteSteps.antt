@@ -1,142 +1,106 @@
 -- Writes and increments over what is kept are steps of the state.
-use Rattle.std.proofs.Common.{◌≡◌, ℕ, ℤ, ◌≤◌, Bool, nat_lt, if◌then◌else◌, List, Option, Some, None, is_some, option_map, refl, sym, ap, ◌∙◌, subst}
+use Rattle.std.proofs.Common.{◌≡◌, ℕ, ℤ, ◌≤◌, Bool, nat_lt, if◌then◌else◌, List, length, Option, Some, None, is_some, refl, sym, ap, ◌∙◌, subst, ltb-false}
+use Rattle.std.specs.Prelude.{⊤}
 use Rattle.std.specs.Option.{unwrap_or}
 use Rattle.ts_spec.specs.declared.limits.Limits.{Limits}
 use Rattle.ts_spec.specs.declared.series.Policy.{Policy}
 use Rattle.ts_spec.specs.declared.series.Merge.{Merge}
 use Rattle.ts_spec.specs.declared.series.Merge.TheVariants.{By}
 use Rattle.ts_spec.specs.Sample.{Point, last_of}
-use Rattle.ts_spec.specs.Key.{Key}
+use Rattle.ts_spec.specs.Key.{Key, same}
 use Rattle.ts_spec.specs.Keyed.{get}
-use Rattle.ts_spec.specs.State.{Record, State, Link, link_to, edge}
-use Rattle.ts_spec.specs.Rules.{shown, Merged, Refuse, Keep, To, merge, within_bound}
+use Rattle.ts_spec.specs.State.{Rule, Record, State, Link, link_to, edge}
+use Rattle.ts_spec.specs.Rules.{shown, written, Merged, Refuse, Keep, To, merge, within_bound}
 use Rattle.ts_spec.specs.Refusal.{TooOld, BeforeLast, SamplesFull, NoKey}
 use Rattle.ts_spec.specs.Command.{Spec}
 use Rattle.ts_spec.specs.Response.{Count}
-use Rattle.ts_spec.specs.Step.{Outcome, shows_more, within_samples, write_merged, value_at, unless_ignored, write, add_at, put_at, is_before_last, changed_value, increased, incr_by, incr_at}
+use Rattle.ts_spec.specs.Step.{shows_more, write_merged, value_at, write, add_at, put_at, is_before_last, changed_value, increased, incr_by, incr_at}
 use Rattle.ts_spec.specs.Ignoring.{ignored_after, ignored, kept_ignored}
 use Rattle.ts_spec.specs.Valid.{IsValid}
-use Rattle.ts_spec.specs.Kept.{Kept, Keeping, kept_record, kept}
-use Rattle.ts_spec.specs.KeptStep.{KeptOutcome, keeps_more, kept_within_samples, kept_write_merged, kept_unless_ignored, kept_write, kept_add_at, kept_put_at, kept_increased, kept_incr_by, kept_incr_at}
+use Rattle.ts_spec.specs.Kept.{Keeping, kept_record, kept}
+use Rattle.ts_spec.specs.Mending.{keep_written}
+use Rattle.ts_spec.specs.KeptStep.{keeps_more, kept_write_merged, kept_write, kept_add_at, kept_put_at, kept_increased, kept_incr_by, kept_incr_at}
 use Rattle.ts_spec.specs.Stands.{StandsFor, IsStepOf}
-use Rattle.ts_spec.proofs.Keeps.{shown-there}
-use Rattle.ts_spec.proofs.StepKeeps.{add-good, put-good, incr-good}
-use Rattle.ts_spec.proofs.KeptMaps.{Agrees, agreed, agrees-told, agrees-refused, agrees-if, agrees-destinations, kept-there, kept-missing, more-kept}
-use Rattle.ts_spec.proofs.KeptMaking.{create_with-agrees}
+use Rattle.ts_spec.proofs.Keeps.{shown-there, valid-written}
+use Rattle.ts_spec.proofs.KeptMaps.{some-mapped, more-kept}
 use Rattle.ts_spec.proofs.KeptWritten.{kept-written}
-
--- an outcome, unless the key or one of its destinations is full
-agrees-samples : (limits : Limits) (m : State) (key : Key) (done : Outcome) (kept_done : KeptOutcome) → Agrees done kept_done →
-    Agrees (within_samples limits m key done) (kept_within_samples limits (kept m) key kept_done)
-agrees-samples limits m key done kept_done a =
-    agrees-if (shows_more limits.samples done.state key) (keeps_more limits.samples kept_done.keys key) _ _ _ _
-    (sym (more-kept limits.samples done.state key) ∙ ap (λ (n : Keeping). keeps_more limits.samples n key) (sym a.keys))
-    (λ e. agrees-refused m (kept m) SamplesFull refl)
-    (λ e. agrees-destinations limits m (kept m) key done kept_done refl a)
-
-merged-agrees : (limits : Limits) (m : State) (key : Key) (d : Record) (t : ℕ) (w : Merged) → IsValid limits m → get key m ≡ Some d → Agrees (write_merged limits m key t w) (kept_write_merged limits (kept m) key t w)
-merged-agrees limits m key d t (Refuse refusal) v there = agrees-refused m (kept m) refusal refl
-merged-agrees limits m key d t Keep v there = agrees-told m (kept m) (Count t) (Count t) refl refl
-merged-agrees limits m key d t (To x) v there = agrees-samples limits m key _ _ (record { response = refl; keys = sym (kept-written limits m key d t x v there) })
-
--- ---- samples that are ignored
+use Rattle.ts_spec.proofs.CountsOn.{counts-on-written}
+use Rattle.ts_spec.proofs.Led.{IsLed, led-told, led-refused, led-unless, led-ignored, led-destinations, led-at, led-stands}
+use Rattle.ts_spec.proofs.KeptMaking.{led-created_with}
 
 -- a key ignores the same samples by what is kept of it
-ignored-kept : (m : State) (key : Key) (d : Record) (t : ℕ) (x : ℤ) → get key m ≡ Some d → ignored m key d t x ≡ kept_ignored (kept_record (link_to m key) d) t x
+ignored-kept : (m : State) (key : Key) (d : Record) (t : ℕ) (x : ℤ) → get key m ≡ Some d → kept_ignored (kept_record (link_to m key) d) t x ≡ ignored m key d t x
 ignored-kept m key d t x there =
-    ap (λ (ps : List Point). if is_some (link_to m key) then None else ignored_after d.options (last_of ps) t x) (shown-there m key d there)
-    ∙ ap (λ (b : Bool). if b then None else ignored_after d.options (last_of (kept_record (link_to m key) d).list) t x) (same_link (link_to m key))
-  where
-    same_link : (o : Option Link) → is_some o ≡ is_some (option_map (λ (l : Link). l.source) o)
-    same_link None = refl
-    same_link (Some l) = refl
+    ap (λ (b : Bool). if b then None else ignored_after d.options (last_of (kept_record (link_to m key) d).list) t x) (some-mapped (λ (l : Link). l.source) (link_to m key))
+    ∙ ap (λ (ps : List Point). if is_some (link_to m key) then None else ignored_after d.options (last_of ps) t x) (sym (shown-there m key d there))
 
--- an outcome, unless the sample is ignored
-agrees-unless : (m : State) (o p : Option ℕ) (done : Outcome) (kept_done : KeptOutcome) → o ≡ p → Agrees done kept_done → Agrees (unless_ignored m o done) (kept_unless_ignored (kept m) p kept_done)
-agrees-unless m o p done kept_done e a = subst (λ (q : Option ℕ). Agrees (unless_ignored m o done) (kept_unless_ignored (kept m) q kept_done)) e (go o)
-  where
-    go : (q : Option ℕ) → Agrees (unless_ignored m q done) (kept_unless_ignored (kept m) q kept_done)
-    go None = a
-    go (Some last) = agrees-told m (kept m) (Count last) (Count last) refl refl
+-- ---- to a key that is there
 
-increased-agrees : (limits : Limits) (m : State) (key : Key) (d : Record) (t : ℕ) (w : Merged) → IsValid limits m → get key m ≡ Some d →
-    Agrees (increased limits m key d t w) (kept_increased limits (kept m) key (kept_record (link_to m key) d) t w)
-increased-agrees limits m key d t (Refuse refusal) v there = merged-agrees limits m key d t (Refuse refusal) v there
-increased-agrees limits m key d t Keep v there = merged-agrees limits m key d t Keep v there
-increased-agrees limits m key d t (To x) v there =
-    agrees-unless m (ignored m key d t x) (kept_ignored (kept_record (link_to m key) d) t x) _ _ (ignored-kept m key d t x there) (merged-agrees limits m key d t (To x) v there)
+module _ {Room : Type 0} {Known : Key → Key → Rule → Type 0} (limits : Limits) (m : State) (v : IsValid limits m) (key : Key) (d : Record) (there : get key m ≡ Some d) where
+  led-merged : (t : ℕ) (w : Merged) → IsLed limits Room (λ k. same k key) Known m (write_merged limits m key t w) (kept_write_merged limits (kept m) key t w)
+  led-merged t (Refuse refusal) = led-refused limits m v refusal
+  led-merged t Keep = led-told limits m v (Count t) (Count t) refl
+  led-merged t (To x) =
+      let keys : keep_written key t x (kept m) ≡ kept (written key t x m) = sym (kept-written limits m key d t x v there) in
+      led-unless limits m v (shows_more limits.samples (written key t x m) key) _ SamplesFull _ _
+      (ap (λ (n : Keeping). keeps_more limits.samples n key) keys ∙ more-kept limits.samples (written key t x m) key)
+      (λ few. led-destinations limits m v key d _ _ there keys
+      (λ dests. record {
+        is_step = λ room. record {
+          response = refl;
+          stands = record { valid = valid-written limits m key d t x v there (ltb-false limits.samples (length (shown (written key t x m) key)) few) dests; kept = keys };
+        };
+        counts = λ s k old other known h. counts-on-written limits m s k key old d t x v there other h;
+      }))
 
--- ---- writes
+  led-write : (how : Merge) (t : ℕ) (x : ℤ) → IsLed limits Room (λ k. same k key) Known m (write limits m key d how t x) (kept_write limits (kept m) key (kept_record (link_to m key) d) how t x)
+  led-write how t x =
+      led-unless limits m v (nat_lt t (edge d)) _ TooOld _ _ refl
+      (λ e. led-ignored limits m v _ _ _ _ (ignored-kept m key d t x there)
+      (rw (← shown-there m key d there) (led-merged t (merge how (value_at t (shown m key)) x))))
 
-write-agrees : (limits : Limits) (m : State) (key : Key) (d : Record) (how : Merge) (t : ℕ) (x : ℤ) → IsValid limits m → get key m ≡ Some d →
-    Agrees (write limits m key d how t x) (kept_write limits (kept m) key (kept_record (link_to m key) d) how t x)
-write-agrees limits m key d how t x v there =
-    agrees-if (nat_lt t (edge d)) (nat_lt t (edge d)) _ _ _ _ refl
-    (λ e. agrees-refused m (kept m) TooOld refl)
-    (λ e. agrees-unless m (ignored m key d t x) (kept_ignored (kept_record (link_to m key) d) t x) _ _ (ignored-kept m key d t x there)
-    (subst (λ (ps : List Point). Agrees (write_merged limits m key t (merge how (value_at t (shown m key)) x)) (kept_write_merged limits (kept m) key t (merge how (value_at t ps) x)))
-    (shown-there m key d there)
-    (merged-agrees limits m key d t (merge how (value_at t (shown m key)) x) v there)))
+  led-increased : (t : ℕ) (w : Merged) → IsLed limits Room (λ k. same k key) Known m (increased limits m key d t w) (kept_increased limits (kept m) key (kept_record (link_to m key) d) t w)
+  led-increased t (Refuse refusal) = led-merged t (Refuse refusal)
+  led-increased t Keep = led-merged t Keep
+  led-increased t (To x) = led-ignored limits m v _ _ _ _ (ignored-kept m key d t x there) (led-merged t (To x))
+
+  led-incr_by : (x : ℤ) (t : ℕ) → IsLed limits Room (λ k. same k key) Known m (incr_by limits m key d x t (last_of (shown m key))) (kept_incr_by limits (kept m) key (kept_record (link_to m key) d) x t (last_of (kept_record (link_to m key) d).list))
+  led-incr_by x t =
+      subst (λ (ps : List Point). IsLed limits Room (λ k. same k key) Known m (incr_by limits m key d x t (last_of (shown m key))) (kept_incr_by limits (kept m) key (kept_record (link_to m key) d) x t (last_of ps)))
+      (shown-there m key d there)
+      (led-unless limits m v (is_before_last t (last_of (shown m key))) _ BeforeLast _ _ refl
+      (λ e. led-unless limits m v (nat_lt t (edge d)) _ TooOld _ _ refl (λ y. led-increased t (within_bound (changed_value x (last_of (shown m key)))))))
 
 -- ---- the commands, by the record at the key
 
--- a command on the record at a key agrees where it does for none and for some
-at-record : (m : State) (key : Key) (f : Option Record → Outcome) (g : Option Kept → KeptOutcome) → (get key m ≡ None → Agrees (f None) (g None)) →
-    ((d : Record) → get key m ≡ Some d → Agrees (f (Some d)) (g (Some (kept_record (link_to m key) d)))) → Agrees (f (get key m)) (g (get key (kept m)))
-at-record m key f g none some = go (get key m) refl
-  where
-    go : (o : Option Record) → get key m ≡ o → Agrees (f o) (g (get key (kept m)))
-    go None e = subst (λ (q : Option Kept). Agrees (f None) (g q)) (sym (kept-missing m key e)) (none e)
-    go (Some d) e = subst (λ (q : Option Kept). Agrees (f (Some d)) (g q)) (sym (kept-there m key d e)) (some d e)
+module _ {Room : Type 0} {Known : Key → Key → Rule → Type 0} (limits : Limits) (m : State) (v : IsValid limits m) where
+  pub led-put : (key : Key) (t : ℕ) (x : ℤ) → IsLed limits Room (λ k. same k key) Known m (put_at limits m key t x (get key m)) (kept_put_at limits (kept m) key t x (get key (kept m)))
+  led-put key t x =
+      led-at limits m v key (put_at limits m key t x) (kept_put_at limits (kept m) key t x) (λ e. led-refused limits m v NoKey)
+      (λ d there. led-write limits m v key d there (By d.options.policy) t x)
 
-pub add-agrees : (limits : Limits) (m : State) (key : Key) (t : ℕ) (x : ℤ) (on : Option Policy) (spec : Spec) → IsValid limits m →
-    Agrees (add_at limits m key t x on spec (get key m)) (kept_add_at limits (kept m) key t x on spec (get key (kept m)))
-add-agrees limits m key t x on spec v =
-    at-record m key (add_at limits m key t x on spec) (kept_add_at limits (kept m) key t x on spec)
-    (λ e. create_with-agrees limits m key spec t x v.linked e)
-    (λ d e. write-agrees limits m key d (By (unwrap_or on d.options.policy)) t x v e)
+  pub led-add : (key : Key) (t : ℕ) (x : ℤ) (on : Option Policy) (spec : Spec) → (Room → 1 ≤ limits.samples) →
+      IsLed limits Room (λ k. same k key) Known m (add_at limits m key t x on spec (get key m)) (kept_add_at limits (kept m) key t x on spec (get key (kept m)))
+  led-add key t x on spec room =
+      led-at limits m v key (add_at limits m key t x on spec) (kept_add_at limits (kept m) key t x on spec) (λ e. led-created_with limits m v key spec t x room e)
+      (λ d there. led-write limits m v key d there (By (unwrap_or on d.options.policy)) t x)
 
-pub put-agrees : (limits : Limits) (m : State) (key : Key) (t : ℕ) (x : ℤ) → IsValid limits m →
-    Agrees (put_at limits m key t x (get key m)) (kept_put_at limits (kept m) key t x (get key (kept m)))
-put-agrees limits m key t x v =
-    at-record m key (put_at limits m key t x) (kept_put_at limits (kept m) key t x)
-    (λ e. agrees-refused m (kept m) NoKey refl)
-    (λ d e. write-agrees limits m key d (By d.options.policy) t x v e)
-
-incr_by-agrees : (limits : Limits) (m : State) (key : Key) (d : Record) (x : ℤ) (t : ℕ) (last : Option Point) → IsValid limits m → get key m ≡ Some d →
-    Agrees (incr_by limits m key d x t last) (kept_incr_by limits (kept m) key (kept_record (link_to m key) d) x t last)
-incr_by-agrees limits m key d x t last v there =
-    agrees-if (is_before_last t last) (is_before_last t last) _ _ _ _ refl
-    (λ e. agrees-refused m (kept m) BeforeLast refl)
-    (λ e. agrees-if (nat_lt t (edge d)) (nat_lt t (edge d)) _ _ _ _ refl
-    (λ y. agrees-refused m (kept m) TooOld refl)
-    (λ y. increased-agrees limits m key d t (within_bound (changed_value x last)) v there))
-
-pub incr-agrees : (limits : Limits) (m : State) (key : Key) (x : ℤ) (t : ℕ) (spec : Spec) → IsValid limits m →
-    Agrees (incr_at limits m key x t spec (get key m)) (kept_incr_at limits (kept m) key x t spec (get key (kept m)))
-incr-agrees limits m key x t spec v =
-    at-record m key (incr_at limits m key x t spec) (kept_incr_at limits (kept m) key x t spec)
-    (λ e. create_with-agrees limits m key spec t x v.linked e)
-    (λ d e. subst (λ (ps : List Point). Agrees (incr_by limits m key d x t (last_of (shown m key))) (kept_incr_by limits (kept m) key (kept_record (link_to m key) d) x t (last_of ps)))
-    (shown-there m key d e)
-    (incr_by-agrees limits m key d x t (last_of (shown m key)) v e))
+  pub led-incr : (key : Key) (x : ℤ) (t : ℕ) (spec : Spec) → (Room → 1 ≤ limits.samples) →
+      IsLed limits Room (λ k. same k key) Known m (incr_at limits m key x t spec (get key m)) (kept_incr_at limits (kept m) key x t spec (get key (kept m)))
+  led-incr key x t spec room =
+      led-at limits m v key (incr_at limits m key x t spec) (kept_incr_at limits (kept m) key x t spec) (λ e. led-created_with limits m v key spec t x room e)
+      (λ d there. led-incr_by limits m v key d there x t)
 
 -- ---- the same of each state that is stood for
 
 pub add-step : (limits : Limits) (keys : Keeping) (m : State) (key : Key) (t : ℕ) (x : ℤ) (on : Option Policy) (spec : Spec) → 1 ≤ limits.samples → StandsFor limits keys m →
     IsStepOf limits (add_at limits m key t x on spec (get key m)) (kept_add_at limits keys key t x on spec (get key keys))
-add-step limits keys m key t x on spec room s =
-    agreed limits (add_at limits m key t x on spec (get key m)) (kept_add_at limits keys key t x on spec (get key keys)) (add-good limits m key t x on spec (get key m) room s.valid refl)
-    (subst (λ (n : Keeping). Agrees (add_at limits m key t x on spec (get key m)) (kept_add_at limits n key t x on spec (get key n))) (sym s.kept) (add-agrees limits m key t x on spec s.valid))
+add-step limits keys m key t x on spec room s = led-stands limits keys m s (λ n. kept_add_at limits n key t x on spec (get key n)) room (led-add limits m s.valid key t x on spec (λ r. r))
 
 pub put-step : (limits : Limits) (keys : Keeping) (m : State) (key : Key) (t : ℕ) (x : ℤ) → StandsFor limits keys m →
     IsStepOf limits (put_at limits m key t x (get key m)) (kept_put_at limits keys key t x (get key keys))
-put-step limits keys m key t x s =
-    agreed limits (put_at limits m key t x (get key m)) (kept_put_at limits keys key t x (get key keys)) (put-good limits m key t x (get key m) s.valid refl)
-    (subst (λ (n : Keeping). Agrees (put_at limits m key t x (get key m)) (kept_put_at limits n key t x (get key n))) (sym s.kept) (put-agrees limits m key t x s.valid))
+put-step limits keys m key t x s = led-stands limits keys m s {Room = ⊤} (λ n. kept_put_at limits n key t x (get key n)) tt (led-put limits m s.valid key t x)
 
 pub incr-step : (limits : Limits) (keys : Keeping) (m : State) (key : Key) (x : ℤ) (t : ℕ) (spec : Spec) → 1 ≤ limits.samples → StandsFor limits keys m →
     IsStepOf limits (incr_at limits m key x t spec (get key m)) (kept_incr_at limits keys key x t spec (get key keys))
-incr-step limits keys m key x t spec room s =
-    agreed limits (incr_at limits m key x t spec (get key m)) (kept_incr_at limits keys key x t spec (get key keys)) (incr-good limits m key x t spec (get key m) room s.valid refl)
-    (subst (λ (n : Keeping). Agrees (incr_at limits m key x t spec (get key m)) (kept_incr_at limits n key x t spec (get key n))) (sym s.kept) (incr-agrees limits m key x t spec s.valid))
+incr-step limits keys m key x t spec room s = led-stands limits keys m s (λ n. kept_incr_at limits n key x t spec (get key n)) room (led-incr limits m s.valid key x t spec (λ r. r))

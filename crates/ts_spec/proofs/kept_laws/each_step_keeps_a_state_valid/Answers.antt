@@ -1,4 +1,5 @@
-use Rattle.ts_spec.proofs.StepKeeps.{empty-valid, step-valid}
+use Rattle.ts_spec.proofs.Allowed.{empty-valid}
+use Rattle.ts_spec.proofs.KeptSteps.{step-valid}
 use Rattle.ts_spec.proofs.kept_laws.each_step_keeps_a_state_valid.Goals as goal
 
 pub returns : goal.returns
