@@ -1,6 +1,6 @@
 -- What a single aggregator keeps, with one more sample at the end of the list.
-use Rattle.std.proofs.Common.{◌≡◌, ℕ, zero, suc, ◌+◌, ◌<◌, refl, sym, ◌∙◌, ap, arith, List, [], ◌∷◌, ◌++◌, length, length-append}
-use Rattle.std.specs.Prelude.{ℤ, ◌+ℤ◌, int_lt, if◌then◌else◌}
+use Rattle.std.proofs.Common.{◌≡◌, ℕ, zero, suc, ◌+◌, ◌<◌, refl, sym, ◌∙◌, ap, arith, List, [], ◌∷◌, ◌++◌, length-append}
+use Rattle.std.specs.Prelude.{ℤ, int_lt, if◌then◌else◌}
 use Rattle.ts_spec.specs.declared.bucket.Aggregator.{Aggregator}
 use Rattle.ts_spec.specs.declared.bucket.Aggregator.TheVariants as agg
 use Rattle.ts_spec.specs.Sample.{Point}

@@ -12,11 +12,11 @@ pub group_written : (written : List ℕ) (n : ℕ) → 128 ≤ n → (written ++
 group_written written n large =
     append_assoc written ((128 + n % 128) ∷ []) (number (n / 128)) ∙ ap (λ (l : List ℕ). written ++ l) (sym (number-large n large))
 
-pub length-large : (n : ℕ) → 128 ≤ n → length (number n) ≡ suc (length (number (n / 128)))
-length-large n large = ap length (number-large n large)
+pub length_large : (n : ℕ) → 128 ≤ n → length (number n) ≡ suc (length (number (n / 128)))
+length_large n large = ap length (number-large n large)
 
-pub length-small : (n : ℕ) → n < 128 → length (number n) ≡ 1
-length-small n small = ap length (number-small n small)
+pub length_small : (n : ℕ) → n < 128 → length (number n) ≡ 1
+length_small n small = ap length (number-small n small)
 
 -- ---- reading
 

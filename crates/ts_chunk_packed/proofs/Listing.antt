@@ -38,10 +38,6 @@ length_from s zero bytes = refl
 length_from s (suc n) bytes = ap suc (length_from (next s (sample_of s bytes).0) n (sample_of s bytes).1)
 
 -- so many samples are read as are asked for
-pub length-samples_of : (n : ℕ) (bytes : List ℕ) → length (samples_of n bytes) ≡ n
-unfolding samples_of decoded
-length-samples_of n bytes = length_from begin n bytes
-
 -- ---- the state after samples
 
 ends_of : (s : State) (p : Point) (ps : List Point) → (state_from s (p ∷ ps)).before ≡ later_or p (last_of ps)

@@ -3,35 +3,14 @@ use Rattle.std.proofs.Common.{◌≡◌, ℕ, ◌+◌, ◌*◌, ◌-◌, ◌<◌
 use Rattle.std.specs.Prelude.{Option, None, Some, nat_le, unwrap_or, is_some}
 use Rattle.std.proofs.lemmas.Bool.Decides.{nat_tests}
 use Rattle.std.proofs.lemmas.Int.{ints}
-use Rattle.ts_spec.specs.Sample.{Point, MAX_TIME, IsAfter, IsAscending, first_of, last_of, later_or}
+use Rattle.ts_spec.specs.Sample.{Point, MAX_TIME, first_of, last_of}
 use Rattle.ts_sample.specs.Sample.{IsFine}
-use Rattle.ts_sample.specs.Chunk.{AreFine, IsChunk, IsLimit, IsPast}
+use Rattle.ts_sample.specs.Chunk.{IsChunk, IsLimit, IsPast}
+use Rattle.ts_sample.proofs.Lists.{fine-append, ascending-push, last-push}
 use Rattle.ts_chunk_packed.specs.Chunk.{Samples, IsFirst, IsPacked}
 use Rattle.ts_chunk_packed.specs.Laws.{IsKnown, most_coded, three_or_more}
 use Rattle.ts_chunk_packed.specs.Packed.{State, begin, next, coded, packed, state_from, samples_of, decoded}
 use Rattle.ts_chunk_packed.proofs.Listing.{samples_back, state_is, past_before, all_known, packed-push, state-push}
-
-fine-push : (ps : List Point) (p : Point) → AreFine ps → IsFine p → AreFine (ps ++ p ∷ [])
-fine-push [] p all fine = (fine, tt)
-fine-push (q ∷ ps) p all fine = (all.0, fine-push ps p all.1 fine)
-
-after-push : (t : ℕ) (ps : List Point) (p : Point) → IsAfter t ps → t < p.time → IsAfter t (ps ++ p ∷ [])
-after-push t [] p after later = (later, tt)
-after-push t (q ∷ ps) p after later = (after.0, after-push t ps p after.1 later)
-
--- a time past the last sample is past the first
-past_first : (q : Point) (ps : List Point) (t : ℕ) → IsAscending (q ∷ ps) → IsPast (last_of (q ∷ ps)) t → q.time < t
-past_first q [] t rises past = past
-past_first q (r ∷ ps) t rises past = omega (arith, rises.0.0, past_first r ps t rises.1 past)
-
-past_rest : (q : Point) (ps : List Point) (t : ℕ) → IsPast (last_of (q ∷ ps)) t → IsPast (last_of ps) t
-past_rest q [] t past = tt
-past_rest q (r ∷ ps) t past = past
-
-ascending-push : (ps : List Point) (p : Point) → IsAscending ps → IsPast (last_of ps) p.time → IsAscending (ps ++ p ∷ [])
-ascending-push [] p rises past = (tt, tt)
-ascending-push (q ∷ ps) p rises past =
-    (after-push q.time ps p rises.0 (past_first q ps p.time rises past), ascending-push ps p rises.1 (past_rest q ps p.time past))
 
 first-push : (q head : Point) (ps : List Point) (p : Point) → IsFirst q ps → (length ps ≡ 0 → head ≡ p) → (0 < length ps → head ≡ q) → IsFirst head (ps ++ p ∷ [])
 first-push q head [] p is none some = none refl
@@ -44,10 +23,6 @@ no_first (p ∷ ps) none = absurd (omega (arith, none))
 one_first : (q : Point) (ps : List Point) → IsFirst q ps → 0 < length ps → Some q ≡ first_of ps
 one_first q [] is some = absurd (omega arith)
 one_first q (p ∷ ps) is some = ap Some is
-
-last-push : (ps : List Point) (p : Point) → last_of (ps ++ p ∷ []) ≡ Some p
-last-push [] p = refl
-last-push (q ∷ ps) p = ap (λ o. Some (later_or q o)) (last-push ps p)
 
 -- no bytes are a chunk without samples
 pub empty : (limit capacity : ℕ) (written : List ℕ) (begins : Point) → written ≡ [] → IsLimit limit → limit ≤ capacity → IsPacked limit capacity written 0 0 begins None
@@ -67,7 +42,7 @@ unfolding samples_of decoded
 no_samples written = refl
 
 -- what a chunk knows of its samples
-module _ (limit capacity : ℕ) (written : List ℕ) (count step : ℕ) (begins : Point) (ends : Option Point) (was : IsPacked limit capacity written count step begins ends) where
+module _ {limit capacity : ℕ} {written : List ℕ} {count step : ℕ} {begins : Point} {ends : Option Point} (was : IsPacked limit capacity written count step begins ends) where
   abbrev pub list : List Point
   list = samples_of count written
 
@@ -77,16 +52,16 @@ module _ (limit capacity : ℕ) (written : List ℕ) (count step : ℕ) (begins 
   pub step_within : step ≤ MAX_TIME
   step_within = omega (arith, ints, was.step, known.to)
 
-  pub state : (now : Samples) → (record { limit = limit; list = list }) ≡ now
+  pub state : {now : Samples} → (record { limit = limit; list = list }) ≡ now
       → (record { before = unwrap_or ends begin.before; step = pos step; begun = is_some ends }) ≡ state_from begin now.list
-  state now is =
+  state {now} is =
       (λ i. record { before = unwrap_or (was.last i) begin.before; step = was.step i; begun = is_some (was.last i) }) ∙ state_is list ∙ ap (λ (x : Samples). state_from begin x.list) is
 
-  pub none_first : (now : Samples) → (record { limit = limit; list = list }) ≡ now → count ≡ 0 → None ≡ first_of now.list
-  none_first now is none = no_first list (omega (arith, was.count, none)) ∙ ap (λ (x : Samples). first_of x.list) is
+  pub none_first : {now : Samples} → (record { limit = limit; list = list }) ≡ now → count ≡ 0 → None ≡ first_of now.list
+  none_first {now} is none = no_first list (omega (arith, was.count, none)) ∙ ap (λ (x : Samples). first_of x.list) is
 
-  pub some_first : (now : Samples) → (record { limit = limit; list = list }) ≡ now → 0 < count → Some begins ≡ first_of now.list
-  some_first now is some = one_first begins list was.first (omega (arith, was.count, some)) ∙ ap (λ (x : Samples). first_of x.list) is
+  pub some_first : {now : Samples} → (record { limit = limit; list = list }) ≡ now → 0 < count → Some begins ≡ first_of now.list
+  some_first {now} is some = one_first begins list was.first (omega (arith, was.count, some)) ∙ ap (λ (x : Samples). first_of x.list) is
 
   -- the bytes with one sample more
   pub with_more : (p : Point) → written ++ coded (state_from begin list) p ≡ packed (list ++ p ∷ [])
@@ -102,27 +77,27 @@ module _ (limit capacity : ℕ) (written : List ℕ) (count step : ℕ) (begins 
   few = omega (arith, three_or_more list, was.chunk.fits, was.count)
 
   -- where there is room for the widest sample, any fits
-  pub surely_fits : (now : Samples) → (record { limit = limit; list = list }) ≡ now → (p : Point) → IsFine p → IsPast (last_of now.list) p.time → 27 + length written ≤ limit
+  pub surely_fits : {now : Samples} → (record { limit = limit; list = list }) ≡ now → (p : Point) → IsFine p → IsPast (last_of now.list) p.time → 27 + length written ≤ limit
       → true ≡ nat_le (length (packed (now.list ++ p ∷ []))) now.limit
-  surely_fits now is p fine past room =
+  surely_fits {now} is p fine past room =
       let here : IsPast (last_of list) p.time = subst (λ (x : Samples). IsPast (last_of x.list) p.time) (sym is) past in
       let wide : length (packed (list ++ p ∷ [])) ≤ limit = omega (arith, length_more p, most_coded (state_from begin list) p known fine (past_before list p.time here)) in
       let test : true ≡ nat_le (length (packed (list ++ p ∷ []))) limit = grind (arith, nat_tests) in
       test ∙ ap (λ (x : Samples). nat_le (length (packed (x.list ++ p ∷ []))) x.limit) is
 
   -- where its bytes fit beside those that there are, it fits
-  pub fits_more : (now : Samples) → (record { limit = limit; list = list }) ≡ now → (p : Point) (width : ℕ) → width ≡ length (coded (state_from begin now.list) p)
+  pub fits_more : {now : Samples} → (record { limit = limit; list = list }) ≡ now → (p : Point) (width : ℕ) → width ≡ length (coded (state_from begin now.list) p)
       → nat_le width (limit - length written) ≡ nat_le (length (packed (now.list ++ p ∷ []))) now.limit
-  fits_more now is p width exact =
+  fits_more {now} is p width exact =
       let same : width ≡ length (coded (state_from begin list) p) = exact ∙ ap (λ (x : Samples). length (coded (state_from begin x.list) p)) (sym is) in
       let test : nat_le width (limit - length written) ≡ nat_le (length (packed (list ++ p ∷ []))) limit = grind (arith, nat_tests, length_more p, written_within) in
       test ∙ ap (λ (x : Samples). nat_le (length (packed (x.list ++ p ∷ []))) x.limit) is
 
-  pub later : (now : Samples) → (record { limit = limit; list = list }) ≡ now → (t : ℕ) → IsPast (last_of now.list) t → (state_from begin now.list).before.time ≤ t
-  later now is t past = past_before now.list t past
+  pub later : {now : Samples} → (record { limit = limit; list = list }) ≡ now → (t : ℕ) → IsPast (last_of now.list) t → (state_from begin now.list).before.time ≤ t
+  later {now} is t past = past_before now.list t past
 
   -- what is said of the view, said of the fields
-  module _ (now : Samples) (is : (record { limit = limit; list = list }) ≡ now) where
+  module _ {now : Samples} (is : (record { limit = limit; list = list }) ≡ now) where
     pub state_here : (s : State) → s ≡ state_from begin now.list → s ≡ state_from begin list
     state_here s same = same ∙ ap (λ (x : Samples). state_from begin x.list) (sym is)
 
@@ -148,7 +123,7 @@ module _ (limit capacity : ℕ) (written : List ℕ) (count step : ℕ) (begins 
     packed-pushed grown after far head more is step_is none some =
         let all : samples_of (count + 1) after ≡ list ++ p ∷ [] = ap (samples_of (count + 1)) is ∙ list-pushed in
         let chunk : IsChunk packed limit (list ++ p ∷ []) =
-        record { bounds = was.chunk.bounds; ascending = ascending-push list p was.chunk.ascending past; fine = fine-push list p was.chunk.fine fine; fits = fits } in
+        record { bounds = was.chunk.bounds; ascending = ascending-push list p was.chunk.ascending past; fine = fine-append list (p ∷ []) was.chunk.fine (fine, tt); fits = fits } in
         record {
           chunk = subst (IsChunk packed limit) (sym all) chunk;
           room = omega (arith, was.room);

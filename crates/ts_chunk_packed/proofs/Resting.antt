@@ -93,7 +93,7 @@ module _ (s : State) (n : ℕ) (bytes : List ℕ) where
     }
 
 -- the same of a count that is not 0
-module _ (s : State) (count : ℕ) (bytes : List ℕ) (some : 0 < count) (left : IsLeft s count bytes) where
+module _ {s : State} {count : ℕ} {bytes : List ℕ} (some : 0 < count) (left : IsLeft s count bytes) where
   is_more : count ≡ suc (count - 1)
   is_more = omega (arith, some)
 
@@ -104,7 +104,7 @@ module _ (s : State) (count : ℕ) (bytes : List ℕ) (some : 0 < count) (left :
   follows = follows_it s (count - 1) bytes left_more
 
   -- the sample that is read, and the bytes after it
-  module _ (p : Point) (after : List ℕ) (first_is : p ≡ (sample_of s bytes).0) (after_is : after ≡ (sample_of s bytes).1) where
+  module _ {p : Point} {after : List ℕ} (first_is : p ≡ (sample_of s bytes).0) (after_is : after ≡ (sample_of s bytes).1) where
     pub no_earlier : s.before.time ≤ p.time
     no_earlier = subst (λ (q : Point). s.before.time ≤ q.time) (sym first_is) (not_earlier s (count - 1) bytes left_more)
 

@@ -6,15 +6,16 @@ use Rattle.std.proofs.lemmas.List.{take_all, take-append-drop, drop_at, length-d
 use Rattle.std.proofs.lemmas.List.Filters.{length-filter_both}
 use Rattle.ts_spec.specs.Sample.{Point, IsAscending, at_times, is_within, between}
 use Rattle.ts_sample.specs.Chunk.{AreFine}
+use Rattle.ts_sample.proofs.Lists.{ascending-left, ascending-right, past-before, fine-left, fine-right}
 use Rattle.ts_chunk_packed.specs.Chunk.{Samples, IsMarked}
 use Rattle.ts_chunk_packed.specs.Laws.{IsKnown}
 use Rattle.ts_chunk_packed.specs.Marks.{Marked, IsMark, AreMarks}
 use Rattle.ts_chunk_packed.specs.Packed.{State, begin, next, packed_from, packed, state_from, samples_of}
 use Rattle.ts_chunk_packed.specs.Reading.{StartsFrom}
 use Rattle.ts_chunk_packed.specs.Rest.{Left, IsLeft, IsRestOf, IsRestPast, IsRestFrom, AreBefore, samples_from}
-use Rattle.ts_chunk_packed.proofs.Appending.{packed-append, state-append, fine-front, fine-back, ascending-front, ascending-back}
+use Rattle.ts_chunk_packed.proofs.Appending.{packed-append, state-append}
 use Rattle.ts_chunk_packed.proofs.Listing.{all_known, past_before}
-use Rattle.ts_chunk_packed.proofs.Joining.{past-before, list_is, written_is, count_is, fine, rises}
+use Rattle.ts_chunk_packed.proofs.Joining.{list_is, written_is, count_is, fine, rises}
 use Rattle.ts_chunk_packed.proofs.Resting.{is_left, samples_are, all_are, all_left, parts_of}
 
 -- ---- samples before a time
@@ -55,7 +56,7 @@ module _ (all : List Point) (r q : Left) (of : IsRestOf all r) where
   }
 
   rises_rest : IsAscending all → IsAscending r.list
-  rises_rest rises = ascending-back of.front r.list (subst IsAscending of.whole rises)
+  rises_rest rises = ascending-right of.front r.list (subst IsAscending of.whole rises)
 
   pub times_passed : (time : ℕ) → IsAscending all → q.list ≡ at_times (nat_le time) r.list → q.state ≡ state_from r.state (at_times (λ n. nat_lt n time) r.list) → IsRestOf all q
   times_passed time rises list known =
@@ -69,7 +70,7 @@ module _ (all : List Point) (r q : Left) (of : IsRestOf all r) where
   shorter = omega (arith, ap length of.whole, length-append of.front r.list)
 
 -- with all before a time passed
-pub rest_at : (time : ℕ) (all : List Point) → IsAscending all → (r : Left) → r.list ≡ at_times (nat_le time) all → r.state ≡ state_from begin (at_times (λ n. nat_lt n time) all) → IsRestOf all r
+abbrev pub rest_at : (time : ℕ) (all : List Point) → IsAscending all → (r : Left) → r.list ≡ at_times (nat_le time) all → r.state ≡ state_from begin (at_times (λ n. nat_lt n time) all) → IsRestOf all r
 rest_at time all rises r list known = record {
   front = at_times (λ n. nat_lt n time) all;
   whole = sym (ap (λ (l : List Point). at_times (λ n. nat_lt n time) all ++ l) list ∙ parts_of time all rises);
@@ -130,9 +131,9 @@ module _ (all : List Point) (m : Marked) (is : IsMark all m) (written : List ℕ
     pub left_of : IsLeft s (many - m.count) left
     left_of =
         is_left s (many - m.count) left back left_count left_are
-        (subst IsKnown (sym there) (all_known front (fine-front front back fine_both) (ascending-front front back rises_both)))
-        (fine-back front back fine_both)
-        (ascending-back front back rises_both)
+        (subst IsKnown (sym there) (all_known front (fine-left front back fine_both) (ascending-left front back rises_both)))
+        (fine-right front back fine_both)
+        (ascending-right front back rises_both)
         (subst (λ (x : State). StartsFrom x.before.time back) (sym there) (starts back rises_both))
 
     pub rest_past : (r : Left) → r.state ≡ s → r.list ≡ samples_from s (many - m.count) left → IsRestPast m.count all r
@@ -150,7 +151,7 @@ module _ (all : List Point) (n : ℕ) (r : Left) (past : IsRestPast n all r) whe
   pub rest_from : (time : ℕ) → IsAscending all → (state_from begin (take n all)).before.time < time → IsRestFrom time all r
   rest_from time up early = record {
     rest = rest_of;
-    before = early_from begin (take n all) time (ascending-front (take n all) (drop n all) (subst IsAscending (sym (take-append-drop n all)) up)) early;
+    before = early_from begin (take n all) time (ascending-left (take n all) (drop n all) (subst IsAscending (sym (take-append-drop n all)) up)) early;
   }
 
 -- what holds anyhow holds where there is no mark
@@ -166,29 +167,29 @@ rest_either mark time all r up (Some x) is early none past =
     rest_from all (mark x).count r past time up (subst (λ (s : State). s.before.time < time) is.state early)
 
 -- the same of a chunk's fields
-module _ (limit capacity : ℕ) (written : List ℕ) (many far : ℕ) (begins : Point) (ends : Option Point) (places : List Marked) (was : IsMarked limit capacity written many far begins ends places) (now : Samples)
-    (is : (record { limit = limit; list = samples_of many written }) ≡ now) where
+module _ {limit capacity : ℕ} {written : List ℕ} {many far : ℕ} {begins : Point} {ends : Option Point} {places : List Marked} (was : IsMarked limit capacity written many far begins ends places)
+    {now : Samples} (is : (record { limit = limit; list = samples_of many written }) ≡ now) where
   list_here : samples_of many written ≡ now.list
-  list_here = list_is limit capacity written many far begins ends was.packed now is
+  list_here = list_is was.packed is
 
   pub list_rises : IsAscending now.list
-  list_rises = rises limit capacity written many far begins ends was.packed now is
+  list_rises = rises was.packed is
 
   pub marks_are : AreMarks now.list places
   marks_are = subst (λ (l : List Point). AreMarks l places) list_here was.marks
 
   module _ (m : Marked) (mark : IsMark now.list m) where
     bytes_here : written ≡ packed now.list
-    bytes_here = written_is limit capacity written many far begins ends was.packed now is
+    bytes_here = written_is was.packed is
 
     count_here : many ≡ length now.list
-    count_here = count_is limit capacity written many far begins ends was.packed now is
+    count_here = count_is was.packed is
 
     fine_here : AreFine now.list
-    fine_here = fine limit capacity written many far begins ends was.packed now is
+    fine_here = fine was.packed is
 
     rises_here : IsAscending now.list
-    rises_here = rises limit capacity written many far begins ends was.packed now is
+    rises_here = rises was.packed is
 
     pub mark_count : m.count ≤ many
     mark_count = count_within now.list m mark written many bytes_here count_here fine_here rises_here

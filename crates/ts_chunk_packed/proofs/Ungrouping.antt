@@ -105,9 +105,6 @@ module _ (limit : ℕ) (bytes : List ℕ) (i sum weight : ℕ) (inside : i < len
       let one : weight * 128 * 1 ≤ weight * 128 * (number_of left).0 = mul-le-mul_left (weight * 128) (rest_begins limit byte left here.begins more).1 in
       omega (arith, worth_of more, here.below)
 
-  pub last_below : byte < 128 → sum + byte * weight < limit
-  last_below last = omega (arith, number_done last, here.below)
-
   -- The same of a sum below its weight, where one more byte fits 63 bits beside it
   pub small_still : get_or bytes i 0 < 256 → sum < weight → sum + (byte - 128) * weight < weight * 128
   small_still octet small =

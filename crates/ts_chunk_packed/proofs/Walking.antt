@@ -88,7 +88,7 @@ module _ {V : Type 0} (step : V → Point → V) (room : V → ℕ) (lowers : (v
   pub at_most_one : length (between from to (p ∷ rest)) ≤ length (between from to rest) + 1
   at_most_one = omega (arith, ap length both, one_more (nat_le from p.time))
 
-module _ {V : Type 0} (step : V → Point → V) (room : V → ℕ) (lowers : (v : V) (p : Point) → room v ≤ room (step v p) + 1) (from to : ℕ) (begins : V) (all : List Point) (before : ℕ) where
+module _ {V : Type 0} {step : V → Point → V} {room : V → ℕ} (lowers : (v : V) (p : Point) → room v ≤ room (step v p) + 1) {from to : ℕ} {begins : V} {all : List Point} {before : ℕ} where
   pub begun : (s : State) (count : ℕ) (left : List ℕ) → IsLeft s count left → samples_from s count left ≡ all → length (between from to all) ≤ room begins
       → Walked step room from to begins begins all all s left before before 0
   begun s count left is list enough = record {
@@ -104,7 +104,7 @@ module _ {V : Type 0} (step : V → Point → V) (room : V → ℕ) (lowers : (v
   }
 
   -- at the sample of an index
-  module _ (i : ℕ) (now : V) (s : State) (left : List ℕ) (steps : ℕ) (inside : i < length all) (walk : Walked step room from to begins now all (drop i all) s left before steps i) where
+  module _ {i : ℕ} {now : V} {s : State} {left : List ℕ} {steps : ℕ} (inside : i < length all) (walk : Walked step room from to begins now all (drop i all) s left before steps i) where
     abbrev pub p : Point
     p = get_or all i begin.before
 
@@ -135,7 +135,7 @@ module _ {V : Type 0} (step : V → Point → V) (room : V → ℕ) (lowers : (v
     }
 
     -- of the sample that is read there
-    module _ (q : Point) (others : List ℕ) (first : q ≡ (sample_of s left).0) (after : others ≡ (sample_of s left).1) where
+    module _ {q : Point} {others : List ℕ} (first : q ≡ (sample_of s left).0) (after : others ≡ (sample_of s left).1) where
       q_is : q ≡ p
       q_is = first ∙ ap (λ (r : Point × List ℕ). r.0) read
 
@@ -162,8 +162,8 @@ module _ {V : Type 0} (step : V → Point → V) (room : V → ℕ) (lowers : (v
           (sym (ap (visited step now) none) ∙ walked.visited, omega (arith, ap length none, walked.counted))
 
   -- and so does the end of the samples
-  pub all_walked : (i : ℕ) (now : V) (s : State) (left : List ℕ) (steps : ℕ) → length all ≤ i → Walked step room from to begins now all (drop i all) s left before steps i
+  pub all_walked : {i : ℕ} {now : V} {s : State} {left : List ℕ} {steps : ℕ} → length all ≤ i → Walked step room from to begins now all (drop i all) s left before steps i
       → (now ≡ visited step begins (between from to all)) × (before + length (between from to all) ≤ steps)
-  all_walked i now s left steps past walk =
+  all_walked {i} {now} past walk =
       let none : between from to (drop i all) ≡ [] = ap (between from to) (drop_all i all past) in
       (sym (ap (visited step now) none) ∙ walk.visited, omega (arith, ap length none, walk.counted))

@@ -1,16 +1,20 @@
 -- Differences as natural numbers, and back.
-use Rattle.std.proofs.Common.{◌≡◌, ℕ, suc, ◌+◌, ◌-◌, ◌*◌, ◌/◌, ◌%◌, ℤ, pos, negsuc, true, false, nat_eq, ap, ◌∙◌, arith}
+use Rattle.std.proofs.Common.{◌≡◌, ℕ, suc, ◌-◌, ◌*◌, ◌/◌, ◌%◌, refl, ℤ, pos, negsuc, true, false, nat_eq, ap, ◌∙◌, arith}
+use Rattle.std.specs.Prelude.{◌≤ℤ◌, ◌<ℤ◌, unsigned_abs}
 use Rattle.std.proofs.lemmas.Bool.Decides.{nat_tests}
+use Rattle.std.proofs.lemmas.Int.{ints}
 use Rattle.ts_chunk_packed.specs.Packed.{zigzag, unzigzag}
 
 -- a number from 0 on, and one below 0
-pub zigzag_up : (n : ℕ) (z : ℤ) → z ≡ pos n → zigzag z ≡ 2 * n
+pub zigzag_up : (z : ℤ) → pos 0 ≤ℤ z → zigzag z ≡ 2 * unsigned_abs z
 unfolding zigzag
-zigzag_up n z is = ap zigzag is
+zigzag_up (pos n) from = refl
+zigzag_up (negsuc n) from = absurd (omega (arith, ints))
 
-pub zigzag_down : (n : ℕ) (z : ℤ) → z ≡ negsuc n → zigzag z ≡ 2 * n + 1
+pub zigzag_down : (z : ℤ) → z <ℤ pos 0 → zigzag z ≡ 2 * unsigned_abs z - 1
 unfolding zigzag
-zigzag_down n z is = ap zigzag is ∙ (let same : 2 * suc n - 1 ≡ 2 * n + 1 = omega arith in same)
+zigzag_down (pos n) below = absurd (omega (arith, ints))
+zigzag_down (negsuc n) below = refl
 
 -- an even number is half of it up, and an odd one is below 0
 pub unzigzag_even : (n : ℕ) → n % 2 ≡ 0 → unzigzag n ≡ pos (n / 2)

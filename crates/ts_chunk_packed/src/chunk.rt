@@ -6,7 +6,7 @@ mod parts;
 use crate::coding::{WIDEST, encode, width_of};
 use crate::context::no_sample;
 use crate::late_marks::LateMarks;
-use crate::mark::{Mark, Place};
+use crate::mark::{Mark, Offset};
 use crate::splicing::take_over;
 use crate::walk::walk;
 use std::alloc::{AllocError, Global};
@@ -140,7 +140,7 @@ impl Chunk for PackedChunk {
         }
         sample.known();
         let context = self.context();
-        let place = Place {
+        let place = Offset {
             at: self.bytes.len() as u32,
             count: self.count,
         };

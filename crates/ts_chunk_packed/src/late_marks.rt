@@ -5,7 +5,7 @@ ghost use Rattle.ts_chunk_packed.specs.Marks.{IsMark, AreMarks, EndsAt};
 ghost use Rattle.ts_chunk_packed.specs.Packed.{begin, state_from};
 
 use crate::context::Context;
-use crate::mark::{Mark, Place};
+use crate::mark::{Mark, Offset};
 use crate::marks::Marks;
 use std::alloc::{AllocError, Global};
 use std::marker::Model;
@@ -43,7 +43,7 @@ impl LateMarks {
 
     /// Sets a mark past all samples of a chunk, if there is room and one is due. It takes no memory.
     #[inline(always)]
-    pub fn set(&mut self, context: &Context, place: Place)
+    pub fn set(&mut self, context: &Context, place: Offset)
         ensures { (ps : List Point) → context.now ≡ state_from begin ps → EndsAt ps place.at place.count → AreMarks ps self.old → AreMarks ps self.new }
     {
         let Some(marks) = &mut self.marks else {
@@ -78,7 +78,7 @@ impl LateMarks {
 
     /// Keeps those of other marks that stand past the first samples of a list, moved to where others come to stand
     /// before the rest of it.
-    pub fn keep_moved(&mut self, others: &LateMarks, from: Place, to: Place)
+    pub fn keep_moved(&mut self, others: &LateMarks, from: Offset, to: Offset)
         ensures { (ps qs rest : List Point) → EndsAt ps from.at from.count → EndsAt qs to.at to.count → state_from begin ps ≡ state_from begin qs → AreMarks (ps ++ rest) others.now → AreMarks (qs ++ rest) self.old → AreMarks (qs ++ rest) self.new }
     {
         let Some(others) = &others.marks else {

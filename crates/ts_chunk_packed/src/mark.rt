@@ -7,7 +7,7 @@ use ts_sample::Sample;
 
 /// How many bytes and how many samples stand before a place in a chunk.
 #[derive(Clone, Copy)]
-pub struct Place {
+pub struct Offset {
     pub at: u32,
     pub count: u32,
 }
@@ -17,7 +17,7 @@ pub struct Place {
 pub struct Mark {
     last: Sample,
     step: u64,
-    place: Place,
+    place: Offset,
 }
 
 impl Model for Mark {
@@ -34,7 +34,7 @@ impl Model for Mark {
 
 impl Mark {
     /// At this place, past samples of which so much is known: none where there are no samples.
-    pub fn after(context: &Context, place: Place) -> Option<Mark>
+    pub fn after(context: &Context, place: Offset) -> Option<Mark>
         ensures state { IfSome result (λ m. m.state ≡ context.now) }
         ensures at { IfSome result (λ m. m.at ≡ place.at) }
         ensures count { IfSome result (λ m. m.count ≡ place.count) }
@@ -86,7 +86,7 @@ impl Mark {
     }
 
     /// The mark as far past one place as this one is past another: none where it isn't past that.
-    pub fn moved(&self, from: Place, to: Place) -> Option<Mark>
+    pub fn moved(&self, from: Offset, to: Offset) -> Option<Mark>
         ensures state { IfSome result (λ m. m.state ≡ self.now.state) }
         ensures past { IfSome result (λ _. from.count ≤ self.now.count) }
         ensures at { IfSome result (λ m. m.at + from.at ≡ self.now.at + to.at) }
@@ -101,7 +101,7 @@ impl Mark {
         Some(Mark {
             last: self.last,
             step: self.step,
-            place: Place { at, count },
+            place: Offset { at, count },
         })
     }
 }

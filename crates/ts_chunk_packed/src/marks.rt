@@ -6,7 +6,7 @@ ghost use Rattle.ts_chunk_packed.specs.Marks.{Marked, IsMark, AreMarks, EndsAt};
 ghost use Rattle.ts_chunk_packed.specs.Packed.{begin, state_from};
 
 use crate::context::Context;
-use crate::mark::{Mark, Place};
+use crate::mark::{Mark, Offset};
 use std::alloc::{AllocError, Global};
 use std::marker::Model;
 
@@ -55,7 +55,7 @@ impl Marks {
 
     /// Sets a mark past all samples of a chunk, if one is due. It takes no memory.
     #[inline(always)]
-    pub fn set(&mut self, context: &Context, place: Place)
+    pub fn set(&mut self, context: &Context, place: Offset)
         ensures { (ps : List Point) → context.now ≡ state_from begin ps → EndsAt ps place.at place.count → AreMarks ps self.old → AreMarks ps self.new }
     {
         if self.due <= place.at {
@@ -98,7 +98,7 @@ impl Marks {
 
     /// Keeps those of other marks that stand past the first samples of a list, moved to where others come to stand
     /// before the rest of it.
-    pub fn keep_moved(&mut self, others: &Marks, from: Place, to: Place)
+    pub fn keep_moved(&mut self, others: &Marks, from: Offset, to: Offset)
         ensures { (ps qs rest : List Point) → EndsAt ps from.at from.count → EndsAt qs to.at to.count → state_from begin ps ≡ state_from begin qs → AreMarks (ps ++ rest) others.now → AreMarks (qs ++ rest) self.old → AreMarks (qs ++ rest) self.new }
     {
         for index in 0..others.list.len() {
@@ -107,7 +107,7 @@ impl Marks {
     }
 
     // Keeps a mark like this one, if it is past the one place, as far past the other.
-    fn keep_past(&mut self, mark: &Mark, from: Place, to: Place)
+    fn keep_past(&mut self, mark: &Mark, from: Offset, to: Offset)
         ensures { (ps qs rest : List Point) → EndsAt ps from.at from.count → EndsAt qs to.at to.count → state_from begin ps ≡ state_from begin qs → IsMark (ps ++ rest) mark.now → AreMarks (qs ++ rest) self.old → AreMarks (qs ++ rest) self.new }
     {
         if let Some(moved) = mark.moved(from, to) {

@@ -1,4 +1,6 @@
 // Numbers in groups of seven bits, the lowest first.
+#![tactic(auto, using(crate::proofs::Grouping::group_written, crate::proofs::Grouping::length_large, crate::proofs::Grouping::length_small, crate::specs::Numbers::some_bytes))]
+
 ghost use Rattle.std.specs.Prelude.{◌≡◌, ◌+◌, ◌*◌, ◌^◌, ◌<◌, ◌≤◌, ◌++◌, drop, length, vec_len, vec_capacity};
 ghost use Rattle.ts_chunk_packed.specs.Packed.{number, number_of};
 ghost use Rattle.ts_chunk_packed.specs.Reading.{Begins};

@@ -1,4 +1,6 @@
 // Differences as natural numbers.
+#![tactic(auto, using(std::proofs::lemmas::Int::ints, crate::proofs::Zigzags::zigzag_up, crate::proofs::Zigzags::unzigzag_even, crate::proofs::Zigzags::unzigzag_odd))]
+
 ghost use Rattle.std.specs.Prelude.{◌≡◌, ◌+◌, ◌*◌, ◌^◌, ◌<◌, ◌≤◌, pos, ◌+ℤ◌, ◌-ℤ◌, ◌≤ℤ◌, ◌<ℤ◌, unsigned_abs};
 ghost use Rattle.ts_chunk_packed.specs.Packed.{zigzag, unzigzag};
 

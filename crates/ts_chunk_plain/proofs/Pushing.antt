@@ -1,10 +1,11 @@
 -- A sample past the last one.
-use Rattle.std.proofs.Common.{◌≡◌, ℕ, ◌+◌, ◌/◌, ◌<◌, ◌≤◌, List, [], ◌∷◌, ◌++◌, length, refl, sym, ap, ◌∙◌, subst, append_assoc, append-nil, arith, length-append}
+use Rattle.std.proofs.Common.{◌≡◌, ℕ, ◌+◌, ◌/◌, ◌≤◌, List, [], ◌∷◌, ◌++◌, length, refl, sym, ap, ◌∙◌, subst, append_assoc, append-nil, arith, length-append}
 use Rattle.std.specs.Prelude.{Option, None, Some, nat_le}
 use Rattle.std.specs.Option.{option_or}
-use Rattle.ts_spec.specs.Sample.{Point, IsAfter, IsAscending, first_of, last_of, later_or}
+use Rattle.ts_spec.specs.Sample.{Point, first_of, last_of}
 use Rattle.ts_sample.specs.Sample.{IsFine}
 use Rattle.ts_sample.specs.Chunk.{AreFine, IsChunk, IsLimit, IsPast}
+use Rattle.ts_sample.proofs.Lists.{fine-append, ascending-push, last-push}
 use Rattle.ts_chunk_plain.specs.Chunk.{Samples, IsPlain}
 use Rattle.ts_chunk_plain.specs.Laws.{length-bytes_of, length-plain}
 use Rattle.ts_chunk_plain.specs.Plain.{bytes_of, plain, decoded, samples_of}
@@ -14,35 +15,9 @@ pub plain-append : (ps qs : List Point) → plain (ps ++ qs) ≡ plain ps ++ pla
 plain-append [] qs = refl
 plain-append (p ∷ ps) qs = ap (λ (l : List ℕ). bytes_of p ++ l) (plain-append ps qs) ∙ sym (append_assoc (bytes_of p) (plain ps) (plain qs))
 
-fine-push : (ps : List Point) (p : Point) → AreFine ps → IsFine p → AreFine (ps ++ p ∷ [])
-fine-push [] p all fine = (fine, tt)
-fine-push (q ∷ ps) p all fine = (all.0, fine-push ps p all.1 fine)
-
-after-push : (t : ℕ) (ps : List Point) (p : Point) → IsAfter t ps → t < p.time → IsAfter t (ps ++ p ∷ [])
-after-push t [] p after later = (later, tt)
-after-push t (q ∷ ps) p after later = (after.0, after-push t ps p after.1 later)
-
--- a time past the last sample is past the first
-past_first : (q : Point) (ps : List Point) (t : ℕ) → IsAscending (q ∷ ps) → IsPast (last_of (q ∷ ps)) t → q.time < t
-past_first q [] t rises past = past
-past_first q (r ∷ ps) t rises past = omega (arith, rises.0.0, past_first r ps t rises.1 past)
-
-past_rest : (q : Point) (ps : List Point) (t : ℕ) → IsPast (last_of (q ∷ ps)) t → IsPast (last_of ps) t
-past_rest q [] t past = tt
-past_rest q (r ∷ ps) t past = past
-
-ascending-push : (ps : List Point) (p : Point) → IsAscending ps → IsPast (last_of ps) p.time → IsAscending (ps ++ p ∷ [])
-ascending-push [] p rises past = (tt, tt)
-ascending-push (q ∷ ps) p rises past =
-    (after-push q.time ps p rises.0 (past_first q ps p.time rises past), ascending-push ps p rises.1 (past_rest q ps p.time past))
-
 first-push : (ps : List Point) (p : Point) → first_of (ps ++ p ∷ []) ≡ option_or (first_of ps) (Some p)
 first-push [] p = refl
 first-push (q ∷ ps) p = refl
-
-last-push : (ps : List Point) (p : Point) → last_of (ps ++ p ∷ []) ≡ Some p
-last-push [] p = refl
-last-push (q ∷ ps) p = ap (λ o. Some (later_or q o)) (last-push ps p)
 
 -- no bytes are a chunk without samples
 pub empty : (limit capacity : ℕ) (written : List ℕ) → written ≡ [] → IsLimit limit → limit ≤ capacity → IsPlain limit capacity written None None
@@ -64,12 +39,12 @@ module _ (written : List ℕ) (are : written ≡ plain (samples_of written)) whe
   one_more p = omega (arith, ap length are, length-plain (samples_of written), length-plain (samples_of written ++ p ∷ []), length-append (samples_of written) (p ∷ []))
 
   -- one sample more fits where 28 bytes more do
-  pub fits_more : (limit : ℕ) (now : Samples) → (record { limit = limit; list = samples_of written }) ≡ now → (p : Point)
+  pub fits_more : {limit : ℕ} {now : Samples} → (record { limit = limit; list = samples_of written }) ≡ now → (p : Point)
       → nat_le (length written + 28) limit ≡ nat_le (length (plain (now.list ++ p ∷ []))) now.limit
-  fits_more limit now is p = ap (λ n. nat_le n limit) (one_more p) ∙ ap (λ (x : Samples). nat_le (length (plain (x.list ++ p ∷ []))) x.limit) is
+  fits_more {limit} is p = ap (λ n. nat_le n limit) (one_more p) ∙ ap (λ (x : Samples). nat_le (length (plain (x.list ++ p ∷ []))) x.limit) is
 
 -- the bytes of a sample past the last one make a chunk of its samples and that one
-module _ (limit capacity grown : ℕ) (written : List ℕ) (begin end : Option Point) (p : Point) (was : IsPlain limit capacity written begin end) (fine : IsFine p)
+module _ {limit capacity grown : ℕ} {written : List ℕ} {begin end : Option Point} (p : Point) (was : IsPlain limit capacity written begin end) (fine : IsFine p)
     (past : IsPast (last_of (samples_of written)) p.time) (more : capacity ≤ grown) (fits : length written + 28 ≤ limit) where
   both : written ++ bytes_of p ≡ plain (samples_of written ++ p ∷ [])
   both =
@@ -77,7 +52,7 @@ module _ (limit capacity grown : ℕ) (written : List ℕ) (begin end : Option P
       ∙ sym (plain-append (samples_of written) (p ∷ []))
 
   all_fine : AreFine (samples_of written ++ p ∷ [])
-  all_fine = fine-push (samples_of written) p was.chunk.fine fine
+  all_fine = fine-append (samples_of written) (p ∷ []) was.chunk.fine (fine, tt)
 
   pub list-pushed : samples_of (written ++ bytes_of p) ≡ samples_of written ++ p ∷ []
   list-pushed = ap samples_of both ∙ samples_back (samples_of written ++ p ∷ []) all_fine
@@ -85,8 +60,8 @@ module _ (limit capacity grown : ℕ) (written : List ℕ) (begin end : Option P
   shorter : length (plain (samples_of written ++ p ∷ [])) ≤ limit
   shorter = omega (arith, ap length both, length-append written (bytes_of p), length-bytes_of p)
 
-  pub plain-pushed : (after : List ℕ) (head : Option Point) → after ≡ written ++ bytes_of p → head ≡ option_or begin (Some p) → IsPlain limit grown after head (Some p)
-  plain-pushed after head is first_is =
+  pub plain-pushed : {after : List ℕ} {head : Option Point} → after ≡ written ++ bytes_of p → head ≡ option_or begin (Some p) → IsPlain limit grown after head (Some p)
+  plain-pushed {after} is first_is =
       let list : samples_of after ≡ samples_of written ++ p ∷ [] = ap samples_of is ∙ list-pushed in
       let chunk : IsChunk plain limit (samples_of written ++ p ∷ []) =
       record { bounds = was.chunk.bounds; ascending = ascending-push (samples_of written) p was.chunk.ascending past; fine = all_fine; fits = shorter } in

@@ -1,5 +1,5 @@
 -- The pieces that a scan walks over.
-use Rattle.std.proofs.Common.{◌≡◌, ℕ, ◌-◌, ◌/◌, ◌≤◌, Bool, true, false, cond, List, [], ◌∷◌, length, map, take, drop, sym, ap, ◌∙◌, subst, take_all, arith}
+use Rattle.std.proofs.Common.{◌≡◌, ℕ, ◌-◌, ◌/◌, ◌≤◌, List, length, map, take, drop, sym, ap, ◌∙◌, subst, take_all, arith}
 use Rattle.std.specs.Prelude.{nat_le}
 use Rattle.std.specs.Simd.{first_chunks}
 use Rattle.std.proofs.lemmas.List.{length-drop, length-map}
@@ -7,16 +7,8 @@ use Rattle.ts_spec.specs.Sample.{Point, IsAscending, at_times, between}
 use Rattle.ts_spec.proofs.Samples.{ascending-times}
 use Rattle.ts_sample.specs.Chunk.{AreFine}
 use Rattle.ts_sample.proofs.Between.{filter-filter}
+use Rattle.ts_sample.proofs.Lists.{fine-times}
 use Rattle.ts_chunk_plain.specs.Plain.{sample_of, decoded, samples_of}
-
--- samples that pass a test are within their bounds if all are
-pub fine-times : (test : ℕ → Bool) (ps : List Point) → AreFine ps → AreFine (at_times test ps)
-fine-times test [] fine = tt
-fine-times test (p ∷ ps) fine = go (test p.time) (fine-times test ps fine.1)
-  where
-    go : (b : Bool) → AreFine (at_times test ps) → AreFine (cond b (p ∷ at_times test ps) (at_times test ps))
-    go true ih = (fine.0, ih)
-    go false ih = ih
 
 -- the pieces of bytes are their samples
 pub pieces_are : (bs : List (List ℕ)) (bytes written : List ℕ) → bs ≡ first_chunks 28 (length bytes / 28) bytes → bytes ≡ written → map sample_of bs ≡ samples_of written

@@ -6,12 +6,12 @@ use Rattle.ts_spec.specs.Sample.{Point, IsAscending, at_times, first_of, last_of
 use Rattle.ts_spec.proofs.Samples.{ascending-put}
 use Rattle.ts_sample.specs.Sample.{IsFine}
 use Rattle.ts_sample.specs.Chunk.{AreFine, IsChunk}
+use Rattle.ts_sample.proofs.Lists.{fine-put}
 use Rattle.ts_chunk_plain.specs.Chunk.{Samples, IsPlain}
 use Rattle.ts_chunk_plain.specs.Laws.{length-plain}
 use Rattle.ts_chunk_plain.specs.Plain.{bytes_of, plain, sample_of, samples_of}
 use Rattle.ts_chunk_plain.proofs.Coding.{samples_back}
 use Rattle.ts_chunk_plain.proofs.Pushing.{plain-append}
-use Rattle.ts_chunk_plain.proofs.Scanning.{fine-times}
 
 -- ---- parts of a list
 
@@ -26,11 +26,6 @@ dropped test n bs list are is = ap (drop n) (sym are) ∙ drop-map sample_of n b
 
 -- ---- the ends of a list
 
-pub first-of-take : (n : ℕ) (ps : List Point) (p : Point) → 0 < n → n ≤ length ps → first_of ps ≡ first_of (take n ps ++ p ∷ [])
-first-of-take zero ps p some within = absurd (omega arith)
-first-of-take (suc n) [] p some within = absurd (omega arith)
-first-of-take (suc n) (q ∷ ps) p some within = refl
-
 first-before : (ps qs : List Point) (p : Point) → first_of (ps ++ p ∷ []) ≡ first_of (ps ++ p ∷ qs)
 first-before [] qs p = refl
 first-before (q ∷ ps) qs p = refl
@@ -38,9 +33,6 @@ first-before (q ∷ ps) qs p = refl
 last-after : (ps qs : List Point) (p : Point) → last_of (p ∷ qs) ≡ last_of (ps ++ p ∷ qs)
 last-after [] qs p = refl
 last-after (q ∷ ps) qs p = ap (λ o. Some (later_or q o)) (last-after ps qs p)
-
-later-of : (p q : Point) (o : Option Point) → later_or p (Some (later_or q o)) ≡ later_or q o
-later-of p q o = refl
 
 pub last-of-drop : (n : ℕ) (ps : List Point) (p : Point) → n < length ps → last_of ps ≡ last_of (p ∷ drop n ps)
 last-of-drop n [] p within = absurd (omega arith)
@@ -66,16 +58,8 @@ module _ (n : ℕ) (ps : List Point) (within : n ≤ length ps) where
   pub plain-drop : drop (n * 28) (plain ps) ≡ plain (drop n ps)
   plain-drop = ap (drop (n * 28)) (sym parts) ∙ drop_at (plain (take n ps)) (plain (drop n ps)) (n * 28) long_front
 
-fine-append : (ps qs : List Point) → AreFine ps → AreFine qs → AreFine (ps ++ qs)
-fine-append [] qs fine more = more
-fine-append (p ∷ ps) qs fine more = (fine.0, fine-append ps qs fine.1 more)
-
-fine-put : (p : Point) (ps : List Point) → AreFine ps → IsFine p → AreFine (put p ps)
-fine-put p ps all fine =
-    fine-append (at_times (λ t. nat_lt t p.time) ps) (p ∷ at_times (nat_lt p.time) ps) (fine-times (λ t. nat_lt t p.time) ps all) (fine, fine-times (nat_lt p.time) ps all)
-
 -- what a chunk has of the first so many of its samples
-module _ (limit capacity : ℕ) (written : List ℕ) (begin end : Option Point) (was : IsPlain limit capacity written begin end) (now : Samples)
+module _ {limit capacity : ℕ} {written : List ℕ} {begin end : Option Point} (was : IsPlain limit capacity written begin end) {now : Samples}
     (is : (record { limit = limit; list = samples_of written }) ≡ now) where
   pub list_is : samples_of written ≡ now.list
   list_is = ap (λ (x : Samples). x.list) is
@@ -95,9 +79,8 @@ module _ (limit capacity : ℕ) (written : List ℕ) (begin end : Option Point) 
   last-kept n p within = was.last ∙ ap last_of list_is ∙ last-of-drop n now.list p within
 
   -- the place of a sample among the pieces, and how many are up to its time
-  module _ (p : Point) (bs : List (List ℕ)) (are : map sample_of bs ≡ now.list) (t : ℕ) (time : t ≡ p.time) (start stop : ℕ)
-      (begins : map sample_of (take start bs) ≡ at_times (λ n. nat_lt n t) (map sample_of bs)) (goes_on : map sample_of (drop stop bs) ≡ at_times (nat_lt t) (map sample_of bs))
-      (within : start ≤ length bs) where
+  module _ (p : Point) (bs : List (List ℕ)) (are : map sample_of bs ≡ now.list) {t : ℕ} (time : t ≡ p.time) {start : ℕ} (stop : ℕ)
+      (within : start ≤ length bs) (begins : map sample_of (take start bs) ≡ at_times (λ n. nat_lt n t) (map sample_of bs)) (goes_on : map sample_of (drop stop bs) ≡ at_times (nat_lt t) (map sample_of bs)) where
     both : take start now.list ++ p ∷ drop stop now.list ≡ put p now.list
     both =
         let first : take start now.list ≡ at_times (λ n. nat_lt n p.time) now.list =
@@ -128,10 +111,10 @@ module _ (limit capacity : ℕ) (written : List ℕ) (begin end : Option Point) 
     too_long more = omega (arith, long, length-plain (put p now.list), ap (λ (x : Samples). x.limit) is)
 
     -- the bytes before the place, its own and those after it make a chunk of the list with the sample
-    module _ (fine : IsFine p) (front back after : List ℕ) (front_is : front ≡ plain (take start now.list)) (back_is : back ≡ plain (drop stop now.list))
+    module _ (fine : IsFine p) {front back after : List ℕ} (front_is : front ≡ plain (take start now.list)) (back_is : back ≡ plain (drop stop now.list))
         (after_is : after ≡ front ++ (bytes_of p ++ back)) where
       all_fine : AreFine (put p now.list)
-      all_fine = fine-put p now.list (subst AreFine list_is was.chunk.fine) fine
+      all_fine = fine-put p now.list fine (subst AreFine list_is was.chunk.fine)
 
       spliced_bytes : after ≡ plain (put p now.list)
       spliced_bytes =
@@ -140,9 +123,9 @@ module _ (limit capacity : ℕ) (written : List ℕ) (begin end : Option Point) 
       pub spliced_list : samples_of after ≡ put p now.list
       spliced_list = ap samples_of spliced_bytes ∙ samples_back (put p now.list) all_fine
 
-      pub plain-spliced : (room : ℕ) (head last : Option Point) → limit ≤ room → head ≡ first_of (take start now.list ++ p ∷ []) → last ≡ last_of (p ∷ drop stop now.list)
+      pub plain-spliced : {room : ℕ} {head last : Option Point} → limit ≤ room → head ≡ first_of (take start now.list ++ p ∷ []) → last ≡ last_of (p ∷ drop stop now.list)
           → (start + 1 + (length bs - stop)) * 28 ≤ limit → IsPlain limit room after head last
-      plain-spliced room head last enough first_is last_is fits =
+      plain-spliced enough first_is last_is fits =
           let chunk : IsChunk plain limit (put p now.list) =
           record {
             bounds = was.chunk.bounds;

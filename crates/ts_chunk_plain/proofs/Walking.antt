@@ -1,5 +1,5 @@
 -- A walk of a visitor over the pieces of samples.
-use Rattle.std.proofs.Common.{◌≡◌, ℕ, suc, ◌+◌, ◌<◌, ◌≤◌, Bool, true, false, not, cond, List, [], ◌∷◌, length, map, take, drop, get_or, refl, sym, ap, ◌∙◌, subst, arith, add-one}
+use Rattle.std.proofs.Common.{◌≡◌, ℕ, ◌+◌, ◌<◌, ◌≤◌, Bool, true, false, not, cond, List, [], ◌∷◌, length, map, take, drop, get_or, refl, ap, ◌∙◌, subst, arith, add-one}
 use Rattle.std.specs.Prelude.{nat_lt, nat_le, filter}
 use Rattle.std.specs.List.Sorted.{IsPartitionPoint, IsNonDecreasingBy}
 use Rattle.std.proofs.lemmas.List.{get_or-map, length-map}
@@ -8,7 +8,7 @@ use Rattle.std.proofs.Math.Seq.{drop-cons}
 use Rattle.ts_spec.specs.Sample.{Point, IsAfter, IsAscending, at_times}
 use Rattle.ts_sample.specs.Chunk.{AreFine}
 use Rattle.ts_sample.specs.Visit.{visited}
-use Rattle.ts_sample.proofs.Parted.{rising, parted, filter_alike}
+use Rattle.ts_sample.proofs.Parted.{rising, parted, filter_alike, not_before, not_past}
 use Rattle.ts_chunk_plain.specs.Plain.{sample_of}
 
 -- the samples up to a time
@@ -36,26 +36,6 @@ stopped to p rest rises past =
     let later : nat_le p.time to ≡ false = grind (arith, nat_tests) in
     rw later (none_upto to p rest rises.0 past)
 
-module _ {V : Type 0} (step : V → Point → V) (room : V → ℕ) (lowers : (v : V) (p : Point) → room v ≤ room (step v p) + 1) (to : ℕ) (begin : V) (ps : List Point) (from : ℕ) where
-  pub walked_on : (now : V) (p : Point) (rest : List Point) (steps count : ℕ) → Walked step room to begin now ps (p ∷ rest) from steps count → p.time ≤ to
-      → Walked step room to begin (step now p) ps rest from (steps + 1) (count + 1)
-  walked_on now p rest steps count walked early =
-      let here : upto to (p ∷ rest) ≡ p ∷ upto to rest = (let reached : nat_le p.time to ≡ true = grind (arith, nat_tests) in ap (λ b. cond b (p ∷ upto to rest) (upto to rest)) reached) in
-      record {
-        ascending = walked.ascending.1;
-        fine = walked.fine.1;
-        visited = ap (visited step now) (sym here) ∙ walked.visited;
-        room = omega (arith, lowers now p, ap length here, walked.room);
-        counted = omega (arith, ap length here, walked.counted);
-        bounded = omega (arith, walked.bounded);
-      }
-
-  here : (p : Point) (rest : List Point) → p.time ≤ to → length (upto to (p ∷ rest)) ≡ suc (length (upto to rest))
-  here p rest early = let reached : nat_le p.time to ≡ true = grind (arith, nat_tests) in ap (λ b. length (cond b (p ∷ upto to rest) (upto to rest))) reached
-
-  pub some_room : (now : V) (p : Point) (rest : List Point) (steps count : ℕ) → Walked step room to begin now ps (p ∷ rest) from steps count → p.time ≤ to → 1 ≤ room now
-  some_room now p rest steps count walked early = omega (arith, walked.room, here p rest early)
-
 pub rising_of : (bs : List (List ℕ)) → IsAscending (map sample_of bs) → IsNonDecreasingBy (λ b. (sample_of b).time) bs
 rising_of bs rises i j d ordered within =
     omega (
@@ -74,9 +54,6 @@ filter-map {X} {Y} f test (x ∷ xs) = go (test (f x)) (filter-map f test xs)
     go true ih = ap (λ (l : List Y). f x ∷ l) ih
     go false ih = ih
 
-not_before : (t n : ℕ) → not (nat_lt n t) ≡ nat_le t n
-not_before t n = grind (arith, nat_tests)
-
 -- the place where the times reach t has the samples from t on behind it
 pub from_place : (t : ℕ) (bs : List (List ℕ)) (i : ℕ) → IsPartitionPoint (λ b. nat_lt (sample_of b).time t ≡ true) (λ b. nat_lt (sample_of b).time t ≡ false) bs i → i ≤ length bs
     → map sample_of (drop i bs) ≡ at_times (nat_le t) (map sample_of bs)
@@ -84,9 +61,6 @@ from_place t bs i point within =
     ap (map sample_of) (parted (λ b. nat_lt (sample_of b).time t) bs i point within).1
     ∙ filter-map sample_of (λ (p : Point). not (nat_lt p.time t)) bs
     ∙ filter_alike (λ (p : Point). not (nat_lt p.time t)) (λ (p : Point). nat_le t p.time) (λ p. not_before t p.time) (map sample_of bs)
-
-not_past : (t n : ℕ) → not (nat_le n t) ≡ nat_lt t n
-not_past t n = grind (arith, nat_tests)
 
 -- and those before t before it
 pub before_place : (t : ℕ) (bs : List (List ℕ)) (i : ℕ) → IsPartitionPoint (λ b. nat_lt (sample_of b).time t ≡ true) (λ b. nat_lt (sample_of b).time t ≡ false) bs i → i ≤ length bs

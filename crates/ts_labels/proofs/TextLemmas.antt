@@ -1,5 +1,5 @@
 -- Texts that are cut.
-use Rattle.std.proofs.Common.{◌≡◌, ℕ, zero, suc, ◌==◌, ◌<◌, Bool, true, false, List, [], ◌∷◌, ◌++◌, length, take, drop, slice_get, option_map, Option, Some, None, refl, sym, ap, ◌∙◌, if◌then◌else◌, arith}
+use Rattle.std.proofs.Common.{◌≡◌, ℕ, suc, ◌==◌, ◌<◌, Bool, true, false, List, [], ◌∷◌, ◌++◌, length, option_map, Option, Some, None, refl, sym, ap, ◌∙◌, if◌then◌else◌, arith}
 use Rattle.std.proofs.lemmas.Bool.Decides.{nat_tests}
 use Rattle.ts_spec.specs.FilterText.{before_cut, cut_at, before_last, onto_first, pieces, has_empty}
 
@@ -21,42 +21,6 @@ before_last-end byte (c ∷ d ∷ front) last = ap (option_map (λ front. c ∷ 
 abbrev pub onto_cut : List ℕ → Option (List ℕ × List ℕ) → Option (List ℕ × List ℕ)
 onto_cut front None = None
 onto_cut front (Some parts) = Some (front ++ parts.0, parts.1)
-
-onto_cut-one : (c : ℕ) (cut : Option (List ℕ × List ℕ)) → onto_cut [] (before_cut c cut) ≡ onto_cut (c ∷ []) cut
-onto_cut-one c None = refl
-onto_cut-one c (Some parts) = refl
-
-onto_cut-more : (c : ℕ) (front : List ℕ) (cut : Option (List ℕ × List ℕ)) → onto_cut (c ∷ front) cut ≡ before_cut c (onto_cut front cut)
-onto_cut-more c front None = refl
-onto_cut-more c front (Some parts) = refl
-
-pub onto_cut-none : (cut : Option (List ℕ × List ℕ)) → onto_cut [] cut ≡ cut
-onto_cut-none None = refl
-onto_cut-none (Some parts) = refl
-
--- a text is not cut at another byte
-pub cut_at-passed : (byte b : ℕ) (bytes : List ℕ) (i : ℕ) → slice_get bytes i ≡ Some b → (b == byte) ≡ false
-    → onto_cut (take (suc i) bytes) (cut_at byte (drop (suc i) bytes)) ≡ onto_cut (take i bytes) (cut_at byte (drop i bytes))
-cut_at-passed byte b [] i e h = cc
-cut_at-passed byte b (c ∷ bytes) zero e h =
-    let here : c ≡ b = cc in
-    let other : (c == byte) ≡ false = ap (λ n. n == byte) here ∙ h in
-    rw other (sym (onto_cut-one c (cut_at byte bytes)))
-cut_at-passed byte b (c ∷ bytes) (suc i) e h =
-    onto_cut-more c (take (suc i) bytes) (cut_at byte (drop (suc i) bytes))
-    ∙ ap (before_cut c) (cut_at-passed byte b bytes i e h)
-    ∙ sym (onto_cut-more c (take i bytes) (cut_at byte (drop i bytes)))
-
--- it is cut at the byte
-pub cut_at-here : (byte b : ℕ) (bytes : List ℕ) (i : ℕ) → slice_get bytes i ≡ Some b → (b == byte) ≡ true
-    → onto_cut (take i bytes) (cut_at byte (drop i bytes)) ≡ Some (take i bytes, drop (suc i) bytes)
-cut_at-here byte b [] i e h = cc
-cut_at-here byte b (c ∷ bytes) zero e h =
-    let here : c ≡ b = cc in
-    let same : (c == byte) ≡ true = ap (λ n. n == byte) here ∙ h in
-    rw same refl
-cut_at-here byte b (c ∷ bytes) (suc i) e h =
-    onto_cut-more c (take i bytes) (cut_at byte (drop i bytes)) ∙ ap (before_cut c) (cut_at-here byte b bytes i e h)
 
 -- the pieces of a text that is cut so
 abbrev pub cut_pieces : (byte : ℕ) (text : List ℕ) → Option (List ℕ × List ℕ) → List (List ℕ)

@@ -10,9 +10,10 @@ use Rattle.ts_spec.proofs.BucketSpan.{members-between}
 use Rattle.ts_spec.proofs.BucketSize.{members-few}
 use Rattle.ts_spec.proofs.Samples.{at-time, at-times, ascending-times, ascending-put}
 use Rattle.ts_spec.proofs.SoundWrites.{put-from}
+use Rattle.ts_sample.proofs.Between.{times-alike, times-both}
 use Rattle.ts_bucket.specs.Grid.{IsGrid, IsLastOf}
 use Rattle.ts_rules.specs.Spans.{from_until}
-use Rattle.ts_rules.proofs.Times.{same-test, not-true, within, within-from, within-to, without, in-span, span-from, span-end, times-same, times-both, parts}
+use Rattle.ts_rules.proofs.Times.{same-test, not-true, within, within-from, within-to, without, in-span, span-from, span-end, parts}
 
 -- ---- a write
 
@@ -41,7 +42,7 @@ members-written g p last ps h a times time of =
     early : between (start g p.time) last (at_times (λ t. nat_lt t p.time) ps) ≡ from_until (start g p.time) p.time ps
     early =
         times-both (is_within (start g p.time) last) (λ t. nat_lt t p.time) ps
-        ∙ times-same (λ t. nat_lt t p.time && is_within (start g p.time) last t) (λ t. nat_le (start g p.time) t && nat_lt t p.time) ps
+        ∙ times-alike (λ t. nat_lt t p.time && is_within (start g p.time) last t) (λ t. nat_le (start g p.time) t && nat_lt t p.time) ps
         (λ t. same-test (nat_lt t p.time && is_within (start g p.time) last t) (nat_le (start g p.time) t && nat_lt t p.time)
         (λ e. (let b = and_parts (nat_lt t p.time) (is_within (start g p.time) last t) e in in-span (start g p.time) p.time t (within-from (start g p.time) last t b.1) (ltb-true t p.time b.0)))
         (λ e. (let x : t < p.time = span-end (start g p.time) p.time t e in
@@ -53,7 +54,7 @@ members-written g p last ps h a times time of =
     late : between (start g p.time) last (at_times (nat_lt p.time) ps) ≡ between (p.time + 1) last ps
     late =
         times-both (is_within (start g p.time) last) (nat_lt p.time) ps
-        ∙ times-same (λ t. nat_lt p.time t && is_within (start g p.time) last t) (is_within (p.time + 1) last) ps
+        ∙ times-alike (λ t. nat_lt p.time t && is_within (start g p.time) last t) (is_within (p.time + 1) last) ps
         (λ t. same-test (nat_lt p.time t && is_within (start g p.time) last t) (is_within (p.time + 1) last t)
         (λ e. (let b = and_parts (nat_lt p.time t) (is_within (start g p.time) last t) e in
         let x : p.time < t = ltb-true p.time t b.0 in within (p.time + 1) last t (omega (arith, x)) (within-to (start g p.time) last t b.1)))
@@ -88,7 +89,7 @@ members-left g b last from to ps h a times begins of order =
     early : at_times left (at_times (λ t. nat_lt t from) ps) ≡ from_until b (min from (last + 1)) ps
     early =
         times-both left (λ t. nat_lt t from) ps
-        ∙ times-same (λ t. nat_lt t from && left t) (λ t. nat_le b t && nat_lt t (min from (last + 1))) ps
+        ∙ times-alike (λ t. nat_lt t from && left t) (λ t. nat_le b t && nat_lt t (min from (last + 1))) ps
         (λ t. same-test (nat_lt t from && left t) (nat_le b t && nat_lt t (min from (last + 1)))
         (λ e. (let x = and_parts (nat_lt t from) (left t) e in let y = and_parts (not (is_within from to t)) (is_within b last t) x.1 in
         let before : t < from = ltb-true t from x.0 in let upto : t ≤ last = within-to b last t y.1 in
@@ -100,7 +101,7 @@ members-left g b last from to ps h a times begins of order =
     late : at_times left (at_times (nat_le from) ps) ≡ between (max b (to + 1)) last ps
     late =
         times-both left (nat_le from) ps
-        ∙ times-same (λ t. nat_le from t && left t) (is_within (max b (to + 1)) last) ps
+        ∙ times-alike (λ t. nat_le from t && left t) (is_within (max b (to + 1)) last) ps
         (λ t. same-test (nat_le from t && left t) (is_within (max b (to + 1)) last t)
         (λ e. (let x = and_parts (nat_le from t) (left t) e in let y = and_parts (not (is_within from to t)) (is_within b last t) x.1 in
         let past : to < t = beyond t (leb-true from t x.0) (not-true (is_within from to t) y.0) in let since : b ≤ t = within-from b last t y.1 in

@@ -21,17 +21,13 @@ use Rattle.ts_rules.specs.Deletions.{gone_of, left_of, is_lost, rows_left, rule_
 use Rattle.ts_rules.proofs.Mended.{stays}
 use Rattle.ts_rules.proofs.DestLeft.{none-pass}
 use Rattle.ts_series.specs.Plan.{Plan}
-use Rattle.ts_rules.proofs.Times.{same-test, times-none, true-unless, within, within-from, within-to}
+use Rattle.ts_rules.proofs.Times.{same-test, times-none, true-unless, within, within-from, within-to, and-false}
 
 -- ---- without a sample
 
 empty : (ps : List Point) → length ps ≡ 0 → ps ≡ []
 empty [] e = refl
 empty (p ∷ ps) e = absurd (omega (arith, e))
-
-and-false : (x : Bool) → (x && false) ≡ false
-and-false true = refl
-and-false false = refl
 
 same-rule : (left : List Point) (r : Rule) → IsChanged (deleted_rule [] left) r r
 same-rule left r = record { dest = refl; kept = λ k. (λ i. record (kept_as k r) { running = go k r.current i }) }

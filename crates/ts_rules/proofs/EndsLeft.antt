@@ -11,15 +11,16 @@ use Rattle.ts_spec.proofs.BucketSpan.{members-between}
 use Rattle.ts_spec.proofs.BucketSize.{members-few}
 use Rattle.ts_spec.proofs.Samples.{at-time, at-times, ascending-times}
 use Rattle.ts_sample.specs.Visit.{visited}
+use Rattle.ts_sample.proofs.Between.{times-alike, times-both}
 use Rattle.ts_bucket.specs.Grid.{IsGrid, IsLastOf}
 use Rattle.ts_agg.specs.Counted.{Counting, counted_one}
+use Rattle.ts_series.proofs.Counting.{times-fewer}
 use Rattle.ts_rules.specs.Spans.{from_until}
 use Rattle.ts_rules.proofs.Around.{members-left}
 use Rattle.ts_rules.proofs.Counts.{visited-append, room-after}
-use Rattle.ts_rules.proofs.Sizes.{fewer}
-use Rattle.ts_rules.proofs.Times.{same-test, not-true, within, within-from, within-to, without, in-span, span-from, span-end, times-same, times-both}
+use Rattle.ts_rules.proofs.Times.{same-test, not-true, within, within-from, within-to, without, in-span, span-from, span-end}
 
-module _ (g : Grid) (from to first last : ℕ) (ps : List Point) (grid : IsGrid g) (a : IsAscending ps) (times : Every (λ q. q.time ≤ MAX_TIME) ps) (order : from ≤ to) (time : to ≤ MAX_TIME) (begins : first ≡ start g from)
+module _ {g : Grid} {from to first last : ℕ} (ps : List Point) (grid : IsGrid g) (a : IsAscending ps) (times : Every (λ q. q.time ≤ MAX_TIME) ps) (order : from ≤ to) (time : to ≤ MAX_TIME) (begins : first ≡ start g from)
     (of : IsLastOf g to last) where
   -- those before the interval, and those past it
   abbrev early : List Point
@@ -72,7 +73,7 @@ module _ (g : Grid) (from to first last : ℕ) (ps : List Point) (grid : IsGrid 
   pub first-left : start g from ≢ start g to → members g (start g from) left ≡ early
   first-left other =
       times-both (λ t. start g t == start g from) (λ t. not (is_within from to t)) ps
-      ∙ times-same (λ t. not (is_within from to t) && (start g t == start g from)) (λ t. nat_le first t && nat_lt t from) ps
+      ∙ times-alike (λ t. not (is_within from to t) && (start g t == start g from)) (λ t. nat_le first t && nat_lt t from) ps
       (λ t. same-test (not (is_within from to t) && (start g t == start g from)) (nat_le first t && nat_lt t from)
       (λ e. (let x = and_parts (not (is_within from to t)) (start g t == start g from) e in
       let same : start g t ≡ start g from = eqb-true (start g t) (start g from) x.1 in
@@ -96,7 +97,7 @@ module _ (g : Grid) (from to first last : ℕ) (ps : List Point) (grid : IsGrid 
   last-left other =
       members-between g to last left grid.some (ascending-times (λ t. not (is_within from to t)) ps a) of.same (λ u q x s. of.latest u (bounded u q x) s)
       ∙ times-both (is_within (start g to) last) (λ t. not (is_within from to t)) ps
-      ∙ times-same (λ t. not (is_within from to t) && is_within (start g to) last t) (is_within (to + 1) last) ps
+      ∙ times-alike (λ t. not (is_within from to t) && is_within (start g to) last t) (is_within (to + 1) last) ps
       (λ t. same-test (not (is_within from to t) && is_within (start g to) last t) (is_within (to + 1) last t)
       (λ e. (let x = and_parts (not (is_within from to t)) (is_within (start g to) last t) e in
       let low : start g to ≤ t = within-from (start g to) last t x.1 in
@@ -131,7 +132,7 @@ module _ (g : Grid) (from to first last : ℕ) (ps : List Point) (grid : IsGrid 
   few-early =
       let most : length (members g (start g from) ps) ≤ g.duration = members-few g (start g from) ps grid.some a in
       let less : length early ≤ length (members g (start g from) ps) =
-      fewer (λ t. nat_le first t && nat_lt t from) (λ t. start g t == start g from) ps
+      times-fewer (λ t. nat_le first t && nat_lt t from) (λ t. start g t == start g from) ps
       (λ t e. (let low : first ≤ t = span-from first from t e in let up : t < from = span-end first from t e in
       let one : start g first ≤ start g t = start-order g first t low in
       let two : start g t ≤ start g from = start-order g t from (omega (arith, up)) in
@@ -140,32 +141,32 @@ module _ (g : Grid) (from to first last : ℕ) (ps : List Point) (grid : IsGrid 
       let short : g.duration ≤ 10 ^ 14 = grid.short in
       omega (arith, most, less, short)
 
-  module _ (made : ℕ) (fresh : Counting) (new : fresh ≡ record { made = made; running = nothing }) where
+  module _ {made : ℕ} {fresh : Counting} (new : fresh ≡ record { made = made; running = nothing }) where
     pub room-early : length early ≤ 10 ^ 14 - fresh.running.count
     room-early = room-after fresh fresh made [] (length early) new refl (omega (arith, few-early))
 
     pub room-alone : start g from ≢ start g to → length late ≤ 10 ^ 14 - fresh.running.count
     room-alone other = let most : length late ≤ 10 ^ 14 = few (start g to) late (last-left other) in room-after fresh fresh made [] (length late) new refl (omega (arith, most))
 
-    pub room-late : start g from ≡ start g to → (one : Counting) → one ≡ visited counted_one fresh early → length late ≤ 10 ^ 14 - one.running.count
-    room-late same one e =
+    pub room-late : start g from ≡ start g to → {one : Counting} → one ≡ visited counted_one fresh early → length late ≤ 10 ^ 14 - one.running.count
+    room-late same {one} e =
         let most : length (early ++ late) ≤ 10 ^ 14 = few (start g from) (early ++ late) (same-left same) in
         let sum : length (early ++ late) ≡ length early + length late = length-append early late in
         room-after fresh one made early (length late) new e (omega (arith, most, sum))
 
     module _ (told : (qs : List Point) → (visited counted_one fresh qs).running ≡ summary (filter (λ q. nat_le made q.made) qs)) where
-      pub counts-both : start g from ≡ start g to → (one two : Counting) → one ≡ visited counted_one fresh early → two ≡ visited counted_one one late →
+      pub counts-both : start g from ≡ start g to → {one two : Counting} → one ≡ visited counted_one fresh early → two ≡ visited counted_one one late →
           two.running ≡ summary (filter (λ q. nat_le made q.made) (members g (start g from) left))
-      counts-both same one two e f =
+      counts-both same e f =
           ap (λ (c : Counting). c.running) (f ∙ ap (λ (c : Counting). visited counted_one c late) e ∙ visited-append fresh early late)
           ∙ told (early ++ late) ∙ ap (λ (qs : List Point). summary (filter (λ q. nat_le made q.made) qs)) (sym (same-left same))
 
-      pub counts-first : start g from ≢ start g to → (one : Counting) → one ≡ visited counted_one fresh early →
+      pub counts-first : start g from ≢ start g to → {one : Counting} → one ≡ visited counted_one fresh early →
           one.running ≡ summary (filter (λ q. nat_le made q.made) (members g (start g from) left))
-      counts-first other one e =
+      counts-first other e =
           ap (λ (c : Counting). c.running) e ∙ told early ∙ ap (λ (qs : List Point). summary (filter (λ q. nat_le made q.made) qs)) (sym (first-left other))
 
-      pub counts-last : start g from ≢ start g to → (one : Counting) → one ≡ visited counted_one fresh late →
+      pub counts-last : start g from ≢ start g to → {one : Counting} → one ≡ visited counted_one fresh late →
           one.running ≡ summary (filter (λ q. nat_le made q.made) (members g (start g to) left))
-      counts-last other one e =
+      counts-last other e =
           ap (λ (c : Counting). c.running) e ∙ told late ∙ ap (λ (qs : List Point). summary (filter (λ q. nat_le made q.made) qs)) (sym (last-left other))

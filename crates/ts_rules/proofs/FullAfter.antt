@@ -11,15 +11,15 @@ use Rattle.ts_spec.specs.Mending.{counted_anew, high_with, rows_of}
 use Rattle.ts_spec.proofs.Samples.{at-after, at-put_all, at-times, ascending-times}
 use Rattle.ts_spec.proofs.TwoBuckets.{loses-within}
 use Rattle.ts_spec.proofs.TwoRows.{deleted_rows-ascending}
+use Rattle.ts_sample.proofs.Between.{times-alike, times-both}
 use Rattle.ts_series.specs.History.{History, list_of, reach, limit_for}
-use Rattle.ts_series.proofs.Counting.{length-put, length-cons_if}
+use Rattle.ts_series.proofs.Counting.{length-put, length-cons_if, one_if, times-fewer}
 use Rattle.ts_series.proofs.Reach.{new-within-reach}
 use Rattle.ts_rules.specs.declared.rule.Rule.{Rule}
 use Rattle.ts_rules.specs.Rules.{kept_as}
 use Rattle.ts_rules.specs.Plans.{mended_list}
 use Rattle.ts_rules.specs.Deletions.{gone_of, left_of, is_lost, rows_left}
-use Rattle.ts_rules.proofs.Sizes.{one, counted, fewer}
-use Rattle.ts_rules.proofs.Times.{same-test, within, within-from, within-to, times-same, times-both}
+use Rattle.ts_rules.proofs.Times.{same-test, within, within-from, within-to}
 
 -- ---- rows in the place of samples that go
 
@@ -46,8 +46,8 @@ stay-and-go : (test gone : ℕ → Bool) (ps : List Point) → length (at_times 
 stay-and-go test gone [] = refl
 stay-and-go test gone (p ∷ ps) = go (test p.time) (gone p.time) refl (stay-and-go test gone ps)
   where
-    staying : (x : Bool) → test p.time ≡ x → length (cond (test p.time) (p ∷ at_times test (at_times (λ t. not (gone t)) ps)) (at_times test (at_times (λ t. not (gone t)) ps))) ≡ one x + length (at_times test (at_times (λ t. not (gone t)) ps))
-    staying x e = counted (test p.time) p (at_times test (at_times (λ t. not (gone t)) ps)) ∙ ap (λ y. one y + length (at_times test (at_times (λ t. not (gone t)) ps))) e
+    staying : (x : Bool) → test p.time ≡ x → length (cond (test p.time) (p ∷ at_times test (at_times (λ t. not (gone t)) ps)) (at_times test (at_times (λ t. not (gone t)) ps))) ≡ one_if x + length (at_times test (at_times (λ t. not (gone t)) ps))
+    staying x e = length-cons_if (test p.time) p (at_times test (at_times (λ t. not (gone t)) ps)) ∙ ap (λ y. one_if y + length (at_times test (at_times (λ t. not (gone t)) ps))) e
 
     go : (x y : Bool) → test p.time ≡ x → length (at_times test (at_times (λ t. not (gone t)) ps)) + length (at_times (λ t. test t && gone t) ps) ≡ length (at_times test ps) →
         length (at_times test (cond (not y) (p ∷ at_times (λ t. not (gone t)) ps) (at_times (λ t. not (gone t)) ps))) + length (cond (x && y) (p ∷ at_times (λ t. test t && gone t) ps) (at_times (λ t. test t && gone t) ps))
@@ -84,7 +84,7 @@ module _ (r : Rule) (source h : History) (from to : ℕ) (ascending : IsAscendin
   removed-are edge =
       ap length
       (times-both lost (is_within (max (start r.grid from) edge) (start r.grid to)) (list_of h)
-      ∙ times-same (λ t. is_within (max (start r.grid from) edge) (start r.grid to) t && lost t) (λ t. nat_le edge t && lost t) (list_of h)
+      ∙ times-alike (λ t. is_within (max (start r.grid from) edge) (start r.grid to) t && lost t) (λ t. nat_le edge t && lost t) (list_of h)
       (λ t. same-test (is_within (max (start r.grid from) edge) (start r.grid to) t && lost t) (nat_le edge t && lost t)
       (λ e. (let x = and_parts (is_within (max (start r.grid from) edge) (start r.grid to) t) (lost t) e in
       let low : max (start r.grid from) edge ≤ t = within-from (max (start r.grid from) edge) (start r.grid to) t x.0 in
@@ -96,7 +96,7 @@ module _ (r : Rule) (source h : History) (from to : ℕ) (ascending : IsAscendin
       and_from (is_within (max (start r.grid from) edge) (start r.grid to) t) (lost t)
       (within (max (start r.grid from) edge) (start r.grid to) t (omega (arith, low, since)) (within-to (start r.grid from) (start r.grid to) t inside)) x.1))))
 
-  module _ (edge first last removed count written : ℕ) (rows shown : List Point) (is_rows : rows ≡ rows_left r source from to h.born) (is_edge : edge ≡ edge_of h.options.retention (high_with rows h.high))
+  module _ {edge first last removed count written : ℕ} {rows shown : List Point} (is_rows : rows ≡ rows_left r source from to h.born) (is_edge : edge ≡ edge_of h.options.retention (high_with rows h.high))
       (begins : first ≡ start r.grid from) (ends : last ≡ start r.grid to) (is_shown : shown ≡ between (max first edge) last (list_of h)) (is_removed : removed ≡ length (at_times lost shown))
       (is_count : count ≡ length (at_times (nat_le edge) (list_of h))) (is_written : written ≡ length (at_times (nat_le edge) rows)) where
     all-removed : removed ≡ length (at_times (λ t. nat_le edge t && lost t) (list_of h))
@@ -125,7 +125,7 @@ module _ (r : Rule) (source h : History) (from to : ℕ) (ascending : IsAscendin
     pub shown-few : length shown ≤ length (between (start r.grid from) (start r.grid to) (list_of h))
     shown-few =
         let less : length (between (max (start r.grid from) edge) (start r.grid to) (list_of h)) ≤ length (between (start r.grid from) (start r.grid to) (list_of h)) =
-        fewer (is_within (max (start r.grid from) edge) (start r.grid to)) (is_within (start r.grid from) (start r.grid to)) (list_of h)
+        times-fewer (is_within (max (start r.grid from) edge) (start r.grid to)) (is_within (start r.grid from) (start r.grid to)) (list_of h)
         (λ t e. (let low : max (start r.grid from) edge ≤ t = within-from (max (start r.grid from) edge) (start r.grid to) t e in
         within (start r.grid from) (start r.grid to) t (omega (arith, low)) (within-to (max (start r.grid from) edge) (start r.grid to) t e))) in
         let same : length shown ≡ length (between (max (start r.grid from) edge) (start r.grid to) (list_of h)) = ap length is_shown ∙ (λ i. length (between (max (begins i) edge) (ends i) (list_of h))) in

@@ -7,7 +7,6 @@ pub mod Counts
 pub mod CountWritten
 pub mod EndsLeft
 pub mod Losing
-pub mod Listed
 pub mod Written
 pub mod EasyWrites
 pub mod TouchedEnds

@@ -5,7 +5,9 @@ use Rattle.ts_spec.specs.Sample.{Point, IsAfter, IsAscending, at_times, first_of
 use Rattle.ts_spec.specs.Bucket.{Grid, start}
 use Rattle.ts_spec.specs.Mending.{lies_in}
 use Rattle.ts_spec.proofs.Buckets.{start-order}
-use Rattle.ts_rules.proofs.Sizes.{one, counted}
+use Rattle.ts_series.proofs.EarlyLate.{after-less}
+use Rattle.ts_series.proofs.Counting.{one_if, length-cons_if}
+use Rattle.ts_rules.proofs.Times.{and-false}
 
 -- A time before the start of a bucket is the start of no later one.
 pub lies-past : (g : Grid) (t : ℕ) (gone : List Point) (u : ℕ) → IsAfter u gone → t < start g u → lies_in g gone t ≡ false
@@ -20,17 +22,9 @@ module _ (closed : ℕ → Bool) (g : Grid) where
   abbrev pub met : (gone ps : List Point) → ℕ
   met gone ps = length (at_times (λ t. closed t && lies_in g gone t) ps)
 
-  and-none : (x : Bool) → (x && false) ≡ false
-  and-none true = refl
-  and-none false = refl
-
   pub met-no_gone : (ps : List Point) → 0 ≡ met [] ps
   met-no_gone [] = refl
-  met-no_gone (p ∷ ps) = met-no_gone ps ∙ ap (λ (x : Bool). length (cond x (p ∷ at_times (λ t. closed t && false) ps) (at_times (λ t. closed t && false) ps))) (sym (and-none (closed p.time)))
-
-  pub met-ended : (gone ps : List Point) → None ≡ first_of ps → 0 ≡ met gone ps
-  met-ended gone [] e = refl
-  met-ended gone (p ∷ ps) e = absurd (cc e)
+  met-no_gone (p ∷ ps) = met-no_gone ps ∙ ap (λ (x : Bool). length (cond x (p ∷ at_times (λ t. closed t && false) ps) (at_times (λ t. closed t && false) ps))) (sym (and-false (closed p.time)))
 
   pub met-ended_gone : (gone ps : List Point) → None ≡ first_of gone → 0 ≡ met gone ps
   met-ended_gone [] ps e = met-no_gone ps
@@ -49,10 +43,6 @@ module _ (closed : ℕ → Bool) (g : Grid) where
       step true false e ih = absurd (cc e)
       step false true e ih = absurd (cc e)
 
-  after-less : (b t : ℕ) (ps : List Point) → b ≤ t → IsAfter t ps → IsAfter b ps
-  after-less b t [] h a = tt
-  after-less b t (p ∷ ps) h a = (let past : t < p.time = a.0 in omega (arith, past, h), after-less b t ps h a.1)
-
   -- A start before the first sample counts for nothing.
   pub met-skip : (p q : Point) (gone ps : List Point) → IsAscending ps → Some p ≡ first_of gone → Some q ≡ first_of ps → start g p.time < q.time → met gone ps ≡ met (drop 1 gone) ps
   met-skip p q [] ps a e f less = absurd (cc e)
@@ -63,18 +53,18 @@ module _ (closed : ℕ → Bool) (g : Grid) where
       let before : start g r.time < s.time = subst (λ (x : Point × Point). start g x.0.time < x.1.time) (λ i. (one i, two i)) less in
       none-here r gone (s ∷ ps)
       (λ t past. ap (λ (x : Bool). closed t && (x || lies_in g gone t)) (ne_eqb (start g r.time) t (λ is. absurd (omega (arith, is, past)))))
-      (before, after-less (start g r.time) s.time ps (omega (arith, before)) a.0)
+      (before, after-less (start g r.time) s.time ps a.0 (omega (arith, before)))
 
   -- A sample at the first start counts, if its bucket is closed.
-  pub met-here : (p q : Point) (gone ps : List Point) → Some p ≡ first_of gone → Some q ≡ first_of ps → start g p.time ≡ q.time → met gone ps ≡ one (closed q.time) + met gone (drop 1 ps)
+  pub met-here : (p q : Point) (gone ps : List Point) → Some p ≡ first_of gone → Some q ≡ first_of ps → start g p.time ≡ q.time → met gone ps ≡ one_if (closed q.time) + met gone (drop 1 ps)
   met-here p q [] ps e f same = absurd (cc e)
   met-here p q (r ∷ gone) [] e f same = absurd (cc f)
   met-here p q (r ∷ gone) (s ∷ ps) e f same =
       let first : p ≡ r = cc e in
       let two : q ≡ s = cc f in
       let here : start g r.time ≡ s.time = subst (λ (x : Point × Point). start g x.0.time ≡ x.1.time) (λ i. (first i, two i)) same in
-      counted (closed s.time && lies_in g (r ∷ gone) s.time) s (at_times (λ t. closed t && lies_in g (r ∷ gone) t) ps)
-      ∙ ap (λ (x : Bool). one x + met (r ∷ gone) ps)
+      length-cons_if (closed s.time && lies_in g (r ∷ gone) s.time) s (at_times (λ t. closed t && lies_in g (r ∷ gone) t) ps)
+      ∙ ap (λ (x : Bool). one_if x + met (r ∷ gone) ps)
       (ap (λ (x : Bool). closed s.time && (x || lies_in g gone s.time)) (eq-eqb (start g r.time) s.time here) ∙ and-all (closed s.time) ∙ ap (λ (x : Point). closed x.time) (sym two))
     where
       and-all : (x : Bool) → (x && true) ≡ x
@@ -91,7 +81,7 @@ module _ (closed : ℕ → Bool) (g : Grid) where
       let before : s.time < start g r.time = subst (λ (x : Point × Point). x.1.time < start g x.0.time) (λ i. (first i, two i)) less in
       ap (λ (x : Bool). length (cond x (s ∷ at_times (λ t. closed t && lies_in g (r ∷ gone) t) ps) (at_times (λ t. closed t && lies_in g (r ∷ gone) t) ps)))
       (ap (λ (x : Bool). closed s.time && (x || lies_in g gone s.time)) (ne_eqb (start g r.time) s.time (λ is. absurd (omega (arith, is, before))))
-      ∙ ap (λ (x : Bool). closed s.time && x) (lies-past g s.time gone r.time a.0 before) ∙ and-none (closed s.time))
+      ∙ ap (λ (x : Bool). closed s.time && x) (lies-past g s.time gone r.time a.0 before) ∙ and-false (closed s.time))
 
   -- ---- one step of the walk
 
@@ -110,14 +100,14 @@ module _ (closed : ℕ → Bool) (g : Grid) where
       same : b ≡ start g p.time
       same = begins ∙ ap (start g) at
 
-      one-is : (x : Bool) → (if x then 1 else 0) ≡ one x
+      one-is : (x : Bool) → (if x then 1 else 0) ≡ one_if x
       one-is true = refl
       one-is false = refl
 
       go : (x : Bool) → (b == u) ≡ x → n + met gone new ≡ met gone ps
       go true equal =
           let is_u : b ≡ u = eqb-true b u equal in
-          let n_is : n ≡ one (closed q.time) = counts ∙ ap (λ (y : Bool). if y && closed b then 1 else 0) equal ∙ one-is (closed b) ∙ ap (λ t. one (closed t)) (is_u ∙ here) in
+          let n_is : n ≡ one_if (closed q.time) = counts ∙ ap (λ (y : Bool). if y && closed b then 1 else 0) equal ∙ one-is (closed b) ∙ ap (λ t. one_if (closed t)) (is_u ∙ here) in
           let rest : met gone new ≡ met gone (drop 1 ps) = ap (met gone) is in
           omega (arith, n_is, rest, met-here p q gone ps e f (sym same ∙ is_u ∙ here))
       go false equal =

@@ -1,23 +1,15 @@
 -- How many samples pass tests of which no two pass at once.
-use Rattle.std.proofs.Common.{◌≡◌, ℕ, ◌+◌, ◌<◌, ◌≤◌, Bool, true, false, ◌&&◌, ◌==◌, nat_lt, nat_le, cond, List, [], ◌∷◌, length, refl, ap, ◌∙◌, arith, eq-eqb}
+use Rattle.std.proofs.Common.{◌≡◌, ℕ, ◌+◌, ◌<◌, ◌≤◌, Bool, true, false, ◌&&◌, ◌==◌, nat_lt, nat_le, List, [], ◌∷◌, length, refl, ap, ◌∙◌, arith, eq-eqb}
 use Rattle.ts_spec.specs.Sample.{Point, at_times, between, is_within}
 use Rattle.ts_spec.specs.Bucket.{Grid, start, members}
 use Rattle.ts_spec.proofs.Buckets.{start-order, start-start}
 use Rattle.ts_bucket.specs.Grid.{IsGrid, IsLastOf}
+use Rattle.ts_series.proofs.Counting.{one_if, length-cons_if, times-fewer}
 use Rattle.ts_rules.specs.Spans.{from_until}
 use Rattle.ts_rules.specs.Shares.{in_buckets}
 use Rattle.ts_rules.proofs.Times.{within, within-from, within-to, span-from, span-end}
 
 -- ---- tests
-
--- one, if the test passes
-abbrev pub one : Bool → ℕ
-one true = 1
-one false = 0
-
-pub counted : (x : Bool) (p : Point) (ps : List Point) → length (cond x (p ∷ ps) ps) ≡ one x + length ps
-counted true p ps = omega arith
-counted false p ps = omega arith
 
 -- three tests of which no two pass at once, and where one does, the last test does
 record AreApart (a b c d : ℕ → Bool) : Type 0 where
@@ -29,34 +21,22 @@ record AreApart (a b c d : ℕ → Bool) : Type 0 where
   second_third : (t : ℕ) → b t ≡ true → c t ≡ true → ⊥
 
 at-most-one : (x y z w : Bool) → (x ≡ true → w ≡ true) → (y ≡ true → w ≡ true) → (z ≡ true → w ≡ true) → (x ≡ true → y ≡ true → ⊥) → (x ≡ true → z ≡ true → ⊥) → (y ≡ true → z ≡ true → ⊥) →
-    one x + one y + one z ≤ one w
+    one_if x + one_if y + one_if z ≤ one_if w
 at-most-one true true z w f g h xy xz yz = absurd (xy refl refl)
 at-most-one true false true w f g h xy xz yz = absurd (xz refl refl)
-at-most-one true false false w f g h xy xz yz = let e : one w ≡ 1 = ap one (f refl) in omega (arith, e)
+at-most-one true false false w f g h xy xz yz = let e : one_if w ≡ 1 = ap one_if (f refl) in omega (arith, e)
 at-most-one false true true w f g h xy xz yz = absurd (yz refl refl)
-at-most-one false true false w f g h xy xz yz = let e : one w ≡ 1 = ap one (g refl) in omega (arith, e)
-at-most-one false false true w f g h xy xz yz = let e : one w ≡ 1 = ap one (h refl) in omega (arith, e)
+at-most-one false true false w f g h xy xz yz = let e : one_if w ≡ 1 = ap one_if (g refl) in omega (arith, e)
+at-most-one false false true w f g h xy xz yz = let e : one_if w ≡ 1 = ap one_if (h refl) in omega (arith, e)
 at-most-one false false false w f g h xy xz yz = omega arith
 
 three : (a b c d : ℕ → Bool) (ps : List Point) → AreApart a b c d → length (at_times a ps) + length (at_times b ps) + length (at_times c ps) ≤ length (at_times d ps)
 three a b c d [] h = omega arith
 three a b c d (p ∷ ps) h =
     let rest : length (at_times a ps) + length (at_times b ps) + length (at_times c ps) ≤ length (at_times d ps) = three a b c d ps h in
-    let here : one (a p.time) + one (b p.time) + one (c p.time) ≤ one (d p.time) =
+    let here : one_if (a p.time) + one_if (b p.time) + one_if (c p.time) ≤ one_if (d p.time) =
     at-most-one (a p.time) (b p.time) (c p.time) (d p.time) (h.first p.time) (h.second p.time) (h.third p.time) (h.first_second p.time) (h.first_third p.time) (h.second_third p.time) in
-    omega (arith, rest, here, counted (a p.time) p (at_times a ps), counted (b p.time) p (at_times b ps), counted (c p.time) p (at_times c ps), counted (d p.time) p (at_times d ps))
-
--- a test that another one follows passes no more samples
-pub fewer : (a d : ℕ → Bool) (ps : List Point) → ((t : ℕ) → a t ≡ true → d t ≡ true) → length (at_times a ps) ≤ length (at_times d ps)
-fewer a d [] h = omega arith
-fewer a d (p ∷ ps) h =
-    let rest : length (at_times a ps) ≤ length (at_times d ps) = fewer a d ps h in
-    let here : one (a p.time) ≤ one (d p.time) = less (a p.time) (d p.time) (h p.time) in
-    omega (arith, rest, here, counted (a p.time) p (at_times a ps), counted (d p.time) p (at_times d ps))
-  where
-    less : (x w : Bool) → (x ≡ true → w ≡ true) → one x ≤ one w
-    less true w f = let e : one w ≡ 1 = ap one (f refl) in omega (arith, e)
-    less false w f = omega arith
+    omega (arith, rest, here, length-cons_if (a p.time) p (at_times a ps), length-cons_if (b p.time) p (at_times b ps), length-cons_if (c p.time) p (at_times c ps), length-cons_if (d p.time) p (at_times d ps))
 
 -- ---- buckets
 
@@ -102,19 +82,13 @@ module _ (g : Grid) (grid : IsGrid g) where
 -- Up to an earlier time there are no more of them.
 pub in_buckets-fewer : (g : Grid) (from upto to : ℕ) (ps : List Point) → upto ≤ to → length (in_buckets g from upto ps) ≤ length (in_buckets g from to ps)
 in_buckets-fewer g from upto to ps less =
-    fewer (λ u. is_within (start g from) (start g upto) (start g u)) (λ u. is_within (start g from) (start g to) (start g u)) ps
+    times-fewer (λ u. is_within (start g from) (start g upto) (start g u)) (λ u. is_within (start g from) (start g to) (start g u)) ps
     (λ u e. (let up : start g upto ≤ start g to = start-order g upto to less in let here : start g u ≤ start g upto = within-to (start g from) (start g upto) (start g u) e in
     within (start g from) (start g to) (start g u) (within-from (start g from) (start g upto) (start g u) e) (omega arith)))
 
 -- The samples of an interval are in the buckets that it meets.
 pub between-in-buckets : (g : Grid) (from upto to : ℕ) (ps : List Point) → upto ≤ to → length (between from upto ps) ≤ length (in_buckets g from to ps)
 between-in-buckets g from upto to ps less =
-    fewer (is_within from upto) (λ u. is_within (start g from) (start g to) (start g u)) ps
+    times-fewer (is_within from upto) (λ u. is_within (start g from) (start g to) (start g u)) ps
     (λ u e. (let up : u ≤ upto = within-to from upto u e in
     within (start g from) (start g to) (start g u) (start-order g from u (within-from from upto u e)) (start-order g u to (omega (arith, up, less)))))
-
--- An interval that ends no later has no more samples.
-pub between-fewer : (from upto to : ℕ) (ps : List Point) → upto ≤ to → length (between from upto ps) ≤ length (between from to ps)
-between-fewer from upto to ps less =
-    fewer (is_within from upto) (is_within from to) ps
-    (λ u e. (let up : u ≤ upto = within-to from upto u e in within from to u (within-from from upto u e) (omega arith)))

@@ -2,6 +2,7 @@
 use Rattle.std.proofs.Common.{◌≡◌, ℕ, ◌<◌, ◌≤◌, Bool, true, false, not, ◌&&◌, nat_lt, nat_le, cond, List, [], ◌∷◌, ◌++◌, ◌⊎◌, inl, inr, refl, sym, ap, ◌∙◌, arith, ltb-true, lt-ltb, leb-true, le-leb}
 use Rattle.std.proofs.lemmas.Bool.{cases_lt, false≢true, and_parts, and_from}
 use Rattle.ts_spec.specs.Sample.{Point, IsAfter, IsAscending, at_times, is_within}
+use Rattle.ts_sample.proofs.Between.{times-alike}
 use Rattle.ts_rules.specs.Spans.{from_until}
 
 -- ---- tests
@@ -11,6 +12,10 @@ same-test true true h k = refl
 same-test true false h k = sym (h refl)
 same-test false true h k = k refl
 same-test false false h k = refl
+
+pub and-false : (x : Bool) → (x && false) ≡ false
+and-false true = refl
+and-false false = refl
 
 pub not-true : (x : Bool) → not x ≡ true → x ≡ false
 not-true true h = sym h
@@ -54,24 +59,12 @@ span-end from end t e = ltb-true t end (and_parts (nat_le from t) (nat_lt t end)
 
 -- ---- lists
 
-pub times-same : (a b : ℕ → Bool) (ps : List Point) → ((t : ℕ) → a t ≡ b t) → at_times a ps ≡ at_times b ps
-times-same a b ps h = λ i. at_times (λ t. h t i) ps
-
 pub times-none : (test : ℕ → Bool) (ps : List Point) → ((t : ℕ) → test t ≡ false) → at_times test ps ≡ []
-times-none test ps h = times-same test (λ t. false) ps h ∙ none ps
+times-none test ps h = times-alike test (λ t. false) ps h ∙ none ps
   where
     none : (qs : List Point) → at_times (λ t. false) qs ≡ []
     none [] = refl
     none (q ∷ qs) = none qs
-
-pub times-both : (a b : ℕ → Bool) (ps : List Point) → at_times a (at_times b ps) ≡ at_times (λ t. b t && a t) ps
-times-both a b [] = refl
-times-both a b (p ∷ ps) = go (b p.time) (times-both a b ps)
-  where
-    go : (x : Bool) → at_times a (at_times b ps) ≡ at_times (λ t. b t && a t) ps →
-        at_times a (cond x (p ∷ at_times b ps) (at_times b ps)) ≡ cond (x && a p.time) (p ∷ at_times (λ t. b t && a t) ps) (at_times (λ t. b t && a t) ps)
-    go true ih = ap (λ (qs : List Point). cond (a p.time) (p ∷ qs) qs) ih
-    go false ih = ih
 
 -- a test that fails past a time takes no later samples
 pub none-past : (test : ℕ → Bool) (u : ℕ) (ps : List Point) → IsAfter u ps → ((t : ℕ) → u < t → test t ≡ false) → at_times test ps ≡ []

@@ -2,8 +2,9 @@
 use Rattle.std.proofs.Common.{◌≡◌, ℕ, suc, ◌≤◌, Bool, true, false, nat_le, cond, if◌then◌else◌, List, [], ◌∷◌, drop, length, Option, None, Some, refl, sym, ap, ◌∙◌, arith, leb-true, le-leb, not, is_some}
 use Rattle.std.proofs.lemmas.Bool.{false≢true}
 use Rattle.ts_spec.specs.Sample.{Point, IsAscending, at_times, between, first_of}
+use Rattle.ts_sample.proofs.Between.{times-both}
 use Rattle.ts_rules.specs.Walks.{first_upto, walk_left}
-use Rattle.ts_rules.proofs.Times.{none-past, times-both, true-unless}
+use Rattle.ts_rules.proofs.Times.{none-past, true-unless}
 
 -- From one list on, the first sample up to the time and those past it are the samples up to that.
 pub walk-all : (to : ℕ) (ps : List Point) → IsAscending ps → walk_left to (first_upto to ps) (drop 1 ps) ≡ at_times (λ t. nat_le t to) ps

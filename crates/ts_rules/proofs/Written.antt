@@ -6,7 +6,7 @@ use Rattle.ts_spec.specs.Aggregate.{Summary, nothing, push}
 use Rattle.ts_spec.specs.Rules.{raised}
 use Rattle.ts_spec.specs.Kept.{KeptRule}
 use Rattle.ts_spec.specs.Mending.{bucket_row, by_bucket, counted_anew, closing_row, written_rule, written_row}
-use Rattle.ts_spec.proofs.WrittenRules.{by-before, by-here, by-past}
+use Rattle.ts_spec.proofs.WrittenRules.{by-here, by-past}
 use Rattle.ts_rules.specs.declared.rule.Rule.{Rule}
 use Rattle.ts_rules.specs.Rules.{kept_as, IsChanged, IsOpenAt}
 
@@ -25,19 +25,6 @@ module _ (append : Bool) (p : Point) (ps : List Point) (born : ℕ) (q : KeptRul
   row-none e = λ i. by_bucket b (e i) (bucket_row q.agg born b (counted_anew q b ps)) [] (closing_row born q (e i))
 
   module _ (o : ℕ) (e : q.current ≡ Some o) where
-    -- before the open bucket
-    pub rule-before : b < o → written_rule append p ps q ≡ q
-    rule-before h = λ i. record q { current = current i; running = running i }
-      where
-        current : raised b q.current ≡ q.current
-        current = ap (raised b) e ∙ ap (λ (n : ℕ). Some n) (omega arith) ∙ sym e
-
-        running : by_bucket b q.current q.running (if append then push q.running p else counted_anew q b ps) (push nothing p) ≡ q.running
-        running = ap (λ (c : Option ℕ). by_bucket b c q.running (if append then push q.running p else counted_anew q b ps) (push nothing p)) e ∙ by-before b o _ _ _ h
-
-    pub row-before : b < o → written_row p ps born q ≡ bucket_row q.agg born b (counted_anew q b ps)
-    row-before h = ap (λ (c : Option ℕ). by_bucket b c (bucket_row q.agg born b (counted_anew q b ps)) [] (closing_row born q c)) e ∙ by-before b o _ _ _ h
-
     -- at it
     pub rule-here : b ≡ o → written_rule append p ps q ≡ record q { current = Some o; running = if append then push q.running p else counted_anew q b ps }
     rule-here h = λ i. record q { current = current i; running = running i }

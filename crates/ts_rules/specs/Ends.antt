@@ -2,7 +2,7 @@
 use Rattle.std.specs.Prelude.{ℕ, Bool, false, ◌==◌, List, [], ◌∷◌, ◌++◌}
 use Rattle.ts_spec.specs.Sample.{Point}
 use Rattle.ts_spec.specs.Bucket.{Grid, start}
-use Rattle.ts_rules.specs.declared.ends.Ends.{Ends}
+use Rattle.ts_rules.specs.declared.end_rows.Ends.{Ends}
 use Rattle.ts_rules.specs.Rules.{one_of}
 
 -- both of them, as a list

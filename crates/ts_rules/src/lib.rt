@@ -4,14 +4,14 @@
 
 mod count;
 mod deletion;
-mod ends;
+mod end_rows;
 mod fault;
-mod full;
+mod fullness;
 mod laws;
 mod losses;
 mod lost;
 mod mending;
-mod open;
+mod open_bucket;
 mod plan;
 mod planned;
 mod room;
@@ -23,7 +23,7 @@ mod write;
 
 pub use fault::RuleFault;
 pub use laws::plans_are_what_is_kept;
-pub use open::latest;
+pub use open_bucket::latest;
 pub use plan::RulePlan;
 pub use planned::{plan_delete, plan_put};
 pub use rule::Rule;

@@ -12,7 +12,7 @@ ghost use Rattle.ts_rules.specs.Shares.{write_share, deletion_share, IsEasyWrite
 use crate::count::ends_left;
 use crate::deletion::Deletion;
 use crate::fault::RuleFault;
-use crate::full::is_full;
+use crate::fullness::is_full;
 use crate::mending::with_row;
 use crate::plan::RulePlan;
 use crate::room::Room;

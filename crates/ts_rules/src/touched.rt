@@ -6,7 +6,7 @@ ghost use Rattle.ts_rules.specs.Rules.{kept_as, one_of, IsChanged};
 ghost use Rattle.ts_rules.specs.Deletions.{gone_of, is_lost, left_of, row_left, rule_left};
 
 use crate::deletion::Deletion;
-use crate::open::{opened, row};
+use crate::open_bucket::{opened, row};
 use crate::rule::Rule;
 use ts_agg::Running;
 use ts_sample::Sample;

@@ -11,7 +11,7 @@ ghost use Rattle.ts_rules.specs.Shares.{source_share, IsNotClosed};
 ghost use Rattle.ts_rules.specs.Writes.{rule_after, row_for_dest};
 
 use crate::count::count_written;
-use crate::open::{latest, opened, row};
+use crate::open_bucket::{latest, opened, row};
 use crate::rule::Rule;
 use std::sync::ledger::Ledger;
 use ts_agg::Running;

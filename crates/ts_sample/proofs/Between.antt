@@ -17,6 +17,13 @@ filter-filter {X} p q (x ∷ xs) = go (q x) (filter-filter p q xs)
     go true ih = ap (λ (l : List X). cond (p x) (x ∷ l) l) ih
     go false ih = ih
 
+-- the same of times
+pub times-both : (a b : ℕ → Bool) (ps : List Point) → at_times a (at_times b ps) ≡ at_times (λ t. b t && a t) ps
+times-both a b ps = filter-filter (λ (p : Point). a p.time) (λ (p : Point). b p.time) ps
+
+pub times-alike : (a b : ℕ → Bool) (ps : List Point) → ((t : ℕ) → a t ≡ b t) → at_times a ps ≡ at_times b ps
+times-alike a b ps same = filter_alike (λ (p : Point). a p.time) (λ (p : Point). b p.time) (λ p. same p.time) ps
+
 both_ends : (from to t : ℕ) → (nat_le t to && nat_le from t) ≡ is_within from to t
 both_ends from to t = grind (arith, nat_tests)
 

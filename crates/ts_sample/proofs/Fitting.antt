@@ -1,35 +1,16 @@
 -- Samples that are cut into chunks.
 use Rattle.std.proofs.Common.{◌≡◌, ℕ, zero, suc, ◌/◌, ◌<◌, ◌≤◌, false, List, [], ◌∷◌, ◌++◌, length, map, get_or, take, drop, sym, ◌∙◌, ap, subst, append-nil, append_assoc, arith}
-use Rattle.std.specs.Prelude.{Option, None, Some, nat_le}
+use Rattle.std.specs.Prelude.{nat_le}
 use Rattle.std.proofs.Math.Seq.{take-suc}
 use Rattle.std.proofs.lemmas.List.{length-take, length-drop, map-append, take-append-drop}
 use Rattle.std.proofs.lemmas.Bool.{leb-false}
-use Rattle.ts_spec.specs.Sample.{Point, IsAfter, IsAscending, last_of, later_or}
+use Rattle.ts_spec.specs.Sample.{Point, IsAscending, last_of}
 use Rattle.ts_sample.specs.Chunk.{IsLimit, IsPast, Fits, IsCut, HaveLimit, least_limit, nothing, whole, halves}
 use Rattle.ts_sample.specs.Sample.{IsFine}
+use Rattle.ts_sample.proofs.Lists.{past-later}
 use Rattle.ts_sample.proofs.Parted.{after_each}
 
--- ---- parts of an ascending list
-
-after-take : (t n : ℕ) (ps : List Point) → IsAfter t ps → IsAfter t (take n ps)
-after-take t zero ps h = tt
-after-take t (suc n) [] h = tt
-after-take t (suc n) (p ∷ ps) h = (h.0, after-take t n ps h.1)
-
-pub ascending-take : (n : ℕ) (ps : List Point) → IsAscending ps → IsAscending (take n ps)
-ascending-take zero ps h = tt
-ascending-take (suc n) [] h = tt
-ascending-take (suc n) (p ∷ ps) h = (after-take p.time n ps h.0, ascending-take n ps h.1)
-
-pub ascending-drop : (n : ℕ) (ps : List Point) → IsAscending ps → IsAscending (drop n ps)
-ascending-drop zero ps h = h
-ascending-drop (suc n) [] h = tt
-ascending-drop (suc n) (p ∷ ps) h = ascending-drop n ps h.1
-
--- the later of one before t and the last of others before t
-past-later : (q : Point) (last : Option Point) (t : ℕ) → q.time < t → IsPast last t → IsPast (Some (later_or q last)) t
-past-later q None t first last = first
-past-later q (Some r) t first last = last
+-- ---- samples
 
 -- a sample is past those before it
 pub past-taken : (ps : List Point) (i : ℕ) (p : Point) → IsAscending ps → i < length ps → p ≡ get_or ps i p → IsPast (last_of (take i ps)) p.time
@@ -42,7 +23,7 @@ past-taken (q ∷ ps) (suc i) p h lt is =
 -- ---- bytes
 
 module _ (format : List Point → List ℕ) (grows : (ps : List Point) (p : Point) → length (format ps) ≤ length (format (ps ++ p ∷ []))) where
-  grows-on : (ps qs : List Point) → length (format ps) ≤ length (format (ps ++ qs))
+  pub grows-on : (ps qs : List Point) → length (format ps) ≤ length (format (ps ++ qs))
   grows-on ps [] = let same : length (format (ps ++ [])) ≡ length (format ps) = ap (λ l. length (format l)) (append-nil ps) in omega arith
   grows-on ps (q ∷ qs) =
       let same : length (format ((ps ++ q ∷ []) ++ qs)) ≡ length (format (ps ++ q ∷ qs)) = ap (λ l. length (format l)) (append_assoc ps (q ∷ []) qs) in

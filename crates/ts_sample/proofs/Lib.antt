@@ -2,6 +2,8 @@ pub mod Between
 pub mod Cuts
 pub mod Fitting
 pub mod Found
+pub mod Listed
+pub mod Lists
 pub mod Parted
 pub mod Replacing
 pub mod Visiting

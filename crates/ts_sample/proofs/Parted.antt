@@ -32,10 +32,10 @@ rising (p ∷ ps) h zero (suc j) d le lt = omega (arith, after_each p.time ps j 
 rising (p ∷ ps) h (suc i) zero d le lt = absurd (omega arith)
 rising (p ∷ ps) h (suc i) (suc j) d le lt = rising ps h.1 i j d (omega arith) (omega arith)
 
-not_before : (t n : ℕ) → not (nat_lt n t) ≡ nat_le t n
+pub not_before : (t n : ℕ) → not (nat_lt n t) ≡ nat_le t n
 not_before t n = grind (arith, nat_tests)
 
-not_past : (t n : ℕ) → not (nat_le n t) ≡ nat_lt t n
+pub not_past : (t n : ℕ) → not (nat_le n t) ≡ nat_lt t n
 not_past t n = grind (arith, nat_tests)
 
 pub filter_alike : {X : Type 0} (p q : X → Bool) → ((x : X) → p x ≡ q x) → (xs : List X) → filter p xs ≡ filter q xs

@@ -16,14 +16,14 @@ between-all (p ∷ ps) h =
     let here : is_within 0 MAX_TIME p.time ≡ true = grind (arith, nat_tests) in
     rw here (ap (λ (l : List Point). p ∷ l) (between-all ps h.1))
 
-none-before : (x : ℕ) (ps : List Point) → IsAfter x ps → at_times (λ t. nat_lt t x) ps ≡ []
+pub none-before : (x : ℕ) (ps : List Point) → IsAfter x ps → at_times (λ t. nat_lt t x) ps ≡ []
 none-before x [] h = refl
 none-before x (p ∷ ps) h =
     let later : x < p.time = h.0 in
     let out : nat_lt p.time x ≡ false = grind (arith, nat_tests) in
     rw out (none-before x ps h.1)
 
-all-past : (x : ℕ) (ps : List Point) → IsAfter x ps → at_times (nat_lt x) ps ≡ ps
+pub all-past : (x : ℕ) (ps : List Point) → IsAfter x ps → at_times (nat_lt x) ps ≡ ps
 all-past x [] h = refl
 all-past x (p ∷ ps) h =
     let later : x < p.time = h.0 in

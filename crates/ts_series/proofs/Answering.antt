@@ -1,25 +1,19 @@
 -- Answers to questions on chunks, from the one at a place.
-use Rattle.std.proofs.Common.{◌≡◌, ◌≢◌, ◌⊎◌, inl, inr, ℕ, zero, suc, ◌+◌, ◌<◌, ◌≤◌, Bool, true, false, cond, List, [], ◌∷◌, ◌++◌, length, get_or, take, drop, map, refl, sym, ◌∙◌, ap, subst, arith, append-nil, append_assoc, length-append, length-take, le-leb, lt-ltb, leb-false}
+use Rattle.std.proofs.Common.{◌≡◌, ◌≢◌, ◌⊎◌, inl, inr, ℕ, zero, suc, ◌+◌, ◌<◌, ◌≤◌, Bool, true, false, cond, List, [], ◌∷◌, ◌++◌, length, get_or, take, drop, map, refl, sym, ◌∙◌, ap, subst, arith, append-nil, length-append, length-take, le-leb, lt-ltb, leb-false}
 use Rattle.std.specs.Prelude.{nat_lt, nat_le, if◌then◌else◌, Option, None, Some}
 use Rattle.std.specs.Option.{option_or}
 use Rattle.std.proofs.lemmas.Bool.{false≢true}
 use Rattle.std.proofs.lemmas.List.{get_or-take, length-map}
-use Rattle.ts_spec.specs.Sample.{Point, IsAfter, IsAscending, at, at_times, first_of, last_of, later_or}
+use Rattle.ts_spec.specs.Sample.{Point, IsAscending, at, at_times, first_of, last_of, later_or}
 use Rattle.ts_spec.proofs.Samples.{at-times, at-append, at-after}
 use Rattle.ts_sample.specs.Chunk.{IsChunk, joined}
+use Rattle.ts_sample.proofs.Replacing.{none-before}
 use Rattle.ts_series.specs.Held.{Held, AreChunks, AreKept, IsTrimmed}
 use Rattle.ts_series.proofs.Counting.{times-append}
-use Rattle.ts_series.proofs.Placing.{none-before}
-use Rattle.ts_series.proofs.Joined.{ascending-right, chunk-at, chunks-take, map-at}
-use Rattle.ts_series.proofs.EarlyLate.{after-some}
+use Rattle.ts_series.proofs.Joined.{chunk-at, chunks-take, map-at, joined-at}
 use Rattle.ts_series.proofs.Meeting.{last-joined, trimmed-at}
 use Rattle.ts_series.proofs.OneChunk.{or-none}
-
-pub parts-at : (i : ℕ) (pss : List (List Point)) → joined pss ≡ joined (take i pss) ++ (get_or pss i [] ++ joined (drop (suc i) pss))
-parts-at zero [] = refl
-parts-at (suc i) [] = refl
-parts-at zero (ps ∷ pss) = refl
-parts-at (suc i) (ps ∷ pss) = ap (λ (l : List Point). ps ++ l) (parts-at i pss) ∙ sym (append_assoc ps (joined (take i pss)) (get_or pss i [] ++ joined (drop (suc i) pss)))
+use Rattle.ts_series.proofs.EarlyLate.{rest-past}
 
 pub get-past : (i : ℕ) (pss : List (List Point)) → length pss ≤ i → get_or pss i [] ≡ []
 get-past i [] le = refl
@@ -62,11 +56,6 @@ piece format list most cs room count h view kept i x less there =
     let here : list x ≡ get_or (map list cs) i [] = ap list there ∙ sym (map-at list i cs x [] less) in
     record { within = within; here = here; chunk = subst (λ (ps : List Point). IsChunk format (get_or (map most cs) i 0) ps) (sym here) (chunk-at format i (map list cs) (map most cs) kept.chunks within) })
 
-pub rest-past : (t i : ℕ) (pss : List (List Point)) → IsAscending (joined pss) → IsTrimmed t (drop i pss) → IsAfter t (joined (drop (suc i) pss))
-rest-past t i [] h trimmed = _
-rest-past t zero (ps ∷ pss) h trimmed = after-some t ps (joined pss) h trimmed
-rest-past t (suc i) (ps ∷ pss) h trimmed = rest-past t i pss (ascending-right ps (joined pss) h) trimmed
-
 -- samples none of which is from a time on are before it
 none-at : (t : ℕ) (ps : List Point) → at_times (nat_le t) ps ≡ [] → at t ps ≡ None
 none-at t ps n = sym (ap (λ b. if b then at t ps else None) (le-leb t t (omega arith))) ∙ sym (at-times t (nat_le t) ps) ∙ ap (at t) n
@@ -82,7 +71,7 @@ all-earlier t (p ∷ ps) n = go (nat_le t p.time) refl n (all-earlier t ps)
         let yes : nat_lt p.time t ≡ true = lt-ltb p.time t (leb-false t p.time e) in
         ap (λ b. cond b (p ∷ at_times (λ u. nat_lt u t) ps) (at_times (λ u. nat_lt u t) ps)) yes ∙ ap (λ (l : List Point). p ∷ l) (rest m)
 
-first-front : (ps qs : List Point) → ps ≢ [] → first_of (ps ++ qs) ≡ first_of ps
+pub first-front : (ps qs : List Point) → ps ≢ [] → first_of (ps ++ qs) ≡ first_of ps
 first-front [] qs f = absurd (f refl)
 first-front (p ∷ ps) qs f = refl
 
@@ -100,7 +89,7 @@ module _ (t i : ℕ) (pss : List (List Point)) (rises : IsAscending (joined pss)
   pub at-piece : at t (joined pss) ≡ at t (get_or pss i [])
   at-piece =
       let none : at t (joined (drop (suc i) pss)) ≡ None = at-after t t (joined (drop (suc i) pss)) (rest-past t i pss rises trimmed) (omega arith) in
-      ap (at t) (parts-at i pss)
+      ap (at t) (joined-at i pss)
       ∙ at-append t (joined (take i pss)) (get_or pss i [] ++ joined (drop (suc i) pss))
       ∙ ap (λ (o : Option Point). option_or o (at t (get_or pss i [] ++ joined (drop (suc i) pss)))) (none-at t (joined (take i pss)) early)
       ∙ at-append t (get_or pss i []) (joined (drop (suc i) pss))
@@ -109,7 +98,7 @@ module _ (t i : ℕ) (pss : List (List Point)) (rises : IsAscending (joined pss)
 
   pub before-pieces : at_times (λ u. nat_lt u t) (joined pss) ≡ joined (take i pss) ++ at_times (λ u. nat_lt u t) (get_or pss i [])
   before-pieces =
-      ap (at_times (λ u. nat_lt u t)) (parts-at i pss)
+      ap (at_times (λ u. nat_lt u t)) (joined-at i pss)
       ∙ times-append (λ u. nat_lt u t) (joined (take i pss)) (get_or pss i [] ++ joined (drop (suc i) pss))
       ∙ ap (λ (l : List Point). l ++ at_times (λ u. nat_lt u t) (get_or pss i [] ++ joined (drop (suc i) pss))) (all-earlier t (joined (take i pss)) early)
       ∙ ap (λ (l : List Point). joined (take i pss) ++ l)
@@ -126,7 +115,7 @@ module _ (t i : ℕ) (pss : List (List Point)) (rises : IsAscending (joined pss)
 
   pub late-pieces : at_times (nat_le t) (joined pss) ≡ at_times (nat_le t) (get_or pss i []) ++ at_times (nat_le t) (joined (drop (suc i) pss))
   late-pieces =
-      ap (at_times (nat_le t)) (parts-at i pss)
+      ap (at_times (nat_le t)) (joined-at i pss)
       ∙ times-append (nat_le t) (joined (take i pss)) (get_or pss i [] ++ joined (drop (suc i) pss))
       ∙ ap (λ (l : List Point). l ++ at_times (nat_le t) (get_or pss i [] ++ joined (drop (suc i) pss))) early
       ∙ times-append (nat_le t) (get_or pss i []) (joined (drop (suc i) pss))

@@ -4,20 +4,13 @@ use Rattle.std.specs.Prelude.{slice_range}
 use Rattle.std.proofs.lemmas.List.{map-append, take-map, drop-map, take_at, drop_at}
 use Rattle.ts_spec.specs.Sample.{Point, IsAfter, IsAscending, MAX_TIME}
 use Rattle.ts_sample.specs.Chunk.{AreFine, joined}
+use Rattle.ts_sample.proofs.Lists.{ascending-left, ascending-right}
 use Rattle.ts_series.specs.Held.{AreChunks, AreKept, replaced}
-use Rattle.ts_series.proofs.Joined.{chunks-take, chunks-drop, chunks-append, ascending-left, ascending-right}
+use Rattle.ts_series.proofs.Joined.{chunks-take, chunks-drop, chunks-append}
 use Rattle.ts_series.proofs.PieceCounts.{three-parts, joined-replaced}
+use Rattle.ts_series.proofs.NewChunks.{fine-joined}
 
 -- ---- how many samples there can be
-
-fine-append : (ps qs : List Point) → AreFine ps → AreFine qs → AreFine (ps ++ qs)
-fine-append [] qs h k = k
-fine-append (p ∷ ps) qs h k = (h.0, fine-append ps qs h.1 k)
-
-fine-joined : (format : List Point → List ℕ) (pss : List (List Point)) (ns : List ℕ) → AreChunks format pss ns → AreFine (joined pss)
-fine-joined format [] ns h = _
-fine-joined format (ps ∷ pss) [] h = absurd h
-fine-joined format (ps ∷ pss) (n ∷ ns) h = fine-append ps (joined pss) h.0.fine (fine-joined format pss ns h.1.1)
 
 -- samples past a time are no more than there are times past it
 spread : (t : ℕ) (ps : List Point) → AreFine ps → IsAfter t ps → IsAscending ps → t ≤ MAX_TIME → t + length ps ≤ MAX_TIME

@@ -1,11 +1,13 @@
 -- How many samples a list has once one is put in.
-use Rattle.std.proofs.Common.{◌≡◌, ℕ, suc, ◌+◌, ◌-◌, ◌<◌, ◌≤◌, Bool, true, false, cond, List, [], ◌∷◌, ◌++◌, length, drop, refl, sym, ◌∙◌, ap, subst, arith, length-drop, length-append}
-use Rattle.std.specs.Prelude.{nat_lt, nat_le, if◌then◌else◌, Option, None, Some}
+use Rattle.std.proofs.Common.{◌≡◌, ℕ, suc, ◌+◌, ◌<◌, ◌≤◌, Bool, true, false, cond, List, [], ◌∷◌, ◌++◌, length, refl, sym, ◌∙◌, ap, subst, arith, length-append}
+use Rattle.std.specs.Prelude.{nat_lt, nat_le, if◌then◌else◌, Option, None, Some, not}
 use Rattle.std.proofs.lemmas.Bool.{cases_order}
 use Rattle.std.proofs.Common.{inl, inr, ◌⊎◌, lt-ltb, le-ltb, eq-eqb, ne_eqb}
+use Rattle.std.proofs.lemmas.List.Elements.{filter-append}
+use Rattle.std.proofs.lemmas.List.Filters.{length-filter_both}
 use Rattle.ts_spec.specs.Sample.{Point, IsAscending, IsAfter, at, at_times, put}
 use Rattle.ts_spec.proofs.Samples.{at-after}
-use Rattle.ts_series.proofs.Placing.{none-before, all-after}
+use Rattle.ts_sample.proofs.Replacing.{none-before, all-past}
 
 -- one where the test passes
 abbrev pub one_if : Bool → ℕ
@@ -13,13 +15,7 @@ one_if true = 1
 one_if false = 0
 
 pub times-append : (test : ℕ → Bool) (ps qs : List Point) → at_times test (ps ++ qs) ≡ at_times test ps ++ at_times test qs
-times-append test [] qs = refl
-times-append test (p ∷ ps) qs = go (test p.time) (times-append test ps qs)
-  where
-    go : (b : Bool) → at_times test (ps ++ qs) ≡ at_times test ps ++ at_times test qs
-        → cond b (p ∷ at_times test (ps ++ qs)) (at_times test (ps ++ qs)) ≡ cond b (p ∷ at_times test ps) (at_times test ps) ++ at_times test qs
-    go true ih = ap (λ (l : List Point). p ∷ l) ih
-    go false ih = ih
+times-append test ps qs = filter-append (λ (p : Point). test p.time) ps qs
 
 pub length-cons_if : (b : Bool) (p : Point) (ps : List Point) → length (cond b (p ∷ ps) ps) ≡ one_if b + length ps
 length-cons_if true p ps = omega arith
@@ -67,12 +63,18 @@ times-each (p ∷ ps) = ap (λ (l : List Point). p ∷ l) (times-each ps)
 
 -- a part is no longer than the whole
 pub times-length : (test : ℕ → Bool) (ps : List Point) → length (at_times test ps) ≤ length ps
-times-length test [] = omega arith
-times-length test (p ∷ ps) = go (times-length test ps) (test p.time) (length-cons_if (test p.time) p (at_times test ps))
+times-length test ps = omega (arith, length-filter_both (λ (p : Point). test p.time) (λ (p : Point). not (test p.time)) (λ p. refl) ps)
+
+-- a test that another one follows passes no more samples
+pub times-fewer : (a d : ℕ → Bool) (ps : List Point) → ((t : ℕ) → a t ≡ true → d t ≡ true) → length (at_times a ps) ≤ length (at_times d ps)
+times-fewer a d [] h = omega arith
+times-fewer a d (p ∷ ps) h =
+    let here : one_if (a p.time) ≤ one_if (d p.time) = less (a p.time) (d p.time) (h p.time) in
+    omega (arith, times-fewer a d ps h, here, length-cons_if (a p.time) p (at_times a ps), length-cons_if (d p.time) p (at_times d ps))
   where
-    go : length (at_times test ps) ≤ length ps → (b : Bool) → length (cond b (p ∷ at_times test ps) (at_times test ps)) ≡ one_if b + length (at_times test ps) → length (cond b (p ∷ at_times test ps) (at_times test ps)) ≤ suc (length ps)
-    go ih true h = omega arith
-    go ih false h = omega arith
+    less : (x w : Bool) → (x ≡ true → w ≡ true) → one_if x ≤ one_if w
+    less true w f = let e : one_if w ≡ 1 = ap one_if (f refl) in omega (arith, e)
+    less false w f = omega arith
 
 -- below the limit there is room for one more
 pub not_full : (limit : ℕ) (test : ℕ → Bool) (p : Point) (ps : List Point) → at p.time ps ≡ None → length ps < limit → false ≡ nat_lt limit (length (at_times test (put p ps)))
@@ -86,14 +88,6 @@ not_full limit test p ps none below =
     at_most_one : (b : Bool) → one_if b ≤ 1
     at_most_one true = omega arith
     at_most_one false = omega arith
-
--- the count of what stays
-pub full : (limit low : ℕ) (p : Point) (ps : List Point) (gone stays : ℕ) → at p.time ps ≡ None → drop gone ps ≡ at_times (nat_le low) ps → stays ≡ one_if (nat_le low p.time)
-    → nat_lt limit (length ps - gone + stays) ≡ nat_lt limit (length (at_times (nat_le low) (put p ps)))
-full limit low p ps gone stays none left one =
-    let count : length ps - gone + stays ≡ length (at_times (nat_le low) (put p ps)) =
-    omega (arith, length-put (nat_le low) p ps none, ap length left, length-drop gone ps, one) in
-    ap (nat_lt limit) count
 
 -- a sample in the place of another one leaves as many
 pub length-put_there : (p q : Point) (ps : List Point) → IsAscending ps → at p.time ps ≡ Some q → length (put p ps) ≡ length ps
@@ -110,7 +104,7 @@ length-put_there p q ps h there =
         go ih (inl same) =
             let after : IsAfter t ps = subst (λ u. IsAfter u ps) same h.0 in
             rw (le-ltb r.time t (omega arith), le-ltb t r.time (omega arith))
-            (let a = ap length (none-before t ps after) in let b = ap length (all-after t ps after) in omega (arith, a, b))
+            (let a = ap length (none-before t ps after) in let b = ap length (all-past t ps after) in omega (arith, a, b))
         go ih (inr (inl less)) =
             let rest = ih (sym (ap (λ b. if b then Some r else at t ps) (ne_eqb r.time t (λ d. absurd (omega arith)))) ∙ there) in
             rw (lt-ltb r.time t less, le-ltb t r.time (omega arith)) (omega (arith, rest))

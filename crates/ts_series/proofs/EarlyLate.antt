@@ -1,12 +1,14 @@
 -- Lists of samples before a time, and past it.
-use Rattle.std.proofs.Common.{◌≡◌, ◌≢◌, ℕ, ◌<◌, ◌≤◌, Bool, true, false, cond, List, [], ◌∷◌, ◌++◌, refl, sym, ◌∙◌, ap, arith, ltb-false, ltb-true, lt-ltb, leb-false, leb-true, le-leb}
+use Rattle.std.proofs.Common.{◌≡◌, ◌≢◌, ℕ, zero, suc, drop, ◌<◌, ◌≤◌, Bool, true, false, cond, List, [], ◌∷◌, ◌++◌, refl, sym, ◌∙◌, ap, arith, ltb-false, ltb-true, lt-ltb, leb-false, leb-true, le-leb}
 use Rattle.std.specs.Prelude.{nat_lt, nat_le, Option, None, Some}
 use Rattle.std.proofs.lemmas.Bool.{false≢true}
 use Rattle.std.proofs.lemmas.Bool.Decides.{nat_tests}
 use Rattle.ts_spec.specs.Sample.{Point, IsAfter, IsAscending, at_times, first_of, last_of}
 use Rattle.ts_spec.proofs.Samples.{IsBefore}
 use Rattle.ts_series.proofs.Counting.{times-append}
-use Rattle.ts_series.proofs.Joined.{after-right}
+use Rattle.ts_sample.specs.Chunk.{joined}
+use Rattle.ts_sample.proofs.Lists.{after-right, ascending-right}
+use Rattle.ts_series.specs.Held.{IsTrimmed}
 
 -- the last sample is before the time, if there is one
 abbrev pub is_before : ℕ → Option Point → Bool
@@ -54,10 +56,6 @@ none-less test other less [] n = refl
 none-less test other less (p ∷ ps) n = none-cons other p ps (less p.time (none-head test p ps n)) (none-less test other less ps (none-tail test p ps n))
 
 -- ---- lists before a time, and past it
-
-before-less : (t u : ℕ) (ps : List Point) → IsBefore t ps → t ≤ u → IsBefore u ps
-before-less t u [] h le = tt
-before-less t u (p ∷ ps) h le = (let first : p.time < t = h.0 in omega arith, before-less t u ps h.1 le)
 
 pub after-less : (t u : ℕ) (ps : List Point) → IsAfter u ps → t ≤ u → IsAfter t ps
 after-less t u [] h le = tt
@@ -143,3 +141,9 @@ after-some t (p ∷ ps) qs h f = go (after-some t ps qs h.1) (nat_le t p.time) r
     go : (at_times (nat_le t) ps ≢ [] → IsAfter t qs) → (b : Bool) → nat_le t p.time ≡ b → IsAfter t qs
     go rest true e = after-less t p.time qs (after-right p.time ps qs h.0) (leb-true t p.time e)
     go rest false e = rest (λ n. f (none-cons (nat_le t) p ps e n))
+
+-- what follows the first piece that has a sample from a time on is past that time
+pub rest-past : (t i : ℕ) (pss : List (List Point)) → IsAscending (joined pss) → IsTrimmed t (drop i pss) → IsAfter t (joined (drop (suc i) pss))
+rest-past t i [] h trimmed = tt
+rest-past t zero (ps ∷ pss) h trimmed = after-some t ps (joined pss) h trimmed
+rest-past t (suc i) (ps ∷ pss) h trimmed = rest-past t i pss (ascending-right ps (joined pss) h) trimmed

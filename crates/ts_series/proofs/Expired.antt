@@ -4,9 +4,9 @@ use Rattle.std.specs.Prelude.{nat_le, None, Some}
 use Rattle.std.proofs.lemmas.Bool.Decides.{nat_tests}
 use Rattle.ts_spec.specs.Sample.{Point, IsAfter, IsAscending, at_times, last_of}
 use Rattle.ts_sample.specs.Chunk.{joined}
+use Rattle.ts_sample.proofs.Lists.{ascending-right}
 use Rattle.ts_series.specs.Held.{AreKept, IsTrimmed}
 use Rattle.ts_series.proofs.Counting.{times-append}
-use Rattle.ts_series.proofs.Joined.{ascending-right}
 
 after-last : (t : ℕ) (ps : List Point) (q : Point) → IsAfter t ps → last_of ps ≡ Some q → t < q.time
 after-last t [] q h is = absurd (cc is)

@@ -4,7 +4,8 @@ use Rattle.std.proofs.Math.Seq.{take-append-add}
 use Rattle.std.proofs.lemmas.List.{take-append-drop, take_rest, length-take, length-drop}
 use Rattle.ts_spec.specs.Sample.{Point, IsAscending}
 use Rattle.ts_sample.specs.Chunk.{IsChunk, HaveLimit, joined}
-use Rattle.ts_sample.proofs.Fitting.{limits-append, ascending-take, ascending-drop}
+use Rattle.ts_sample.proofs.Fitting.{limits-append}
+use Rattle.ts_sample.proofs.Lists.{ascending-take, ascending-drop}
 use Rattle.ts_series.specs.Held.{AreChunks}
 use Rattle.ts_series.proofs.PlannedPieces.{both-joined, both-chunks}
 

@@ -2,40 +2,21 @@
 use Rattle.std.proofs.Common.{◌≡◌, ◌≢◌, ℕ, zero, suc, ◌<◌, ◌≤◌, List, [], ◌∷◌, ◌++◌, length, get_or, take, drop, map, refl, sym, ◌∙◌, ap, subst, arith, append_assoc}
 use Rattle.ts_spec.specs.Sample.{Point, IsAfter, IsAscending}
 use Rattle.ts_sample.specs.Chunk.{IsChunk, joined}
+use Rattle.ts_sample.proofs.Lists.{after-right, ascending-left, ascending-right}
 use Rattle.ts_series.specs.Held.{AreChunks, longest}
 
-pub joined-append : (pss qss : List (List Point)) → joined (pss ++ qss) ≡ joined pss ++ joined qss
-joined-append [] qss = refl
-joined-append (ps ∷ pss) qss = ap (λ (l : List Point). ps ++ l) (joined-append pss qss) ∙ sym (append_assoc ps (joined pss) (joined qss))
-
 -- the list at a place, between those before it and those after it
-pub joined-at : (i : ℕ) (pss : List (List Point)) → i < length pss → joined pss ≡ joined (take i pss) ++ (get_or pss i [] ++ joined (drop (suc i) pss))
-joined-at i [] within = absurd (omega arith)
-joined-at zero (ps ∷ pss) within = refl
-joined-at (suc i) (ps ∷ pss) within = ap (λ (l : List Point). ps ++ l) (joined-at i pss (omega arith)) ∙ sym (append_assoc ps (joined (take i pss)) (get_or pss i [] ++ joined (drop (suc i) pss)))
+pub joined-at : (i : ℕ) (pss : List (List Point)) → joined pss ≡ joined (take i pss) ++ (get_or pss i [] ++ joined (drop (suc i) pss))
+joined-at zero [] = refl
+joined-at (suc i) [] = refl
+joined-at zero (ps ∷ pss) = refl
+joined-at (suc i) (ps ∷ pss) = ap (λ (l : List Point). ps ++ l) (joined-at i pss) ∙ sym (append_assoc ps (joined (take i pss)) (get_or pss i [] ++ joined (drop (suc i) pss)))
 
 -- those before a place, and those from it on
 pub joined-parts : (i : ℕ) (pss : List (List Point)) → joined pss ≡ joined (take i pss) ++ joined (drop i pss)
 joined-parts zero pss = refl
 joined-parts (suc i) [] = refl
 joined-parts (suc i) (ps ∷ pss) = ap (λ (l : List Point). ps ++ l) (joined-parts i pss) ∙ sym (append_assoc ps (joined (take i pss)) (joined (drop i pss)))
-
-pub after-left : (t : ℕ) (ps qs : List Point) → IsAfter t (ps ++ qs) → IsAfter t ps
-after-left t [] qs h = _
-after-left t (p ∷ ps) qs h = (h.0, after-left t ps qs h.1)
-
-pub after-right : (t : ℕ) (ps qs : List Point) → IsAfter t (ps ++ qs) → IsAfter t qs
-after-right t [] qs h = h
-after-right t (p ∷ ps) qs h = after-right t ps qs h.1
-
--- parts of an ascending list are ascending
-pub ascending-left : (ps qs : List Point) → IsAscending (ps ++ qs) → IsAscending ps
-ascending-left [] qs h = _
-ascending-left (p ∷ ps) qs h = (after-left p.time ps qs h.0, ascending-left ps qs h.1)
-
-pub ascending-right : (ps qs : List Point) → IsAscending (ps ++ qs) → IsAscending qs
-ascending-right [] qs h = h
-ascending-right (p ∷ ps) qs h = ascending-right ps qs h.1
 
 after-ends : (t : ℕ) (ps qs rs : List Point) → IsAfter t (ps ++ (qs ++ rs)) → IsAfter t (ps ++ rs)
 after-ends t [] qs rs h = after-right t qs rs h
@@ -52,7 +33,7 @@ ascending-two i zero (ps ∷ pss) less within h = absurd (omega arith)
 ascending-two zero (suc j) (ps ∷ pss) less within h =
     let later : List Point = get_or pss j [] in
     let rest : List Point = joined (drop (suc j) pss) in
-    let all : IsAscending (ps ++ (joined (take j pss) ++ (later ++ rest))) = subst (λ (l : List Point). IsAscending (ps ++ l)) (joined-at j pss (omega arith)) h in
+    let all : IsAscending (ps ++ (joined (take j pss) ++ (later ++ rest))) = subst (λ (l : List Point). IsAscending (ps ++ l)) (joined-at j pss) h in
     ascending-left (ps ++ later) rest (subst IsAscending (sym (append_assoc ps later rest)) (ascending-ends ps (joined (take j pss)) (later ++ rest) all))
 ascending-two (suc i) (suc j) (ps ∷ pss) less within h = ascending-two i j pss (omega arith) (omega arith) (ascending-right ps (joined pss) h)
 

@@ -78,8 +78,3 @@ after-is plan h o high held eo eh is =
     ap (λ (r : Options). at_times (nat_le (edge_of r.retention high)) (points held)) eo
     ∙ ap (λ (t : Option ℕ). at_times (nat_le (edge_of (unwrap_or plan.options h.options).retention t)) (points held)) eh ∙ is in
     λ i. record { options = eo i; samples = samples i; high = eh i; born = h.born; held = held }
-
--- samples written when at most so many rules had been made were so when at most more had been
-pub made-more : (a b : ℕ) (ps : List Point) → AreMade a ps → a ≤ b → AreMade b ps
-made-more a b [] h le = tt
-made-more a b (p ∷ ps) h le = (let one : p.made ≤ a = h.0 in omega arith, made-more a b ps h.1 le)

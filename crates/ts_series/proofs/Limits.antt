@@ -43,7 +43,7 @@ among-after one c ns h =
 
 -- ---- how many samples a chunk of these limits can have
 
-least : (one : ℕ) (ns : List ℕ) → one ≤ greatest one ns
+pub least : (one : ℕ) (ns : List ℕ) → one ≤ greatest one ns
 least one [] = omega arith
 least one (n ∷ ns) = omega (arith, least one ns)
 

@@ -7,9 +7,10 @@ use Rattle.std.proofs.lemmas.List.{length-map}
 use Rattle.ts_spec.specs.Sample.{Point, IsAfter, IsAscending, at_times, is_within, outside, first_of, last_of, later_or}
 use Rattle.ts_spec.proofs.Samples.{IsBefore}
 use Rattle.ts_sample.specs.Chunk.{joined}
+use Rattle.ts_sample.proofs.Lists.{after-left, after-right, ascending-right}
 use Rattle.ts_series.specs.Held.{AreChunks, IsMeeting, AllMeet, IsTrimmed, HaveBegun}
 use Rattle.ts_series.proofs.EarlyLate.{is_before, is_upto, none-cons, none-head, none-left, none-right, none-both, last-before, before-last, before-first, before-none, some-before, late-some, first-some, first-none, before-some, after-some}
-use Rattle.ts_series.proofs.Joined.{after-left, after-right, ascending-right, chunk-at, filled-at, map-at}
+use Rattle.ts_series.proofs.Joined.{chunk-at, filled-at, map-at}
 
 some-joined : (test : ℕ → Bool) (k : ℕ) (pss : List (List Point)) → at_times test (get_or pss k []) ≢ [] → at_times test (joined pss) ≢ []
 some-joined test k [] f n = f refl

@@ -8,9 +8,10 @@ use Rattle.ts_spec.specs.Sample.{Point, IsAfter, IsAscending, is_within, at_time
 use Rattle.ts_spec.proofs.Samples.{IsBefore, ascending-times, ascending-put_all}
 use Rattle.ts_sample.specs.Chunk.{IsPast, joined}
 use Rattle.ts_sample.proofs.Between.{filter-filter}
+use Rattle.ts_sample.proofs.Lists.{past-before, ascending-left, ascending-right}
 use Rattle.ts_series.specs.Held.{IsMeeting, replaced}
 use Rattle.ts_series.specs.Plan.{AreWithin}
-use Rattle.ts_series.proofs.Joined.{joined-parts, ascending-left, ascending-right}
+use Rattle.ts_series.proofs.Joined.{joined-parts}
 use Rattle.ts_series.proofs.EarlyLate.{after-less, none-right}
 use Rattle.ts_series.proofs.PieceCounts.{joined-replaced, three-parts}
 use Rattle.ts_series.proofs.PutBetween.{put-inside, put-past, none-from, none-upto}
@@ -42,11 +43,6 @@ pub left-past : (from to : ℕ) (ps : List Point) → IsAfter to (at_times (nat_
 left-past from to ps =
     subst (IsAfter to) (sym (filter-filter (λ (p : Point). nat_le from p.time) (λ (p : Point). not (is_within from to p.time)) ps))
     (each-after to (λ t. not (is_within from to t) && nat_le from t) (λ u e. grind (arith, nat_tests)) ps)
-
-pub past-of : (ps : List Point) (q : Point) (qs : List Point) → IsAscending (ps ++ q ∷ qs) → IsPast (last_of ps) q.time
-past-of [] q qs h = tt
-past-of (p ∷ []) q qs h = h.0.0
-past-of (p ∷ r ∷ ps) q qs h = past-of (r ∷ ps) q qs h.1
 
 -- ---- rows among samples
 
@@ -159,7 +155,7 @@ module _ (start end : ℕ) (pss : List (List Point)) (samples : List Point) (p :
       ∙ ap (λ (l : List (List Point)). joined (take start pss) ++ (p ∷ joined l)) (ap (λ n. drop n pss) at_end ∙ drop-length pss)
 
   pub one-past : IsPast (last_of (joined (take start pss))) p.time
-  one-past = past-of (joined (take start pss)) p [] (subst IsAscending one-last rises)
+  one-past = past-before (joined (take start pss)) p [] (subst IsAscending one-last rises)
 
   pub one-put : put p (joined (take start pss)) ≡ joined (replaced start end (samples ∷ []) pss)
   one-put = put-past p (joined (take start pss)) (ascending-left (joined (take start pss)) (p ∷ []) (subst IsAscending one-last rises)) one-past ∙ sym one-last

@@ -1,14 +1,14 @@
 -- Chunks made anew of what a chunk is cut into.
-use Rattle.std.proofs.Common.{◌≡◌, ◌≢◌, inl, inr, ℕ, zero, suc, ◌<◌, ◌≤◌, Bool, true, false, cond, List, [], ◌∷◌, ◌++◌, length, get_or, map, refl, sym, ap, subst, arith, length-append}
-use Rattle.std.specs.Prelude.{nat_lt, max}
+use Rattle.std.proofs.Common.{◌≡◌, ◌≢◌, inl, inr, ℕ, zero, suc, ◌<◌, ◌≤◌, List, [], ◌∷◌, ◌++◌, length, get_or, map, refl, sym, ap, subst, arith, length-append}
+use Rattle.std.specs.Prelude.{max}
 use Rattle.std.specs.List.{All}
 use Rattle.std.proofs.lemmas.List.Elements.{All-head, All-tail}
-use Rattle.ts_spec.specs.Sample.{Point, IsAscending, at_times, outside, put}
+use Rattle.ts_spec.specs.Sample.{Point, IsAscending, outside}
 use Rattle.ts_sample.specs.Chunk.{IsLimit, IsChunk, IsCut, Fits, HaveLimit, AreFine, joined}
-use Rattle.ts_sample.specs.Sample.{IsFine}
 use Rattle.ts_sample.proofs.Cuts.{joined-cut, cut-some, cut-fits}
+use Rattle.ts_sample.proofs.Lists.{ascending-left, ascending-right, fine-left, fine-right, fine-append}
 use Rattle.ts_series.specs.Held.{AreChunks, IsAmong, AreAmong, longest}
-use Rattle.ts_series.proofs.Joined.{ascending-left, ascending-right, longest-at}
+use Rattle.ts_series.proofs.Joined.{longest-at}
 use Rattle.ts_series.proofs.TakenOut.{kept-less}
 
 -- ---- the longest piece
@@ -29,35 +29,11 @@ longest-both pss qss n h k = omega (arith, longest-append pss qss)
 
 -- ---- samples within their bounds
 
-fine-left : (ps qs : List Point) → AreFine (ps ++ qs) → AreFine ps
-fine-left [] qs h = tt
-fine-left (p ∷ ps) qs h = (h.0, fine-left ps qs h.1)
-
-fine-right : (ps qs : List Point) → AreFine (ps ++ qs) → AreFine qs
-fine-right [] qs h = h
-fine-right (p ∷ ps) qs h = fine-right ps qs h.1
-
-fine-append : (ps qs : List Point) → AreFine ps → AreFine qs → AreFine (ps ++ qs)
-fine-append [] qs h k = k
-fine-append (p ∷ ps) qs h k = (h.0, fine-append ps qs h.1 k)
-
 -- the samples of all chunks are
 pub fine-joined : (format : List Point → List ℕ) (pss : List (List Point)) (ns : List ℕ) → AreChunks format pss ns → AreFine (joined pss)
 fine-joined format [] ns h = tt
 fine-joined format (ps ∷ pss) [] h = absurd h
 fine-joined format (ps ∷ pss) (n ∷ ns) h = fine-append ps (joined pss) h.0.fine (fine-joined format pss ns h.1.1)
-
-pub fine-times : (test : ℕ → Bool) (ps : List Point) → AreFine ps → AreFine (at_times test ps)
-fine-times test [] h = tt
-fine-times test (p ∷ ps) h = go (test p.time) (fine-times test ps h.1)
-  where
-    go : (b : Bool) → AreFine (at_times test ps) → AreFine (cond b (p ∷ at_times test ps) (at_times test ps))
-    go true ih = (h.0, ih)
-    go false ih = ih
-
-pub fine-put : (p : Point) (ps : List Point) → IsFine p → AreFine ps → AreFine (put p ps)
-fine-put p ps fine h =
-    fine-append (at_times (λ u. nat_lt u p.time) ps) (p ∷ at_times (nat_lt p.time) ps) (fine-times (λ u. nat_lt u p.time) ps h) (fine, fine-times (nat_lt p.time) ps h)
 
 -- ---- new chunks
 

@@ -8,10 +8,10 @@ use Rattle.ts_spec.proofs.Samples.{at-after}
 use Rattle.ts_sample.specs.Chunk.{IsChunk, AreFine}
 use Rattle.ts_sample.specs.Visit.{visited}
 use Rattle.ts_sample.proofs.Parted.{filter_alike}
+use Rattle.ts_sample.proofs.Replacing.{none-before}
 use Rattle.ts_series.specs.declared.ends.Ends.{Ends}
 use Rattle.ts_series.proofs.Counting.{times-length}
 use Rattle.ts_series.proofs.EarlyLate.{after-less}
-use Rattle.ts_series.proofs.Placing.{none-before}
 
 -- ---- the ends of the samples that a visitor takes
 

@@ -1,17 +1,23 @@
 -- Pieces at a place and between places, and how many samples they have.
-use Rattle.std.proofs.Common.{◌≡◌, ℕ, zero, suc, ◌+◌, ◌-◌, ◌<◌, ◌≤◌, List, [], ◌∷◌, ◌++◌, length, get_or, take, drop, map, sym, ◌∙◌, ap, arith, append_assoc, length-append}
+use Rattle.std.proofs.Common.{◌≡◌, ℕ, refl, append-nil, zero, suc, ◌+◌, ◌-◌, ◌<◌, ◌≤◌, List, [], ◌∷◌, ◌++◌, length, get_or, take, drop, map, sym, ◌∙◌, ap, arith, append_assoc, length-append}
 use Rattle.std.specs.Prelude.{slice_range}
 use Rattle.std.proofs.lemmas.List.{take-take, drop-take, length-map}
 use Rattle.ts_spec.specs.Sample.{Point}
 use Rattle.ts_sample.specs.Chunk.{joined}
+use Rattle.ts_sample.proofs.Cuts.{joined-append}
 use Rattle.ts_series.specs.Held.{replaced}
-use Rattle.ts_series.proofs.Joined.{joined-append, joined-parts, map-at}
+use Rattle.ts_series.proofs.Joined.{joined-parts, map-at}
 
-pub counted-next : (i : ℕ) (pss : List (List Point)) → i < length pss → length (joined (take (suc i) pss)) ≡ length (joined (take i pss)) + length (get_or pss i [])
-counted-next i [] within = absurd (omega arith)
-counted-next zero (ps ∷ pss) within = omega (arith, length-append ps [])
-counted-next (suc i) (ps ∷ pss) within =
-    omega (arith, counted-next i pss (omega arith), length-append ps (joined (take (suc i) pss)), length-append ps (joined (take i pss)))
+pub more : (i j : ℕ) (pss : List (List Point)) → j ≡ suc i → joined (take j pss) ≡ joined (take i pss) ++ get_or pss i []
+more i zero pss is = absurd (omega arith)
+more zero (suc j) [] is = refl
+more (suc i) (suc j) [] is = refl
+more zero (suc zero) (ps ∷ pss) is = append-nil ps
+more zero (suc (suc j)) (ps ∷ pss) is = absurd (omega arith)
+more (suc i) (suc j) (ps ∷ pss) is = ap (λ (l : List Point). ps ++ l) (more i j pss (omega arith)) ∙ sym (append_assoc ps (joined (take i pss)) (get_or pss i []))
+
+pub length-more : (i j : ℕ) (pss : List (List Point)) → j ≡ suc i → length (joined (take j pss)) ≡ length (joined (take i pss)) + length (get_or pss i [])
+length-more i j pss is = ap length (more i j pss is) ∙ length-append (joined (take i pss)) (get_or pss i [])
 
 pub counted-part : (i : ℕ) (pss : List (List Point)) → length (joined (take i pss)) ≤ length (joined pss)
 counted-part i pss = omega (arith, ap length (joined-parts i pss), length-append (joined (take i pss)) (joined (drop i pss)))
@@ -29,8 +35,7 @@ joined-same {X} list cs ds is = ap (λ (l : List X). joined (map list l)) is
 pub counted-item : {X : Type 0} (list : X → List Point) (i next : ℕ) (cs : List X) (pss : List (List Point)) (x : X) → map list cs ≡ pss → i < length pss → x ≡ get_or cs i x → next ≡ suc i
     → length (joined (take next pss)) ≡ length (joined (take i pss)) + length (list x)
 counted-item list i next cs pss x same within is after =
-    ap (λ n. length (joined (take n pss))) after ∙ counted-next i pss within
-    ∙ ap (λ (ps : List Point). length (joined (take i pss)) + length ps) (sym (mapped-at list i cs pss x [] same within is))
+    length-more i next pss after ∙ ap (λ (ps : List Point). length (joined (take i pss)) + length ps) (sym (mapped-at list i cs pss x [] same within is))
 
 take-range : {X : Type 0} (start end : ℕ) (xs : List X) → start ≤ end → slice_range xs start end ≡ drop start (take end xs)
 take-range start end xs le = sym (drop-take start (end - start) xs) ∙ ap (λ n. drop start (take n xs)) (let all : start + (end - start) ≡ end = omega arith in all)

@@ -7,13 +7,15 @@ use Rattle.ts_spec.specs.Sample.{Point, IsAfter, IsAscending, at_times, is_withi
 use Rattle.ts_spec.proofs.Samples.{IsBefore, ascending-put, ascending-times}
 use Rattle.ts_sample.specs.Chunk.{IsChunk, IsPast, IsCut, Fits, HaveLimit, joined}
 use Rattle.ts_sample.specs.Sample.{IsFine}
-use Rattle.ts_sample.proofs.Cuts.{joined-cut}
+use Rattle.ts_sample.proofs.Cuts.{joined-cut, joined-append}
+use Rattle.ts_sample.proofs.Lists.{ascending-left, fine-times, fine-put}
 use Rattle.ts_series.specs.Held.{Held, AreChunks, AreKept, IsTrimmed, IsReady, HasRoomFor, IsAmong, AreAmong, IsUpTo, longest, with_last, replaced, points}
-use Rattle.ts_series.proofs.Joined.{joined-append, joined-parts, ascending-left, chunk-at, chunks-length, chunks-take, chunks-append, longest-at}
+use Rattle.ts_series.proofs.Joined.{joined-parts, chunk-at, chunks-length, chunks-take, chunks-append, longest-at}
 use Rattle.ts_series.proofs.Meeting.{last-joined}
 use Rattle.ts_series.proofs.PieceCounts.{mapped-at, joined-replaced}
-use Rattle.ts_series.proofs.PutBetween.{put-past, none-from, rest-after, put-piece, place-within}
-use Rattle.ts_series.proofs.NewChunks.{longest-cut, longest-both, fine-times, fine-put, cut-chunks, among-one, among-at, among-all, among-append}
+use Rattle.ts_series.proofs.PutBetween.{put-past, none-from, put-piece, place-within}
+use Rattle.ts_series.proofs.NewChunks.{longest-both, cut-chunks, among-one, among-at, among-all, among-append}
+use Rattle.ts_series.proofs.EarlyLate.{rest-past}
 
 pub ready-none : (format : List Point → List ℕ) (h : Held) (start end : ℕ) (pieces : List (List Point)) (limits : List ℕ) → start ≤ end → end ≤ length h.pieces → IsAscending (joined (replaced start end pieces h.pieces))
     → IsReady format h (record { start = start; end = end; pieces = pieces; limits = limits; appended = None })
@@ -44,9 +46,18 @@ front-only {X} start end xs is =
     ∙ append-nil (take start xs ++ []) ∙ append-nil (take start xs)
 
 -- a sample past those of the chunks before a place
-module _ {X : Type 0} (format : List Point → List ℕ) (list : X → List Point) (most : X → ℕ) (cs : List X) (h : Held) (count : ℕ) (same : map list cs ≡ h.pieces) (limits : map most cs ≡ h.limits)
-    (kept : AreKept format h.pieces h.limits count) (start end : ℕ) (p : Point) (within : start ≤ length h.pieces) (size : end ≡ length h.pieces)
-    (past : IsPast (last_of (joined (take start h.pieces))) p.time) where
+module _ {X : Type 0} {format : List Point → List ℕ} (list : X → List Point) (most : X → ℕ) (cs : List X) {room count : ℕ} (h : Held)
+    (view : ◌≡◌ {A = Held} (record { pieces = map list cs; limits = map most cs; room = room }) h) (are : AreKept format (map list cs) (map most cs) count) {start end : ℕ} (p : Point)
+    (within : start ≤ length h.pieces) (size : end ≡ length h.pieces) (past : IsPast (last_of (joined (take start h.pieces))) p.time) where
+  same : map list cs ≡ h.pieces
+  same = ap (λ (k : Held). k.pieces) view
+
+  limits : map most cs ≡ h.limits
+  limits = ap (λ (k : Held). k.limits) view
+
+  kept : AreKept format h.pieces h.limits count
+  kept = kept-view format _ h count view are
+
   as-many : length h.pieces ≡ length h.limits
   as-many = chunks-length format h.pieces h.limits kept.chunks
 
@@ -54,7 +65,7 @@ module _ {X : Type 0} (format : List Point → List ℕ) (list : X → List Poin
   rises = ascending-left (joined (take start h.pieces)) (joined (drop start h.pieces)) (subst IsAscending (joined-parts start h.pieces) kept.ascending)
 
   -- the last of the chunks before the place
-  module _ (x : X) (some : 0 < start) (is : x ≡ get_or cs (start - 1) x) where
+  module _ {x : X} (some : 0 < start) (is : x ≡ get_or cs (start - 1) x) where
     pub past-chunk : IsPast (last_of (list x)) p.time
     past-chunk =
         let i : ℕ = start - 1 in
@@ -63,9 +74,9 @@ module _ {X : Type 0} (format : List Point → List ℕ) (list : X → List Poin
         ∙ ap last_of (get_or-take start h.pieces i [] (omega arith) ∙ sym (mapped-at list i cs h.pieces x [] same (omega arith) is)))
         past
 
-    module _ (none : List X) (empty : none ≡ []) (fits : nat_le (length (format (list x ++ p ∷ []))) (most x) ≡ true) where
-      room : HasRoomFor format (Some p) (take start h.pieces) (take start h.limits)
-      room =
+    module _ {none : List X} (empty : none ≡ []) (fits : nat_le (length (format (list x ++ p ∷ []))) (most x) ≡ true) where
+      has-room : HasRoomFor format (Some p) (take start h.pieces) (take start h.limits)
+      has-room =
           let i : ℕ = start - 1 in
           let piece : list x ≡ get_or (take start h.pieces) i [] = mapped-at list i cs h.pieces x [] same (omega arith) is ∙ sym (get_or-take start h.pieces i [] (omega arith)) in
           let limit : most x ≡ get_or (take start h.limits) i 0 = mapped-at most i cs h.limits x 0 limits (omega (arith, as-many)) is ∙ sym (get_or-take start h.limits i 0 (omega arith)) in
@@ -89,12 +100,12 @@ module _ {X : Type 0} (format : List Point → List ℕ) (list : X → List Poin
         ascending = subst IsAscending (sym into-list) (ascending-put p (joined (take start h.pieces)) rises);
         appends = subst (λ (l : List X). HasRoomFor format (Some p) (replaced start end (map list l) h.pieces) (replaced start end (map most l) h.limits)) (sym empty)
             (subst (λ (l : List (List Point)). HasRoomFor format (Some p) l (replaced start end [] h.limits)) (sym (front-only start end h.pieces size))
-            (subst (λ (l : List ℕ). HasRoomFor format (Some p) (take start h.pieces) l) (sym (front-only start end h.limits (omega (arith, as-many)))) room));
+            (subst (λ (l : List ℕ). HasRoomFor format (Some p) (take start h.pieces) l) (sym (front-only start end h.limits (omega (arith, as-many)))) has-room));
         enough = omega arith;
       }
 
   -- a new chunk with the sample
-  module _ (x : X) (one : list x ≡ p ∷ []) (none new : List X) (empty : none ≡ []) (is : new ≡ none ++ x ∷ []) where
+  module _ {x : X} (one : list x ≡ p ∷ []) {none new : List X} (empty : none ≡ []) (is : new ≡ none ++ x ∷ []) where
     alone : new ≡ x ∷ []
     alone = is ∙ ap (λ (l : List X). l ++ x ∷ []) empty
 
@@ -114,67 +125,70 @@ module _ {X : Type 0} (format : List Point → List ℕ) (list : X → List Poin
     pub new-limits : (limit : ℕ) (ms : List ℕ) → most x ≡ limit → AreAmong limit ms (map most new)
     new-limits limit ms bound = subst (λ (l : List X). AreAmong limit ms (map most l)) (sym alone) (subst (IsAmong limit ms) (sym bound) (among-one limit ms), tt)
 
--- one of the chunks
-module _ {X : Type 0} (format : List Point → List ℕ) (list : X → List Point) (most : X → ℕ) (cs : List X) (h : Held) (count : ℕ) (same : map list cs ≡ h.pieces) (limits : map most cs ≡ h.limits)
-    (kept : AreKept format h.pieces h.limits count) (i : ℕ) (x : X) (within : i < length h.pieces) (is : x ≡ get_or cs i x) where
-  piece-is : list x ≡ get_or h.pieces i []
-  piece-is = mapped-at list i cs h.pieces x [] same within is
+-- one of the chunks, at its place
+pub record IsOne {X : Type 0} (format : List Point → List ℕ) (list : X → List Point) (most : X → ℕ) (h : Held) (i : ℕ) (x : X) : Type 0 where
+  pub within : i < length h.pieces
+  pub piece : list x ≡ get_or h.pieces i []
+  pub chunk : IsChunk format (most x) (list x)
+  pub among : (one : ℕ) → IsAmong one h.limits (most x)
 
-  limit-is : most x ≡ get_or h.limits i 0
-  limit-is = mapped-at most i cs h.limits x 0 limits (omega (arith, chunks-length format h.pieces h.limits kept.chunks)) is
+pub one-at : {X : Type 0} {format : List Point → List ℕ} (list : X → List Point) (most : X → ℕ) (cs : List X) {room count : ℕ} (h : Held)
+    → ◌≡◌ {A = Held} (record { pieces = map list cs; limits = map most cs; room = room }) h → AreKept format (map list cs) (map most cs) count
+    → (i : ℕ) (x : X) → i < length h.pieces → x ≡ get_or cs i x → IsOne format list most h i x
+one-at {format = format} list most cs {count = count} h view are i x within is =
+    let kept : AreKept format h.pieces h.limits count = kept-view format _ h count view are in
+    let inside : i < length h.limits = omega (arith, chunks-length format h.pieces h.limits kept.chunks) in
+    let here : list x ≡ get_or h.pieces i [] = mapped-at list i cs h.pieces x [] (ap (λ (k : Held). k.pieces) view) within is in
+    let limit : most x ≡ get_or h.limits i 0 = mapped-at most i cs h.limits x 0 (ap (λ (k : Held). k.limits) view) inside is in
+    record {
+      within = within;
+      piece = here;
+      chunk = subst (λ n. IsChunk format n (list x)) (sym limit)
+          (subst (λ (ps : List Point). IsChunk format (get_or h.limits i 0) ps) (sym here) (chunk-at format i h.pieces h.limits kept.chunks within));
+      among = λ one. subst (IsAmong one h.limits) (sym limit) (among-at one i h.limits inside);
+    }
 
-  chunk-is : IsChunk format (most x) (list x)
-  chunk-is =
-      subst (λ n. IsChunk format n (list x)) (sym limit-is)
-      (subst (λ (ps : List Point). IsChunk format (get_or h.limits i 0) ps) (sym piece-is) (chunk-at format i h.pieces h.limits kept.chunks within))
+-- these are chunks with these samples, and with limits of chunks that there are
+pub record AreNew (format : List Point → List ℕ) (h : Held) (ps : List Point) (pieces : List (List Point)) (limits : List ℕ) : Type 0 where
+  pub list : joined pieces ≡ ps
+  pub chunks : AreChunks format pieces limits
+  pub among : (one : ℕ) → AreAmong one h.limits limits
 
-  limit-among : (one : ℕ) → IsAmong one h.limits (most x)
-  limit-among one = subst (IsAmong one h.limits) (sym limit-is) (among-at one i h.limits (omega (arith, chunks-length format h.pieces h.limits kept.chunks)))
-
+module _ {X : Type 0} {format : List Point → List ℕ} {list : X → List Point} {most : X → ℕ} {h : Held} {i : ℕ} {x : X} (one : IsOne format list most h i x) where
   pub piece-short : length (list x) ≤ longest h.pieces
-  piece-short = omega (arith, ap length piece-is, longest-at i h.pieces)
+  piece-short = omega (arith, ap length one.piece, longest-at i h.pieces)
 
   -- what it is cut into without the samples of an interval
-  module _ (from to : ℕ) (new : List X) (cut : IsCut format (most x) (outside from to (list x)) (map list new)) (bound : HaveLimit most (most x) new) where
-    pub left-list : joined (map list new) ≡ outside from to (get_or h.pieces i [])
-    left-list = joined-cut format (most x) (outside from to (list x)) (map list new) cut ∙ ap (outside from to) piece-is
-
-    pub left-chunks : AreChunks format (map list new) (map most new)
-    left-chunks =
-        cut-chunks format list most (most x) chunk-is.bounds (outside from to (list x)) new cut bound
-        (ascending-times (λ t. not (is_within from to t)) (list x) chunk-is.ascending) (fine-times (λ t. not (is_within from to t)) (list x) chunk-is.fine)
-
-    pub left-limits : (one : ℕ) → AreAmong one h.limits (map most new)
-    left-limits one = among-all most one (most x) h.limits new (limit-among one) bound
-
-    pub left-short : longest (map list new) ≤ longest h.pieces
-    left-short = longest-cut i h.pieces (map list new) from to left-list
+  pub without-it : (from to : ℕ) (new : List X) → IsCut format (most x) (outside from to (list x)) (map list new) → HaveLimit most (most x) new
+      → AreNew format h (outside from to (get_or h.pieces i [])) (map list new) (map most new)
+  without-it from to new cut bound = record {
+    list = joined-cut format (most x) (outside from to (list x)) (map list new) cut ∙ ap (outside from to) one.piece;
+    chunks = cut-chunks format list most (most x) one.chunk.bounds (outside from to (list x)) new cut bound
+        (ascending-times (λ t. not (is_within from to t)) (list x) one.chunk.ascending) (fine-times (λ t. not (is_within from to t)) (list x) one.chunk.fine);
+    among = λ k. among-all most k (most x) h.limits new (one.among k) bound;
+  }
 
   -- what it is cut into with a sample
-  module _ (p : Point) (fine : IsFine p) (new : List X) (cut : IsCut format (most x) (put p (list x)) (map list new)) (bound : HaveLimit most (most x) new) where
-    pub with-list : joined (map list new) ≡ put p (get_or h.pieces i [])
-    with-list = joined-cut format (most x) (put p (list x)) (map list new) cut ∙ ap (put p) piece-is
-
-    pub with-chunks : AreChunks format (map list new) (map most new)
-    with-chunks =
-        cut-chunks format list most (most x) chunk-is.bounds (put p (list x)) new cut bound
-        (ascending-put p (list x) chunk-is.ascending) (fine-put p (list x) fine chunk-is.fine)
-
-    pub with-limits : (one : ℕ) → AreAmong one h.limits (map most new)
-    with-limits one = among-all most one (most x) h.limits new (limit-among one) bound
+  pub with-it : (p : Point) → IsFine p → (new : List X) → IsCut format (most x) (put p (list x)) (map list new) → HaveLimit most (most x) new
+      → AreNew format h (put p (get_or h.pieces i [])) (map list new) (map most new)
+  with-it p fine new cut bound = record {
+    list = joined-cut format (most x) (put p (list x)) (map list new) cut ∙ ap (put p) one.piece;
+    chunks = cut-chunks format list most (most x) one.chunk.bounds (put p (list x)) new cut bound (ascending-put p (list x) one.chunk.ascending) (fine-put p (list x) fine one.chunk.fine);
+    among = λ k. among-all most k (most x) h.limits new (one.among k) bound;
+  }
 
 -- where a sample that is not past the last one goes
-module _ (format : List Point → List ℕ) (h : Held) (count : ℕ) (kept : AreKept format h.pieces h.limits count) (t place next : ℕ) (p : Point) (time : t ≡ p.time)
+module _ {format : List Point → List ℕ} (h : Held) {count : ℕ} (kept : AreKept format h.pieces h.limits count) {t place : ℕ} (p : Point) (time : t ≡ p.time)
     (late : IsUpTo p.time (last_of (points h))) (within : place ≤ length h.pieces) (early : at_times (nat_le t) (joined (take place h.pieces)) ≡ []) (reach : IsTrimmed t (drop place h.pieces)) where
   pub place-in : place < length h.pieces
   place-in = place-within t place h.pieces kept.ascending (subst (λ u. IsUpTo u (last_of (points h))) (sym time) late) within early
 
-  module _ (new : List (List Point)) (after : next ≡ suc place) (is : joined new ≡ put p (get_or h.pieces place [])) where
+  module _ {next : ℕ} (new : List (List Point)) (after : next ≡ suc place) (is : joined new ≡ put p (get_or h.pieces place [])) where
     pub inserted-list : joined (replaced place next new h.pieces) ≡ put p (points h)
     inserted-list =
         put-piece p place next h.pieces new place-in after
         (subst (λ u. IsBefore u (joined (take place h.pieces))) time (none-from t (joined (take place h.pieces)) early))
-        (subst (λ u. IsAfter u (joined (drop (suc place) h.pieces))) time (rest-after t place h.pieces kept.ascending reach)) is
+        (subst (λ u. IsAfter u (joined (drop (suc place) h.pieces))) time (rest-past t place h.pieces kept.ascending reach)) is
 
     pub inserted-ready : (ns : List ℕ) → IsReady format h (record { start = place; end = next; pieces = new; limits = ns; appended = None })
     inserted-ready ns =
@@ -196,8 +210,13 @@ module _ {X : Type 0} (list : X → List Point) (most : X → ℕ) (cs ds es : L
       subst (λ (pss : List (List Point)). AreChunks format pss (map most es)) (sym both-lists)
       (subst (AreChunks format (map list cs ++ map list ds)) (sym both-most) (chunks-append format (map list cs) (map list ds) (map most cs) (map most ds) h k))
 
-  pub both-limits : (one : ℕ) (ms : List ℕ) → AreAmong one ms (map most cs) → AreAmong one ms (map most ds) → AreAmong one ms (map most es)
-  both-limits one ms h k = subst (AreAmong one ms) (sym both-most) (among-append one ms (map most cs) (map most ds) h k)
-
   pub both-short : (n : ℕ) → longest (map list cs) ≤ n → longest (map list ds) ≤ n → longest (map list es) ≤ n
   both-short n h k = subst (λ (pss : List (List Point)). longest pss ≤ n) (sym both-lists) (longest-both (map list cs) (map list ds) n h k)
+
+  pub both-new : {format : List Point → List ℕ} {h : Held} {ps qs : List Point} → AreNew format h ps (map list cs) (map most cs) → AreNew format h qs (map list ds) (map most ds)
+      → AreNew format h (ps ++ qs) (map list es) (map most es)
+  both-new {format} {h} one two = record {
+    list = both-joined ∙ (λ i. one.list i ++ two.list i);
+    chunks = both-chunks format one.chunks two.chunks;
+    among = λ k. subst (AreAmong k h.limits) (sym both-most) (among-append k h.limits (map most cs) (map most ds) (one.among k) (two.among k));
+  }

@@ -1,16 +1,15 @@
 -- A sample that is put between earlier and later ones, into the piece that has its time.
-use Rattle.std.proofs.Common.{◌≡◌, ◌≢◌, ◌⊎◌, inl, inr, ℕ, zero, suc, ◌<◌, ◌≤◌, Bool, true, false, cond, List, [], ◌∷◌, ◌++◌, length, get_or, take, drop, refl, sym, ◌∙◌, ap, arith, append_assoc, append-nil, leb-false}
+use Rattle.std.proofs.Common.{◌≡◌, ◌≢◌, ◌⊎◌, inl, inr, ℕ, suc, ◌<◌, ◌≤◌, Bool, true, false, cond, List, [], ◌∷◌, ◌++◌, length, get_or, take, drop, refl, sym, ◌∙◌, ap, arith, append_assoc, append-nil, leb-false}
 use Rattle.std.specs.Prelude.{nat_lt, nat_le}
 use Rattle.std.proofs.Math.Seq.{take-length}
 use Rattle.std.proofs.lemmas.Bool.Decides.{nat_tests}
 use Rattle.ts_spec.specs.Sample.{Point, IsAfter, IsAscending, at_times, put, last_of}
 use Rattle.ts_spec.proofs.Samples.{IsBefore}
 use Rattle.ts_sample.specs.Chunk.{IsPast, joined}
-use Rattle.ts_series.specs.Held.{IsTrimmed, IsUpTo, replaced}
+use Rattle.ts_sample.proofs.Replacing.{none-before, all-past}
+use Rattle.ts_series.specs.Held.{IsUpTo, replaced}
 use Rattle.ts_series.proofs.Counting.{times-append}
-use Rattle.ts_series.proofs.Placing.{none-before, all-after}
-use Rattle.ts_series.proofs.Joined.{joined-at, ascending-right}
-use Rattle.ts_series.proofs.EarlyLate.{after-some}
+use Rattle.ts_series.proofs.Joined.{joined-at}
 use Rattle.ts_series.proofs.PieceCounts.{joined-replaced}
 
 all-before : (t : ℕ) (ps : List Point) → IsBefore t ps → at_times (λ u. nat_lt u t) ps ≡ ps
@@ -37,7 +36,7 @@ put-inside p ps qs rs before after =
     times-append (nat_lt p.time) ps (qs ++ rs)
     ∙ ap (λ (l : List Point). l ++ at_times (nat_lt p.time) (qs ++ rs)) (none-after p.time ps before)
     ∙ times-append (nat_lt p.time) qs rs
-    ∙ ap (λ (l : List Point). high ++ l) (all-after p.time rs after) in
+    ∙ ap (λ (l : List Point). high ++ l) (all-past p.time rs after) in
     ap (λ (l : List Point). l ++ p ∷ at_times (nat_lt p.time) (ps ++ (qs ++ rs))) front
     ∙ ap (λ (l : List Point). (ps ++ low) ++ p ∷ l) back
     ∙ append_assoc ps low (p ∷ (high ++ rs))
@@ -71,19 +70,13 @@ none-upto t (p ∷ ps) n = go (none-upto t ps) (nat_le p.time t) refl n
     go rest true e m = absurd (cc m)
     go rest false e m = (leb-false p.time t e, rest m)
 
--- what follows the first piece that has a sample from a time on is past that time
-pub rest-after : (t i : ℕ) (pss : List (List Point)) → IsAscending (joined pss) → IsTrimmed t (drop i pss) → IsAfter t (joined (drop (suc i) pss))
-rest-after t i [] h reach = tt
-rest-after t zero (ps ∷ pss) h reach = after-some t ps (joined pss) h reach
-rest-after t (suc i) (ps ∷ pss) h reach = rest-after t i pss (ascending-right ps (joined pss) h) reach
-
 -- pieces in the place of the one that a sample is put into
 pub put-piece : (p : Point) (i next : ℕ) (pss new : List (List Point)) → i < length pss → next ≡ suc i → IsBefore p.time (joined (take i pss)) → IsAfter p.time (joined (drop (suc i) pss))
     → joined new ≡ put p (get_or pss i []) → joined (replaced i next new pss) ≡ put p (joined pss)
 put-piece p i next pss new within is before after same =
     ap (λ n. joined (replaced i n new pss)) is ∙ joined-replaced i (suc i) new pss
     ∙ ap (λ (l : List Point). joined (take i pss) ++ (l ++ joined (drop (suc i) pss))) same
-    ∙ sym (ap (put p) (joined-at i pss within) ∙ put-inside p (joined (take i pss)) (get_or pss i []) (joined (drop (suc i) pss)) before after)
+    ∙ sym (ap (put p) (joined-at i pss) ∙ put-inside p (joined (take i pss)) (get_or pss i []) (joined (drop (suc i) pss)) before after)
 
 -- where a list has a sample from a time on, some piece does
 pub late-some : (t : ℕ) (ps : List Point) → IsAscending ps → IsUpTo t (last_of ps) → at_times (nat_le t) ps ≢ []

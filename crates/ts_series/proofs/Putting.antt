@@ -13,16 +13,17 @@ use Rattle.ts_spec.proofs.ClientChanges.{edge-raised}
 use Rattle.ts_sample.proofs.Parted.{filter_alike}
 use Rattle.ts_sample.proofs.Between.{filter-filter}
 use Rattle.ts_sample.specs.Chunk.{IsPast, joined}
+use Rattle.ts_sample.proofs.Replacing.{none-before}
 use Rattle.ts_series.specs.declared.plan.PutFault.{PutFault}
 use Rattle.ts_series.specs.Held.{points, longest, IsTrimmed, IsUpTo}
 use Rattle.ts_series.specs.History.{History, list_of, low, IsKeptIn}
 use Rattle.ts_series.specs.Plan.{Plan, IsForIn}
 use Rattle.ts_series.specs.Put.{met, Answers, IsMerged, IsWrite, nothing_in, sample_of, list_after}
 use Rattle.ts_series.proofs.Counting.{one_if, times-append, times-length, length-put, not_full}
-use Rattle.ts_series.proofs.Placing.{none-before}
-use Rattle.ts_series.proofs.PutBetween.{past-before, rest-after}
+use Rattle.ts_series.proofs.PutBetween.{past-before}
 use Rattle.ts_series.proofs.EdgeQuestions.{at-from, length-from}
 use Rattle.ts_series.proofs.Ready.{Shows}
+use Rattle.ts_series.proofs.EarlyLate.{rest-past}
 
 -- from a later edge on there are no other samples than from an earlier one on
 pub later-edge : (low edge : ℕ) (ps : List Point) → low ≤ edge → at_times (nat_le edge) (at_times (nat_le low) ps) ≡ at_times (nat_le edge) ps
@@ -125,7 +126,7 @@ never-both t (Some p) upto past = absurd (omega (arith, upto, past))
 pub few-hidden : (edge : ℕ) (pss : List (List Point)) → IsAscending (joined pss) → IsTrimmed edge pss → length (joined pss) ≤ length (at_times (nat_le edge) (joined pss)) + longest pss
 few-hidden edge [] rises trimmed = omega arith
 few-hidden edge (ps ∷ pss) rises trimmed =
-    let rest : IsAfter edge (joined pss) = rest-after edge 0 (ps ∷ pss) rises trimmed in
+    let rest : IsAfter edge (joined pss) = rest-past edge 0 (ps ∷ pss) rises trimmed in
     let early = ap length (times-append (λ t. nat_lt t edge) ps (joined pss)) in
     omega (
       arith,

@@ -1,15 +1,16 @@
 -- Reading on over pieces, from one sample to the next.
-use Rattle.std.proofs.Common.{◌≡◌, ◌⊎◌, inl, inr, ℕ, zero, suc, ◌+◌, ◌<◌, ◌≤◌, true, false, cond, List, [], ◌∷◌, ◌++◌, length, get_or, take, drop, refl, sym, ◌∙◌, ap, arith, length-append}
+use Rattle.std.proofs.Common.{◌≡◌, ◌⊎◌, inl, inr, ℕ, zero, suc, ◌+◌, ◌<◌, ◌≤◌, true, false, cond, List, [], ◌∷◌, ◌++◌, length, get_or, take, drop, refl, sym, ◌∙◌, ap, arith}
 use Rattle.std.specs.Prelude.{◌≢◌, nat_le, is_some}
 use Rattle.std.proofs.Math.ListN.{drop_of_length-le}
 use Rattle.std.proofs.lemmas.Bool.{false≢true}
 use Rattle.std.proofs.lemmas.Bool.Decides.{nat_tests}
-use Rattle.std.proofs.lemmas.List.{drop_more, drop-append-le, take-append-drop, length-drop}
+use Rattle.std.proofs.lemmas.List.{drop_more, drop-append-le}
 use Rattle.ts_spec.specs.Sample.{Point, IsAfter, IsAscending, at_times, first_of}
 use Rattle.ts_sample.specs.Chunk.{joined}
 use Rattle.ts_series.specs.Held.{IsTrimmed}
 use Rattle.ts_series.specs.Reading.{left_at}
-use Rattle.ts_series.proofs.Answering.{get-past, take-past, rest-past, late-pieces}
+use Rattle.ts_series.proofs.Answering.{get-past, take-past, late-pieces, first-front}
+use Rattle.ts_series.proofs.EarlyLate.{rest-past}
 
 cases : (i n : ℕ) → (i < n) ⊎ (n ≤ i)
 cases i n = grind arith
@@ -26,10 +27,6 @@ one-of : (ps : List Point) → ps ≢ [] → length (take 1 ps) ≡ 1
 one-of [] some = absurd (some refl)
 one-of (p ∷ ps) some = refl
 
-first-front : (ps qs : List Point) → ps ≢ [] → first_of (ps ++ qs) ≡ first_of ps
-first-front [] qs some = absurd (some refl)
-first-front (p ∷ ps) qs some = refl
-
 -- whether there is a first sample
 pub some-first : (ps : List Point) → is_some (first_of ps) ≡ true → ps ≢ []
 some-first [] is = absurd (false≢true is)
@@ -38,11 +35,6 @@ some-first (p ∷ ps) is = λ none. absurd (cc none)
 pub none-first : (ps : List Point) → is_some (first_of ps) ≡ false → ps ≡ []
 none-first [] is = refl
 none-first (p ∷ ps) is = absurd (false≢true (sym is))
-
--- no more of a piece is read than it has
-pub few-on : (n : ℕ) (ps : List Point) → n ≤ length ps → n + length (take 1 (drop n ps)) ≤ length ps
-few-on n ps few =
-    omega (arith, length-drop n ps, ap length (take-append-drop 1 (drop n ps)), length-append (take 1 (drop n ps)) (drop 1 (drop n ps)))
 
 pub nothing-at : (pss : List (List Point)) (at n : ℕ) → length pss ≤ at → left_at at n pss ≡ []
 nothing-at pss at n past = ap (λ (l : List (List Point)). drop n (joined l)) (drop_of_length-le pss past) ∙ drop-nil n

@@ -1,23 +1,15 @@
 -- What a walk decodes, between any two seams around it.
-use Rattle.std.proofs.Common.{◌≡◌, ◌≢◌, ◌⊎◌, inl, inr, ℕ, zero, suc, ◌+◌, ◌<◌, ◌≤◌, true, false, cond, List, [], ◌∷◌, length, take, refl, ◌∙◌, ap, arith, length-append, ltb-false, leb-false}
+use Rattle.std.proofs.Common.{◌≡◌, ◌≢◌, ◌⊎◌, inl, inr, ℕ, zero, suc, ◌+◌, ◌≤◌, false, List, [], ◌∷◌, length, take, arith, length-append}
 use Rattle.std.specs.Prelude.{nat_lt, nat_le}
 use Rattle.std.proofs.lemmas.Bool.Decides.{nat_tests}
-use Rattle.ts_spec.specs.Sample.{Point, at_times, is_within, between}
+use Rattle.ts_spec.specs.Sample.{Point, at_times, between}
 use Rattle.ts_sample.specs.Chunk.{joined}
 use Rattle.ts_series.specs.Held.{AllMeet}
 use Rattle.ts_series.specs.Seams.{IsSeam, IsSeamed}
-use Rattle.ts_series.proofs.EarlyLate.{none-head, none-tail, none-less}
-use Rattle.ts_series.proofs.TimeFrom.{both-parts}
+use Rattle.ts_series.proofs.EarlyLate.{none-less}
+use Rattle.ts_series.proofs.TimeFrom.{both-parts, all-between}
 
 module _ (from to s e : ℕ) (low : s ≤ from) (high : to ≤ e) where
-  all-between : (ps : List Point) → at_times (λ u. nat_lt u s) ps ≡ [] → at_times (nat_le (suc e)) ps ≡ [] → length (between s e ps) ≡ length ps
-  all-between [] n m = refl
-  all-between (p ∷ ps) n m =
-      let more : s ≤ p.time = ltb-false p.time s (none-head (λ u. nat_lt u s) p ps n) in
-      let less : p.time < suc e = leb-false (suc e) p.time (none-head (nat_le (suc e)) p ps m) in
-      let yes : is_within s e p.time ≡ true = grind (arith, nat_tests) in
-      ap (λ b. length (cond b (p ∷ between s e ps) (between s e ps))) yes ∙ ap suc (all-between ps (none-tail (λ u. nat_lt u s) p ps n) (none-tail (nat_le (suc e)) p ps m))
-
   early-fails : (t : ℕ) → nat_le s t ≡ false → nat_le from t ≡ false
   early-fails t h = grind (arith, nat_tests)
 
@@ -29,7 +21,7 @@ module _ (from to s e : ℕ) (low : s ≤ from) (high : to ≤ e) where
       → at_times (nat_le from) ps ≢ [] → at_times (λ t. nat_le t to) ps ≢ [] → length (between s e ps) ≡ length ps
   whole ps (inl n) x f g = absurd (f (none-less (nat_le s) (nat_le from) early-fails ps n))
   whole ps (inr n) (inr m) f g = absurd (g (none-less (λ u. nat_lt u (suc e)) (λ t. nat_le t to) late-fails ps m))
-  whole ps (inr n) (inl m) f g = all-between ps n m
+  whole ps (inr n) (inl m) f g = all-between s e ps n (none-less (nat_le (suc e)) (nat_lt e) (λ t h. grind (arith, nat_tests)) ps m)
 
   pub meeting-between : (start end : ℕ) (pss : List (List Point)) → start ≤ end → AllMeet from to pss start end → IsSeam s pss → IsSeam (suc e) pss
       → length (joined (take end pss)) ≤ length (joined (take start pss)) + length (between s e (joined pss))
@@ -59,7 +51,3 @@ module _ (from to s e : ℕ) (low : s ≤ from) (high : to ≤ e) where
 pub seamed-walk : (from to start end old new : ℕ) (pss : List (List Point)) → start ≤ end → AllMeet from to pss start end
     → new + length (joined (take start pss)) ≤ old + length (joined (take end pss)) → IsSeamed pss from to old new
 seamed-walk from to start end old new pss le meet steps s e x y low high = omega (arith, steps, meeting-between from to s e low high start end pss le meet x y)
-
--- seams around a wider interval are seams around a narrower one
-pub seamed-wider : (pss : List (List Point)) (from start to old new : ℕ) → from ≤ start → IsSeamed pss start to old new → IsSeamed pss from to old new
-seamed-wider pss from start to old new le h s e x y low high = h s e x y (omega arith) high

@@ -4,9 +4,9 @@ use Rattle.std.specs.Prelude.{nat_lt, nat_le, Some}
 use Rattle.std.proofs.lemmas.Bool.Decides.{nat_tests}
 use Rattle.ts_spec.specs.Sample.{Point, IsAfter, IsAscending, at_times, is_within, between, first_of, last_of, later_or}
 use Rattle.ts_sample.specs.Chunk.{joined}
+use Rattle.ts_sample.proofs.Lists.{ascending-left, ascending-right}
 use Rattle.ts_series.specs.Seams.{IsSeam}
 use Rattle.ts_series.proofs.EarlyLate.{is_before, none-left, none-right, none-both, none-less, before-none, after-none, before-some, after-some, late-some}
-use Rattle.ts_series.proofs.Joined.{ascending-left, ascending-right}
 use Rattle.ts_series.proofs.TimeFor.{up-to-last, up-to-later}
 use Rattle.ts_series.proofs.TimeFrom.{first-fails, from-first-on, both-parts}
 use Rattle.ts_series.proofs.Walking.{none-before-it, none-past-it}

@@ -6,17 +6,19 @@ use Rattle.ts_spec.specs.Sample.{Point, IsAscending, at_times, between}
 use Rattle.ts_sample.specs.Chunk.{joined}
 use Rattle.ts_spec.specs.declared.series.Options.{Options}
 use Rattle.ts_spec.specs.State.{edge_of}
+use Rattle.ts_sample.proofs.Lists.{ascending-right}
 use Rattle.ts_series.specs.Held.{Held, AreChunks, IsMeeting, IsTrimmed, HaveBegun, longest, points}
 use Rattle.ts_series.specs.History.{History, history_of, list_of, reach, IsKeptIn}
 use Rattle.ts_series.specs.Seams.{Around}
 use Rattle.ts_series.proofs.EarlyLate.{none-head, none-left, none-both, after-none, after-some}
-use Rattle.ts_series.proofs.Joined.{ascending-right, joined-parts, longest-at}
+use Rattle.ts_series.proofs.Joined.{joined-parts, longest-at}
 use Rattle.ts_series.proofs.Meeting.{meets}
-use Rattle.ts_series.proofs.Walking.{length-more, walked}
+use Rattle.ts_series.proofs.Walking.{walked}
 use Rattle.ts_series.proofs.EdgeQuestions.{between-from}
-use Rattle.ts_series.proofs.Reach.{within-reach}
+use Rattle.ts_series.proofs.Reach.{within_reach}
 use Rattle.ts_series.proofs.Seams.{Parts, PartsPast, parted, parted-past, seam-at, inner-few}
 use Rattle.ts_series.proofs.ShareEnds.{past-trimmed}
+use Rattle.ts_series.proofs.PieceCounts.{length-more}
 
 -- the first place from which on a piece has a sample from a time on
 record Start (t : ℕ) (pss : List (List Point)) : Type 0 where
@@ -103,7 +105,7 @@ around-series format at_least o high born held h kept view from to =
     let meeting : IsMeeting start to pss a.place end = meets start to pss a.place b.place end rises refl a.within b.within a.earlier a.reached b.later b.begun in
     let early = early-pieces edge from start a.place pss refl kept.trimmed a.earlier in
     let shown = ap length (between-from edge (points held) from to) in
-    let far = within-reach at_least kept refl in
+    let far = within_reach at_least kept refl in
     subst (λ (k : History). Around from to (length (between from to (list_of k)) + 2 * reach k) k.held.pieces) view
     (around from to start a.place end pss meeting rises early (length (between from to (list_of (history_of o high born held))) + 2 * reach (history_of o high born held)) (omega (arith, shown, far)))
 
@@ -130,4 +132,4 @@ pub cut-series : (format : List Point → List ℕ) → ((ps : List Point) → 3
     → IsKeptIn format (history_of o high born held) → history_of o high born held ≡ h → (t : ℕ) → Around (suc t) t (reach h) h.held.pieces
 cut-series format at_least o high born held h kept view t =
     subst (λ (k : History). Around (suc t) t (reach k) k.held.pieces) view
-    (cut t held.pieces kept.chunks.ascending (reach (history_of o high born held)) (within-reach at_least kept refl))
+    (cut t held.pieces kept.chunks.ascending (reach (history_of o high born held)) (within_reach at_least kept refl))

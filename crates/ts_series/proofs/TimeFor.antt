@@ -1,13 +1,14 @@
 -- The samples of pieces from a time up to the last one of a piece.
-use Rattle.std.proofs.Common.{◌≡◌, ◌⊎◌, inl, inr, ℕ, zero, suc, ◌-◌, ◌+◌, ◌<◌, ◌≤◌, Bool, true, false, cond, List, [], ◌∷◌, ◌++◌, length, get_or, take, drop, refl, sym, ◌∙◌, ap, arith, length-append, ltb-false, lt-ltb}
+use Rattle.std.proofs.Common.{◌≡◌, ◌⊎◌, inl, inr, ℕ, zero, suc, ◌-◌, ◌+◌, ◌<◌, ◌≤◌, Bool, false, List, [], ◌∷◌, ◌++◌, length, get_or, take, drop, refl, sym, ◌∙◌, ap, arith, length-append, ltb-false, lt-ltb}
 use Rattle.std.specs.Prelude.{nat_lt, nat_le, min, Some}
 use Rattle.std.proofs.lemmas.Bool.Decides.{nat_tests}
 use Rattle.ts_spec.specs.Sample.{Point, IsAscending, at_times, is_within, between, last_of}
 use Rattle.ts_spec.proofs.Samples.{IsBefore}
 use Rattle.ts_sample.specs.Chunk.{joined}
-use Rattle.ts_series.proofs.Counting.{times-append}
-use Rattle.ts_series.proofs.EarlyLate.{is_before, none-cons, none-head, none-tail, none-left, none-right, none-less, last-before, before-some}
-use Rattle.ts_series.proofs.Joined.{ascending-left, ascending-right}
+use Rattle.ts_sample.proofs.Lists.{ascending-left, ascending-right}
+use Rattle.ts_series.proofs.Counting.{times-fewer}
+use Rattle.ts_series.proofs.EarlyLate.{is_before, none-cons, none-head, none-tail, none-left, none-right, none-less, last-before, before-some, before-none}
+use Rattle.ts_series.proofs.TimeFrom.{all-between, both-parts}
 
 -- no sample is before the time
 abbrev AreFrom : ℕ → List Point → Type 0
@@ -26,21 +27,13 @@ piece-fails test zero (ps ∷ pss) p is n = last-fails test ps p is (none-left t
 piece-fails test (suc k) (ps ∷ pss) p is n = piece-fails test k pss p is (none-right test ps (joined pss) n)
 
 -- samples from one time up to another are all in the interval
-all-between : (from to : ℕ) (ps : List Point) → AreFrom from ps → IsBefore (suc to) ps → length (between from to ps) ≡ length ps
-all-between from to [] n h = refl
-all-between from to (p ∷ ps) n h =
-    let low : from ≤ p.time = ltb-false p.time from (none-head (λ t. nat_lt t from) p ps n) in
-    let high : p.time < suc to = h.0 in
-    let yes : is_within from to p.time ≡ true = grind (arith, nat_tests) in
-    ap (λ b. length (cond b (p ∷ between from to ps) (between from to ps))) yes ∙ ap suc (all-between from to ps (none-tail (λ t. nat_lt t from) p ps n) h.1)
+all-within : (from to : ℕ) (ps : List Point) → AreFrom from ps → IsBefore (suc to) ps → length (between from to ps) ≡ length ps
+all-within from to ps n h = all-between from to ps n (none-less (nat_le (suc to)) (nat_lt to) (λ t e. grind (arith, nat_tests)) ps (before-none (suc to) ps h))
 
 module _ (from : ℕ) (p : Point) where
-  both-parts : (ps qs : List Point) → length (between from p.time (ps ++ qs)) ≡ length (between from p.time ps) + length (between from p.time qs)
-  both-parts ps qs = ap length (times-append (is_within from p.time) ps qs) ∙ length-append (between from p.time ps) (between from p.time qs)
-
   -- a piece up to the last sample of it or of a later one
   front-between : (ps qs : List Point) → AreFrom from (ps ++ qs) → IsBefore (suc p.time) ps → length ps ≤ length (between from p.time (ps ++ qs))
-  front-between ps qs n h = omega (arith, both-parts ps qs, all-between from p.time ps (none-left (λ t. nat_lt t from) ps qs n) h)
+  front-between ps qs n h = omega (arith, both-parts from p.time ps qs, all-within from p.time ps (none-left (λ t. nat_lt t from) ps qs n) h)
 
   pub up-to-last : (ps : List Point) → IsAscending ps → last_of ps ≡ Some p → IsBefore (suc p.time) ps
   up-to-last ps rises is = last-before (suc p.time) ps rises (ap (is_before (suc p.time)) is ∙ lt-ltb p.time (suc p.time) (omega arith))
@@ -59,8 +52,8 @@ module _ (from : ℕ) (p : Point) where
       omega (
         arith,
         length-append ps (joined (take (suc k) pss)),
-        both-parts ps (joined pss),
-        all-between from p.time ps (none-left (λ t. nat_lt t from) ps (joined pss) n) (up-to-later k ps pss rises is),
+        both-parts from p.time ps (joined pss),
+        all-within from p.time ps (none-left (λ t. nat_lt t from) ps (joined pss) n) (up-to-later k ps pss rises is),
         counted-all k pss (ascending-right ps (joined pss) rises) (none-right (λ t. nat_lt t from) ps (joined pss) n) is,
       )
 
@@ -75,7 +68,7 @@ module _ (from : ℕ) (p : Point) where
         arith,
         length-append ps (joined (take (suc k) pss)),
         length-append ps (joined (take start pss)),
-        both-parts ps (joined pss),
+        both-parts from p.time ps (joined pss),
         counted-from start k pss (omega arith) (ascending-right ps (joined pss) rises) n is,
       )
 
@@ -99,16 +92,8 @@ from-first time (p ∷ ps) is =
     none-cons (λ t. nat_lt t time) p ps (let fails : nat_lt p.time time ≡ false = grind (arith, nat_tests) in fails) (from-first time ps is)
 
 -- up to a later time there are no fewer
-between-longer : (from last end : ℕ) (ps : List Point) → last ≤ end → length (between from last ps) ≤ length (between from end ps)
-between-longer from last end [] le = omega arith
-between-longer from last end (p ∷ ps) le = go (between-longer from last end ps le) (is_within from last p.time) (is_within from end p.time) refl refl
-  where
-    go : length (between from last ps) ≤ length (between from end ps) → (b c : Bool) → is_within from last p.time ≡ b → is_within from end p.time ≡ c
-        → length (cond b (p ∷ between from last ps) (between from last ps)) ≤ length (cond c (p ∷ between from end ps) (between from end ps))
-    go rest false false x y = rest
-    go rest false true x y = omega (arith, rest)
-    go rest true true x y = omega (arith, rest)
-    go rest true false x y = absurd (grind (arith, nat_tests, x, y))
+pub between-longer : (from last end : ℕ) (ps : List Point) → last ≤ end → length (between from last ps) ≤ length (between from end ps)
+between-longer from last end ps le = times-fewer (is_within from last) (is_within from end) ps (λ t e. grind (arith, nat_tests, e))
 
 -- the end of the interval, or a time from the last one on
 pub earlier-end : (from to last count end : ℕ) (ps : List Point) → min last to ≤ end → end ≤ to → count ≤ length (between from last ps) → (end ≡ to) ⊎ (count ≤ length (between from end ps))

@@ -4,10 +4,11 @@ use Rattle.std.specs.Prelude.{nat_lt, nat_le, max, Some}
 use Rattle.std.proofs.lemmas.Bool.Decides.{nat_tests}
 use Rattle.ts_spec.specs.Sample.{Point, IsAscending, at_times, is_within, between, first_of}
 use Rattle.ts_sample.specs.Chunk.{joined}
+use Rattle.ts_sample.proofs.Replacing.{none-before}
+use Rattle.ts_sample.proofs.Lists.{ascending-left, ascending-right}
 use Rattle.ts_series.proofs.Counting.{times-append}
 use Rattle.ts_series.proofs.EarlyLate.{none-cons, none-head, none-tail, none-left, none-right, none-less}
-use Rattle.ts_series.proofs.Joined.{ascending-left, ascending-right, joined-parts}
-use Rattle.ts_series.proofs.Placing.{none-before}
+use Rattle.ts_series.proofs.Joined.{joined-parts}
 
 -- no sample is past the time
 abbrev AreUpto : ℕ → List Point → Type 0
@@ -31,7 +32,7 @@ from-first-on (q ∷ ps) qs p rises is =
     (none-cons (λ t. nat_lt t q.time) q (ps ++ qs) (let fails : nat_lt q.time q.time ≡ false = grind (arith, nat_tests) in fails) (none-before q.time (ps ++ qs) rises.0))
 
 -- samples from one time up to another are all in the interval
-all-between : (from to : ℕ) (ps : List Point) → AreFrom from ps → AreUpto to ps → length (between from to ps) ≡ length ps
+pub all-between : (from to : ℕ) (ps : List Point) → AreFrom from ps → AreUpto to ps → length (between from to ps) ≡ length ps
 all-between from to [] n m = refl
 all-between from to (p ∷ ps) n m =
     let low : from ≤ p.time = ltb-false p.time from (none-head (λ t. nat_lt t from) p ps n) in

@@ -1,5 +1,5 @@
 -- From one chunk to the next.
-use Rattle.std.proofs.Common.{◌≡◌, ◌⊎◌, inl, inr, ℕ, zero, suc, ◌+◌, ◌*◌, ◌<◌, ◌≤◌, false, List, [], ◌∷◌, ◌++◌, length, get_or, take, drop, refl, sym, ◌∙◌, ap, subst, arith, append-nil, append_assoc, length-append}
+use Rattle.std.proofs.Common.{◌≡◌, ◌⊎◌, inl, inr, ℕ, zero, suc, ◌+◌, ◌*◌, ◌<◌, ◌≤◌, false, List, [], ◌++◌, length, get_or, take, drop, refl, sym, ◌∙◌, ap, subst, arith, append-nil, length-append}
 use Rattle.std.specs.Prelude.{nat_le, not}
 use Rattle.std.proofs.lemmas.Bool.Decides.{nat_tests}
 use Rattle.std.proofs.lemmas.List.Filters.{length-filter_both}
@@ -10,23 +10,9 @@ use Rattle.ts_sample.specs.Visit.{visited}
 use Rattle.ts_sample.proofs.Visiting.{room_left}
 use Rattle.ts_series.specs.Held.{IsMeeting, longest}
 use Rattle.ts_series.proofs.Counting.{times-append}
-use Rattle.ts_series.proofs.Joined.{joined-parts, longest-at}
+use Rattle.ts_series.proofs.Joined.{joined-parts, longest-at, joined-at}
 use Rattle.ts_series.proofs.EarlyLate.{none-less}
-use Rattle.ts_series.proofs.Answering.{parts-at}
-
-more : (i j : ℕ) (pss : List (List Point)) → j ≡ suc i → joined (take j pss) ≡ joined (take i pss) ++ get_or pss i []
-more i zero pss is = absurd (omega arith)
-more zero (suc j) [] is = refl
-more (suc i) (suc j) [] is = refl
-more zero (suc zero) (ps ∷ pss) is = append-nil ps
-more zero (suc (suc j)) (ps ∷ pss) is = absurd (omega arith)
-more (suc i) (suc j) (ps ∷ pss) is = ap (λ (l : List Point). ps ++ l) (more i j pss (omega arith)) ∙ sym (append_assoc ps (joined (take i pss)) (get_or pss i []))
-
-pub length-more : (i j : ℕ) (pss : List (List Point)) → j ≡ suc i → length (joined (take j pss)) ≡ length (joined (take i pss)) + length (get_or pss i [])
-length-more i j pss is = ap length (more i j pss is) ∙ length-append (joined (take i pss)) (get_or pss i [])
-
-pub length-upto : (i : ℕ) (pss : List (List Point)) → length (joined (take i pss)) ≤ length (joined pss)
-length-upto i pss = omega (arith, ap length (joined-parts i pss), length-append (joined (take i pss)) (joined (drop i pss)))
+use Rattle.ts_series.proofs.PieceCounts.{more, length-more}
 
 -- ---- the chunks of an interval
 
@@ -53,7 +39,7 @@ module _ (from to : ℕ) where
       let piece = between from to (get_or pss i []) in
       let back = between from to (joined (drop (suc i) pss)) in
       let all : between from to (joined pss) ≡ front ++ (piece ++ back) =
-      ap (between from to) (parts-at i pss) ∙ times-append (is_within from to) (joined (take i pss)) (get_or pss i [] ++ joined (drop (suc i) pss))
+      ap (between from to) (joined-at i pss) ∙ times-append (is_within from to) (joined (take i pss)) (get_or pss i [] ++ joined (drop (suc i) pss))
       ∙ ap (λ (l : List Point). front ++ l) (times-append (is_within from to) (get_or pss i []) (joined (drop (suc i) pss))) in
       let left : room v ≤ room w + length front = subst (λ y. room v ≤ room y + length front) (sym sofar) (room_left step room lowers v front) in
       omega (arith, ap length all, length-append front (piece ++ back), length-append piece back)

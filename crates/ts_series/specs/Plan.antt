@@ -48,10 +48,6 @@ abbrev pub without_cut : Option Interval → List Point → List Point
 without_cut None ps = ps
 without_cut (Some i) ps = outside i.from i.to ps
 
--- the list of a series with what a plan writes, before its edge is told
-abbrev pub planned_list : Plan → History → List Point
-planned_list plan h = put_all plan.wrote (without_cut plan.cut (list_of h))
-
 -- A series after a plan: without the interval, with the samples written and the options changed, and without the samples before its
 -- edge.
 abbrev pub after : Plan → History → History

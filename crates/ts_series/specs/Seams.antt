@@ -13,13 +13,6 @@ abbrev pub IsSeamed : (pieces : List (List Point)) → (from to old new : ℕ) �
 IsSeamed pieces from to old new =
     (s e : ℕ) → IsSeam s pieces → IsSeam (suc e) pieces → s ≤ from → to ≤ e → new ≤ old + length (between s e (joined pieces))
 
--- Past an interval there is a seam, up to which the pieces have at most n samples from its first time on.
-pub record EndsNear (from to n : ℕ) (pieces : List (List Point)) : Type 0 where
-  pub last : ℕ
-  pub past : to ≤ last
-  pub seam : IsSeam (suc last) pieces
-  pub few : length (between from last (joined pieces)) ≤ n
-
 -- There is a seam before an interval and one past it, between which the pieces have at most n samples.
 pub record Around (from to n : ℕ) (pieces : List (List Point)) : Type 0 where
   pub first : ℕ

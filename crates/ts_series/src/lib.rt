@@ -4,9 +4,9 @@
 
 mod alter;
 mod append;
-mod asked;
 mod change;
 mod changes;
+mod chunk_questions;
 mod chunks;
 mod counts;
 mod cursor;
@@ -16,11 +16,12 @@ mod edit;
 mod ends;
 mod filled;
 mod ignored;
+mod kept_samples;
 mod late;
-mod left;
 mod line;
 mod line_cursor;
 mod line_plan;
+mod line_questions;
 mod mend;
 mod mended;
 mod merged;
@@ -28,12 +29,11 @@ mod plan;
 mod planned;
 mod presence;
 mod put;
-mod questions;
-mod reads;
 mod ring;
 mod room;
 mod row;
 mod series;
+mod series_questions;
 mod time_for;
 mod time_from;
 

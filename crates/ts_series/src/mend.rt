@@ -19,6 +19,7 @@ use std::alloc::AllocError;
 use std::sync::ledger::Ledger;
 use ts_sample::{Chunk, Sample, Steps, place_of};
 
+#[tactic(auto, using(crate::proofs::Reach::within_reach))]
 impl<C: Chunk> Line<C> {
     // Plans that rows take the place of the samples from one time to another, in milliseconds, both included,
     // if the series then has at most `limit` samples. Each row lies between these times. Want of memory does not hide

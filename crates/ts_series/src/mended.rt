@@ -8,7 +8,7 @@ ghost use Rattle.ts_series.specs.Plan.{AreWithin};
 use crate::change::Change;
 use crate::chunks::Chunks;
 use crate::filled::chunks_of;
-use crate::left::put_rows;
+use crate::kept_samples::put_rows;
 use std::alloc::{AllocError, Global};
 use std::ops::Range;
 use std::sync::ledger::Ledger;

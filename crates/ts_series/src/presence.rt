@@ -7,6 +7,7 @@ use crate::line::Line;
 use std::sync::ledger::Ledger;
 use ts_sample::{Chunk, Steps};
 
+#[tactic(auto, using(crate::proofs::Reach::within_reach))]
 impl<C: Chunk> Line<C> {
     // Whether it has a sample from one time to another, in milliseconds, both included.
     pub(crate) fn has_between<L: Ledger>(&self, from: u64, to: u64, steps: &mut Steps<L>) -> bool

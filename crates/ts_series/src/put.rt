@@ -19,6 +19,7 @@ use std::sync::ledger::Ledger;
 use ts_sample::{Chunk, Sample, Steps, Units};
 use ts_spec::Merge;
 
+#[tactic(auto, using(crate::proofs::Reach::within_reach))]
 impl<C: Chunk> Line<C> {
     // Plans a write: at a time that has a sample as `how` says, and else as a new sample, if the series
     // then has at most `limit` samples.

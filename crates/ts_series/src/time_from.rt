@@ -1,10 +1,10 @@
 // A time from which on there are so many samples.
-ghost use Rattle.std.specs.Prelude.{◌≡◌, ◌≤◌, ◌+◌, ◌*◌, ◌⊎◌, nat_lt, [], length, take, drop};
+ghost use Rattle.std.specs.Prelude.{◌≡◌, ◌≤◌, ◌⊎◌, nat_lt, [], length, take};
 ghost use Rattle.ts_spec.specs.Sample.{at_times, between};
 ghost use Rattle.ts_sample.specs.Chunk.{joined};
-ghost use Rattle.ts_series.specs.Held.{points, longest, IsTrimmed};
-ghost use Rattle.ts_series.specs.History.{list_of, reach};
-ghost use Rattle.ts_series.specs.Seams.{IsSeam, EndsNear};
+ghost use Rattle.ts_series.specs.Held.{points};
+ghost use Rattle.ts_series.specs.History.{list_of};
+ghost use Rattle.ts_series.specs.Seams.{IsSeam};
 
 use crate::chunks::Chunks;
 use crate::line::Line;
@@ -15,7 +15,6 @@ impl<C: Chunk> Chunks<C> {
     fn ended_by(&self, time: u64) -> usize
         ensures within { result ≤ length self.now.pieces }
         ensures earlier { at_times (nat_lt time) (joined (take result self.now.pieces)) ≡ [] }
-        ensures reached { IsTrimmed time (drop result self.now.pieces) }
     {
         self.before(time.saturating_add(1))
     }
@@ -26,7 +25,6 @@ impl<C: Chunk> Chunks<C> {
         ensures within { (from ≤ result) × (result ≤ to) }
         ensures reach { (result ≡ from) ⊎ (count ≤ length (between result to (points self.now))) }
         ensures seam { (result ≡ from) ⊎ IsSeam result self.now.pieces }
-        ensures few { (result ≡ from) ⊎ EndsNear result to (count + 2 * longest self.now.pieces) self.now.pieces }
     {
         // Does nothing: it tells that all samples together can be counted.
         let _all = self.len();
@@ -54,7 +52,6 @@ impl<C: Chunk> Line<C> {
         ensures within { (from ≤ result) × (result ≤ to) }
         ensures reach { (result ≡ from) ⊎ (count ≤ length (between result to (list_of self.now))) }
         ensures seam { (result ≡ from) ⊎ IsSeam result self.now.held.pieces }
-        ensures few { (result ≡ from) ⊎ EndsNear result to (count + 2 * reach self.now) self.now.held.pieces }
     {
         let start = from.max(self.edge());
         if to < start {

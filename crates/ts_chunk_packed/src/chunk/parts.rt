@@ -8,7 +8,7 @@ ghost use Rattle.ts_chunk_packed.specs.Rest.{IsRestOf, IsRestFrom, IsRestPast};
 use super::PackedChunk;
 use crate::context::Context;
 use crate::late_marks::LateMarks;
-use crate::mark::{Mark, Place};
+use crate::mark::{Mark, Offset};
 use crate::rest::Rest;
 use std::alloc::{AllocError, Global};
 
@@ -106,11 +106,11 @@ impl PackedChunk {
     }
 
     // Where the samples begin that are left of it.
-    fn place_of(&self, rest: &Rest<'_>) -> Place
+    fn place_of(&self, rest: &Rest<'_>) -> Offset
         requires { IsRestOf self.now.list rest.now }
         ensures { (of : IsRestOf self.now.list rest.now) → EndsAt of.front result.at result.count }
     {
-        Place {
+        Offset {
             at: (self.bytes.len() - rest.bytes().len()) as u32,
             count: self.count - rest.len(),
         }
@@ -137,7 +137,7 @@ impl PackedChunk {
             return false;
         }
         let from = other.place_of(rest);
-        let to = Place {
+        let to = Offset {
             at: self.bytes.len() as u32,
             count: self.count,
         };

@@ -6,15 +6,12 @@ use Rattle.ts_chunk_packed.proofs.splicing.take_over.Goals as goal
 
 pub returns-then-not-take_next-clause-fits : goal.returns-then-not-take_next-clause-fits
 returns-then-not-take_next-clause-fits c =
-    let l = c.loop in
-    longer_still c.args.chunk.now.limit c.args.chunk.now.list c.args.rest.now.list c.args.rest.now.state l.counter l.chunk.limit l.chunk.list l.rest.list l.rest.state l.invariant
-    c.if-not-take_next.ensures.fits
+    longer_still c.loop.invariant c.if-not-take_next.ensures.fits
 
 pub try_append_rest-requires-clause-alike : goal.try_append_rest-requires-clause-alike
 try_append_rest-requires-clause-alike c =
     let l = c.loop in
-    known_alike c.args.chunk.now.limit c.args.chunk.now.list c.args.rest.now.list c.args.rest.now.state l.counter l.chunk.limit l.chunk.list l.rest.list l.rest.state l.invariant
-    (omega (arith, l.auto.counter-end, c.loop-test.false))
+    known_alike c.loop.invariant (omega (arith, l.auto.counter-end, c.loop-test.false))
 
 pub try_append_rest-requires-clause-of : goal.try_append_rest-requires-clause-of
 try_append_rest-requires-clause-of c =

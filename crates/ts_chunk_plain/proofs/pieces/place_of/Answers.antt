@@ -5,16 +5,14 @@ use Rattle.ts_chunk_plain.specs.Plain.{sample_of}
 use Rattle.ts_chunk_plain.proofs.Walking.{rising_of, before_place, from_place}
 use Rattle.ts_chunk_plain.proofs.pieces.place_of.Goals as goal
 
-pub returns-clause-after : goal.returns-clause-after
-returns-clause-after c =
+pub returns : goal.returns
+returns c =
     let bs = c.args.pieces.now in
+    let i = c.partition_point.result in
     let sorted = IsPartitionedBy-ltb (λ (b : List ℕ). (sample_of b).time) bs c.args.time (rising_of bs c.requires) in
-    let point = IsPartitionPoint-from_clause (λ (b : List ℕ). nat_lt (sample_of b).time c.args.time) bs c.partition_point.result c.partition_point.ensures.partitioned sorted (λ a r f h. search rules) in
-    from_place c.args.time bs c.partition_point.result point c.partition_point.ensures.bound
-
-pub returns-clause-before : goal.returns-clause-before
-returns-clause-before c =
-    let bs = c.args.pieces.now in
-    let sorted = IsPartitionedBy-ltb (λ (b : List ℕ). (sample_of b).time) bs c.args.time (rising_of bs c.requires) in
-    let point = IsPartitionPoint-from_clause (λ (b : List ℕ). nat_lt (sample_of b).time c.args.time) bs c.partition_point.result c.partition_point.ensures.partitioned sorted (λ a r f h. search rules) in
-    before_place c.args.time bs c.partition_point.result point c.partition_point.ensures.bound
+    let point = IsPartitionPoint-from_clause (λ (b : List ℕ). nat_lt (sample_of b).time c.args.time) bs i c.partition_point.ensures.partitioned sorted (λ a r f h. search rules) in
+    record {
+      within = c.partition_point.ensures.bound;
+      after = from_place c.args.time bs i point c.partition_point.ensures.bound;
+      before = before_place c.args.time bs i point c.partition_point.ensures.bound;
+    }

@@ -3,7 +3,8 @@ use Rattle.std.specs.Prelude.{List}
 use Rattle.std.proofs.lemmas.List.{take_rest}
 use Rattle.ts_spec.specs.Sample.{Point}
 use Rattle.ts_sample.specs.Chunk.{IsCut, HaveLimit}
-use Rattle.ts_sample.proofs.Fitting.{ascending-take, ascending-drop, shorter-front, shorter-rest, two, limits-append, cut-nothing, cut-whole, cut-halves}
+use Rattle.ts_sample.proofs.Lists.{ascending-take, ascending-drop}
+use Rattle.ts_sample.proofs.Fitting.{shorter-front, shorter-rest, two, limits-append, cut-nothing, cut-whole, cut-halves}
 use Rattle.ts_sample.proofs.cutting.+cut_into.Goals as goal
 
 pub returns-in_default-clause-cut : goal.returns-in_default-clause-cut

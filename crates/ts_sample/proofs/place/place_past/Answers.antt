@@ -5,28 +5,17 @@ use Rattle.ts_spec.specs.Sample.{Point}
 use Rattle.ts_sample.proofs.Parted.{rising, cut_past, upto_all}
 use Rattle.ts_sample.proofs.place.place_past.Goals as goal
 
-pub returns-clause-upto : goal.returns-clause-upto
-returns-clause-upto c =
+pub returns : goal.returns
+returns c =
     let ps = c.args.list.now in
     let sorted = IsPartitionedBy-leb (λ (p : Point). p.time) ps c.args.time (rising ps c.requires) in
     let point = IsPartitionPoint-from_clause (λ (p : Point). nat_le p.time c.args.time) ps c.partition_point.result c.partition_point.ensures.partitioned sorted (λ a r f h. search rules) in
-    (cut_past c.args.time ps c.partition_point.result point c.partition_point.ensures.bound).0
+    let parts = cut_past c.args.time ps c.partition_point.result point c.partition_point.ensures.bound in
+    record { within = c.partition_point.ensures.bound; upto = parts.0; past = parts.1 }
 
-pub returns-clause-past : goal.returns-clause-past
-returns-clause-past c =
-    let ps = c.args.list.now in
-    let sorted = IsPartitionedBy-leb (λ (p : Point). p.time) ps c.args.time (rising ps c.requires) in
-    let point = IsPartitionPoint-from_clause (λ (p : Point). nat_le p.time c.args.time) ps c.partition_point.result c.partition_point.ensures.partitioned sorted (λ a r f h. search rules) in
-    (cut_past c.args.time ps c.partition_point.result point c.partition_point.ensures.bound).1
-
-pub returns-then-last-time-clause-upto : goal.returns-then-last-time-clause-upto
-returns-then-last-time-clause-upto c =
+pub returns-then-last-time : goal.returns-then-last-time
+returns-then-last-time c =
     let ps = c.args.list.now in
     let last : (d : Point) → 0 < length ps → (get_or ps (length ps - 1) d).time ≤ c.args.time = λ d some. search rules in
-    (cut_past c.args.time ps (length ps) (upto_all c.args.time ps c.requires last) (omega arith)).0
-
-pub returns-then-last-time-clause-past : goal.returns-then-last-time-clause-past
-returns-then-last-time-clause-past c =
-    let ps = c.args.list.now in
-    let last : (d : Point) → 0 < length ps → (get_or ps (length ps - 1) d).time ≤ c.args.time = λ d some. search rules in
-    (cut_past c.args.time ps (length ps) (upto_all c.args.time ps c.requires last) (omega arith)).1
+    let parts = cut_past c.args.time ps (length ps) (upto_all c.args.time ps c.requires last) (omega arith) in
+    record { within = omega arith; upto = parts.0; past = parts.1 }

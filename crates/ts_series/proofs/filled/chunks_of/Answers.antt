@@ -1,5 +1,5 @@
 use Rattle.std.proofs.Common.{◌/◌, length}
-use Rattle.ts_sample.proofs.Fitting.{ascending-take}
+use Rattle.ts_sample.proofs.Lists.{ascending-take}
 use Rattle.ts_series.proofs.FilledChunks.{rest-rises, halves-list, halves-limits}
 use Rattle.ts_series.proofs.PlannedPieces.{both-chunks}
 use Rattle.ts_series.proofs.filled.chunks_of.Goals as goal

@@ -1,6 +1,6 @@
 use Rattle.std.proofs.Common.{sym, ◌∙◌, ap}
 use Rattle.ts_agg.specs.declared.tally.Tally.{Tally}
-use Rattle.ts_agg.specs.declared.tally.Tally.TheVariants.{Min, Max, Range, First}
+use Rattle.ts_agg.specs.declared.tally.Tally.TheVariants.{Min, Max, Range}
 use Rattle.ts_agg.proofs.Tallies.{pushed, same_range, one-more}
 use Rattle.ts_agg.proofs.tally.Tally.push.Goals as goal
 

@@ -1,5 +1,4 @@
 use Rattle.std.proofs.Common.{take, subst}
-use Rattle.std.specs.Prelude.{vec_capacity}
 use Rattle.ts_chunk_packed.specs.Marks.{AreMarks}
 use Rattle.ts_chunk_packed.proofs.Late.{front_within, front_taken}
 use Rattle.ts_chunk_packed.proofs.Starting.{marks_are}
@@ -12,5 +11,5 @@ returns c = λ of.
     let place = c.place_of-place.result in
     let samples = (c.place_of-place.ensures of).samples in
     subst (λ l. AreMarks l c.keep_first.new.self) (front_taken now.list c.args.rest.now of place.count samples)
-    (c.keep_first.ensures now.list (marks_are f.limit (vec_capacity f.bytes) f.bytes.items f.count f.step f.first f.last f.marks c.self.invariant now c.self.view_is)
+    (c.keep_first.ensures now.list (marks_are c.self.invariant c.self.view_is)
     (front_within now.list c.args.rest.now of place.count samples) (c.in_ok-marks.ensures (take place.count now.list)))

@@ -1,5 +1,5 @@
 use Rattle.std.proofs.Common.{◌≡◌, ◌∙◌, ap, length, nat_le, rules, arith}
-use Rattle.std.specs.Prelude.{vec_capacity, ◌-◌}
+use Rattle.std.specs.Prelude.{◌-◌}
 use Rattle.ts_chunk_packed.specs.Packed.{State, coded}
 use Rattle.ts_chunk_packed.proofs.Pushing.{surely_fits, fits_more, later}
 use Rattle.ts_chunk_packed.proofs.chunk.PackedChunkChunk.fits.Goals as goal
@@ -8,7 +8,7 @@ pub returns-then-room-ge-WIDEST : goal.returns-then-room-ge-WIDEST
 returns-then-room-ge-WIDEST c =
     let f = c.self.inside in
     let len : c.len.result ≡ length f.bytes.items = search rules in
-    surely_fits f.limit (vec_capacity f.bytes) f.bytes.items f.count f.step f.first f.last c.self.invariant.packed c.args.self.now c.self.view_is c.args.sample.now c.known.ensures c.requires.past (omega arith)
+    surely_fits c.self.invariant.packed c.self.view_is c.args.sample.now c.known.ensures c.requires.past (omega arith)
 
 pub width_of-requires : goal.width_of-requires
 width_of-requires c =
@@ -16,7 +16,7 @@ width_of-requires c =
     omega (
       arith,
       ap (λ (s : State). s.before.time) c.context.ensures,
-      later f.limit (vec_capacity f.bytes) f.bytes.items f.count f.step f.first f.last c.self.invariant.packed c.args.self.now c.self.view_is c.args.sample.now.time c.requires.past,
+      later c.self.invariant.packed c.self.view_is c.args.sample.now.time c.requires.past,
     )
 
 pub returns : goal.returns
@@ -25,4 +25,4 @@ returns c =
     let len : c.len.result ≡ length f.bytes.items = search rules in
     let width = c.width_of.ensures ∙ ap (λ (s : State). length (coded s c.args.sample.now)) c.context.ensures in
     ap (λ n. nat_le c.width_of.result (f.limit - n)) len
-    ∙ fits_more f.limit (vec_capacity f.bytes) f.bytes.items f.count f.step f.first f.last c.self.invariant.packed c.args.self.now c.self.view_is c.args.sample.now c.width_of.result width
+    ∙ fits_more c.self.invariant.packed c.self.view_is c.args.sample.now c.width_of.result width

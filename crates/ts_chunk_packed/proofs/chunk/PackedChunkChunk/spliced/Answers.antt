@@ -8,21 +8,18 @@ use Rattle.ts_chunk_packed.proofs.chunk.PackedChunkChunk.spliced.Goals as goal
 pub try_append-requires : goal.try_append-requires
 try_append-requires g c =
     record {
-      past = past_front c.args.sample.now c.args.self.now.list c.known.ensures.ascending c.sample.inside.time (ap (λ (q : Point). q.time) c.sample.view_is) c.in_ok-chunk.chunk.list c.front.new.rest.list
-          c.in_ok-chunk.ensures.list c.in_ok-chunk.ensures.rest;
+      past = past_front c.args.sample.now c.args.self.now.list c.known.ensures.ascending (ap (λ (q : Point). q.time) c.sample.view_is) c.in_ok-chunk.ensures.list c.in_ok-chunk.ensures.rest;
     }
 
 pub returns-then-not-try_append-clause-full : goal.returns-then-not-try_append-clause-full
 returns-then-not-try_append-clause-full g c =
-    front_too_long c.args.sample.now c.args.self.now.list c.known.ensures.ascending c.sample.inside.time (ap (λ (q : Point). q.time) c.sample.view_is) c.in_ok-chunk.chunk.list c.front.new.rest.list
-    c.in_ok-chunk.ensures.list c.in_ok-chunk.ensures.rest
+    front_too_long c.args.sample.now c.args.self.now.list c.known.ensures.ascending (ap (λ (q : Point). q.time) c.sample.view_is) c.in_ok-chunk.ensures.list c.in_ok-chunk.ensures.rest
     c.in_ok-chunk.chunk.limit c.args.self.now.limit c.in_ok-chunk.ensures.limit c.if-not-try_append.ensures.fits
 
 pub take_over-requires-clause-ascending : goal.take_over-requires-clause-ascending
 take_over-requires-clause-ascending g c =
-    rises_all c.args.sample.now c.args.self.now.list c.known.ensures.ascending c.sample.inside.time (ap (λ (q : Point). q.time) c.sample.view_is) c.in_ok-chunk.chunk.list c.front.new.rest.list
-    c.in_ok-chunk.ensures.list c.in_ok-chunk.ensures.rest
-    c.try_append.new.self.list c.pass_before.new.self.list c.if-not-try_append.ensures.list c.pass_before.ensures.list
+    rises_all c.args.sample.now c.args.self.now.list c.known.ensures.ascending (ap (λ (q : Point). q.time) c.sample.view_is) c.in_ok-chunk.ensures.list c.in_ok-chunk.ensures.rest
+    c.if-not-try_append.ensures.list c.pass_before.ensures.list
 
 pub take_over-requires-clause-of : goal.take_over-requires-clause-of
 take_over-requires-clause-of g c =
@@ -31,9 +28,8 @@ take_over-requires-clause-of g c =
 
 pub returns-then-not-take_over-clause-full : goal.returns-then-not-take_over-clause-full
 returns-then-not-take_over-clause-full g c =
-    all_too_long c.args.sample.now c.args.self.now.list c.known.ensures.ascending c.sample.inside.time (ap (λ (q : Point). q.time) c.sample.view_is) c.in_ok-chunk.chunk.list c.front.new.rest.list
-    c.in_ok-chunk.ensures.list c.in_ok-chunk.ensures.rest
-    c.try_append.new.self.list c.pass_before.new.self.list c.if-not-try_append.ensures.list c.pass_before.ensures.list
+    all_too_long c.args.sample.now c.args.self.now.list c.known.ensures.ascending (ap (λ (q : Point). q.time) c.sample.view_is) c.in_ok-chunk.ensures.list c.in_ok-chunk.ensures.rest
+    c.if-not-try_append.ensures.list c.pass_before.ensures.list
     c.try_append.new.self.limit c.args.self.now.limit (c.if-not-try_append.ensures.limit ∙ c.in_ok-chunk.ensures.limit) c.if-not-take_over.ensures.fits
 
 pub overflow_sub-count : goal.overflow_sub-count
@@ -54,6 +50,5 @@ overflow_sub-count g c =
 
 pub returns-clause-list : goal.returns-clause-list
 returns-clause-list g c =
-    c.if-not-take_over.ensures.list refl ∙ all_put c.args.sample.now c.args.self.now.list c.known.ensures.ascending c.sample.inside.time (ap (λ (q : Point). q.time) c.sample.view_is) c.in_ok-chunk.chunk.list c.front.new.rest.list
-    c.in_ok-chunk.ensures.list c.in_ok-chunk.ensures.rest
-    c.try_append.new.self.list c.pass_before.new.self.list c.if-not-try_append.ensures.list c.pass_before.ensures.list
+    c.if-not-take_over.ensures.list refl ∙ all_put c.args.sample.now c.args.self.now.list c.known.ensures.ascending (ap (λ (q : Point). q.time) c.sample.view_is) c.in_ok-chunk.ensures.list c.in_ok-chunk.ensures.rest
+    c.if-not-try_append.ensures.list c.pass_before.ensures.list

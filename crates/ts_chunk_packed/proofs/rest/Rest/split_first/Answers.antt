@@ -10,26 +10,20 @@ returns-then-self-eq0-clause-ended c =
 
 pub decode-sample-requires : goal.decode-sample-requires
 decode-sample-requires c =
-    let f = c.self.inside in
-    follows f.context f.count f.bytes.now (omega (arith, c.if-self-eq0.false)) c.self.invariant
+    follows (omega (arith, c.if-self-eq0.false)) c.self.invariant
 
 pub after-context-requires : goal.after-context-requires
 after-context-requires c =
-    let f = c.self.inside in
     let read = c.decode-sample in
-    no_earlier f.context f.count f.bytes.now (omega (arith, c.if-self-eq0.false)) c.self.invariant read.result.0 read.result.1.now read.ensures.sample read.ensures.rest
+    no_earlier (omega (arith, c.if-self-eq0.false)) c.self.invariant read.ensures.sample read.ensures.rest
 
 pub invariant_of-result : goal.invariant_of-result
 invariant_of-result c =
-    let f = c.self.inside in
     let read = c.decode-sample in
-    left_then f.context f.count f.bytes.now (omega (arith, c.if-self-eq0.false)) c.self.invariant read.result.0 read.result.1.now read.ensures.sample read.ensures.rest
-    c.after-context.result c.after-context.ensures
+    left_then (omega (arith, c.if-self-eq0.false)) c.self.invariant read.ensures.sample read.ensures.rest c.after-context.result c.after-context.ensures
 
 pub returns-clause-list : goal.returns-clause-list
 returns-clause-list c =
-    let f = c.self.inside in
     let read = c.decode-sample in
     ap (λ (l : Left). l.list) (sym c.self.view_is)
-    ∙ first_then f.context f.count f.bytes.now (omega (arith, c.if-self-eq0.false)) c.self.invariant read.result.0 read.result.1.now read.ensures.sample read.ensures.rest
-    c.after-context.result c.after-context.ensures
+    ∙ first_then (omega (arith, c.if-self-eq0.false)) c.self.invariant read.ensures.sample read.ensures.rest c.after-context.result c.after-context.ensures

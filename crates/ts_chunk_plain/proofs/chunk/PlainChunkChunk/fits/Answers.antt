@@ -6,4 +6,4 @@ pub returns : goal.returns
 returns c =
     let written = c.self.inside.bytes.items in
     let len : c.len.result ≡ length written = search rules in
-    ap (λ n. nat_le (n + 28) c.self.inside.limit) len ∙ fits_more written c.self.invariant.bytes c.self.inside.limit c.args.self.now c.self.view_is c.args._sample.now
+    ap (λ n. nat_le (n + 28) c.self.inside.limit) len ∙ fits_more written c.self.invariant.bytes c.self.view_is c.args._sample.now

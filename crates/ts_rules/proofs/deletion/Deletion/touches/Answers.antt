@@ -1,5 +1,5 @@
 use Rattle.std.proofs.Common.{◌∙◌}
-use Rattle.ts_rules.proofs.Listed.{listed-by-search}
+use Rattle.ts_sample.proofs.Listed.{listed-by-search}
 use Rattle.ts_rules.proofs.deletion.Deletion.touches.Goals as goal
 
 pub returns : goal.returns

@@ -7,21 +7,21 @@ use Rattle.ts_series.specs.Held.{Held, IsTrimmed}
 use Rattle.ts_series.proofs.EarlyLate.{is_before}
 use Rattle.ts_series.proofs.Meeting.{ends-parted, earlier, reached}
 use Rattle.ts_series.proofs.chunks.Chunks.before.Goals as goal
+use Rattle.ts_series.proofs.Answering.{pieces-length}
 
-pub returns-clause-earlier : goal.returns-clause-earlier
-returns-clause-earlier g c =
+pub returns : goal.returns
+returns g c =
     let cs = c.self.inside.chunks.items in
-    let parted = ends-parted g.C.Chunk.format g.C.Chunk.list cs (map g.C.Chunk.most cs) c.self.invariant.chunks c.self.invariant.ascending c.args.time in
-    let point = IsPartitionPoint-from_clause (λ x. is_before c.args.time (last_of (g.C.Chunk.list x))) cs c.partition_point.result c.partition_point.ensures.partitioned
+    let ok = c.self.inside.chunks.ok in
+    let kept = c.self.invariant in
+    let i = c.partition_point.result in
+    let parted = ends-parted g.C.Chunk.format g.C.Chunk.list cs (map g.C.Chunk.most cs) kept.chunks kept.ascending c.args.time in
+    let point = IsPartitionPoint-from_clause (λ x. is_before c.args.time (last_of (g.C.Chunk.list x))) cs i c.partition_point.ensures.partitioned
     parted (λ a r f h. search rules) in
-    subst (λ (k : Held). at_times (nat_le c.args.time) (joined (take c.partition_point.result k.pieces)) ≡ []) c.self.view_is
-    (earlier g.C.Chunk.format g.C.Chunk.list cs (map g.C.Chunk.most cs) c.self.invariant.chunks c.self.invariant.ascending c.args.time c.partition_point.result point (let ok = c.self.inside.chunks.ok in omega (arith, c.partition_point.ensures.bound)))
-
-pub returns-clause-reached : goal.returns-clause-reached
-returns-clause-reached g c =
-    let cs = c.self.inside.chunks.items in
-    let parted = ends-parted g.C.Chunk.format g.C.Chunk.list cs (map g.C.Chunk.most cs) c.self.invariant.chunks c.self.invariant.ascending c.args.time in
-    let point = IsPartitionPoint-from_clause (λ x. is_before c.args.time (last_of (g.C.Chunk.list x))) cs c.partition_point.result c.partition_point.ensures.partitioned
-    parted (λ a r f h. search rules) in
-    subst (λ (k : Held). IsTrimmed c.args.time (drop c.partition_point.result k.pieces)) c.self.view_is
-    (reached g.C.Chunk.format g.C.Chunk.list cs (map g.C.Chunk.most cs) c.self.invariant.chunks c.self.invariant.ascending c.args.time c.partition_point.result point)
+    record {
+      within = omega (arith, c.partition_point.ensures.bound, pieces-length g.C.Chunk.list cs _ _ c.args.self.now c.self.view_is);
+      earlier = subst (λ (k : Held). at_times (nat_le c.args.time) (joined (take i k.pieces)) ≡ []) c.self.view_is
+          (earlier g.C.Chunk.format g.C.Chunk.list cs (map g.C.Chunk.most cs) kept.chunks kept.ascending c.args.time i point (omega (arith, c.partition_point.ensures.bound)));
+      reached = subst (λ (k : Held). IsTrimmed c.args.time (drop i k.pieces)) c.self.view_is
+          (reached g.C.Chunk.format g.C.Chunk.list cs (map g.C.Chunk.most cs) kept.chunks kept.ascending c.args.time i point);
+    }

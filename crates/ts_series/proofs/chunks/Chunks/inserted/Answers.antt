@@ -1,105 +1,53 @@
-use Rattle.std.proofs.Common.{◌≡◌, ◌<◌, ◌+◌, length, map, ap, arith}
+use Rattle.std.proofs.Common.{length, map, refl, ap, arith}
 use Rattle.std.proofs.lemmas.List.{length-map}
 use Rattle.ts_spec.specs.Sample.{Point}
 use Rattle.ts_series.specs.Held.{Held}
-use Rattle.ts_series.proofs.PlannedPieces.{kept-view, piece-short, with-list, with-chunks, with-limits, place-in, inserted-list, inserted-ready}
+use Rattle.ts_series.proofs.PlannedPieces.{IsOne, kept-view, one-at, piece-short, with-it, place-in, inserted-list, inserted-ready}
 use Rattle.ts_series.proofs.chunks.Chunks.inserted.Goals as goal
+use Rattle.ts_series.proofs.chunks.Chunks.inserted.Goals.{After-upsert}
 
 pub index-requires : goal.index-requires
 index-requires g c =
-    let now = c.args.self.now in
-    let cs = c.self.inside.chunks.items in
-    let same : map g.C.Chunk.list cs ≡ now.pieces = ap (λ (k : Held). k.pieces) c.self.view_is in
-    let limits : map g.C.Chunk.most cs ≡ now.limits = ap (λ (k : Held). k.limits) c.self.view_is in
-    let kept = kept-view g.C.Chunk.format _ now c.self.inside.count c.self.view_is c.self.invariant in
-    let p = c.args.sample.now in
-    let place = c.before-place.result in
     let b = c.before-place.ensures in
-    let time : c.sample.inside.time ≡ p.time = ap (λ (q : Point). q.time) c.sample.view_is in
-    let inside : place < length now.pieces = place-in g.C.Chunk.format now c.self.inside.count kept c.sample.inside.time place (place + 1) p time c.requires.late b.within b.earlier b.reached in
     let ok = c.self.inside.chunks.ok in
-    omega (arith, inside, length-map cs g.C.Chunk.list, ap length same)
+    let inside = place-in c.args.self.now (kept-view g.C.Chunk.format _ c.args.self.now c.self.inside.count c.self.view_is c.self.invariant) c.args.sample.now (ap (λ (p : Point). p.time) c.sample.view_is)
+    c.requires.late b.within b.earlier b.reached in
+    omega (arith, inside, length-map c.self.inside.chunks.items g.C.Chunk.list, ap (λ (k : Held). length k.pieces) c.self.view_is)
+
+-- the chunk that the sample goes into
+one : (g : _) (c : After-upsert g) → IsOne g.C.Chunk.format g.C.Chunk.list g.C.Chunk.most c.args.self.now c.before-place.result c.index.result.now
+one g c =
+    let b = c.before-place.ensures in
+    let inside = place-in c.args.self.now (kept-view g.C.Chunk.format _ c.args.self.now c.self.inside.count c.self.view_is c.self.invariant) c.args.sample.now (ap (λ (p : Point). p.time) c.sample.view_is)
+    c.requires.late b.within b.earlier b.reached in
+    one-at g.C.Chunk.list g.C.Chunk.most c.self.inside.chunks.items c.args.self.now c.self.view_is c.self.invariant c.before-place.result c.index.result.now inside c.index.ensures
 
 pub returns-in_err-chunks-clause-bounded : goal.returns-in_err-chunks-clause-bounded
 returns-in_err-chunks-clause-bounded g c =
-    let now = c.args.self.now in
-    let cs = c.self.inside.chunks.items in
-    let same : map g.C.Chunk.list cs ≡ now.pieces = ap (λ (k : Held). k.pieces) c.self.view_is in
-    let limits : map g.C.Chunk.most cs ≡ now.limits = ap (λ (k : Held). k.limits) c.self.view_is in
-    let kept = kept-view g.C.Chunk.format _ now c.self.inside.count c.self.view_is c.self.invariant in
-    let p = c.args.sample.now in
-    let place = c.before-place.result in
-    let b = c.before-place.ensures in
-    let time : c.sample.inside.time ≡ p.time = ap (λ (q : Point). q.time) c.sample.view_is in
-    let inside : place < length now.pieces = place-in g.C.Chunk.format now c.self.inside.count kept c.sample.inside.time place (place + 1) p time c.requires.late b.within b.earlier b.reached in
-    omega (arith, c.upsert.ensures.bounded, piece-short g.C.Chunk.format g.C.Chunk.list g.C.Chunk.most cs now c.self.inside.count same limits kept place c.index.result.now inside c.index.ensures)
-
-pub returns-clause-bounded : goal.returns-clause-bounded
-returns-clause-bounded g c =
-    let now = c.args.self.now in
-    let cs = c.self.inside.chunks.items in
-    let same : map g.C.Chunk.list cs ≡ now.pieces = ap (λ (k : Held). k.pieces) c.self.view_is in
-    let limits : map g.C.Chunk.most cs ≡ now.limits = ap (λ (k : Held). k.limits) c.self.view_is in
-    let kept = kept-view g.C.Chunk.format _ now c.self.inside.count c.self.view_is c.self.invariant in
-    let p = c.args.sample.now in
-    let place = c.before-place.result in
-    let b = c.before-place.ensures in
-    let time : c.sample.inside.time ≡ p.time = ap (λ (q : Point). q.time) c.sample.view_is in
-    let inside : place < length now.pieces = place-in g.C.Chunk.format now c.self.inside.count kept c.sample.inside.time place (place + 1) p time c.requires.late b.within b.earlier b.reached in
-    omega (arith, c.upsert.ensures.bounded, piece-short g.C.Chunk.format g.C.Chunk.list g.C.Chunk.most cs now c.self.inside.count same limits kept place c.index.result.now inside c.index.ensures)
+    let at = goal.at.returns-in_err-chunks-clause-bounded g c in
+    omega (arith, c.upsert.ensures.bounded, piece-short (one g at.After-upsert))
 
 pub invariant_of-result : goal.invariant_of-result
 invariant_of-result g c =
-    let now = c.args.self.now in
-    let cs = c.self.inside.chunks.items in
-    let same : map g.C.Chunk.list cs ≡ now.pieces = ap (λ (k : Held). k.pieces) c.self.view_is in
-    let limits : map g.C.Chunk.most cs ≡ now.limits = ap (λ (k : Held). k.limits) c.self.view_is in
-    let kept = kept-view g.C.Chunk.format _ now c.self.inside.count c.self.view_is c.self.invariant in
-    let p = c.args.sample.now in
-    let place = c.before-place.result in
-    let b = c.before-place.ensures in
-    let time : c.sample.inside.time ≡ p.time = ap (λ (q : Point). q.time) c.sample.view_is in
-    let inside : place < length now.pieces = place-in g.C.Chunk.format now c.self.inside.count kept c.sample.inside.time place (place + 1) p time c.requires.late b.within b.earlier b.reached in
-    with-chunks g.C.Chunk.format g.C.Chunk.list g.C.Chunk.most cs now c.self.inside.count same limits kept place c.index.result.now inside c.index.ensures p c.known.ensures c.in_ok-chunks.chunks.items c.in_ok-chunks.ensures.cut c.in_ok-chunks.ensures.limits
+    let at = goal.at.invariant_of-result g c in
+    (with-it (one g at.After-upsert) c.args.sample.now c.known.ensures c.in_ok-chunks.chunks.items c.in_ok-chunks.ensures.cut c.in_ok-chunks.ensures.limits).chunks
 
-pub returns-clause-ready : goal.returns-clause-ready
-returns-clause-ready g c =
+pub returns : goal.returns
+returns g c =
+    let at = goal.at.returns g c in
     let now = c.args.self.now in
-    let cs = c.self.inside.chunks.items in
-    let same : map g.C.Chunk.list cs ≡ now.pieces = ap (λ (k : Held). k.pieces) c.self.view_is in
-    let limits : map g.C.Chunk.most cs ≡ now.limits = ap (λ (k : Held). k.limits) c.self.view_is in
-    let kept = kept-view g.C.Chunk.format _ now c.self.inside.count c.self.view_is c.self.invariant in
     let p = c.args.sample.now in
-    let place = c.before-place.result in
+    let cs = c.in_ok-chunks.chunks.items in
     let b = c.before-place.ensures in
-    let time : c.sample.inside.time ≡ p.time = ap (λ (q : Point). q.time) c.sample.view_is in
-    let inside : place < length now.pieces = place-in g.C.Chunk.format now c.self.inside.count kept c.sample.inside.time place (place + 1) p time c.requires.late b.within b.earlier b.reached in
-    inserted-ready g.C.Chunk.format now c.self.inside.count kept c.sample.inside.time place (place + 1) p time c.requires.late b.within b.earlier b.reached (map g.C.Chunk.list c.in_ok-chunks.chunks.items) (omega arith) (with-list g.C.Chunk.format g.C.Chunk.list g.C.Chunk.most cs now c.self.inside.count same limits kept place c.index.result.now inside c.index.ensures p c.known.ensures c.in_ok-chunks.chunks.items c.in_ok-chunks.ensures.cut c.in_ok-chunks.ensures.limits) (map g.C.Chunk.most c.in_ok-chunks.chunks.items)
-
-pub returns-clause-limits : goal.returns-clause-limits
-returns-clause-limits g c =
-    let now = c.args.self.now in
-    let cs = c.self.inside.chunks.items in
-    let same : map g.C.Chunk.list cs ≡ now.pieces = ap (λ (k : Held). k.pieces) c.self.view_is in
-    let limits : map g.C.Chunk.most cs ≡ now.limits = ap (λ (k : Held). k.limits) c.self.view_is in
     let kept = kept-view g.C.Chunk.format _ now c.self.inside.count c.self.view_is c.self.invariant in
-    let p = c.args.sample.now in
-    let place = c.before-place.result in
-    let b = c.before-place.ensures in
-    let time : c.sample.inside.time ≡ p.time = ap (λ (q : Point). q.time) c.sample.view_is in
-    let inside : place < length now.pieces = place-in g.C.Chunk.format now c.self.inside.count kept c.sample.inside.time place (place + 1) p time c.requires.late b.within b.earlier b.reached in
-    with-limits g.C.Chunk.format g.C.Chunk.list g.C.Chunk.most cs now c.self.inside.count same limits kept place c.index.result.now inside c.index.ensures p c.known.ensures c.in_ok-chunks.chunks.items c.in_ok-chunks.ensures.cut c.in_ok-chunks.ensures.limits
-
-pub returns-clause-list : goal.returns-clause-list
-returns-clause-list g c =
-    let now = c.args.self.now in
-    let cs = c.self.inside.chunks.items in
-    let same : map g.C.Chunk.list cs ≡ now.pieces = ap (λ (k : Held). k.pieces) c.self.view_is in
-    let limits : map g.C.Chunk.most cs ≡ now.limits = ap (λ (k : Held). k.limits) c.self.view_is in
-    let kept = kept-view g.C.Chunk.format _ now c.self.inside.count c.self.view_is c.self.invariant in
-    let p = c.args.sample.now in
-    let place = c.before-place.result in
-    let b = c.before-place.ensures in
-    let time : c.sample.inside.time ≡ p.time = ap (λ (q : Point). q.time) c.sample.view_is in
-    let inside : place < length now.pieces = place-in g.C.Chunk.format now c.self.inside.count kept c.sample.inside.time place (place + 1) p time c.requires.late b.within b.earlier b.reached in
-    inserted-list g.C.Chunk.format now c.self.inside.count kept c.sample.inside.time place (place + 1) p time c.requires.late b.within b.earlier b.reached (map g.C.Chunk.list c.in_ok-chunks.chunks.items) (omega arith) (with-list g.C.Chunk.format g.C.Chunk.list g.C.Chunk.most cs now c.self.inside.count same limits kept place c.index.result.now inside c.index.ensures p c.known.ensures c.in_ok-chunks.chunks.items c.in_ok-chunks.ensures.cut c.in_ok-chunks.ensures.limits)
+    let time = ap (λ (q : Point). q.time) c.sample.view_is in
+    let here = one g at.After-upsert in
+    let new = with-it here p c.known.ensures cs c.in_ok-chunks.ensures.cut c.in_ok-chunks.ensures.limits in
+    record {
+      ready = inserted-ready now kept p time c.requires.late b.within b.earlier b.reached (map g.C.Chunk.list cs) (omega arith) new.list (map g.C.Chunk.most cs);
+      nothing_appended = refl;
+      limits = new.among;
+      list = inserted-list now kept p time c.requires.late b.within b.earlier b.reached (map g.C.Chunk.list cs) (omega arith) new.list;
+      counted = c.upsert.ensures.counted;
+      bounded = omega (arith, c.upsert.ensures.bounded, piece-short here);
+    }

@@ -4,16 +4,12 @@ use Rattle.ts_series.specs.Held.{Held, points}
 use Rattle.ts_series.proofs.Meeting.{meets, all-meet}
 use Rattle.ts_series.proofs.chunks.Chunks.meeting.Goals as goal
 
-pub returns-clause-meeting : goal.returns-clause-meeting
-returns-clause-meeting g c =
+pub returns : goal.returns
+returns g c =
     let rises : IsAscending (points c.args.self.now) = subst (λ (k : Held). IsAscending (points k)) c.self.view_is c.self.invariant.ascending in
     let b = c.before-start.ensures in
     let u = c.upto.ensures in
-    meets c.args.from c.args.to c.args.self.now.pieces c.before-start.result c.upto.result c.max.result rises c.max.ensures b.within u.within b.earlier b.reached u.later u.begun
-
-pub returns-clause-each : goal.returns-clause-each
-returns-clause-each g c =
-    let rises : IsAscending (points c.args.self.now) = subst (λ (k : Held). IsAscending (points k)) c.self.view_is c.self.invariant.ascending in
-    let b = c.before-start.ensures in
-    let u = c.upto.ensures in
-    all-meet c.args.from c.args.to c.args.self.now.pieces c.before-start.result c.upto.result c.max.result rises c.max.ensures u.within b.reached u.begun
+    record {
+      meeting = meets c.args.from c.args.to c.args.self.now.pieces c.before-start.result c.upto.result c.max.result rises c.max.ensures b.within u.within b.earlier b.reached u.later u.begun;
+      each = all-meet c.args.from c.args.to c.args.self.now.pieces c.before-start.result c.upto.result c.max.result rises c.max.ensures u.within b.reached u.begun;
+    }

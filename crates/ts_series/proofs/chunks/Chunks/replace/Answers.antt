@@ -34,17 +34,15 @@ counted g c =
 
 pub count_in-added-requires : goal.count_in-added-requires
 count_in-added-requires g c =
-    let start = c.args.start in
-    let end = c.args.end in
     let new = c.args.chunks.items in
     let old = c.self.inside.chunks.items in
-    let all = replaced start end new old in
+    let all = replaced c.args.start c.args.end new old in
     let kept = kept-with g (goal.at.count_in-added-requires g c).After-count_of-removed in
     omega (
       arith,
       few-kept g.C.Chunk.format (map g.C.Chunk.list all) (map g.C.Chunk.most all) (length (joined (map g.C.Chunk.list all))) kept,
       ap length (joined-same g.C.Chunk.list c.deref.result.now new c.deref.ensures.value),
-      new-in g.C.Chunk.list start end new old,
+      new-in g.C.Chunk.list c.args.start c.args.end new old,
     )
 
 pub overflow_sub-self : goal.overflow_sub-self
@@ -72,18 +70,10 @@ invariant_of-self g c =
 
 pub returns-clause-pieces : goal.returns-clause-pieces
 returns-clause-pieces g c =
-    let start = c.args.start in
-    let end = c.args.end in
-    let new = c.args.chunks.items in
-    ap (map g.C.Chunk.list) c.replace_between.ensures.items
-    ∙ map-replaced g.C.Chunk.list start end new c.self.inside.chunks.items
-    ∙ ap (λ (h : Held). replaced start end (map g.C.Chunk.list new) h.pieces) c.self.view_is
+    ap (map g.C.Chunk.list) c.replace_between.ensures.items ∙ map-replaced g.C.Chunk.list c.args.start c.args.end c.args.chunks.items c.self.inside.chunks.items
+    ∙ ap (λ (h : Held). replaced c.args.start c.args.end (map g.C.Chunk.list c.args.chunks.items) h.pieces) c.self.view_is
 
 pub returns-clause-limits : goal.returns-clause-limits
 returns-clause-limits g c =
-    let start = c.args.start in
-    let end = c.args.end in
-    let new = c.args.chunks.items in
-    ap (map g.C.Chunk.most) c.replace_between.ensures.items
-    ∙ map-replaced g.C.Chunk.most start end new c.self.inside.chunks.items
-    ∙ ap (λ (h : Held). replaced start end (map g.C.Chunk.most new) h.limits) c.self.view_is
+    ap (map g.C.Chunk.most) c.replace_between.ensures.items ∙ map-replaced g.C.Chunk.most c.args.start c.args.end c.args.chunks.items c.self.inside.chunks.items
+    ∙ ap (λ (h : Held). replaced c.args.start c.args.end (map g.C.Chunk.most c.args.chunks.items) h.limits) c.self.view_is

@@ -2,10 +2,18 @@ use Rattle.std.proofs.Common.{◌≡◌, suc, ◌+◌, ◌≤◌, List, length, 
 use Rattle.ts_spec.specs.Sample.{Point, between}
 use Rattle.ts_sample.specs.Chunk.{joined}
 use Rattle.ts_sample.specs.Visit.{visited}
-use Rattle.ts_series.proofs.Answering.{pieces-length, piece}
-use Rattle.ts_series.proofs.Walking.{none-first, all-taken, walked, room-next, visited-more, counted-more, length-more}
+use Rattle.ts_series.proofs.Answering.{IsPiece, pieces-length, piece}
+use Rattle.ts_series.proofs.Walking.{none-first, all-taken, walked, room-next, visited-more, counted-more}
 use Rattle.ts_series.proofs.SeamedWalks.{seamed-walk}
 use Rattle.ts_series.proofs.chunks.Chunks.scan.Goals as goal
+use Rattle.ts_series.proofs.PieceCounts.{length-more}
+use Rattle.ts_series.proofs.chunks.Chunks.scan.Goals.{After-index}
+
+one : (g : _) (c : After-index g) → IsPiece g.C.Chunk.format c.args.self.now c.loop-place.place (g.C.Chunk.list c.index.result.now)
+one g c =
+    let size = pieces-length g.C.Chunk.list c.self.inside.chunks.items _ _ c.args.self.now c.self.view_is in
+    piece g.C.Chunk.format g.C.Chunk.list g.C.Chunk.most c.self.inside.chunks.items _ c.self.inside.count c.args.self.now c.self.view_is c.self.invariant
+    c.loop-place.place c.index.result.now (omega (arith, size, c.loop-place-test.true, c.meeting-start.ensures.meeting.within)) c.index.ensures
 
 pub loop-place-init : goal.loop-place-init
 loop-place-init g c =
@@ -18,23 +26,18 @@ loop-place-init g c =
     }
 
 pub scan-requires : goal.scan-requires
-scan-requires g c =
-    let pss = c.args.self.now.pieces in
-    let i = c.loop-place.place in
-    let it = piece g.C.Chunk.format g.C.Chunk.list g.C.Chunk.most c.self.inside.chunks.items _ c.self.inside.count c.args.self.now c.self.view_is c.self.invariant
-    i c.index.result.now (omega (arith, pieces-length g.C.Chunk.list c.self.inside.chunks.items _ _ c.args.self.now c.self.view_is, c.loop-place-test.true, c.meeting-start.ensures.meeting.within)) c.index.ensures in
-    record {
-      room =
-          subst (λ (ps : List Point). length (between c.args.from c.args.to ps) ≤ g.V.Visit.room c.loop-place.visit) (sym it.here)
-          (room-next c.args.from c.args.to g.V.Visit.step g.V.Visit.room g.met.V.Visit.lowers c.args.visit.now c.loop-place.visit i pss c.requires.room c.loop-place.invariant.visited);
-    }
+scan-requires g c = record {
+  room =
+      subst (λ (ps : List Point). length (between c.args.from c.args.to ps) ≤ g.V.Visit.room c.loop-place.visit) (sym (one g (goal.at.scan-requires g c).After-index).here)
+      (room-next c.args.from c.args.to g.V.Visit.step g.V.Visit.room g.met.V.Visit.lowers c.args.visit.now c.loop-place.visit c.loop-place.place c.args.self.now.pieces c.requires.room
+      c.loop-place.invariant.visited);
+}
 
 pub loop-place-preserved : goal.loop-place-preserved
 loop-place-preserved g c =
     let pss = c.args.self.now.pieces in
     let i = c.loop-place.place in
-    let it = piece g.C.Chunk.format g.C.Chunk.list g.C.Chunk.most c.self.inside.chunks.items _ c.self.inside.count c.args.self.now c.self.view_is c.self.invariant
-    i c.index.result.now (omega (arith, pieces-length g.C.Chunk.list c.self.inside.chunks.items _ _ c.args.self.now c.self.view_is, c.loop-place-test.true, c.meeting-start.ensures.meeting.within)) c.index.ensures in
+    let it = one g (goal.at.loop-place-preserved g c).After-index in
     let next : i + 1 ≡ suc i = omega arith in
     record {
       visited = visited-more c.args.from c.args.to g.V.Visit.step c.args.visit.now c.loop-place.visit c.scan.new.visit i (i + 1) pss next c.loop-place.invariant.visited
@@ -49,37 +52,18 @@ loop-place-preserved g c =
       bounded = omega (arith, c.loop-place.invariant.bounded, c.scan.ensures.bounded, ap length it.here, length-more i (i + 1) pss next);
     }
 
-pub returns-clause-visited : goal.returns-clause-visited
-returns-clause-visited g c =
+pub returns : goal.returns
+returns g c =
     let m = c.meeting-start in
     let pss = c.args.self.now.pieces in
+    let sofar = c.loop-place.invariant in
     let at_end : c.loop-place.place ≡ m.result.end = omega (arith, m.ensures.meeting.ordered) in
-    c.loop-place.invariant.visited ∙ ap (λ i. visited g.V.Visit.step c.args.visit.now (between c.args.from c.args.to (joined (take i pss)))) at_end
-    ∙ ap (λ (ps : List Point). visited g.V.Visit.step c.args.visit.now ps) (all-taken c.args.from c.args.to m.result.start m.result.end pss m.ensures.meeting)
-
-pub returns-clause-counted : goal.returns-clause-counted
-returns-clause-counted g c =
-    let m = c.meeting-start in
-    let pss = c.args.self.now.pieces in
-    let at_end : c.loop-place.place ≡ m.result.end = omega (arith, m.ensures.meeting.ordered) in
-    omega (
-      arith,
-      c.loop-place.invariant.counted,
-      ap (λ i. length (between c.args.from c.args.to (joined (take i pss)))) at_end,
-      ap length (all-taken c.args.from c.args.to m.result.start m.result.end pss m.ensures.meeting),
-    )
-
-pub returns-clause-bounded : goal.returns-clause-bounded
-returns-clause-bounded g c =
-    let m = c.meeting-start in
-    let pss = c.args.self.now.pieces in
-    let at_end : c.loop-place.place ≡ m.result.end = omega (arith, m.ensures.meeting.ordered) in
-    omega (arith, c.loop-place.invariant.bounded, ap (λ i. length (joined (take i pss))) at_end, walked c.args.from c.args.to m.result.start m.result.end pss m.ensures.meeting)
-
-pub returns-clause-seams : goal.returns-clause-seams
-returns-clause-seams g c =
-    let m = c.meeting-start in
-    let pss = c.args.self.now.pieces in
-    let at_end : c.loop-place.place ≡ m.result.end = omega (arith, m.ensures.meeting.ordered) in
-    seamed-walk c.args.from c.args.to m.result.start m.result.end c.args.steps.now c.loop-place.steps pss m.ensures.meeting.ordered m.ensures.each
-    (omega (arith, c.loop-place.invariant.bounded, ap (λ i. length (joined (take i pss))) at_end))
+    let all = all-taken c.args.from c.args.to m.result.start m.result.end pss m.ensures.meeting in
+    let long = ap (λ i. length (joined (take i pss))) at_end in
+    record {
+      visited = sofar.visited ∙ ap (λ i. visited g.V.Visit.step c.args.visit.now (between c.args.from c.args.to (joined (take i pss)))) at_end
+          ∙ ap (λ (ps : List Point). visited g.V.Visit.step c.args.visit.now ps) all;
+      counted = omega (arith, sofar.counted, ap (λ i. length (between c.args.from c.args.to (joined (take i pss)))) at_end, ap length all);
+      bounded = omega (arith, sofar.bounded, long, walked c.args.from c.args.to m.result.start m.result.end pss m.ensures.meeting);
+      seams = seamed-walk c.args.from c.args.to m.result.start m.result.end c.args.steps.now c.loop-place.steps pss m.ensures.meeting.ordered m.ensures.each (omega (arith, sofar.bounded, long));
+    }

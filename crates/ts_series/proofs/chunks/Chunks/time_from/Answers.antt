@@ -1,84 +1,53 @@
-use Rattle.std.proofs.Common.{◌≡◌, ◌-◌, ◌∙◌, map, sym, ap, subst, arith}
+use Rattle.std.proofs.Common.{◌≡◌, ◌-◌, ◌+◌, ◌<◌, [], length, take, get_or, ◌∙◌, sym, ap, subst, arith}
+use Rattle.std.specs.Prelude.{max}
 use Rattle.ts_spec.specs.Sample.{Point, IsAscending, first_of}
 use Rattle.ts_sample.specs.Chunk.{joined}
 use Rattle.ts_series.specs.Held.{Held, points}
 use Rattle.ts_series.proofs.PieceCounts.{counted-item, counted-part}
 use Rattle.ts_series.proofs.Answering.{pieces-length, piece}
-use Rattle.ts_series.proofs.Joined.{longest-at}
-use Rattle.ts_series.proofs.Walking.{length-more}
 use Rattle.ts_series.proofs.TimeFrom.{counted-upto, first-upto, later-start}
-use Rattle.ts_series.proofs.ShareEnds.{start-seam, start-near}
+use Rattle.ts_series.proofs.ShareEnds.{start-seam}
 use Rattle.ts_series.proofs.chunks.Chunks.time_from.Goals as goal
+use Rattle.ts_series.proofs.chunks.Chunks.time_from.Goals.{After-index-chunk, After-first}
+
+-- the samples of the chunks before the next one, with its own
+more : (g : _) (c : After-index-chunk g) → length (joined (take c.loop-place.place c.args.self.now.pieces)) ≡ length (joined (take (c.loop-place.place - 1) c.args.self.now.pieces)) + length (g.C.Chunk.list c.index-chunk.result.now)
+more g c =
+    let i = c.loop-place.place in
+    let size = pieces-length g.C.Chunk.list c.self.inside.chunks.items _ _ c.args.self.now c.self.view_is in
+    counted-item g.C.Chunk.list (i - 1) i c.self.inside.chunks.items c.args.self.now.pieces c.index-chunk.result.now (ap (λ (k : Held). k.pieces) c.self.view_is)
+    (omega (arith, size, c.loop-place.auto.place, c.ended_by-end.ensures.within)) c.index-chunk.ensures (omega arith)
 
 pub overflow_add-found : goal.overflow_add-found
 overflow_add-found g c =
-    let i = c.loop-place.place in
     let pss = c.args.self.now.pieces in
-    let same : map g.C.Chunk.list c.self.inside.chunks.items ≡ pss = ap (λ (k : Held). k.pieces) c.self.view_is in
-    let size = pieces-length g.C.Chunk.list c.self.inside.chunks.items _ _ c.args.self.now c.self.view_is in
-    let more = counted-item g.C.Chunk.list (i - 1) i c.self.inside.chunks.items pss c.index-chunk.result.now same (omega (arith, size, c.loop-place.auto.place, c.ended_by-end.ensures.within)) c.index-chunk.ensures (omega arith) in
-    omega (arith, more, counted-part c.ended_by-end.result pss, c.loop-place.invariant.counted, c.len-found.ensures, c.len-all.type_inv, c.len-all.ensures)
+    omega (arith, more g (goal.at.overflow_add-found g c).After-index-chunk, counted-part c.ended_by-end.result pss, c.loop-place.invariant, c.len-found.ensures, c.len-all.type_inv, c.len-all.ensures)
 
 pub loop-place-preserved : goal.loop-place-preserved
-loop-place-preserved g c =
-    let i = c.loop-place.place in
-    let pss = c.args.self.now.pieces in
-    let same : map g.C.Chunk.list c.self.inside.chunks.items ≡ pss = ap (λ (k : Held). k.pieces) c.self.view_is in
-    let size = pieces-length g.C.Chunk.list c.self.inside.chunks.items _ _ c.args.self.now c.self.view_is in
-    let more = counted-item g.C.Chunk.list (i - 1) i c.self.inside.chunks.items pss c.index-chunk.result.now same (omega (arith, size, c.loop-place.auto.place, c.ended_by-end.ensures.within)) c.index-chunk.ensures (omega arith) in
-    record { counted = omega (arith, more, c.loop-place.invariant.counted, c.len-found.ensures); short = omega (arith, c.if-count-found.false) }
+loop-place-preserved g c = omega (arith, more g (goal.at.loop-place-preserved g c).After-index-chunk, c.loop-place.invariant, c.len-found.ensures)
 
-pub returns-in-Some-clause-within : goal.returns-in-Some-clause-within
-returns-in-Some-clause-within g c =
-    let pss = c.args.self.now.pieces in
-    let i = c.loop-place.place - 1 in
+-- the first sample of the chunk is that of its piece
+first-is : (g : _) (c : After-first g) → first_of (get_or c.args.self.now.pieces (c.loop-place.place - 1) []) ≡ c.first.result
+first-is g c =
     let size = pieces-length g.C.Chunk.list c.self.inside.chunks.items _ _ c.args.self.now c.self.view_is in
     let it = piece g.C.Chunk.format g.C.Chunk.list g.C.Chunk.most c.self.inside.chunks.items _ c.self.inside.count c.args.self.now c.self.view_is c.self.invariant
-    i c.index-chunk.result.now (omega (arith, size, c.loop-place.auto.place, c.ended_by-end.ensures.within)) c.index-chunk.ensures in
-    let first = sym (c.first.ensures ∙ ap first_of it.here) ∙ c.in-Some.is in
-    let high = first-upto c.args.to c.in-Some.first i c.ended_by-end.result pss (omega (arith, c.loop-place.auto.place)) c.ended_by-end.ensures.earlier first in
-    let time = ap (λ (p : Point). p.time) c.first-in-Some.view_is in
-    (omega (arith, c.max.ensures), omega (arith, high, time, c.max.ensures, c.requires))
+    (c.loop-place.place - 1) c.index-chunk.result.now (omega (arith, size, c.loop-place.auto.place, c.ended_by-end.ensures.within)) c.index-chunk.ensures in
+    sym (c.first.ensures ∙ ap first_of it.here)
 
-pub returns-in-Some-clause-reach : goal.returns-in-Some-clause-reach
-returns-in-Some-clause-reach g c =
+pub returns-in-Some : goal.returns-in-Some
+returns-in-Some g c =
     let pss = c.args.self.now.pieces in
+    let at = goal.at.returns-in-Some g c in
     let i = c.loop-place.place - 1 in
+    let first = first-is g at.After-first ∙ c.in-Some.is in
+    let less : i < c.ended_by-end.result = omega (arith, c.loop-place.auto.place) in
     let rises : IsAscending (points c.args.self.now) = subst (λ (k : Held). IsAscending (points k)) c.self.view_is c.self.invariant.ascending in
-    let same : map g.C.Chunk.list c.self.inside.chunks.items ≡ pss = ap (λ (k : Held). k.pieces) c.self.view_is in
-    let size = pieces-length g.C.Chunk.list c.self.inside.chunks.items _ _ c.args.self.now c.self.view_is in
-    let it = piece g.C.Chunk.format g.C.Chunk.list g.C.Chunk.most c.self.inside.chunks.items _ c.self.inside.count c.args.self.now c.self.view_is c.self.invariant
-    i c.index-chunk.result.now (omega (arith, size, c.loop-place.auto.place, c.ended_by-end.ensures.within)) c.index-chunk.ensures in
-    let more = counted-item g.C.Chunk.list i c.loop-place.place c.self.inside.chunks.items pss c.index-chunk.result.now same it.within c.index-chunk.ensures (omega arith) in
-    let first = sym (c.first.ensures ∙ ap first_of it.here) ∙ c.in-Some.is in
-    let all = counted-upto c.args.to c.in-Some.first i c.ended_by-end.result pss (omega (arith, c.loop-place.auto.place)) rises c.ended_by-end.ensures.earlier first in
-    let time = ap (λ (p : Point). p.time) c.first-in-Some.view_is in
-    later-start c.args.from c.args.to c.in-Some.first.time c.args.count c.max.result (joined pss) (omega (arith, c.max.ensures, time))
-    (omega (arith, c.if-count-found.true, more, c.loop-place.invariant.counted, c.len-found.ensures, all))
-
-pub returns-in-Some-clause-seam : goal.returns-in-Some-clause-seam
-returns-in-Some-clause-seam g c =
-    let pss = c.args.self.now.pieces in
-    let i = c.loop-place.place - 1 in
-    let rises : IsAscending (points c.args.self.now) = subst (λ (k : Held). IsAscending (points k)) c.self.view_is c.self.invariant.ascending in
-    let size = pieces-length g.C.Chunk.list c.self.inside.chunks.items _ _ c.args.self.now c.self.view_is in
-    let it = piece g.C.Chunk.format g.C.Chunk.list g.C.Chunk.most c.self.inside.chunks.items _ c.self.inside.count c.args.self.now c.self.view_is c.self.invariant
-    i c.index-chunk.result.now (omega (arith, size, c.loop-place.auto.place, c.ended_by-end.ensures.within)) c.index-chunk.ensures in
-    let first = sym (c.first.ensures ∙ ap first_of it.here) ∙ c.in-Some.is in
-    let time = ap (λ (p : Point). p.time) c.first-in-Some.view_is in
-    start-seam c.args.from i c.max.result c.in-Some.first pss rises first (omega (arith, c.max.ensures, time))
-
-pub returns-in-Some-clause-few : goal.returns-in-Some-clause-few
-returns-in-Some-clause-few g c =
-    let pss = c.args.self.now.pieces in
-    let i = c.loop-place.place - 1 in
-    let rises : IsAscending (points c.args.self.now) = subst (λ (k : Held). IsAscending (points k)) c.self.view_is c.self.invariant.ascending in
-    let same : map g.C.Chunk.list c.self.inside.chunks.items ≡ pss = ap (λ (k : Held). k.pieces) c.self.view_is in
-    let size = pieces-length g.C.Chunk.list c.self.inside.chunks.items _ _ c.args.self.now c.self.view_is in
-    let it = piece g.C.Chunk.format g.C.Chunk.list g.C.Chunk.most c.self.inside.chunks.items _ c.self.inside.count c.args.self.now c.self.view_is c.self.invariant
-    i c.index-chunk.result.now (omega (arith, size, c.loop-place.auto.place, c.ended_by-end.ensures.within)) c.index-chunk.ensures in
-    let more = counted-item g.C.Chunk.list i c.loop-place.place c.self.inside.chunks.items pss c.index-chunk.result.now same it.within c.index-chunk.ensures (omega arith) in
-    let first = sym (c.first.ensures ∙ ap first_of it.here) ∙ c.in-Some.is in
-    let time = ap (λ (p : Point). p.time) c.first-in-Some.view_is in
-    start-near c.args.from c.args.to c.args.count i c.ended_by-end.result c.max.result c.in-Some.first pss rises (omega (arith, c.loop-place.auto.place)) first c.ended_by-end.ensures.reached
-    (omega (arith, more, longest-at i pss, length-more i c.loop-place.place pss (omega arith), c.loop-place.invariant.counted, c.loop-place.invariant.short)) (omega (arith, c.max.ensures, time))
+    let high = first-upto c.args.to c.in-Some.first i c.ended_by-end.result pss less c.ended_by-end.ensures.earlier first in
+    let all = counted-upto c.args.to c.in-Some.first i c.ended_by-end.result pss less rises c.ended_by-end.ensures.earlier first in
+    let start : c.max.result ≡ max c.in-Some.first.time c.args.from = omega (arith, c.max.ensures, ap (λ (p : Point). p.time) c.first-in-Some.view_is) in
+    record {
+      within = (omega (arith, c.max.ensures), omega (arith, high, start, c.requires));
+      reach = later-start c.args.from c.args.to c.in-Some.first.time c.args.count c.max.result (joined pss) start
+          (omega (arith, c.if-count-found.true, more g at.After-index-chunk, c.loop-place.invariant, c.len-found.ensures, all));
+      seam = start-seam c.args.from i c.max.result c.in-Some.first pss rises first start;
+    }

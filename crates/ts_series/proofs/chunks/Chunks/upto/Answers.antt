@@ -7,21 +7,21 @@ use Rattle.ts_series.specs.Held.{Held, HaveBegun}
 use Rattle.ts_series.proofs.EarlyLate.{is_upto}
 use Rattle.ts_series.proofs.Meeting.{begins-parted, later, begun}
 use Rattle.ts_series.proofs.chunks.Chunks.upto.Goals as goal
+use Rattle.ts_series.proofs.Answering.{pieces-length}
 
-pub returns-clause-later : goal.returns-clause-later
-returns-clause-later g c =
+pub returns : goal.returns
+returns g c =
     let cs = c.self.inside.chunks.items in
-    let parted = begins-parted g.C.Chunk.format g.C.Chunk.list cs (map g.C.Chunk.most cs) c.self.invariant.chunks c.self.invariant.ascending c.args.time in
-    let point = IsPartitionPoint-from_clause (λ x. is_upto c.args.time (first_of (g.C.Chunk.list x))) cs c.partition_point.result c.partition_point.ensures.partitioned
+    let ok = c.self.inside.chunks.ok in
+    let kept = c.self.invariant in
+    let i = c.partition_point.result in
+    let parted = begins-parted g.C.Chunk.format g.C.Chunk.list cs (map g.C.Chunk.most cs) kept.chunks kept.ascending c.args.time in
+    let point = IsPartitionPoint-from_clause (λ x. is_upto c.args.time (first_of (g.C.Chunk.list x))) cs i c.partition_point.ensures.partitioned
     parted (λ a r f h. search rules) in
-    subst (λ (k : Held). at_times (λ t. nat_le t c.args.time) (joined (drop c.partition_point.result k.pieces)) ≡ []) c.self.view_is
-    (later g.C.Chunk.format g.C.Chunk.list cs (map g.C.Chunk.most cs) c.self.invariant.chunks c.self.invariant.ascending c.args.time c.partition_point.result point)
-
-pub returns-clause-begun : goal.returns-clause-begun
-returns-clause-begun g c =
-    let cs = c.self.inside.chunks.items in
-    let parted = begins-parted g.C.Chunk.format g.C.Chunk.list cs (map g.C.Chunk.most cs) c.self.invariant.chunks c.self.invariant.ascending c.args.time in
-    let point = IsPartitionPoint-from_clause (λ x. is_upto c.args.time (first_of (g.C.Chunk.list x))) cs c.partition_point.result c.partition_point.ensures.partitioned
-    parted (λ a r f h. search rules) in
-    subst (λ (k : Held). HaveBegun c.args.time (take c.partition_point.result k.pieces)) c.self.view_is
-    (begun g.C.Chunk.format g.C.Chunk.list cs (map g.C.Chunk.most cs) c.self.invariant.chunks c.self.invariant.ascending c.args.time c.partition_point.result point (let ok = c.self.inside.chunks.ok in omega (arith, c.partition_point.ensures.bound)))
+    record {
+      within = omega (arith, c.partition_point.ensures.bound, pieces-length g.C.Chunk.list cs _ _ c.args.self.now c.self.view_is);
+      later = subst (λ (k : Held). at_times (λ t. nat_le t c.args.time) (joined (drop i k.pieces)) ≡ []) c.self.view_is
+          (later g.C.Chunk.format g.C.Chunk.list cs (map g.C.Chunk.most cs) kept.chunks kept.ascending c.args.time i point);
+      begun = subst (λ (k : Held). HaveBegun c.args.time (take i k.pieces)) c.self.view_is
+          (begun g.C.Chunk.format g.C.Chunk.list cs (map g.C.Chunk.most cs) kept.chunks kept.ascending c.args.time i point (omega (arith, c.partition_point.ensures.bound)));
+    }

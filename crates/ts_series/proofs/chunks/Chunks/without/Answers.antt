@@ -1,38 +1,28 @@
-use Rattle.std.proofs.Common.{◌∙◌, length, map, sym, ap, subst, arith}
-use Rattle.std.specs.Prelude.{not}
-use Rattle.ts_spec.specs.Sample.{IsAscending, is_within}
+use Rattle.std.proofs.Common.{◌≡◌, ◌∙◌, length, map, sym, ap, subst, arith}
+use Rattle.std.specs.Prelude.{not, slice_range}
+use Rattle.ts_spec.specs.Sample.{IsAscending, is_within, outside}
 use Rattle.ts_spec.proofs.Samples.{ascending-times}
 use Rattle.ts_sample.specs.Chunk.{joined}
-use Rattle.std.specs.Prelude.{slice_range}
 use Rattle.ts_series.specs.Held.{points}
 use Rattle.ts_series.proofs.PlannedPieces.{kept-view, ready-none}
 use Rattle.ts_series.proofs.TakenOut.{kept-less, joined-without, count-removed}
 use Rattle.ts_series.proofs.PieceCounts.{joined-same}
 use Rattle.ts_series.proofs.chunks.Chunks.without.Goals as goal
+use Rattle.ts_series.proofs.chunks.Chunks.without.Goals.{After-deref}
+
+-- how many samples the new chunks have, which is no more than there were
+counted : (g : _) (c : After-deref g) → length (joined (map g.C.Chunk.list c.deref.result.now)) ≡ length (outside c.args.from c.args.to (joined (slice_range c.args.self.now.pieces c.meeting-places.result.start c.meeting-places.result.end)))
+counted g c = ap length (joined-same g.C.Chunk.list c.deref.result.now c.in_ok-chunks.chunks.items c.deref.ensures.value ∙ c.in_ok-chunks.ensures.list)
 
 pub count_in-requires : goal.count_in-requires
 count_in-requires g c =
-    let m = c.meeting-places.result in
-    let same = joined-same g.C.Chunk.list c.deref.result.now c.in_ok-chunks.chunks.items c.deref.ensures.value in
-    omega (
-      arith,
-      ap length (same ∙ c.in_ok-chunks.ensures.list),
-      kept-less c.args.from c.args.to (joined (slice_range c.args.self.now.pieces m.start m.end)),
-      c.count_of.ensures,
-      c.count_of.type_inv,
-    )
+    let less = kept-less c.args.from c.args.to (joined (slice_range c.args.self.now.pieces c.meeting-places.result.start c.meeting-places.result.end)) in
+    omega (arith, counted g (goal.at.count_in-requires g c).After-deref, less, c.count_of.ensures, c.count_of.type_inv)
 
 pub overflow_sub-removed : goal.overflow_sub-removed
 overflow_sub-removed g c =
-    let m = c.meeting-places.result in
-    let same = joined-same g.C.Chunk.list c.deref.result.now c.in_ok-chunks.chunks.items c.deref.ensures.value in
-    omega (
-      arith,
-      ap length (same ∙ c.in_ok-chunks.ensures.list),
-      kept-less c.args.from c.args.to (joined (slice_range c.args.self.now.pieces m.start m.end)),
-      c.count_of.ensures,
-      c.count_in.ensures,
-    )
+    let less = kept-less c.args.from c.args.to (joined (slice_range c.args.self.now.pieces c.meeting-places.result.start c.meeting-places.result.end)) in
+    omega (arith, counted g (goal.at.overflow_sub-removed g c).After-deref, less, c.count_of.ensures, c.count_in.ensures)
 
 pub returns-clause-list : goal.returns-clause-list
 returns-clause-list g c =
@@ -51,9 +41,5 @@ returns-clause-ready g c =
 pub returns-clause-removed : goal.returns-clause-removed
 returns-clause-removed g c =
     let m = c.meeting-places in
-    let same = joined-same g.C.Chunk.list c.deref.result.now c.in_ok-chunks.chunks.items c.deref.ensures.value in
-    omega (
-      arith,
-      count-removed c.args.from c.args.to m.result.start m.result.end c.args.self.now.pieces m.ensures.meeting c.count_in.result (c.count_in.ensures ∙ ap length (same ∙ c.in_ok-chunks.ensures.list)),
-      c.count_of.ensures,
-    )
+    let come = c.count_in.ensures ∙ counted g (goal.at.returns-clause-removed g c).After-deref in
+    omega (arith, count-removed c.args.from c.args.to m.result.start m.result.end c.args.self.now.pieces m.ensures.meeting c.count_in.result come, c.count_of.ensures)

@@ -1,4 +1,4 @@
-use Rattle.std.proofs.Common.{◌≡◌, ◌+◌, ◌≤◌, [], length, ◌∙◌, ap, subst, arith, refl}
+use Rattle.std.proofs.Common.{◌≡◌, ◌+◌, ◌≤◌, [], length, ◌∙◌, ap, subst}
 use Rattle.std.specs.Prelude.{nat_le, option_map, None, Some}
 use Rattle.std.specs.VecDeque.{deque_capacity}
 use Rattle.ts_spec.specs.declared.series.Options.{Options}
@@ -6,20 +6,10 @@ use Rattle.ts_spec.specs.State.{edge_of}
 use Rattle.ts_spec.specs.Sample.{at_times}
 use Rattle.ts_sample.specs.Chunk.{joined}
 use Rattle.ts_series.specs.Held.{pieces_after}
-use Rattle.ts_series.specs.History.{History, limit_for, list_of, IsKeptIn}
+use Rattle.ts_series.specs.History.{History, limit_for, list_of}
 use Rattle.ts_series.specs.Plan.{Plan, places_for}
-use Rattle.ts_series.proofs.Reach.{within-reach}
 use Rattle.ts_series.proofs.Ready.{is-for}
 use Rattle.ts_series.proofs.line.Line.alter.Goals as goal
-
-pub returns-in_err-change-clause-bounded : goal.returns-in_err-change-clause-bounded
-returns-in_err-change-clause-bounded g c = omega (arith, c.without_expired.ensures.bounded, within-reach g.met.C.Chunk.at_least (subst (IsKeptIn g.C.Chunk.format) c.self.view_is c.self.invariant) refl)
-
-pub returns-in_err-larger-clause-bounded : goal.returns-in_err-larger-clause-bounded
-returns-in_err-larger-clause-bounded g c = omega (arith, c.without_expired.ensures.bounded, within-reach g.met.C.Chunk.at_least (subst (IsKeptIn g.C.Chunk.format) c.self.view_is c.self.invariant) refl)
-
-pub returns-clause-bounded : goal.returns-clause-bounded
-returns-clause-bounded g c = omega (arith, c.without_expired.ensures.bounded, within-reach g.met.C.Chunk.at_least (subst (IsKeptIn g.C.Chunk.format) c.self.view_is c.self.invariant) refl)
 
 pub returns-clause-planned : goal.returns-clause-planned
 returns-clause-planned g c =

@@ -2,7 +2,6 @@ use Rattle.std.proofs.Common.{◌∙◌, ap, arith}
 use Rattle.ts_spec.specs.Sample.{at}
 use Rattle.ts_series.specs.Held.{points}
 use Rattle.ts_series.proofs.EdgeQuestions.{shown, at-from, at-below}
-use Rattle.ts_series.proofs.Reach.{within-reach}
 use Rattle.ts_series.proofs.line.Line.at.Goals as goal
 
 pub returns-then-t-edge-clause-at : goal.returns-then-t-edge-clause-at
@@ -13,6 +12,3 @@ pub returns-else-t-edge-clause-at : goal.returns-else-t-edge-clause-at
 returns-else-t-edge-clause-at g c =
     c.at.ensures.at ∙ at-from c.edge.result (points c.self.inside.chunks) c.args.t (omega (arith, c.if-t-edge.false))
     ∙ ap (at c.args.t) (shown c.self.view_is c.edge.ensures)
-
-pub returns-else-t-edge-clause-bounded : goal.returns-else-t-edge-clause-bounded
-returns-else-t-edge-clause-bounded g c = omega (arith, c.at.ensures.bounded, within-reach g.met.C.Chunk.at_least c.self.invariant c.self.view_is)

@@ -1,7 +1,6 @@
 use Rattle.std.proofs.Common.{length, ap, arith}
 use Rattle.ts_series.specs.Held.{points}
 use Rattle.ts_series.proofs.EdgeQuestions.{from-shown, length-from}
-use Rattle.ts_series.proofs.Reach.{within-reach}
 use Rattle.ts_series.proofs.line.Line.count_from.Goals as goal
 
 pub overflow_sub-result : goal.overflow_sub-result
@@ -16,6 +15,3 @@ returns-clause-count g c =
       length-from c.max.result (points c.self.inside.chunks),
       ap length (from-shown c.self.view_is c.edge.ensures c.args.time c.max.ensures),
     )
-
-pub returns-clause-bounded : goal.returns-clause-bounded
-returns-clause-bounded g c = omega (arith, c.count_before.ensures.bounded, within-reach g.met.C.Chunk.at_least c.self.invariant c.self.view_is)

@@ -5,7 +5,6 @@ use Rattle.ts_series.specs.Held.{points}
 use Rattle.ts_series.specs.History.{History}
 use Rattle.ts_series.proofs.Counting.{times-length}
 use Rattle.ts_series.proofs.MendedCount.{count-past, count-left}
-use Rattle.ts_series.proofs.Reach.{within-reach}
 use Rattle.ts_series.proofs.line.Line.count_left.Goals as goal
 use Rattle.ts_series.proofs.line.Line.count_left.Goals.{After-count_before-2}
 
@@ -22,9 +21,6 @@ returns-then-to-edge-clause-left g c =
       count-past c.args.edge c.args.from c.args.to past (points c.self.inside.chunks),
       ap (λ (h : History). length (at_times (nat_le c.args.edge) (outside c.args.from c.args.to (points h.held)))) c.self.view_is,
     )
-
-pub returns-then-to-edge-clause-bounded : goal.returns-then-to-edge-clause-bounded
-returns-then-to-edge-clause-bounded g c = omega (arith, c.count_before.ensures.bounded, within-reach g.met.C.Chunk.at_least c.self.invariant c.self.view_is)
 
 pub overflow_sub-result-2 : goal.overflow_sub-result-2
 overflow_sub-result-2 g c =
@@ -56,6 +52,3 @@ overflow_sub-result-3 g c = omega (arith, parts g (goal.at.overflow_sub-result-3
 
 pub returns-clause-left : goal.returns-clause-left
 returns-clause-left g c = omega (arith, parts g (goal.at.returns-clause-left g c).After-count_before-2)
-
-pub returns-clause-bounded : goal.returns-clause-bounded
-returns-clause-bounded g c = omega (arith, c.count_before-2.ensures.bounded, within-reach g.met.C.Chunk.at_least c.self.invariant c.self.view_is)

@@ -1,4 +1,4 @@
-use Rattle.std.proofs.Common.{◌≡◌, [], ◌∙◌, sym, ap, subst, arith, length, refl}
+use Rattle.std.proofs.Common.{◌≡◌, [], ◌∙◌, sym, ap, subst, length, refl}
 use Rattle.std.specs.Prelude.{nat_le, max, option_map, None, Some}
 use Rattle.std.specs.VecDeque.{deque_capacity}
 use Rattle.ts_spec.specs.Sample.{at_times, outside}
@@ -6,19 +6,9 @@ use Rattle.ts_series.specs.Held.{points}
 use Rattle.ts_series.specs.History.{history_of, low, limit_for}
 use Rattle.ts_series.specs.Plan.{Plan, IsForIn}
 use Rattle.ts_series.proofs.EdgeQuestions.{between-shown}
-use Rattle.ts_series.proofs.Reach.{within-reach}
 use Rattle.ts_series.proofs.Ready.{is-for}
 use Rattle.ts_series.proofs.TakenFromEdge.{cut-shown}
 use Rattle.ts_series.proofs.line.Line.cut.Goals as goal
-
-pub returns-in_err-change-clause-bounded : goal.returns-in_err-change-clause-bounded
-returns-in_err-change-clause-bounded g c = omega (arith, c.without.ensures.bounded, within-reach g.met.C.Chunk.at_least c.self.invariant c.self.view_is)
-
-pub returns-in_err-larger-clause-bounded : goal.returns-in_err-larger-clause-bounded
-returns-in_err-larger-clause-bounded g c = omega (arith, c.without.ensures.bounded, within-reach g.met.C.Chunk.at_least c.self.invariant c.self.view_is)
-
-pub returns-clause-bounded : goal.returns-clause-bounded
-returns-clause-bounded g c = omega (arith, c.without.ensures.bounded, within-reach g.met.C.Chunk.at_least c.self.invariant c.self.view_is)
 
 pub returns-clause-planned : goal.returns-clause-planned
 returns-clause-planned g c =

@@ -5,7 +5,7 @@ use Rattle.ts_series.specs.Held.{points}
 use Rattle.ts_series.specs.History.{History, IsKeptIn}
 use Rattle.ts_series.specs.Mend.{mended_list}
 use Rattle.ts_series.proofs.MendedCount.{mended-most, mended-exceeds}
-use Rattle.ts_series.proofs.Reach.{within-reach}
+use Rattle.ts_series.proofs.Reach.{within_reach}
 use Rattle.ts_series.proofs.Ready.{Shows}
 use Rattle.ts_series.proofs.RowPast.{few-in-chunks}
 use Rattle.ts_series.proofs.line.Line.exceeds.Goals as goal
@@ -42,7 +42,7 @@ pub returns-clause-easy : goal.returns-clause-easy
 returns-clause-easy g c = λ row. (
     let h = c.args.self.now in
     let kept : IsKeptIn g.C.Chunk.format h = subst (IsKeptIn g.C.Chunk.format) c.self.view_is c.self.invariant in
-    let few = few-in-chunks {format = g.C.Chunk.format} h (subst Shows c.self.view_is refl) kept c.args.limit (within-reach g.met.C.Chunk.at_least kept refl) row.few in
+    let few = few-in-chunks {format = g.C.Chunk.format} h (subst Shows c.self.view_is refl) kept c.args.limit (within_reach g.met.C.Chunk.at_least kept refl) row.few in
     absurd (omega (
       arith,
       c.if-saturating_add-limit.false,

@@ -7,7 +7,7 @@ use Rattle.ts_series.specs.Held.{points}
 use Rattle.ts_series.specs.History.{History, list_of, low, IsKeptIn}
 use Rattle.ts_series.specs.Put.{Answers}
 use Rattle.ts_series.proofs.Trimmed.{last-trimmed}
-use Rattle.ts_series.proofs.Reach.{within-reach}
+use Rattle.ts_series.proofs.Reach.{within_reach}
 use Rattle.ts_series.proofs.Ready.{Shows}
 use Rattle.ts_series.proofs.Putting.{at-shown, at-past, answers-new, met-late, never-both, few-hidden}
 use Rattle.ts_series.proofs.line.Line.put.Goals as goal
@@ -15,11 +15,6 @@ use Rattle.ts_series.proofs.line.Line.put.Goals as goal
 -- the last sample that a series shows is that of its chunks
 last-shown : {format : List Point → List ℕ} (h : History) → Shows h → IsKeptIn format h → last_of (list_of h) ≡ last_of (points h.held)
 last-shown h shows kept = ap last_of shows ∙ sym (last-trimmed (low h) h.held.pieces kept.chunks.ascending kept.trimmed)
-
-pub returns-then-is_late-clause-bounded : goal.returns-then-is_late-clause-bounded
-returns-then-is_late-clause-bounded g c =
-    let h = c.args.self.now in
-    omega (arith, c.put_late.ensures.bounded, within-reach g.met.C.Chunk.at_least (subst (IsKeptIn g.C.Chunk.format) c.self.view_is c.self.invariant) refl)
 
 pub returns-then-is_late-clause-easy : goal.returns-then-is_late-clause-easy
 returns-then-is_late-clause-easy g c = λ few past. (
@@ -43,16 +38,11 @@ returns-clause-answer g c =
     subst (λ (m : Merged). Answers m c.args.limit c.args.time h c.added.result) (met-late c.args.how c.args.time c.args.value h late)
     (answers-new c.args.how c.args.limit (record { time = c.args.time; value = c.args.value; made = c.self.inside.born }) h c.added.result none (ap (λ (x : History). x.born) c.self.view_is) c.added.ensures.answer)
 
-pub returns-clause-bounded : goal.returns-clause-bounded
-returns-clause-bounded g c =
-    let h = c.args.self.now in
-    omega (arith, c.added.ensures.bounded, within-reach g.met.C.Chunk.at_least (subst (IsKeptIn g.C.Chunk.format) c.self.view_is c.self.invariant) refl)
-
 pub returns-clause-easy : goal.returns-clause-easy
 returns-clause-easy g c = λ few past. (
     let h = c.args.self.now in
     let kept : IsKeptIn g.C.Chunk.format h = subst (IsKeptIn g.C.Chunk.format) c.self.view_is c.self.invariant in
     let shows : Shows h = subst Shows c.self.view_is refl in
     let room : length (points h.held) < c.args.limit =
-    omega (arith, few, within-reach g.met.C.Chunk.at_least kept refl, few-hidden (low h) h.held.pieces kept.chunks.ascending kept.trimmed, ap length shows) in
+    omega (arith, few, within_reach g.met.C.Chunk.at_least kept refl, few-hidden (low h) h.held.pieces kept.chunks.ascending kept.trimmed, ap length shows) in
     c.added.ensures.easy room (subst (λ (o : Option Point). IsPast o c.args.time) (last-shown h shows kept) past))

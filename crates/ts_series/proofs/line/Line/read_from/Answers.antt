@@ -1,10 +1,6 @@
-use Rattle.std.proofs.Common.{◌∙◌, arith}
+use Rattle.std.proofs.Common.{◌∙◌}
 use Rattle.ts_series.proofs.EdgeQuestions.{from-shown}
-use Rattle.ts_series.proofs.Reach.{within-reach}
 use Rattle.ts_series.proofs.line.Line.read_from.Goals as goal
 
 pub returns-clause-left : goal.returns-clause-left
 returns-clause-left g c = c.read_from.ensures.left ∙ from-shown c.self.view_is c.edge.ensures c.args.from c.max.ensures
-
-pub returns-clause-bounded : goal.returns-clause-bounded
-returns-clause-bounded g c = omega (arith, c.read_from.ensures.bounded, within-reach g.met.C.Chunk.at_least c.self.invariant c.self.view_is)

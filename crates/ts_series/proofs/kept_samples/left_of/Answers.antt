@@ -2,8 +2,8 @@ use Rattle.std.proofs.Common.{◌≡◌, length, sym, subst, ap, ◌∙◌, arit
 use Rattle.ts_spec.specs.Sample.{MAX_TIME, IsAscending, between, outside}
 use Rattle.ts_sample.proofs.Replacing.{between-all}
 use Rattle.ts_sample.proofs.Visiting.{list-gathered}
-use Rattle.ts_series.proofs.left.left_of.Goals as goal
-use Rattle.ts_series.proofs.left.left_of.Goals.{After-into_samples-samples}
+use Rattle.ts_series.proofs.kept_samples.left_of.Goals as goal
+use Rattle.ts_series.proofs.kept_samples.left_of.Goals.{After-into_samples-samples}
 
 all-there : (g : _) (c : After-into_samples-samples g) → c.into_samples-samples.result.items ≡ g.C.Chunk.list c.args.chunk.now
 all-there g c =

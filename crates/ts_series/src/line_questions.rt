@@ -12,6 +12,7 @@ use crate::room::new_limit;
 use std::sync::ledger::Ledger;
 use ts_sample::{Chunk, Sample, Steps, Visit};
 
+#[tactic(auto, using(crate::proofs::Reach::within_reach))]
 impl<C: Chunk> Line<C> {
     // Does nothing: it tells a caller what holds of every series, which a reference hides.
     pub(crate) fn known(&self)

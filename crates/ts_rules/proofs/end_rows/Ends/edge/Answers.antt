@@ -1,7 +1,7 @@
 use Rattle.std.proofs.Common.{◌++◌, Option, subst}
 use Rattle.ts_spec.specs.Sample.{Point, IsAscending}
 use Rattle.ts_rules.specs.Rules.{one_of}
-use Rattle.ts_rules.proofs.ends.Ends.edge.Goals as goal
+use Rattle.ts_rules.proofs.end_rows.Ends.edge.Goals as goal
 
 pub edge_with-requires-in-Some-Some : goal.edge_with-requires-in-Some-Some
 edge_with-requires-in-Some-Some c =

@@ -6,7 +6,7 @@ ghost use Rattle.ts_rules.specs.Plans.{mended_list};
 ghost use Rattle.ts_rules.specs.Deletions.{is_lost, rows_left};
 ghost use Rattle.ts_rules.specs.Shares.{deletion_share};
 
-use crate::ends::Ends;
+use crate::end_rows::Ends;
 use crate::losses::count_lost;
 use crate::rule::Rule;
 use crate::walk::Walk;

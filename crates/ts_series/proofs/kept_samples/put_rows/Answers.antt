@@ -3,7 +3,7 @@ use Rattle.std.specs.Prelude.{nat_lt, nat_le}
 use Rattle.std.proofs.lemmas.List.{take-append-drop}
 use Rattle.ts_spec.specs.Sample.{Point, at_times}
 use Rattle.ts_series.proofs.MendedPieces.{rows-among}
-use Rattle.ts_series.proofs.left.put_rows.Goals as goal
+use Rattle.ts_series.proofs.kept_samples.put_rows.Goals as goal
 
 pub returns : goal.returns
 returns c =

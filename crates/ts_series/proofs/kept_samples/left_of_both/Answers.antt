@@ -3,8 +3,8 @@ use Rattle.ts_spec.specs.Sample.{Point, MAX_TIME, IsAscending, between, outside}
 use Rattle.ts_sample.specs.Gathered.{Gathering, with_one_more}
 use Rattle.ts_sample.proofs.Replacing.{between-all}
 use Rattle.ts_sample.proofs.Visiting.{room_left, list-visited, list-gathered}
-use Rattle.ts_series.proofs.left.left_of_both.Goals as goal
-use Rattle.ts_series.proofs.left.left_of_both.Goals.{After-into_samples-samples}
+use Rattle.ts_series.proofs.kept_samples.left_of_both.Goals as goal
+use Rattle.ts_series.proofs.kept_samples.left_of_both.Goals.{After-into_samples-samples}
 
 all-there : (g : _) (c : After-into_samples-samples g) → c.into_samples-samples.result.items ≡ g.C.Chunk.list c.args.first.now ++ g.C.Chunk.list c.args.last.now
 all-there g c =

@@ -4,7 +4,7 @@ use Rattle.ts_spec.specs.Sample.{between}
 use Rattle.ts_series.specs.History.{list_of}
 use Rattle.ts_rules.specs.Rules.{one_of}
 use Rattle.ts_rules.proofs.TouchedEnds.{ends-are}
-use Rattle.ts_rules.proofs.ends.Ends.new.Goals as goal
+use Rattle.ts_rules.proofs.end_rows.Ends.new.Goals as goal
 
 pub last_row-requires : goal.last_row-requires
 last_row-requires g c = omega (arith, c.start_of-last.ensures, start-le c.args.rule.now.grid c.args.to c.known-2.ensures.some, c.requires.time)

@@ -11,7 +11,7 @@ ghost use Rattle.ts_rules.specs.Shares.{in_buckets};
 ghost use Rattle.ts_rules.specs.Ends.{rows_at, is_first_in};
 
 use crate::count::ends_left;
-use crate::open::row;
+use crate::open_bucket::row;
 use crate::rule::Rule;
 use crate::walk::Walk;
 use std::sync::ledger::Ledger;

@@ -4,7 +4,7 @@ ghost use Rattle.ts_spec.specs.Sample.{MAX_TIME, at, at_times, between, first_of
 ghost use Rattle.ts_sample.specs.Visit.{visited};
 ghost use Rattle.ts_spec.specs.Valid.{Every};
 ghost use Rattle.ts_series.specs.History.{list_of, reach, IsKept};
-ghost use Rattle.ts_series.specs.Seams.{IsSeam, IsSeamed, EndsNear, Around};
+ghost use Rattle.ts_series.specs.Seams.{IsSeam, IsSeamed, Around};
 
 use crate::series::{Lines, Series};
 use std::sync::ledger::Ledger;
@@ -136,7 +136,6 @@ impl Series {
         ensures within { (from ≤ result) × (result ≤ to) }
         ensures reach { (result ≡ from) ⊎ (count ≤ length (between result to (list_of self.now))) }
         ensures seam { (result ≡ from) ⊎ IsSeam result self.now.held.pieces }
-        ensures few { (result ≡ from) ⊎ EndsNear result to (count + 2 * reach self.now) self.now.held.pieces }
     {
         match &self.lines {
             Lines::Plain(line) => line.time_from(from, to, count),
