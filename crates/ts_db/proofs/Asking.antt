@@ -1,25 +1,23 @@
--- What a question finds.
-use Rattle.std.proofs.Common.{◌≡◌, refl, sym, ◌∙◌, ap, subst}
+-- What a number of a database leads to, and what a question finds.
+use Rattle.std.proofs.Common.{◌≡◌, true, false, refl, sym, ◌∙◌, ap}
 use Rattle.std.specs.Prelude.{Option, None, Some, is_some, Result, Err}
+use Rattle.slab.specs.Slab as slab
 use Rattle.ts_spec.specs.Key.{Key}
 use Rattle.ts_spec.specs.Keyed.{get}
-use Rattle.ts_spec.specs.Kept.{Kept}
+use Rattle.ts_spec.specs.KeptQuestions.{kept_labels_at}
+use Rattle.ts_spec.specs.KeptStep.{list_at}
 use Rattle.ts_sample.specs.declared.id.Id.{Id}
 use Rattle.ts_db.specs.declared.fault.DbFault.{DbFault}
 use Rattle.ts_db.specs.declared.fault.DbFault.TheVariants.{NoKey}
 use Rattle.ts_db.specs.declared.node.Node.{Node}
 use Rattle.ts_db.specs.declared.store.Store.{Store}
-use Rattle.ts_db.specs.Held.{Finds, IsLive}
-use Rattle.ts_db.specs.Store.{kept_at, stock_of, number_of, IsInOrder, Holds}
-use Rattle.slab.specs.Slab as slab
+use Rattle.ts_db.specs.Held.{Held, Stock, Stands, Finds, IsLive}
+use Rattle.ts_db.specs.Store.{stock_of, number_of, IsInOrder, Holds, Shows}
 use Rattle.ts_db.proofs.Applying.{there}
 use Rattle.ts_db.proofs.Collecting.{get-ids}
+use Rattle.ts_db.proofs.Laws.{there-law}
+use Rattle.ts_db.proofs.Reaches.{reach-held, pieces-held}
 use Rattle.ts_db.proofs.Storing.{missing}
-
--- a key that is missing
-pub finds-no-key : {T : Type 0} (s : Store) (store : IsInOrder s) (key : Key) (what : T → Type 0) → number_of key s.keys.entries ≡ None → Finds (get key (stock_of s).keys) what (Err NoKey)
-finds-no-key {T} s store key what is =
-    subst (λ (o : Option Kept). Finds o what (Err NoKey)) (sym (missing s.limits s.nodes s.keys.entries store key is)) refl
 
 -- ---- by numbers
 
@@ -27,20 +25,19 @@ finds-no-key {T} s store key what is =
 pub numbered-holds : (s : Store) (key : Key) (id : Id) (n : Node) → get key (stock_of s).ids ≡ Some id → slab.get s.nodes id.0 ≡ Some n → Holds s key id n
 numbered-holds s key id n is at = record { number = sym (get-ids key s.keys.entries) ∙ is; node = at }
 
--- the number that a key was found to have is that of a key
-pub live-of : (s : Store) (key : Key) (id : Id) → number_of key s.keys.entries ≡ Some id → IsLive (stock_of s).ids id
-live-of s key id is = record { key = key; is = get-ids key s.keys.entries ∙ is }
-
 -- a number of a key has a node
 pub node-live : (s : Store) (store : IsInOrder s) (id : Id) → IsLive (stock_of s).ids id → (n : Node) × (slab.get s.nodes id.0 ≡ Some n)
 node-live s store id live = store.stored live.key id (sym (get-ids live.key s.keys.entries) ∙ live.is)
 
--- a key that is there finds what does not depend on what is kept of it
-pub finds-there : {T : Type 0} (s : Store) (store : IsInOrder s) (key : Key) (id : Id) (what : T → Type 0) (r : Result T DbFault) → number_of key s.keys.entries ≡ Some id
-    → ((d : Kept) → Finds (Some d) what r) → Finds (get key (stock_of s).keys) what r
-finds-there s store key id what r is found =
-    let of = store.stored key id is in
-    subst (λ (o : Option Kept). Finds o what r) (sym (there s store key id of.0 (record { number = is; node = of.1 }))) (found (kept_at s.nodes of.0))
+-- contracts see of the key what the node has
+pub node-shows : (s : Store) (store : IsInOrder s) (key : Key) (id : Id) (n : Node) → Holds s key id n → Shows (stock_of s) key n
+node-shows s store key id n holds = let at = there s store key id n holds in record {
+  name = store.named key id n holds.number holds.node;
+  labels = ap kept_labels_at at;
+  list = ap list_at at;
+  reached = reach-held s key id n holds;
+  pieces = pieces-held s key id n holds;
+}
 
 -- a key has a number exactly where something is kept of it
 pub numbered-there : (s : Store) (store : IsInOrder s) (key : Key) → is_some (number_of key s.keys.entries) ≡ is_some (get key (stock_of s).keys)
@@ -49,3 +46,23 @@ numbered-there s store key = go (number_of key s.keys.entries) refl
     go : (o : Option Id) → number_of key s.keys.entries ≡ o → is_some o ≡ is_some (get key (stock_of s).keys)
     go None is = ap is_some (sym (missing s.limits s.nodes s.keys.entries store key is))
     go (Some id) is = let of = store.stored key id is in ap is_some (sym (there s store key id of.0 (record { number = is; node = of.1 })))
+
+-- ---- by keys, in each state that is stood for
+
+module _ {T : Type 0} (stock : Stock) (key : Key) (what : Held → T → Type 0) where
+  -- a key that is missing
+  pub finds-no-key : false ≡ is_some (get key stock.keys) → (held : Held) → Stands stock held → Finds (get key held.state) (what held) (Err NoKey)
+  finds-no-key is held st = go (get key held.state) (there-law stock key false is held st)
+    where
+      go : {X : Type 0} (o : Option X) → false ≡ is_some o → Finds o (what held) (Err NoKey)
+      go None gone = refl
+      go (Some d) gone = absurd (cc gone)
+
+  -- a key that is there finds what does not depend on what it has
+  pub finds-there : (r : Result T DbFault) → true ≡ is_some (get key stock.keys) → ((held : Held) → Stands stock held → Finds (Some (tt {0})) (what held) r)
+      → (held : Held) → Stands stock held → Finds (get key held.state) (what held) r
+  finds-there r is found held st = go (get key held.state) (there-law stock key true is held st)
+    where
+      go : {X : Type 0} (o : Option X) → true ≡ is_some o → Finds o (what held) r
+      go None gone = absurd (cc gone)
+      go (Some d) here = found held st

@@ -1,12 +1,12 @@
 -- Samples that a series of the store ignores: what is kept of the key ignores the same, and a write of one changes nothing.
-use Rattle.std.proofs.Common.{◌≡◌, ◌≤◌, ◌<◌, ℕ, ℤ, Bool, true, false, ◌∷◌, List, [], refl, sym, ◌∙◌, ap, subst, arith, leb-true, ltb-true, le-ltb}
-use Rattle.std.specs.Prelude.{◌-◌, nat_lt, nat_le, ◌&&◌, if◌then◌else◌, Option, None, Some, IsSome, is_some, option_map}
+use Rattle.std.proofs.Common.{◌≡◌, ◌≤◌, ◌<◌, ℕ, ℤ, Bool, true, false, List, [], refl, sym, ◌∙◌, ap, subst, arith, leb-true, ltb-true}
+use Rattle.std.specs.Prelude.{◌-◌, nat_lt, nat_le, ◌&&◌, if◌then◌else◌, Option, None, Some, is_some, option_map}
 use Rattle.std.proofs.lemmas.Bool.{false≢true, and_parts}
 use Rattle.ts_spec.specs.declared.series.Options.{Options}
 use Rattle.ts_spec.specs.declared.series.Merge.{Merge}
 use Rattle.ts_spec.specs.Refusal as refusal
 use Rattle.ts_spec.specs.Response.{Count}
-use Rattle.ts_spec.specs.Sample.{Point, at_times, last_of, later_or}
+use Rattle.ts_spec.specs.Sample.{Point, last_of}
 use Rattle.ts_spec.specs.Rules.{merge}
 use Rattle.ts_spec.specs.Step.{value_at}
 use Rattle.ts_spec.specs.Key.{Key}

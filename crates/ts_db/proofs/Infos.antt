@@ -3,7 +3,6 @@ use Rattle.std.proofs.Common.{◌≡◌, ◌+◌, ℕ, List, [], ◌∷◌, ◌+
 use Rattle.std.specs.Prelude.{Some, option_map, length}
 use Rattle.ts_spec.specs.Sample.{first_of, last_of}
 use Rattle.ts_spec.specs.Key.{Key}
-use Rattle.ts_spec.specs.Keyed.{get}
 use Rattle.ts_spec.specs.Response as response
 use Rattle.ts_spec.specs.Response.{Told}
 use Rattle.ts_spec.specs.Questions.{time_or_0}
@@ -17,18 +16,15 @@ use Rattle.ts_db.specs.declared.info.RuleInfo.{RuleInfo}
 use Rattle.ts_db.specs.declared.node.Node.{Node}
 use Rattle.ts_db.specs.declared.store.Store.{Store}
 use Rattle.ts_db.specs.Information.{rule_info_of, info_of}
-use Rattle.ts_db.specs.Store.{rules_by, key_at, key_in, stock_of, IsLive, IsInOrder, Holds}
-use Rattle.ts_db.proofs.Applying.{there}
-use Rattle.ts_db.proofs.Collecting.{get-ids}
+use Rattle.ts_db.specs.Store.{rules_by, key_in, kept_at}
 
--- what is told of a key: of each part what is kept
-pub told-kept : (s : Store) (store : IsInOrder s) (key : Key) (id : Id) (n : Node) → Holds s key id n → (i : Info)
+-- what is told of a node: of each part what is kept
+pub told-kept : (s : Store) (n : Node) (i : Info)
     → i.total ≡ length (list_of n.series) → i.first ≡ time_or_0 (first_of (list_of n.series)) → i.last ≡ time_or_0 (last_of (list_of n.series)) → i.options ≡ n.series.options
     → i.labels ≡ n.labels → i.source ≡ option_map (key_in s.nodes) n.source → map rule_info_of i.rules.items ≡ map kept_rule_info (rules_by (key_in s.nodes) n.rules.items)
-    → Told (info_of i) ≡ kept_info_response (get key (stock_of s).keys)
-told-kept s store key id n holds i total first last options labels source rules =
-    (λ j. Told (record { total = total j; first = first j; last = last j; options = options j; labels = labels j; source = source j; rules = rules j }))
-    ∙ sym (ap kept_info_response (there s store key id n holds))
+    → Told (info_of i) ≡ kept_info_response (Some (kept_at s.nodes n))
+told-kept s n i total first last options labels source rules =
+    λ j. Told (record { total = total j; first = first j; last = last j; options = options j; labels = labels j; source = source j; rules = rules j })
 
 -- one rule more is told
 pub told-more : (names : Id → Key) (rs : List Rule) (told : List RuleInfo) (i : ℕ) (r : Rule) (x : RuleInfo) → take (i + 1) rs ≡ take i rs ++ r ∷ []
@@ -44,8 +40,3 @@ told-more names rs told i r x more so_far one =
     all : (ps : List Rule) → map kept_rule_info (rules_by names (ps ++ r ∷ [])) ≡ map kept_rule_info (rules_by names ps) ++ kept_rule_info (kept_as (names r.dest) r) ∷ []
     all [] = refl
     all (p ∷ ps) = ap (λ (l : List response.RuleInfo). kept_rule_info (kept_as (names p.dest) p) ∷ l) (all ps)
-
--- the key of a number that has a node
-pub number-key : (s : Store) (store : IsInOrder s) (id : Id) → IsLive s.nodes id → (key : Key) → get key (stock_of s).ids ≡ Some id → key ≡ key_in s.nodes id
-number-key s store id live key is =
-    sym (store.named key id live.node (sym (get-ids key s.keys.entries) ∙ is) live.there) ∙ sym (ap key_at live.there)

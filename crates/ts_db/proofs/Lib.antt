@@ -39,7 +39,6 @@ pub mod Infos
 pub mod Reaches
 pub mod Rows
 pub mod RowWalks
-pub mod StepBounds
 pub mod EasyWrites
 pub mod Selecting
 pub mod Totals

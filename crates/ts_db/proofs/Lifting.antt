@@ -1,6 +1,6 @@
 -- From answers over what is kept to those of each state that is stood for.
 use Rattle.std.proofs.Common.{◌≡◌, sym, ◌∙◌, ap, subst}
-use Rattle.std.specs.Prelude.{Option, None, Some, ⊤, option_map, Result, Ok, Err}
+use Rattle.std.specs.Prelude.{Option, None, Some, ⊤, Result, Ok, Err}
 use Rattle.ts_spec.specs.declared.limits.Limits.{Limits}
 use Rattle.ts_spec.specs.Refusal.{Refusal}
 use Rattle.ts_spec.specs.Response.{Response}
@@ -10,8 +10,10 @@ use Rattle.ts_spec.specs.KeptStep.{KeptOutcome}
 use Rattle.ts_spec.specs.Stands.{StandsFor, IsStepOf}
 use Rattle.ts_db.specs.declared.fault.DbFault.{DbFault}
 use Rattle.ts_db.specs.Faults.{refusal_of}
-use Rattle.ts_db.specs.Held.{Held, Stock, Stands, Leads, YieldsToMemory, IsAnswer, IsDone, Answers, Finds}
+use Rattle.ts_db.specs.Held.{Held, Stock, Stands, Leads, YieldsToMemory, IsAnswer, IsDone, Answers}
+use Rattle.ts_db.specs.declared.store.Store.{Store}
 use Rattle.ts_db.specs.Answering.{IsKeptAnswer, KeptAnswers}
+use Rattle.ts_db.specs.Store.{stock_of, IsInOrder, IsDb}
 use Rattle.ts_db.proofs.Refusing.{Refuses}
 
 -- what is told of keys and of a state for each that they are stood for
@@ -44,18 +46,21 @@ module _ (old new : Stock) (step : Held → Outcome) (kept_step : KeptOutcome)
       let both = law m s in both.refuses r (both.is_step.response ∙ ap (λ (o : KeptOutcome). o.response) a))
 
   -- the answers of each state
-  pub lifted : {T : Type 0} (response : T → Response) (r : Result T DbFault) → KeptAnswers response old kept_step r new → Answers response old step r new
+  lifted : {T : Type 0} (response : T → Response) (r : Result T DbFault) → KeptAnswers response old kept_step r new → Answers response old step r new
   lifted response (Ok x) a = done (response x) a
   lifted response (Err fault) a = (refusal (refusal_of old.ids fault) a.0, a.1)
 
 -- where there was a state that was stood for there is one after that
-pub leads-on : {T : Type 0} (response : T → Response) (old new : Stock) (step : Held → Outcome) (r : Result T DbFault) → Answers response old step r new → Leads old (λ held. ⊤) → Leads new (λ held. ⊤)
+leads-on : {T : Type 0} (response : T → Response) (old new : Stock) (step : Held → Outcome) (r : Result T DbFault) → Answers response old step r new → Leads old (λ held. ⊤) → Leads new (λ held. ⊤)
 leads-on response old new step (Ok x) a w = record { to = record { limits = w.to.limits; state = (step w.to).state }; done = tt; stands = (a w.to w.stands).stands }
 leads-on response old new step (Err fault) a w = subst (λ (s : Stock). Leads s (λ held. ⊤)) (sym a.1) w
 
--- a question about what is kept, and one about the state
-pub finds-state : {X Y T : Type 0} (f : X → Y) (o : Option X) (what : T → Type 0) (r : Result T DbFault) → Finds (option_map f o) what r → Finds o what r
-finds-state f None what (Ok x) a = a
-finds-state f None what (Err fault) a = a
-finds-state f (Some d) what (Ok x) a = a
-finds-state f (Some d) what (Err fault) a = a
+-- So a call of a store leaves a database, which answers as the step does of each state that it stood for.
+pub lifted-on : {stock : Stock} (s new : Store) (view : stock_of s ≡ stock) (db : IsDb s) (order : IsInOrder new) (step : Held → Outcome) (kept_step : KeptOutcome)
+    → ((m : State) → StandsFor s.limits (stock_of s).keys m → IsLaw s.limits m (step (record { limits = s.limits; state = m })) kept_step)
+    → {T : Type 0} (response : T → Response) (r : Result T DbFault) → KeptAnswers response (stock_of s) kept_step r (stock_of new) → IsDb new × Answers response stock step r (stock_of new)
+lifted-on s new view db order step kept_step law response r kept =
+    let answers = lifted (stock_of s) (stock_of new) step kept_step law response r kept in (
+      record { store = order; stands = leads-on response (stock_of s) (stock_of new) step r answers db.stands },
+      subst (λ (old : Stock). Answers response old step r (stock_of new)) view answers,
+    )

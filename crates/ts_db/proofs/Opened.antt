@@ -1,5 +1,5 @@
 -- What a series shows with the open bucket of the rule that leads to it.
-use Rattle.std.proofs.Common.{◌≡◌, ℕ, Bool, true, false, ◌==◌, List, [], ◌∷◌, refl, sym, ◌∙◌, ap, subst, eqb-true, eq-eqb}
+use Rattle.std.proofs.Common.{◌≡◌, ℕ, Bool, true, false, ◌==◌, List, [], ◌∷◌, refl, sym, ◌∙◌, ap, eqb-true, eq-eqb}
 use Rattle.std.specs.Prelude.{if◌then◌else◌, Option, None, Some, option_map}
 use Rattle.slab.specs.Slab as slab
 use Rattle.ts_spec.specs.Sample.{Point, put_all}
@@ -17,24 +17,23 @@ use Rattle.ts_rules.specs.declared.rule.Rule.{Rule}
 use Rattle.ts_rules.specs.Rules.{kept_as}
 use Rattle.ts_db.specs.declared.node.Node.{Node}
 use Rattle.ts_db.specs.declared.store.Store.{Store}
-use Rattle.ts_db.specs.Held.{IsLive as IsLiveNumber}
 use Rattle.ts_db.specs.Latest.{rule_among}
-use Rattle.ts_db.specs.Store.{rules_by, key_at, key_in, kept_at, stock_of, number_of, IsLive, AreLive, IsLiveSource, IsInOrder, Holds}
+use Rattle.ts_db.specs.Store.{rules_by, key_at, key_in, kept_at, stock_of, number_of, IsLive, AreLive, IsInOrder, Holds}
 use Rattle.ts_db.proofs.Applying.{there}
 use Rattle.ts_db.proofs.Known.{named}
-use Rattle.ts_db.proofs.Destinations.{live-number}
 
 module _ (s : Store) (store : IsInOrder s) (key : Key) (id : Id) (n : Node) (holds : Holds s key id n) where
-  -- without the open bucket
-  pub asked-plain : kept_asked (stock_of s).keys false key ≡ list_of n.series
-  asked-plain = ap list_at (there s store key id n holds)
+  -- its own samples
+  own : list_of n.series ≡ list_at (get key (stock_of s).keys)
+  own = sym (ap list_at (there s store key id n holds))
 
+  -- with the open bucket
   asked-latest : kept_asked (stock_of s).keys true key ≡ with_open (rule_from (stock_of s).keys key (option_map (key_in s.nodes) n.source)) (kept_at s.nodes n)
   asked-latest = ap (latest_list_at (stock_of s).keys key) (there s store key id n holds)
 
   -- without a source
-  pub asked-bare : n.source ≡ None → kept_asked (stock_of s).keys true key ≡ list_of n.series
-  asked-bare none = asked-latest ∙ ap (λ (o : Option Id). with_open (rule_from (stock_of s).keys key (option_map (key_in s.nodes) o)) (kept_at s.nodes n)) none
+  pub asked-bare : n.source ≡ None → kept_asked (stock_of s).keys true key ≡ list_at (get key (stock_of s).keys)
+  asked-bare none = asked-latest ∙ ap (λ (o : Option Id). with_open (rule_from (stock_of s).keys key (option_map (key_in s.nodes) o)) (kept_at s.nodes n)) none ∙ own
 
   -- a number has the key exactly where it is that of the key
   same-number : (i : Id) → IsLive s.nodes i → same (key_in s.nodes i) key ≡ (i.0 == id.0)
@@ -64,17 +63,6 @@ module _ (s : Store) (store : IsInOrder s) (key : Key) (id : Id) (n : Node) (hol
       go true ih = refl
       go false ih = ih
 
-  -- a number has one node
-  pub one-node : (k : Key) (g : Node) → Holds s k id g → g ≡ n
-  one-node k g held = some-same g n (sym held.node ∙ holds.node)
-
-  -- the source of a series has a node
-  source-live : (j : Id) → n.source ≡ Some j → IsLive s.nodes j
-  source-live j from = subst (IsLiveSource s.nodes) from (store.live id.0 n holds.node).source
-
-  pub source-number : (j : Id) → n.source ≡ Some j → IsLiveNumber (stock_of s).ids j
-  source-number j from = live-number s store j (source-live j from)
-
   -- ---- with a source
 
   module _ (j : Id) (g : Node) (from : n.source ≡ Some j) (at : slab.get s.nodes j.0 ≡ Some g) where
@@ -91,15 +79,15 @@ module _ (s : Store) (store : IsInOrder s) (key : Key) (id : Id) (n : Node) (hol
         ∙ ap (λ (o : Option KeptRule). with_open o (kept_at s.nodes n)) (rule-number g.rules.items (store.live j.0 g at).rules)
 
     -- whose rules do not lead to it
-    pub asked-missing : None ≡ rule_among id.0 g.rules.items → kept_asked (stock_of s).keys true key ≡ list_of n.series
-    asked-missing none = asked-from ∙ ap (λ (o : Option Rule). with_open (option_map (λ r. kept_as (key_in s.nodes r.dest) r) o) (kept_at s.nodes n)) (sym none)
+    pub asked-missing : None ≡ rule_among id.0 g.rules.items → kept_asked (stock_of s).keys true key ≡ list_at (get key (stock_of s).keys)
+    asked-missing none = asked-from ∙ ap (λ (o : Option Rule). with_open (option_map (λ r. kept_as (key_in s.nodes r.dest) r) o) (kept_at s.nodes n)) (sym none) ∙ own
 
     -- with the rule that does
     pub asked-row : (r : Rule) (row : List Point) → Some r ≡ rule_among id.0 g.rules.items → row ≡ open_row (low n.series) n.series.born (kept_as [] r) r.current
-        → kept_asked (stock_of s).keys true key ≡ put_all row (list_of n.series)
+        → kept_asked (stock_of s).keys true key ≡ put_all row (list_at (get key (stock_of s).keys))
     asked-row r row found is =
         asked-from ∙ ap (λ (o : Option Rule). with_open (option_map (λ r. kept_as (key_in s.nodes r.dest) r) o) (kept_at s.nodes n)) (sym found)
-        ∙ shown r.current ∙ ap (λ (ps : List Point). put_all ps (list_of n.series)) (sym is)
+        ∙ shown r.current ∙ (λ i. put_all (sym is i) (own i))
       where
         shown : (o : Option ℕ) → put_all (open_row (low n.series) n.series.born (kept_as (key_in s.nodes r.dest) r) o) (list_of n.series) ≡ put_all (open_row (low n.series) n.series.born (kept_as [] r) o) (list_of n.series)
         shown None = refl

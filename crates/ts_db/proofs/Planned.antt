@@ -16,7 +16,7 @@ use Rattle.ts_rules.specs.Plans.{IsPlanned}
 use Rattle.ts_rules.specs.PlansOfDeletions.{IsPlanOfDeletion}
 use Rattle.ts_db.specs.declared.node.Node.{Node}
 use Rattle.ts_db.specs.declared.work.Work.{Work}
-use Rattle.ts_db.specs.declared.work.Work.TheVariants.{Write, Delete}
+use Rattle.ts_db.specs.declared.work.Work.TheVariants.{Delete}
 use Rattle.ts_db.specs.Store.{Nodes, key_in}
 use Rattle.ts_db.specs.Planning.{changed_by, gone_by, rows_by_work, IsFedBy, first_full, IsRuleUnplanned}
 use Rattle.ts_db.proofs.Plans.{fits-one, full-one}

@@ -45,19 +45,6 @@ full-past limit nodes rows gone r rs fits = go (nat_lt limit (length (fed_list n
     go true e = absurd (cc e)
     go false e = refl
 
--- the test that a first one tells
-full-told : (limit : ℕ) (nodes : Nodes) (rows : Rows) (gone : Gone) (r : Rule) → first_full limit nodes rows gone (r ∷ []) ≡ Some r.dest → nat_lt limit (length (fed_list nodes rows gone r)) ≡ true
-full-told limit nodes rows gone r full = go (nat_lt limit (length (fed_list nodes rows gone r))) full
-  where
-    go : (b : Bool) → (if b then Some r.dest else None) ≡ Some r.dest → b ≡ true
-    go true e = refl
-    go false e = absurd (cc e)
-
--- a rule whose destination is full is the first of these
-pub full-first : (limit : ℕ) (nodes : Nodes) (rows : Rows) (gone : Gone) (r : Rule) (rs : List Rule) → first_full limit nodes rows gone (r ∷ []) ≡ Some r.dest
-    → first_full limit nodes rows gone (r ∷ rs) ≡ Some r.dest
-full-first limit nodes rows gone r rs full = ap (λ b. if b then Some r.dest else first_full limit nodes rows gone rs) (full-told limit nodes rows gone r full)
-
 -- one plan more
 pub fed-more : (limit : ℕ) (nodes : Nodes) (rows : Rows) (gone : Gone) (rs : List Rule) (xs : List RulePlan) (r : Rule) (x : RulePlan) → AreFedBy limit nodes rows gone rs xs
     → IsFedBy limit nodes rows gone r x → AreFedBy limit nodes rows gone (rs ++ r ∷ []) (xs ++ x ∷ [])

@@ -1,4 +1,4 @@
--- A write to a key that is there, by a policy of its own: what it leaves of each state, and that by no policy it is by the series' own.
+-- A write to a key that is there, by a policy of its own: what it leaves of each state.
 use Rattle.std.proofs.Common.{◌≡◌, ◌≤◌, ℕ, ℤ, refl, sym, ◌∙◌, ap, subst}
 use Rattle.std.specs.Prelude.{Option, None, Some, option_map, Result}
 use Rattle.ts_spec.specs.declared.limits.Limits.{Limits}
@@ -16,16 +16,13 @@ use Rattle.ts_spec.specs.Stands.{StandsFor, IsStepOf}
 use Rattle.ts_spec.proofs.KeptMaps.{get-kept}
 use Rattle.ts_spec.proofs.WriteSteps.{add-step, put-step}
 use Rattle.ts_db.specs.declared.fault.DbFault.{DbFault}
+use Rattle.ts_db.specs.declared.store.Store.{Store}
+use Rattle.ts_db.specs.Store.{stock_of, IsInOrder, IsDb}
 use Rattle.ts_db.specs.Held.{Stock, AnswersNumber}
 use Rattle.ts_db.specs.Answering.{KeptNumber}
 use Rattle.ts_db.specs.PutBy.{put_by, kept_put_by}
 use Rattle.ts_db.proofs.Refusing.{add-refuses, put-refuses}
-use Rattle.ts_db.proofs.Lifting.{IsLaw, lifted}
-
--- by no policy it is by the series' own
-pub by-own : (limits : Limits) (m : Keeping) (key : Key) (t : ℕ) (v : ℤ) (o : Option Kept) → kept_put_by limits m key t v None o ≡ kept_put_at limits m key t v o
-by-own limits m key t v None = refl
-by-own limits m key t v (Some d) = refl
+use Rattle.ts_db.proofs.Lifting.{IsLaw, lifted-on}
 
 module _ (limits : Limits) (keys : Keeping) (m : State) (stands : StandsFor limits keys m) (key : Key) where
   -- what is kept of the key, by its record
@@ -58,7 +55,8 @@ module _ (limits : Limits) (keys : Keeping) (m : State) (stands : StandsFor limi
       (sym (ap (get key) stands.kept ∙ get-kept m key)) (of-record room t v on (get key m) refl)
 
 -- its answers are those of the step of each state
-pub put_by-law : (old new : Stock) (room : 1 ≤ old.limits.samples) (key : Key) (t : ℕ) (v : ℤ) (on : Option Policy) (r : Result ℕ DbFault)
-    → KeptNumber old (kept_put_by old.limits old.keys key t v on (get key old.keys)) r new → AnswersNumber old (λ h. put_by h.limits h.state key t v on (get key h.state)) r new
-put_by-law old new room key t v on = lifted old new (λ h. put_by h.limits h.state key t v on (get key h.state)) (kept_put_by old.limits old.keys key t v on (get key old.keys))
-    (λ m st. put_by-is old.limits old.keys m st key room t v on) (λ x. Count x)
+pub put_by-law : {stock : Stock} (s new : Store) (view : stock_of s ≡ stock) (db : IsDb s) (order : IsInOrder new) (key : Key) (t : ℕ) (v : ℤ) (on : Option Policy) (r : Result ℕ DbFault)
+    → KeptNumber (stock_of s) (kept_put_by s.limits (stock_of s).keys key t v on (get key (stock_of s).keys)) r (stock_of new)
+    → IsDb new × AnswersNumber stock (λ h. put_by h.limits h.state key t v on (get key h.state)) r (stock_of new)
+put_by-law s new view db order key t v on = lifted-on s new view db order (λ h. put_by h.limits h.state key t v on (get key h.state)) (kept_put_by s.limits (stock_of s).keys key t v on (get key (stock_of s).keys))
+    (λ m st. put_by-is s.limits (stock_of s).keys m st key db.store.some_samples t v on) (λ x. Count x)

@@ -2,7 +2,7 @@
 use Rattle.std.proofs.Common.{◌≡◌, ◌+◌, Bool, true, false, cond, List, [], ◌∷◌, length, Some, refl, sym, ap, ◌∙◌}
 use Rattle.std.specs.Prelude.{⊤}
 use Rattle.std.proofs.lemmas.Bool.{false≢true, and_parts}
-use Rattle.ts_spec.specs.Key.{Key, same, is_before}
+use Rattle.ts_spec.specs.Key.{same, is_before}
 use Rattle.ts_spec.specs.Keyed.{Entry, is_below, is_sorted, get_in, each_in}
 use Rattle.ts_spec.specs.State.{Record, State, link_to}
 use Rattle.ts_spec.specs.Rules.{shown}

@@ -6,7 +6,7 @@ use Rattle.slab.specs.Slab as slab
 use Rattle.ts_spec.specs.Key.{Key}
 use Rattle.ts_spec.specs.declared.limits.Limits.{Limits}
 use Rattle.ts_sample.specs.declared.id.Id.{Id}
-use Rattle.ts_series.specs.History.{list_of, reach}
+use Rattle.ts_series.specs.History.{list_of}
 use Rattle.ts_db.specs.declared.node.Node.{Node}
 use Rattle.ts_db.specs.Store.{Nodes, Numbers, kept_at, IsNode, node_reach, reach_in, reaches_of, number_of}
 use Rattle.ts_db.specs.Totals.{samples_in}
@@ -50,10 +50,6 @@ total-fits limits nodes es each there few keys samples =
 abbrev pub reaches : Nodes → Numbers → ℕ
 reaches nodes [] = 0
 reaches nodes (e ∷ es) = node_reach (slab.get nodes e.1.0) + reaches nodes es
-
--- one more on the walk
-pub reaches-next : (nodes : Nodes) (k : Key) (id : Id) (n : Node) (rest es : Numbers) → rest ≡ (k, id) ∷ es → slab.get nodes id.0 ≡ Some n → reaches nodes rest ≡ reach n.series + reaches nodes es
-reaches-next nodes k id n rest es split at = ap (reaches nodes) split ∙ ap (λ (o : Option Node). node_reach o + reaches nodes es) at
 
 -- they are those of the keys
 pub reaches-listing : (nodes : Nodes) (all es : Numbers) → HaveNodes nodes es → All (λ (e : Key × Id). number_of e.0 all ≡ Some e.1) es

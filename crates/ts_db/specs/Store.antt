@@ -8,9 +8,11 @@ use Rattle.slab.specs.Slab as slab
 use Rattle.ts_spec.specs.declared.limits.Limits.{Limits}
 use Rattle.ts_spec.specs.Sample.{Point, MAX_TIME}
 use Rattle.ts_spec.specs.Key.{Key}
-use Rattle.ts_spec.specs.Keyed.{Keyed, none, with_key, without_key, each, count_keys}
+use Rattle.ts_spec.specs.Keyed.{Keyed, none, get, with_key, without_key, each, count_keys}
 use Rattle.ts_spec.specs.State.{Label}
 use Rattle.ts_spec.specs.Kept.{KeptRule, Kept, Keeping}
+use Rattle.ts_spec.specs.KeptQuestions.{kept_labels_at}
+use Rattle.ts_spec.specs.KeptStep.{list_at}
 use Rattle.ts_sample.specs.declared.id.Id.{Id}
 use Rattle.ts_bucket.specs.Grid.{IsGrid}
 use Rattle.ts_series.specs.History.{History, list_of, reach, IsKept}
@@ -18,7 +20,7 @@ use Rattle.ts_rules.specs.declared.rule.Rule.{Rule}
 use Rattle.ts_rules.specs.Rules.{kept_as}
 use Rattle.ts_db.specs.declared.node.Node.{Node}
 use Rattle.ts_db.specs.declared.store.Store.{Store}
-use Rattle.ts_db.specs.Held.{Stock, Leads}
+use Rattle.ts_db.specs.Held.{Stock, Leads, reach_at, pieces_at}
 
 -- what is kept of a series with these labels, without rules and without a source
 abbrev pub kept_of : List Label → History → Kept
@@ -187,3 +189,11 @@ pub record IsThere (s : Store) (id : Id) : Type 0 where
   pub key : Key
   pub node : Node
   pub holds : Holds s key id node
+
+-- what contracts see of a key is what this node has
+pub record Shows (stock : Stock) (key : Key) (n : Node) : Type 0 where
+  pub name : n.key ≡ key
+  pub labels : kept_labels_at (get key stock.keys) ≡ n.labels
+  pub list : list_at (get key stock.keys) ≡ list_of n.series
+  pub reached : reach_at stock key ≡ reach n.series
+  pub pieces : pieces_at stock key ≡ n.series.held.pieces

@@ -1,15 +1,14 @@
 // A row among the samples of a series, in the place of one of its time.
-ghost use Rattle.std.specs.Prelude.{◌≡◌, ◌≤◌, ◌+◌, ◌*◌, nat_lt, List, length, Some, IfOk};
-ghost use Rattle.ts_spec.specs.Sample.{Point, MAX_TIME, IsAscending, at_times, between, first_of, last_of, put, put_all};
+ghost use Rattle.std.specs.Prelude.{◌≡◌, ◌≤◌, ◌+◌, ◌*◌, nat_lt, List, length, Some};
+ghost use Rattle.ts_spec.specs.Sample.{Point, IsAscending, at_times, between, first_of, last_of, put, put_all};
 ghost use Rattle.ts_sample.specs.Visit.{visited};
-ghost use Rattle.ts_series.specs.History.{list_of, reach, IsKept};
+ghost use Rattle.ts_series.specs.History.{list_of, reach};
 ghost use Rattle.ts_series.specs.Seams.{IsSeamed};
 ghost use Rattle.ts_rules.specs.Rules.{one_of};
 
 use crate::row_among::RowAmong;
-use std::alloc::{AllocError, Global};
 use std::sync::ledger::Ledger;
-use ts_sample::{Gathered, Sample, Steps, Visit};
+use ts_sample::{Sample, Steps, Visit};
 use ts_series::Series;
 
 // The row, if it is before a time.
@@ -21,7 +20,7 @@ pub(crate) fn row_before(t: u64, row: Option<Sample>) -> Option<Sample>
 }
 
 // The row, if it is between two times, both included.
-pub(crate) fn row_within(from: u64, to: u64, row: Option<Sample>) -> Option<Sample>
+fn row_within(from: u64, to: u64, row: Option<Sample>) -> Option<Sample>
     ensures { one_of result ≡ between from to (one_of row) }
 {
     let row = row?;
@@ -66,63 +65,46 @@ pub(crate) fn last_with(row: Option<Sample>, last: Option<Sample>) -> Option<Sam
     }
 }
 
-// The samples of a series between two times, both included.
-pub(crate) fn gather<L: Ledger>(
-    alloc: Global,
+// Takes a visitor over the samples of a series between two times, both included, with a row among them, if there is one.
+pub(crate) fn scan_shown<V: Visit, L: Ledger>(
     series: &Series,
     from: u64,
     to: u64,
-    steps: &mut Steps<L>,
-) -> Result<Vec<Sample>, AllocError>
-    requires { IsKept series.now }
-    ensures gathered { IfOk result (λ samples. samples.items ≡ between from to (list_of series.now)) }
-    ensures ascending { IfOk result (λ samples. IsAscending samples.items) }
-    ensures within { IfOk result (λ samples. between from to samples.items ≡ samples.items) }
-    ensures counted { steps.old ≤ steps.new }
-    ensures steps { steps.new ≤ steps.old + length (between from to (list_of series.now)) + 2 * reach series.now }
-{
-    let mut gathered = Gathered::with_room(alloc, series.room_for(from, to))?;
-    series.scan(from, to, &mut gathered, steps);
-    Ok(gathered.into_samples())
-}
-
-// The samples of a series between two times, both included, with a row among them.
-pub(crate) fn gather_with<L: Ledger>(
-    alloc: Global,
-    series: &Series,
-    from: u64,
-    to: u64,
-    row: &Sample,
-    steps: &mut Steps<L>,
-) -> Result<Vec<Sample>, AllocError>
-    requires few { length (list_of series.now) ≤ MAX_TIME }
-    ensures gathered { IfOk result (λ samples. samples.items ≡ put row.now (between from to (list_of series.now))) }
-    ensures counted { steps.old ≤ steps.new }
-    ensures steps { steps.new ≤ steps.old + length (between from to (list_of series.now)) + 2 * reach series.now }
-{
-    let mut gathered = Gathered::with_room(alloc, series.room_for(from, to).saturating_add(1))?;
-    scan_with(series, from, to, row, &mut gathered, steps);
-    Ok(gathered.into_samples())
-}
-
-// Takes a visitor over the samples of a series between two times, both included, with a row among them.
-pub(crate) fn scan_with<V: Visit, L: Ledger>(
-    series: &Series,
-    from: u64,
-    to: u64,
-    row: &Sample,
+    row: Option<Sample>,
     visit: &mut V,
     steps: &mut Steps<L>,
 )
     requires room { length (between from to (list_of series.now)) + 1 ≤ V.room visit.old }
-    ensures visited { visit.new ≡ visited V.step visit.old (put row.now (between from to (list_of series.now))) }
+    ensures visited { visit.new ≡ visited V.step visit.old (between from to (put_all (one_of row) (list_of series.now))) }
+    ensures counted { steps.old ≤ steps.new }
+    ensures steps { steps.new ≤ steps.old + length (between from to (list_of series.now)) + 2 * reach series.now }
+    ensures seams { IsSeamed series.now.held.pieces from to steps.old steps.new }
+{
+    series.known();
+    match row_within(from, to, row) {
+        None => series.scan(from, to, visit, steps),
+        Some(row) => scan_with(series, from, to, row, visit, steps),
+    }
+}
+
+// Takes a visitor over the samples of a series between two times, both included, with a row among them.
+fn scan_with<V: Visit, L: Ledger>(
+    series: &Series,
+    from: u64,
+    to: u64,
+    row: Sample,
+    visit: &mut V,
+    steps: &mut Steps<L>,
+)
+    requires room { length (between from to (list_of series.now)) + 1 ≤ V.room visit.old }
+    ensures visited { visit.new ≡ visited V.step visit.old (put row (between from to (list_of series.now))) }
     ensures counted { steps.old ≤ steps.new }
     ensures steps { steps.new ≤ steps.old + length (between from to (list_of series.now)) + 2 * reach series.now }
     ensures seams { IsSeamed series.now.held.pieces from to steps.old steps.new }
 {
     let mut among = RowAmong {
         visit,
-        row: Some(*row),
+        row: Some(row),
     };
     walk_among(series, from, to, &mut among, steps);
 }

@@ -112,7 +112,7 @@ impl Db {
         ensures easy { IsEasyAppend self.old key.now time → steps.new ≡ steps.old }
         ensures spared { IsIgnored self.old key.now time value → steps.new ≡ steps.old }
     {
-        self.store.put(key, time, value, steps)
+        self.put_by(key, time, value, None, steps)
     }
 
     /// Adds a sample to the series of a key, by this policy or else its own where the time has one. Answers the time,

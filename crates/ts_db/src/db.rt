@@ -63,7 +63,7 @@ impl Db {
         ensures keys { result ≡ count_keys self.now.keys }
         ensures each { (held : Held) → Stands self.now held → result ≡ count_keys held.state }
     {
-        self.store.count()
+        self.store.keys.len().min(self.store.limits.keys as usize) as u32
     }
 
     /// Whether there are as many keys as there may be. Takes no memory.

@@ -1,7 +1,22 @@
 // What is told of a series and of how it is kept.
+ghost use Rattle.std.specs.Prelude.{◌≡◌, ◌≤◌, map, option_map, Some, IfOk, ◌+◌, ◌*◌};
+ghost use Rattle.ts_spec.specs.KeptQuestions.{kept_rule_info, kept_info_response};
+ghost use Rattle.ts_spec.specs.Questions.{time_or_0};
+ghost use Rattle.ts_spec.specs.Response.{Told};
+ghost use Rattle.ts_series.specs.History.{reach};
+ghost use Rattle.ts_rules.specs.Rules.{kept_as};
+ghost use Rattle.ts_db.specs.Information.{rule_info_of, info_of};
+ghost use Rattle.ts_db.specs.Store.{rules_by, key_in, kept_at, IsLive, AreLive, IsLiveSource, HasLiveLinks, IsInOrder};
+
+use crate::node::Node;
+use crate::store::Store;
+use std::alloc::AllocError;
+use std::sync::ledger::Ledger;
 use ts_bucket::Grid;
 use ts_labels::Labels;
 use ts_resp::Word;
+use ts_rules::Rule;
+use ts_sample::{Id, Sample, Steps};
 use ts_spec::{Aggregator, Options};
 
 /// What TS.INFO tells of a series.
@@ -27,4 +42,91 @@ pub struct RuleInfo {
     pub dest: Word,
     pub grid: Grid,
     pub agg: Aggregator,
+}
+
+impl Store {
+    // What TS.INFO tells of the key of a node.
+    pub(crate) fn info_of<L: Ledger>(
+        &self,
+        node: &Node,
+        steps: &mut Steps<L>,
+    ) -> Result<Info, AllocError>
+        requires store { IsInOrder self.now }
+        requires links { HasLiveLinks self.now.nodes node.now }
+        ensures info { IfOk result (λ info. Told (info_of info) ≡ kept_info_response (Some (kept_at self.now.nodes node.now))) }
+        ensures counted { steps.old ≤ steps.new }
+        ensures steps { steps.new ≤ steps.old + 2 * reach node.now.series }
+    {
+        let first = node.series.first(steps);
+        let last = node.series.last();
+        Ok(Info {
+            total: node.series.len(steps) as u64,
+            first: time_or_0(first),
+            last: time_or_0(last),
+            options: node.series.options(),
+            labels: node.labels.copy()?,
+            source: self.source_key(node.source)?,
+            rules: self.rule_infos(&node.rules)?,
+        })
+    }
+
+    // A copy of the key of a source, where there is one.
+    fn source_key(&self, source: Option<Id>) -> Result<Option<Word>, AllocError>
+        requires store { IsInOrder self.now }
+        requires live { IsLiveSource self.now.nodes source }
+        ensures { IfOk result (λ key. key ≡ option_map (key_in self.now.nodes) source) }
+    {
+        match source {
+            None => Ok(None),
+            Some(id) => Ok(Some(self.copied_key(id)?)),
+        }
+    }
+
+    // What is told of rules, in their order.
+    fn rule_infos(&self, rules: &[Rule]) -> Result<Vec<RuleInfo>, AllocError>
+        requires store { IsInOrder self.now }
+        requires live { AreLive self.now.nodes rules.now }
+        ensures { IfOk result (λ infos. map rule_info_of infos.items ≡ map kept_rule_info (rules_by (key_in self.now.nodes) rules.now)) }
+    {
+        let mut infos = Vec::with_capacity(self.alloc, rules.len())?;
+        for rule in rules {
+            infos.push_reserved(self.rule_info(rule)?);
+        }
+        Ok(infos)
+    }
+
+    // What is told of a rule.
+    fn rule_info(&self, rule: &Rule) -> Result<RuleInfo, AllocError>
+        requires store { IsInOrder self.now }
+        requires live { IsLive self.now.nodes rule.now.dest }
+        ensures { IfOk result (λ info. rule_info_of info ≡ kept_rule_info (kept_as (key_in self.now.nodes rule.now.dest) rule.now)) }
+    {
+        Ok(RuleInfo {
+            dest: self.copied_key(rule.dest)?,
+            grid: rule.grid,
+            agg: rule.agg,
+        })
+    }
+
+    // A copy of the key of a number.
+    fn copied_key(&self, id: Id) -> Result<Word, AllocError>
+        requires store { IsInOrder self.now }
+        requires live { IsLive self.now.nodes id }
+        ensures { IfOk result (λ key. key ≡ key_in self.now.nodes id) }
+    {
+        let Some(node) = self.nodes.get(id.0) else {
+            unreachable!();
+        };
+        node.key.copy()
+    }
+}
+
+// The time of a sample, in milliseconds; 0 where there is none.
+fn time_or_0(sample: Option<Sample>) -> u64
+    ensures { result ≡ time_or_0 sample }
+{
+    match sample {
+        None => 0,
+        Some(sample) => sample.time,
+    }
 }

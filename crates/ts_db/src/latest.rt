@@ -3,45 +3,39 @@ ghost use Rattle.std.specs.Prelude.{◌≡◌, true, [], Some};
 ghost use Rattle.ts_spec.specs.Key.{Key};
 ghost use Rattle.ts_spec.specs.Keyed.{get};
 ghost use Rattle.ts_spec.specs.KeptQuestions.{kept_asked, open_row};
+ghost use Rattle.ts_spec.specs.KeptStep.{list_at};
 ghost use Rattle.ts_spec.specs.Sample.{put_all};
 ghost use Rattle.ts_series.specs.History.{list_of, low};
 ghost use Rattle.ts_rules.specs.Rules.{kept_as, one_of};
 ghost use Rattle.ts_db.specs.declared.node.Node.{Node as TheNode};
 ghost use Rattle.ts_db.specs.Held.{IsLive};
 ghost use Rattle.ts_db.specs.Latest.{rule_among};
-ghost use Rattle.ts_db.specs.Store.{stock_of, IsInOrder, Holds};
+ghost use Rattle.ts_db.specs.Store.{Shows};
 
-use crate::node::Node;
-use crate::store::Store;
+use crate::db::Db;
 use ts_rules::{Rule, latest};
 use ts_sample::{Id, Sample};
 use ts_series::Series;
 
-impl Store {
+impl Db {
     // The row of the open bucket of the rule that leads to the series of a number, where that is asked for. The series
     // shows it in the place of an own sample.
-    pub(crate) fn asked_row(&self, id: Id, node: &Node, latest: bool) -> Option<Sample>
-        requires store { IsInOrder self.now }
-        requires live { IsLive (stock_of self.now).ids id }
-        requires holds { (key : Key) → get key (stock_of self.now).ids ≡ Some id → Holds self.now key id node.now }
-        ensures { (key : Key) (n : TheNode) → Holds self.now key id n → kept_asked (stock_of self.now).keys latest key ≡ put_all (one_of result) (list_of n.series) }
+    pub(crate) fn asked_row(&self, id: Id, latest: bool) -> Option<Sample>
+        requires { IsLive self.now.ids id }
+        ensures { (key : Key) (n : TheNode) → get key self.now.ids ≡ Some id → Shows self.now key n
+            → kept_asked self.now.keys latest key ≡ put_all (one_of result) (list_of n.series) }
     {
-        if latest {
-            self.latest_row(id, node)
-        } else {
-            None
-        }
+        if latest { self.latest_row(id) } else { None }
     }
 
     // The row of the open bucket of the rule that leads to the series of a number.
-    fn latest_row(&self, id: Id, node: &Node) -> Option<Sample>
-        requires store { IsInOrder self.now }
-        requires live { IsLive (stock_of self.now).ids id }
-        requires holds { (key : Key) → get key (stock_of self.now).ids ≡ Some id → Holds self.now key id node.now }
-        ensures { (key : Key) (n : TheNode) → Holds self.now key id n
-            → kept_asked (stock_of self.now).keys true key ≡ put_all (one_of result) (list_of n.series) }
+    fn latest_row(&self, id: Id) -> Option<Sample>
+        requires { IsLive self.now.ids id }
+        ensures { (key : Key) → get key self.now.ids ≡ Some id
+            → kept_asked self.now.keys true key ≡ put_all (one_of result) (list_at (get key self.now.keys)) }
     {
-        let source = self.node(node.source?);
+        let node = self.store.nodes.get(id.0)?;
+        let source = self.store.nodes.get(node.source?.0)?;
         let rule = rule_to(&source.rules, id)?;
         row_for(&rule, &node.series)
     }

@@ -3,8 +3,6 @@
 
 mod alter;
 mod among;
-mod answers;
-mod around;
 mod changes;
 mod create;
 mod db;
@@ -17,23 +15,20 @@ mod hints;
 mod ignored;
 mod increase;
 mod info;
-mod information;
+mod keys;
 mod latest;
 mod linked;
 mod linking;
-mod members;
 mod node;
 mod numbered;
 mod planning;
 mod put_by;
 mod questions;
-mod reach;
 mod row_among;
 mod ruling;
-mod selection;
 mod store;
-mod total;
 mod unplanned;
+mod walks;
 mod work;
 mod write;
 

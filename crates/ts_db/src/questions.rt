@@ -1,42 +1,45 @@
-// Questions on the store about the samples of one key.
-ghost use Rattle.std.specs.Prelude.{◌≡◌, ◌≤◌, Some, IfOk, IfErr, ◌+◌};
+// The public questions of a database, each with the clauses that its callers see.
+ghost use Rattle.std.specs.Prelude.{◌≡◌, ◌≤◌, nat_lt, IfOk, IfErr, ◌+◌, ◌*◌};
+ghost use Rattle.std.specs.Option.{ForSome};
 ghost use Rattle.ts_spec.specs.Keyed.{get};
-ghost use Rattle.ts_spec.specs.KeptQuestions.{kept_asked};
-ghost use Rattle.ts_spec.specs.Sample.{IsAscending, between, last_of};
-ghost use Rattle.ts_db.specs.Store.{stock_of, IsInOrder};
-ghost use Rattle.ts_db.specs.Held.{Finds};
+ghost use Rattle.ts_spec.specs.Questions.{asked, info_response};
+ghost use Rattle.ts_spec.specs.Response.{Told};
+ghost use Rattle.ts_spec.specs.Sample.{IsAscending, at_times, between, last_of};
+ghost use Rattle.ts_db.specs.Held.{Held, Stands, Finds, AreTimes, ends_of, reach_at};
+ghost use Rattle.ts_db.specs.Information.{info_of};
 ghost use Rattle.ts_db.specs.Bounds.{walk_steps};
 
+use crate::among::scan_shown;
+use crate::db::Db;
 use crate::fault::DbFault;
-use crate::store::Store;
+use crate::info::Info;
 use std::sync::ledger::Ledger;
 use ts_resp::Word;
-use ts_sample::{Sample, Steps};
+use ts_sample::{Gathered, Sample, Steps};
 
-impl Store {
-    // The last sample of a key, if it has one; with `latest` also that of an open bucket. It takes no memory:
-    // only a missing key refuses it.
-    pub(crate) fn last<L: Ledger>(
+impl Db {
+    /// The last sample of a key, if it has one; with `latest` also that of an open bucket. It takes no memory:
+    /// only a missing key refuses it.
+    pub fn last<L: Ledger>(
         &self,
         key: &Word,
         latest: bool,
         steps: &mut Steps<L>,
     ) -> Result<Option<Sample>, DbFault>
-        requires { IsInOrder self.now }
-        ensures last { Finds (get key.now (stock_of self.now).keys) (λ last. last ≡ last_of (kept_asked (stock_of self.now).keys latest key.now)) result }
+        ensures last { (held : Held) → Stands self.now held → Finds (get key.now held.state) (λ last. last ≡ last_of (asked held.state latest key.now)) result }
         ensures refused { IfErr result (λ fault. fault ≡ DbFault.NoKey) }
         ensures counted { steps.old ≤ steps.new }
         ensures steps { steps.new ≡ steps.old }
     {
-        let Some(id) = self.keys.get(key).copied() else {
+        let Some(id) = self.id_of(key) else {
             return Err(DbFault::NoKey);
         };
         Ok(self.last_of(id, latest, steps))
     }
 
-    // The samples of a key between two times, in milliseconds, both included, in their order; with `latest`
-    // also that of an open bucket.
-    pub(crate) fn samples<L: Ledger>(
+    /// The samples of a key between two times, in milliseconds, both included, in their order; with `latest`
+    /// also that of an open bucket.
+    pub fn samples<L: Ledger>(
         &self,
         key: &Word,
         from: u64,
@@ -44,18 +47,80 @@ impl Store {
         latest: bool,
         steps: &mut Steps<L>,
     ) -> Result<Vec<Sample>, DbFault>
-        requires { IsInOrder self.now }
-        ensures samples { Finds (get key.now (stock_of self.now).keys) (λ samples. samples.items ≡ between from to (kept_asked (stock_of self.now).keys latest key.now)) result }
+        ensures samples { (held : Held) → Stands self.now held → Finds (get key.now held.state) (λ samples. samples.items ≡ between from to (asked held.state latest key.now)) result }
         ensures ascending { IfOk result (λ samples. IsAscending samples.items) }
         ensures within { IfOk result (λ samples. between from to samples.items ≡ samples.items) }
         ensures counted { steps.old ≤ steps.new }
-        ensures steps { steps.new ≤ steps.old + walk_steps (stock_of self.now) key.now from to }
+        ensures steps { steps.new ≤ steps.old + walk_steps self.now key.now from to }
     {
-        let Some(id) = self.keys.get(key).copied() else {
+        let Some(id) = self.id_of(key) else {
             return Err(DbFault::NoKey);
         };
-        match self.samples_of(id, from, to, latest, steps) {
-            Ok(samples) => Ok(samples),
+        let series = &self.node(id).series;
+        let room = series.room_for(from, to).saturating_add(1);
+        let mut gathered = match Gathered::with_room(self.alloc(), room) {
+            Ok(gathered) => gathered,
+            Err(fault) => return Err(DbFault::Memory(fault)),
+        };
+        let row = self.asked_row(id, latest);
+        scan_shown(series, from, to, row, &mut gathered, steps);
+        Ok(gathered.into_samples())
+    }
+
+    /// The last sample of a key before a time, in milliseconds, if it has one; with `latest` that of an open bucket
+    /// counts too. It takes no memory: only a missing key refuses it.
+    pub fn before<L: Ledger>(
+        &self,
+        key: &Word,
+        t: u64,
+        latest: bool,
+        steps: &mut Steps<L>,
+    ) -> Result<Option<Sample>, DbFault>
+        ensures before { (held : Held) → Stands self.now held → Finds (get key.now held.state) (λ before. before ≡ last_of (at_times (λ u. nat_lt u t) (asked held.state latest key.now))) result }
+        ensures refused { IfErr result (λ fault. fault ≡ DbFault.NoKey) }
+        ensures counted { steps.old ≤ steps.new }
+        ensures steps { steps.new ≤ steps.old + reach_at self.now key.now }
+    {
+        let Some(id) = self.id_of(key) else {
+            return Err(DbFault::NoKey);
+        };
+        Ok(self.before_of(id, t, latest, steps))
+    }
+
+    /// The times of the first and of the last sample of a key, in milliseconds, if it has any; with `latest` that of
+    /// an open bucket counts too. It takes no memory: only a missing key refuses it.
+    pub fn ends<L: Ledger>(
+        &self,
+        key: &Word,
+        latest: bool,
+        steps: &mut Steps<L>,
+    ) -> Result<Option<(u64, u64)>, DbFault>
+        ensures ends { (held : Held) → Stands self.now held → Finds (get key.now held.state) (λ ends. ends ≡ ends_of (asked held.state latest key.now)) result }
+        ensures bounded { IfOk result (λ ends. ForSome ends AreTimes) }
+        ensures refused { IfErr result (λ fault. fault ≡ DbFault.NoKey) }
+        ensures counted { steps.old ≤ steps.new }
+        ensures steps { steps.new ≤ steps.old + reach_at self.now key.now }
+    {
+        let Some(id) = self.id_of(key) else {
+            return Err(DbFault::NoKey);
+        };
+        Ok(self.ends_of(id, latest, steps))
+    }
+
+    /// What TS.INFO tells of a key. It is refused for a missing key, and for want of memory.
+    pub fn info<L: Ledger>(&self, key: &Word, steps: &mut Steps<L>) -> Result<Info, DbFault>
+        ensures info { (held : Held) → Stands self.now held → Finds (get key.now held.state) (λ info. Told (info_of info) ≡ info_response held.state key.now (get key.now held.state)) result }
+        ensures counted { steps.old ≤ steps.new }
+        ensures steps { steps.new ≤ steps.old + 2 * reach_at self.now key.now }
+    {
+        let Some(id) = self.id_of(key) else {
+            return Err(DbFault::NoKey);
+        };
+        let Some(node) = self.store.nodes.get(id.0) else {
+            unreachable!();
+        };
+        match self.store.info_of(node, steps) {
+            Ok(info) => Ok(info),
             Err(fault) => Err(DbFault::Memory(fault)),
         }
     }

@@ -64,14 +64,6 @@ impl Store {
         (self.limits.labels as usize) < labels.len()
     }
 
-    // How many keys there are.
-    pub(crate) fn count(&self) -> u32
-        requires { IsInOrder self.now }
-        ensures { result ≡ count_keys (stock_of self.now).keys }
-    {
-        self.keys.len().min(self.limits.keys as usize) as u32
-    }
-
     // Whether there are as many keys as there may be.
     pub(crate) fn is_full(&self) -> bool
         requires { IsInOrder self.now }

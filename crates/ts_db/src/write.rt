@@ -3,7 +3,7 @@ ghost use Rattle.std.specs.Prelude.{◌≡◌, ◌≤◌, Some, IfOk, IfErr, ◌
 ghost use Rattle.ts_spec.specs.Sample.{MAX_TIME};
 ghost use Rattle.ts_spec.specs.Key.{Key};
 ghost use Rattle.ts_spec.specs.Keyed.{get};
-ghost use Rattle.ts_spec.specs.KeptStep.{kept_add_at, kept_put_at, kept_write_merged};
+ghost use Rattle.ts_spec.specs.KeptStep.{kept_add_at, kept_write_merged};
 ghost use Rattle.ts_labels.specs.Spec.{spec_of};
 ghost use Rattle.ts_series.specs.Put.{met};
 ghost use Rattle.ts_db.specs.declared.node.Node.{Node as TheNode};
@@ -14,7 +14,6 @@ ghost use Rattle.ts_db.specs.Bounds.{write_steps, IsEasyAppend, IsIgnored};
 
 use crate::fault::{DbFault, fault_at};
 use crate::growing::stays_open;
-use crate::ignored::ignored;
 use crate::store::Store;
 use crate::work::Work;
 use std::sync::ledger::Ledger;
@@ -46,40 +45,10 @@ impl Store {
         ensures easy { IsEasyAppend (stock_of self.old) key time → steps.new ≡ steps.old }
         ensures spared { IsIgnored (stock_of self.old) key time value → steps.new ≡ steps.old }
     {
-        let Some(id) = self.keys.get(&key).copied() else {
+        if !self.has(&key) {
             return self.begin(key, spec, time, value, steps);
-        };
-        let Some(node) = self.nodes.get(id.0) else {
-            unreachable!();
-        };
-        if let Some(last) = ignored(node, time, value) {
-            return Ok(last);
         }
-        let how = Merge::By(on.unwrap_or(node.series.policy()));
-        self.write(id, how, time, value, steps)
-    }
-
-    // Adds a sample to the series of a key, by its own policy where the time has one. Answers the time, or that of the
-    // last sample where this one is ignored.
-    pub(crate) fn put<L: Ledger>(
-        &mut self,
-        key: &Word,
-        time: u64,
-        value: Units,
-        steps: &mut Steps<L>,
-    ) -> Result<u64, DbFault>
-        requires time { time ≤ MAX_TIME }
-        requires db { IsDb self.old }
-        ensures put { KeptNumber (stock_of self.old) (kept_put_at self.old.limits (stock_of self.old).keys key.now time value (get key.now (stock_of self.old).keys)) result (stock_of self.new) }
-        ensures bounded { IfOk result (λ t. t ≤ MAX_TIME) }
-        ensures own { IfErr result (IsOwn (stock_of self.old) key.now) }
-        ensures store { IsInOrder self.new }
-        ensures counted { steps.old ≤ steps.new }
-        ensures steps { steps.new ≤ steps.old + write_steps (stock_of self.old) key.now time }
-        ensures easy { IsEasyAppend (stock_of self.old) key.now time → steps.new ≡ steps.old }
-        ensures spared { IsIgnored (stock_of self.old) key.now time value → steps.new ≡ steps.old }
-    {
-        self.put_by(key, time, value, None, steps)
+        self.put_by(&key, time, value, on, steps)
     }
 
     // Writes to the series of a number, and has the destinations of its rules mended. Answers the time.

@@ -1,15 +1,67 @@
-use Rattle.std.proofs.Common.{◌≡◌, subst}
+use Rattle.std.proofs.Common.{◌≡◌, sym, ◌∙◌, ap, arith}
+use Rattle.std.specs.Prelude.{Some, Ok, Err}
+use Rattle.slab.specs.Slab as slab
+use Rattle.ts_spec.specs.Key.{Key}
 use Rattle.ts_spec.specs.Keyed.{get}
+use Rattle.ts_spec.specs.KeptQuestions.{kept_info_response}
 use Rattle.ts_spec.specs.Questions.{info_response}
-use Rattle.ts_spec.specs.Response.{Response, Told}
+use Rattle.ts_spec.specs.Response.{Told}
+use Rattle.ts_sample.specs.declared.id.Id.{Id}
+use Rattle.ts_series.specs.History.{reach}
+use Rattle.ts_db.specs.declared.fault.DbFault.TheVariants.{Memory}
 use Rattle.ts_db.specs.declared.info.Info.{Info}
-use Rattle.ts_db.specs.Held.{Held, Stock, Stands, Finds}
+use Rattle.ts_db.specs.declared.node.Node.{Node}
+use Rattle.ts_db.specs.declared.store.Store.{Store}
+use Rattle.ts_db.specs.Held.{Stock, reach_at}
 use Rattle.ts_db.specs.Information.{info_of}
-use Rattle.ts_db.specs.Store.{stock_of}
+use Rattle.ts_db.specs.Store.{kept_at, stock_of, IsInOrder, Holds}
+use Rattle.ts_db.proofs.Applying.{there}
+use Rattle.ts_db.proofs.Asking.{numbered-holds, node-live, finds-no-key, finds-there}
 use Rattle.ts_db.proofs.Laws.{told-law}
+use Rattle.ts_db.proofs.Reaches.{reach-held}
 use Rattle.ts_db.proofs.db.Db.info.Goals as goal
 
-pub returns-clause-info : goal.returns-clause-info
-returns-clause-info g c =
-    subst (λ (stock : Stock). (held : Held) → Stands stock held → Finds {T = Info} (get c.args.key.now held.state) (λ info. Told (info_of info) ≡ info_response held.state c.args.key.now (get c.args.key.now held.state)) c.info.result) c.self.view_is
-    (told-law (stock_of c.self.inside.store) c.args.key.now (λ (said : Response) (info : Info). Told (info_of info) ≡ said) c.info.result c.info.ensures.info)
+-- a node under the number that the key has
+module _ (s : Store) (store : IsInOrder s) (stock : Stock) (view : stock_of s ≡ stock) (key : Key) (id : Id) (is : Some id ≡ get key stock.ids) where
+  number : get key (stock_of s).ids ≡ Some id
+  number = ap (λ (st : Stock). get key st.ids) view ∙ sym is
+
+  module _ (n : Node) (at : Some n ≡ slab.get s.nodes id.0) where
+    holds : Holds s key id n
+    holds = numbered-holds s key id n number (sym at)
+
+    told : kept_info_response (Some (kept_at s.nodes n)) ≡ kept_info_response (get key stock.keys)
+    told = sym (ap kept_info_response (there s store key id n holds)) ∙ ap (λ (st : Stock). kept_info_response (get key st.keys)) view
+
+    far : reach_at stock key ≡ reach n.series
+    far = sym (ap (λ (st : Stock). reach_at st key) view) ∙ reach-held s key id n holds
+
+pub returns-in_default-clause-info : goal.returns-in_default-clause-info
+returns-in_default-clause-info g c =
+    finds-no-key {T = Info} c.args.self.now c.args.key.now (λ held info. Told (info_of info) ≡ info_response held.state c.args.key.now (get c.args.key.now held.state)) c.in_default.ensures.there
+
+pub unreachable-requires : goal.unreachable-requires
+unreachable-requires g c =
+    let s = c.self.inside.store in
+    let of = node-live s c.self.invariant.store c.in-Some.id (record { key = c.args.key.now; is = number s c.self.invariant.store c.args.self.now c.self.view_is c.args.key.now c.in-Some.id c.in-Some.ensures.id }) in
+    absurd (cc (c.in_default-get.ensures ∙ of.1))
+
+pub returns-in-Ok-clause-info : goal.returns-in-Ok-clause-info
+returns-in-Ok-clause-info g c =
+    finds-there c.args.self.now c.args.key.now (λ held info. Told (info_of info) ≡ info_response held.state c.args.key.now (get c.args.key.now held.state)) (Ok c.in-Ok.info) c.in-Some.ensures.there
+    (λ held st. c.in-Ok.ensures.info
+    ∙ told c.self.inside.store c.self.invariant.store c.args.self.now c.self.view_is c.args.key.now c.in-Some.id c.in-Some.ensures.id c.in-Some-get.node.now c.in-Some-get.ensures
+    ∙ told-law c.args.self.now c.args.key.now held st)
+
+pub returns-in-Err-clause-info : goal.returns-in-Err-clause-info
+returns-in-Err-clause-info g c =
+    finds-there {T = Info} c.args.self.now c.args.key.now (λ held info. Told (info_of info) ≡ info_response held.state c.args.key.now (get c.args.key.now held.state)) (Err (Memory c.in-Err.fault)) c.in-Some.ensures.there
+    (λ held st. tt)
+
+pub returns-in-Ok-clause-steps : goal.returns-in-Ok-clause-steps
+returns-in-Ok-clause-steps g c =
+    omega (arith, c.info_of.ensures.steps, far c.self.inside.store c.self.invariant.store c.args.self.now c.self.view_is c.args.key.now c.in-Some.id c.in-Some.ensures.id c.in-Some-get.node.now c.in-Some-get.ensures)
+
+pub returns-in-Err-clause-steps : goal.returns-in-Err-clause-steps
+returns-in-Err-clause-steps g c =
+    omega (arith, c.info_of.ensures.steps, far c.self.inside.store c.self.invariant.store c.args.self.now c.self.view_is c.args.key.now c.in-Some.id c.in-Some.ensures.id c.in-Some-get.node.now c.in-Some-get.ensures)

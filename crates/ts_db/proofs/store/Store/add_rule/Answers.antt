@@ -2,9 +2,6 @@ use Rattle.std.proofs.Common.{sym}
 use Rattle.ts_db.proofs.NewLinks.{store-more, kept-more, none-more}
 use Rattle.ts_db.proofs.store.Store.add_rule.Goals as goal
 
-pub add_rule-requires : goal.add_rule-requires
-add_rule-requires c = (c.requires.born c.in-Some.node.now (sym c.in-Some.ensures.value)).counts
-
 pub returns-clause-store : goal.returns-clause-store
 returns-clause-store c =
     store-more c.args.self.now c.requires.store c.args.id c.in-Some.node.now c.add_rule.new.self (sym c.in-Some.ensures.value) c.args.dest c.args.agg c.args.grid c.requires.dest c.add_rule.result

@@ -55,11 +55,6 @@ pub add_rule-requires-clause-dest : goal.add_rule-requires-clause-dest
 add_rule-requires-clause-dest c =
     let d = c.requires.store.stored c.args.dest.now c.in-Some-copied.to (sym (c.in-Some-copied.ensures ∙ c.get-2.ensures.value)) in record { node = d.0; there = d.1 }
 
-pub add_rule-requires-clause-born : goal.add_rule-requires-clause-born
-add_rule-requires-clause-born c n is =
-    let d = c.requires.store.stored c.args.dest.now c.in-Some-copied.to (sym (c.in-Some-copied.ensures ∙ c.get-2.ensures.value)) in
-    (c.in_default-barred.ensures.barred n d.0 is d.1).1
-
 pub set_source-requires-clause-live : goal.set_source-requires-clause-live
 set_source-requires-clause-live c =
     let d = c.requires.store.stored c.args.dest.now c.in-Some-copied.to (sym (c.in-Some-copied.ensures ∙ c.get-2.ensures.value)) in

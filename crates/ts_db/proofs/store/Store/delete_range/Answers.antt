@@ -40,6 +40,3 @@ returns-clause-deleted g c =
     (sym (delete-done c.args.self.now c.requires.db.store c.args.key.now c.in-Some.id n holds c.args.from c.args.to (le-ltb c.args.to c.args.from c.if-to-from.false)
     (expired-at c.args.self.now n c.args.from c.edge.result c.deref.result.now c.meet_expired.result false c.edge.ensures c.deref.ensures.value c.meet_expired.ensures c.if-meet_expired.false)))
     (c.delete.ensures.deleted c.args.key.now n holds)
-
-pub returns-clause-steps : goal.returns-clause-steps
-returns-clause-steps g c = c.delete.ensures.steps c.args.key.now (sym (c.in-Some.ensures ∙ c.get.ensures.value))

@@ -45,9 +45,3 @@ returns-clause-keys c =
     ∙ (c.end_rules.ensures.alone c.args.key.now n.0 (record { number = is; node = n.1 })).keys
     ∙ ap (λ b. if b then keep_dropped c.args.key.now (stock_of c.args.self.now).keys else (stock_of c.args.self.now).keys)
     (ap is_some (c.in-Some.ensures ∙ c.get.ensures.value) ∙ sym (found-some c.args.self.now.limits c.args.self.now.nodes c.args.self.now.keys.entries c.requires.store c.args.key.now))
-
-pub returns-clause-limits : goal.returns-clause-limits
-returns-clause-limits c =
-    let is = sym (c.in-Some.ensures ∙ c.get.ensures.value) in
-    let n = c.requires.store.stored c.args.key.now c.in-Some.id is in
-    c.remove_key.ensures.limits ∙ (c.end_rules.ensures.alone c.args.key.now n.0 (record { number = is; node = n.1 })).limits

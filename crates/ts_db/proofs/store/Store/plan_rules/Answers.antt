@@ -2,7 +2,6 @@ use Rattle.std.proofs.Common.{◌≡◌, ◌+◌, ◌-◌, ℕ, length, List, []
 use Rattle.std.proofs.lemmas.List.{take_more, drop_more, take_all, length-drop}
 use Rattle.std.specs.Prelude.{Option, None}
 use Rattle.ts_sample.specs.declared.id.Id.{Id}
-use Rattle.ts_rules.specs.declared.fault.RuleFault.TheVariants.{Memory}
 use Rattle.ts_rules.specs.declared.rule.Rule.{Rule}
 use Rattle.ts_rules.specs.declared.plan.RulePlan.{RulePlan}
 use Rattle.ts_db.specs.Store.{AreLive}

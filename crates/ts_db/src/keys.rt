@@ -1,0 +1,89 @@
+// The keys of a database: their numbers, those whose labels pass filters, and how many samples all show.
+ghost use Rattle.std.specs.Prelude.{◌≡◌, ◌≤◌, ◌+◌, length, is_some, IfOk, OnErr};
+ghost use Rattle.ts_spec.specs.Filter.{all_hold, selection};
+ghost use Rattle.ts_spec.specs.Keyed.{get};
+ghost use Rattle.ts_spec.specs.KeptQuestions.{kept_selection};
+ghost use Rattle.ts_spec.specs.Totals.{total_shown};
+ghost use Rattle.ts_db.specs.Held.{Held, Stands, AreEntriesOf, AreNumbersOf};
+ghost use Rattle.ts_db.specs.Bounds.{reach_of_all, selection_steps};
+
+use crate::db::Db;
+use std::alloc::AllocError;
+use std::collections::btree_map::Iter;
+use std::sync::ledger::Ledger;
+use ts_labels::{Filter, Labels};
+use ts_resp::Word;
+use ts_sample::{Id, Steps};
+
+impl Db {
+    /// The number of a key, if the key is there. Takes no memory.
+    pub fn id_of(&self, key: &Word) -> Option<Id>
+        ensures id { result ≡ get key.now self.now.ids }
+        ensures there { is_some result ≡ is_some (get key.now self.now.keys) }
+    {
+        self.store.keys.get(key).copied()
+    }
+
+    /// All keys in ascending order of their bytes, each with its number. Takes no memory.
+    pub fn entries(&self) -> Iter<'_, Word, Id>
+        ensures entries { AreEntriesOf self.now.ids self.now.keys.entries result }
+    {
+        self.store.keys.iter()
+    }
+
+    /// The numbers of the keys whose labels pass all filters, in ascending order of the bytes of the keys. An Err comes
+    /// before a filter is tried.
+    pub fn select<L: Ledger>(
+        &self,
+        filters: &[Filter],
+        steps: &mut Steps<L>,
+    ) -> Result<Vec<Id>, AllocError>
+        ensures numbers { IfOk result (λ ids. AreNumbersOf self.now.ids (kept_selection self.now.keys filters.now) ids.items) }
+        ensures each { (held : Held) → Stands self.now held
+            → IfOk result (λ ids. AreNumbersOf self.now.ids (selection held.state filters.now) ids.items) }
+        ensures unspent { OnErr result (steps.new ≡ steps.old) }
+        ensures steps { steps.new ≤ steps.old + selection_steps self.now filters.now }
+    {
+        let mut ids = Vec::with_capacity(self.store.alloc, self.store.keys.len())?;
+        for (_key, id) in self.store.keys.iter() {
+            let Some(node) = self.store.nodes.get(id.0) else {
+                unreachable!();
+            };
+            if pass(&node.labels, filters, steps) {
+                ids.push_reserved(*id);
+            }
+        }
+        Ok(ids)
+    }
+
+    /// How many samples all keys show together. Takes no memory.
+    pub fn total<L: Ledger>(&self, steps: &mut Steps<L>) -> u64
+        ensures each { (held : Held) → Stands self.now held → result ≡ total_shown held.state }
+        ensures counted { steps.old ≤ steps.new }
+        ensures steps { steps.new ≤ steps.old + reach_of_all self.now }
+    {
+        let _keys = self.store.limits.keys;
+        let _samples = self.store.limits.samples;
+        let mut total = 0;
+        for (_key, id) in self.store.keys.iter() {
+            let Some(node) = self.store.nodes.get(id.0) else {
+                unreachable!();
+            };
+            total += node.series.len(steps) as u64;
+        }
+        total
+    }
+}
+
+// Whether labels pass all filters.
+pub(crate) fn pass<L: Ledger>(labels: &Labels, filters: &[Filter], steps: &mut Steps<L>) -> bool
+    ensures pass { result ≡ all_hold filters.now labels.now }
+    ensures steps { steps.new ≤ steps.old + length filters.now }
+{
+    for filter in filters {
+        if !filter.holds(labels, steps) {
+            return false;
+        }
+    }
+    true
+}

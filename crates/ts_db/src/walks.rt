@@ -1,0 +1,95 @@
+// Walks over the samples of a key by its number, and the times at which they can be cut.
+ghost use Rattle.std.specs.Prelude.{◌≡◌, ◌≤◌, ◌^◌, ◌⊎◌, ℕ, suc, false, length, Some, ◌+◌};
+ghost use Rattle.ts_sample.specs.Visit.{visited};
+ghost use Rattle.ts_spec.specs.Key.{Key};
+ghost use Rattle.ts_spec.specs.Keyed.{get};
+ghost use Rattle.ts_spec.specs.KeptQuestions.{kept_asked};
+ghost use Rattle.ts_spec.specs.Sample.{between};
+ghost use Rattle.ts_series.specs.Seams.{IsSeam, IsSeamed, Around};
+ghost use Rattle.ts_db.specs.Held.{IsLive, reach_at, pieces_at};
+ghost use Rattle.ts_db.specs.Bounds.{walk_steps};
+
+use crate::among::scan_shown;
+use crate::db::Db;
+use std::sync::ledger::Ledger;
+use ts_sample::{Id, Steps, Visit};
+
+impl Db {
+    /// Takes a visitor over the samples of the key of a number between two times, in milliseconds, both included, in
+    /// their order; with `latest` also over that of an open bucket. Takes no memory.
+    pub fn visit_of<V: Visit, L: Ledger>(
+        &self,
+        id: Id,
+        from: u64,
+        to: u64,
+        latest: bool,
+        visit: &mut V,
+        steps: &mut Steps<L>,
+    )
+        requires live { IsLive self.now.ids id }
+        requires room { 2 ^ 32 ≤ V.room visit.old }
+        ensures visited { (key : Key) → get key self.now.ids ≡ Some id
+            → visit.new ≡ visited V.step visit.old (between from to (kept_asked self.now.keys latest key)) }
+        ensures counted { steps.old ≤ steps.new }
+        ensures steps { (key : Key) → get key self.now.ids ≡ Some id → steps.new ≤ steps.old + walk_steps self.now key from to }
+        ensures seams { (key : Key) → get key self.now.ids ≡ Some id → IsSeamed (pieces_at self.now key) from to steps.old steps.new }
+    {
+        // It does nothing: it tells a bound that the limit has.
+        let _limit = self.limits().samples;
+        let row = self.asked_row(id, latest);
+        scan_shown(&self.node(id).series, from, to, row, visit, steps);
+    }
+
+    /// A time from one to another, in milliseconds, up to which the key of a number has so many samples; the later
+    /// one where it has fewer. The sample of an open bucket does not count. Takes no memory, and looks at few samples.
+    pub fn time_for(&self, id: Id, from: u64, to: u64, count: u64) -> u64
+        requires live { IsLive self.now.ids id }
+        requires ordered { from ≤ to }
+        ensures within { (from ≤ result) × (result ≤ to) }
+        ensures reach { (key : Key) → get key self.now.ids ≡ Some id
+            → (result ≡ to) ⊎ (count ≤ length (between from result (kept_asked self.now.keys false key))) }
+        ensures seam { (key : Key) → get key self.now.ids ≡ Some id → (result ≡ to) ⊎ IsSeam (result + 1) (pieces_at self.now key) }
+    {
+        self.node(id).series.time_for(from, to, count)
+    }
+
+    /// A time from one to another, in milliseconds, from which on, up to the later one, the key of a number has so many
+    /// samples; the earlier one where it has fewer. The sample of an open bucket does not count. Takes no memory, and
+    /// looks at few samples.
+    pub fn time_from(&self, id: Id, from: u64, to: u64, count: u64) -> u64
+        requires live { IsLive self.now.ids id }
+        requires ordered { from ≤ to }
+        ensures within { (from ≤ result) × (result ≤ to) }
+        ensures reach { (key : Key) → get key self.now.ids ≡ Some id
+            → (result ≡ from) ⊎ (count ≤ length (between result to (kept_asked self.now.keys false key))) }
+        ensures seam { (key : Key) → get key self.now.ids ≡ Some id → (result ≡ from) ⊎ IsSeam result (pieces_at self.now key) }
+    {
+        self.node(id).series.time_from(from, to, count)
+    }
+
+    /// How many samples a new chunk of the key of a number has room for at most.
+    pub fn chunk_reach_of(&self, id: Id) -> u64
+        requires live { IsLive self.now.ids id }
+        ensures { (key : Key) → get key self.now.ids ≡ Some id → result ≤ reach_at self.now key }
+    {
+        self.node(id).series.chunk_reach()
+    }
+
+    /// Does nothing: it tells a caller that between one time and the next at most one chunk of the key of a number is cut.
+    pub fn cuts_of(&self, id: Id)
+        requires live { IsLive self.now.ids id }
+        ensures { (key : Key) → get key self.now.ids ≡ Some id
+            → (t : ℕ) → Around (suc t) t (reach_at self.now key) (pieces_at self.now key) }
+    {
+        self.node(id).series.cuts();
+    }
+
+    /// Does nothing: it tells a caller that there are times near each interval that cut no chunk of the key of a number.
+    pub fn seams_of(&self, id: Id)
+        requires live { IsLive self.now.ids id }
+        ensures { (key : Key) → get key self.now.ids ≡ Some id
+            → (from to : ℕ) → Around from to (walk_steps self.now key from to) (pieces_at self.now key) }
+    {
+        self.node(id).series.seams();
+    }
+}
