@@ -25,7 +25,7 @@ use Rattle.ts_db.proofs.Collecting.{get-ids, id-same}
 
 -- ---- the key of a number
 
-among : (es : List (Entry Id)) → is_sorted es ≡ true → (k : Key) (i : Id) → get_in k es ≡ Some i → ((j : Key) → get_in j es ≡ Some i → j ≡ k) → key_among i.0 es ≡ k
+pub among : (es : List (Entry Id)) → is_sorted es ≡ true → (k : Key) (i : Id) → get_in k es ≡ Some i → ((j : Key) → get_in j es ≡ Some i → j ≡ k) → key_among i.0 es ≡ k
 among [] sorted k i is one = absurd (cc is)
 among (e ∷ es) sorted k i is one = go (e.value.0 == i.0) refl (among es (and_parts (is_below e.key es) (is_sorted es) sorted).1 k i)
   where

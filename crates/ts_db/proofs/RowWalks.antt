@@ -4,7 +4,7 @@ use Rattle.std.specs.Prelude.{nat_lt, if◌then◌else◌, Option, None, Some}
 use Rattle.std.proofs.lemmas.Bool.Decides.{nat_tests}
 use Rattle.ts_spec.specs.Sample.{Point, IsAfter, IsAscending, at_times, put}
 use Rattle.ts_sample.specs.Visit.{visited}
-use Rattle.ts_series.proofs.Placing.{none-before, all-after}
+use Rattle.ts_sample.proofs.Replacing.{none-before, all-past}
 use Rattle.ts_db.specs.declared.row_among.RowAmong.{RowAmong}
 use Rattle.ts_db.specs.RowAmong.{with_sample, finished, room_beside}
 
@@ -28,7 +28,7 @@ put-first row q qs h x =
     let after : IsAfter row.time qs = later row.time q.time qs least h.0 in
     ap (λ b. cond b (q ∷ at_times (λ u. nat_lt u row.time) qs) (at_times (λ u. nat_lt u row.time) qs) ++ row ∷ at_times (nat_lt row.time) (q ∷ qs)) x
     ∙ ap (λ (l : List Point). l ++ row ∷ at_times (nat_lt row.time) (q ∷ qs)) (none-before row.time qs after)
-    ∙ ap (λ (l : List Point). row ∷ cond (nat_lt row.time q.time) (q ∷ l) l) (all-after row.time qs after)
+    ∙ ap (λ (l : List Point). row ∷ cond (nat_lt row.time q.time) (q ∷ l) l) (all-past row.time qs after)
     ∙ go (nat_lt row.time q.time)
   where
     go : (b : Bool) → row ∷ cond b (q ∷ qs) qs ≡ row ∷ (if b then q ∷ qs else qs)

@@ -8,7 +8,7 @@ use Rattle.ts_rules.specs.Rules.{one_of}
 use Rattle.ts_db.specs.Held.{ends_of}
 use Rattle.ts_spec.proofs.Samples.{at-times, at-put_all, ascending-times, ascending-put_all, ascending-same}
 use Rattle.ts_spec.proofs.Tidy.{some-same}
-use Rattle.ts_series.proofs.Placing.{none-before, all-after}
+use Rattle.ts_sample.proofs.Replacing.{none-before, all-past}
 
 -- the samples at some times are put among those at these times
 pub times-put_all : (test : ℕ → Bool) (rows ps : List Point) → IsAscending ps → at_times test (put_all rows ps) ≡ put_all (at_times test rows) (at_times test ps)
@@ -78,7 +78,7 @@ last-past t q (r ∷ ps) h = go (nat_lt t q.time) refl (last-past t r ps h.1)
     go true x ih =
         let here : t < q.time = ltb-true t q.time x in
         let next : q.time < r.time = h.0.0 in
-        ap (λ (l : List Point). last_of (q ∷ l)) (all-after t (r ∷ ps) (omega arith, later t r.time ps (omega arith) h.1.0))
+        ap (λ (l : List Point). last_of (q ∷ l)) (all-past t (r ∷ ps) (omega arith, later t r.time ps (omega arith) h.1.0))
         ∙ sym (ap (λ b. if b then Some (later_or r (last_of ps)) else None) (lt-ltb t (later_or r (last_of ps)).time (up t r ps h.1 (omega arith))))
       where
         later : (t u : ℕ) (l : List Point) → t ≤ u → IsAfter u l → IsAfter t l
