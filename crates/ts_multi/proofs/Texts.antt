@@ -44,10 +44,6 @@ whole {X = X} shown before start now n rest all so_far none begun count =
     ∙ ap (λ (k : ℕ). before ++ (line_text 42 (decimal k) ++ item_texts shown all)) count
     ∙ ap (λ (l : List ℕ). before ++ l) (array-text shown all)
 
--- two parts behind what was there, and three
-pub two-parts : (a h x y : List ℕ) → ((a ++ h) ++ x) ++ y ≡ a ++ (h ++ (x ++ (y ++ [])))
-two-parts a h x y = append_assoc (a ++ h) x y ∙ append_assoc a h (x ++ y) ∙ ap (λ (l : List ℕ). a ++ (h ++ (x ++ l))) (sym (append-nil y))
-
 pub three-parts : (a h x y z : List ℕ) → (((a ++ h) ++ x) ++ y) ++ z ≡ a ++ (h ++ (x ++ (y ++ (z ++ []))))
 three-parts a h x y z = append_assoc ((a ++ h) ++ x) y z ∙ append_assoc (a ++ h) x (y ++ z) ∙ append_assoc a h (x ++ (y ++ z))
     ∙ ap (λ (l : List ℕ). a ++ (h ++ (x ++ (y ++ l)))) (sym (append-nil z))

@@ -1,10 +1,8 @@
-pub mod Aggregates
 pub mod AllRows
 pub mod Around
 pub mod Cuts
 pub mod Gaps
 pub mod Filtered
-pub mod Within
 pub mod Following
 pub mod Full
 pub mod Groups
@@ -15,7 +13,6 @@ pub mod Later
 pub mod Line
 pub mod Lines
 pub mod Listed
-pub mod Near
 pub mod NextRow
 pub mod Order
 pub mod Parts

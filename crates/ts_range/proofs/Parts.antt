@@ -52,18 +52,9 @@ length-turned true rows = length-reverse rows
 length-turned false rows = refl
 
 module _ (g : Grid) (some : 1 ≤ g.duration) (lo hi : ℕ) (le : lo ≤ hi) where
-  pub some-starts : 1 ≤ length (starts_between g lo hi)
-  some-starts = omega (arith, length-line g some lo hi le)
-
   module _ (count : Option ℕ) (r : Bool) (f : ℕ → Row) where
     wanted : first_ones count (turned r (map f (starts_between g lo hi))) ≡ take (most_of count (length (starts_between g lo hi))) (turned r (map f (starts_between g lo hi)))
     wanted = sym (first_rows count (length (starts_between g lo hi)) (turned r (map f (starts_between g lo hi))) (omega (arith, length-turned r (map f (starts_between g lo hi)), length-map (starts_between g lo hi) f)))
-
-    -- all are
-    pub all-wanted : most_of count (length (starts_between g lo hi)) ≡ length (starts_between g lo hi) → first_ones count (turned r (map f (starts_between g lo hi))) ≡ turned r (map f (starts_between g lo hi))
-    all-wanted all =
-        wanted ∙ take_all (most_of count (length (starts_between g lo hi))) (turned r (map f (starts_between g lo hi)))
-        (omega (arith, length-turned r (map f (starts_between g lo hi)), length-map (starts_between g lo hi) f))
 
   -- ---- some buckets, the first ones
 

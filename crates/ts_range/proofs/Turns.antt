@@ -3,7 +3,6 @@ use Rattle.std.proofs.Common.{◌≡◌, ℕ, suc, ◌+◌, ◌-◌, ◌<◌, �
 use Rattle.std.specs.Prelude.{nat_abs, Option, None, Some, slice_get}
 use Rattle.std.specs.List.{range_with_len}
 use Rattle.std.proofs.lemmas.Bool.{cases_lt, lt-leb}
-use Rattle.std.proofs.lemmas.Bool.Decides.{nat_tests}
 use Rattle.std.proofs.lemmas.List.{length-reverse}
 use Rattle.std.proofs.lemmas.List.FromFn.{length-map-range_with_len, get_or-map-range_with_len}
 use Rattle.std.proofs.lemmas.Option.{slice_get_within, get_or_from_slice_get}
@@ -12,9 +11,9 @@ use Rattle.ts_spec.specs.Answer.{starts_between}
 use Rattle.ts_spec.proofs.Buckets.{start-le}
 use Rattle.ts_bucket.proofs.Numbers.{number, start_number}
 use Rattle.ts_range.specs.declared.starts.Starts.{Starts}
-use Rattle.ts_range.specs.Order.{in_order, is_beyond}
+use Rattle.ts_range.specs.Order.{in_order}
 use Rattle.ts_range.specs.Starts.{starts_of, starts_within}
-use Rattle.ts_range.proofs.Later.{begin-start, begin-past, begin-later}
+use Rattle.ts_range.proofs.Later.{begin-start, begin-past}
 use Rattle.ts_range.proofs.Line.{begin, between-is, number-mono}
 use Rattle.ts_range.proofs.Order.{reverse-at}
 
@@ -61,30 +60,7 @@ module _ (g : Grid) (some : 1 ≤ g.duration) (lo hi : ℕ) (le : lo ≤ hi) whe
   within-line false i b is = omega (arith, slice_get_within (starts_between g lo hi) i b is, length-line)
   within-line true i b is = omega (arith, slice_get_within (reverse (starts_between g lo hi)) i b is, length-reverse (starts_between g lo hi), length-line)
 
-  -- a later place has a bucket that comes after
-  pub turn-beyond : (r : Bool) (i k b c : ℕ) → i < k → slice_get (in_order r (starts_between g lo hi)) i ≡ Some b → slice_get (in_order r (starts_between g lo hi)) k ≡ Some c → is_beyond r b c ≡ true
-  turn-beyond false i k b c less one other =
-      let x = in-turn false i b one in
-      let y = in-turn false k c other in
-      let e = begin-later g some lo (number g lo + i) (number g lo + k) (omega arith) (omega arith) in
-      let bx = x.begins in
-      let by = y.begins in
-      grind (arith, nat_tests)
-  turn-beyond true i k b c less one other =
-      let x = in-turn true i b one in
-      let y = in-turn true k c other in
-      let w = within-line true k c other in
-      let mono = number-mono g some lo hi le in
-      let e = begin-later g some lo (number g hi - k) (number g hi - i) (omega arith) (omega arith) in
-      let bx = x.begins in
-      let by = y.begins in
-      grind (arith, nat_tests)
-
   module _ (b k : ℕ) (at : IsNumbered g (number g lo) (number g hi) b k) where
-    -- it is the start of a bucket
-    pub turn-start : start g b ≡ b
-    turn-start = ap (start g) at.begins ∙ begin-start g some lo k at.from ∙ sym at.begins
-
     -- and not past the last time
     pub turn-within : b ≤ hi
     turn-within =
@@ -130,25 +106,3 @@ module _ (g : Grid) (some : 1 ≤ g.duration) (from to : ℕ) (o : Option (ℕ �
 
   line-is : starts_of s ≡ starts_between g (max from line-ends.0.0) (min to line-ends.0.1)
   line-is = line ∙ ap (starts_within g from to) line-ends.1
-
-  numbered-told : (r : Bool) (i b : ℕ) → slice_get (in_order r (starts_of s)) i ≡ Some b
-      → IsNumbered g (number g (max from line-ends.0.0)) (number g (min to line-ends.0.1)) b (number_in r (number g (max from line-ends.0.0)) (number g (min to line-ends.0.1)) i)
-  numbered-told r i b is =
-      in-turn g some (max from line-ends.0.0) (min to line-ends.0.1) line-ends.2 r i b (ap (λ (xs : List ℕ). slice_get (in_order r xs) i) (sym line-is) ∙ is)
-
-  -- each is the start of a bucket
-  pub told-start : (r : Bool) (i b : ℕ) → slice_get (in_order r (starts_of s)) i ≡ Some b → start g b ≡ b
-  told-start r i b is =
-      turn-start g some (max from line-ends.0.0) (min to line-ends.0.1) line-ends.2 b (number_in r (number g (max from line-ends.0.0)) (number g (min to line-ends.0.1)) i) (numbered-told r i b is)
-
-  -- in the interval or before it
-  pub told-within : (r : Bool) (i b : ℕ) → slice_get (in_order r (starts_of s)) i ≡ Some b → b ≤ to
-  told-within r i b is =
-      let e = turn-within g some (max from line-ends.0.0) (min to line-ends.0.1) line-ends.2 b (number_in r (number g (max from line-ends.0.0)) (number g (min to line-ends.0.1)) i) (numbered-told r i b is) in
-      omega arith
-
-  -- and comes after those at earlier places
-  pub told-beyond : (r : Bool) (i k b c : ℕ) → i < k → slice_get (in_order r (starts_of s)) i ≡ Some b → slice_get (in_order r (starts_of s)) k ≡ Some c → is_beyond r b c ≡ true
-  told-beyond r i k b c less one other =
-      turn-beyond g some (max from line-ends.0.0) (min to line-ends.0.1) line-ends.2 r i k b c less
-      (ap (λ (xs : List ℕ). slice_get (in_order r xs) i) (sym line-is) ∙ one) (ap (λ (xs : List ℕ). slice_get (in_order r xs) k) (sym line-is) ∙ other)

@@ -55,7 +55,7 @@ fn rows(alloc: Global, query: &Query, asked: &Asked) -> Result<Vec<Row>, AllocEr
 {
     let filters = Filters::of(query)?;
     if let Some(buckets) = filled_buckets(query) {
-        return filled_rows(alloc, query, &buckets, filters, asked);
+        return filled_rows(alloc, query, &buckets, &filters, asked);
     }
-    walked_rows(alloc, query, filters, &asked.rows)
+    walked_rows(alloc, query, &filters, &asked.rows)
 }

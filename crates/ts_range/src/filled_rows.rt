@@ -25,11 +25,11 @@ pub(crate) fn filled_rows(
     alloc: Global,
     query: &Query,
     buckets: &Buckets,
-    filters: Filters,
+    filters: &Filters,
     asked: &Asked,
 ) -> Result<Vec<Row>, AllocError>
     requires filled { IsFilledIn query.now buckets.now }
-    requires lets { (p : Point) → passes filters p ≡ spec.is_let_through (query_of query.now) p }
+    requires lets { (p : Point) → passes filters.now p ≡ spec.is_let_through (query_of query.now) p }
     requires ascending { IsAscending asked.now.rows.items }
     ensures { (l : List Point) → IsAscending l → IsAskedOf query.now asked.now l
         → IfOk result (λ rows. map row_of rows.items ≡ spec.rows (query_of query.now) l) }
@@ -49,10 +49,10 @@ fn stretch_rows(
     alloc: Global,
     query: &Query,
     stretch: &Stretch,
-    filters: Filters,
+    filters: &Filters,
     asked: &Asked,
 ) -> Result<Vec<Row>, AllocError>
-    requires lets { (p : Point) → passes filters p ≡ spec.is_let_through (query_of query.now) p }
+    requires lets { (p : Point) → passes filters.now p ≡ spec.is_let_through (query_of query.now) p }
     requires ascending { IsAscending asked.now.rows.items }
     ensures { (l : List Point) (buckets : Buckets) → IsAscending l → IsAskedOf query.now asked.now l → IsFilledIn query.now buckets
         → IsStretchOf query.now buckets asked.now.ends stretch.now
@@ -67,7 +67,7 @@ fn stretch_rows(
         return Err(AllocError);
     }
     let taker = RowList::with_room(alloc, 0)?;
-    if stretch.says_hidden(&filters) {
+    if stretch.says_hidden(filters) {
         let line = stretch.last_values(filters, ahead, prior, taker);
         return seen_by(samples, line).into_rows();
     }
@@ -77,16 +77,16 @@ fn stretch_rows(
 }
 
 // The taker of a line that has not begun, after all samples.
-fn seen_by<T: Take>(samples: &[Sample], mut line: LastValues<T>) -> T
+fn seen_by<T: Take>(samples: &[Sample], mut line: LastValues<'_, T>) -> T
     requires { line.seen ≡ [] }
-    ensures { (lo hi : ℕ) → IsLine lo hi (record line { seen = samples.now }) → T.has result (last_rows (record line { seen = samples.now })) }
+    ensures { (lo hi : ℕ) → IsLine lo hi (record line.entry { seen = samples.now }) → T.has result (last_rows (record line.entry { seen = samples.now })) }
 {
     show_all(samples, &mut line);
     line.finish()
 }
 
 // Gives all samples to a line.
-fn show_all<T: Take>(samples: &[Sample], line: &mut LastValues<T>)
+fn show_all<T: Take>(samples: &[Sample], line: &mut LastValues<'_, T>)
     ensures { line.new ≡ record line.old { seen = line.old.seen ++ samples.now } }
 {
     for sample in samples {

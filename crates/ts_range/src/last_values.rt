@@ -17,8 +17,8 @@ use ts_sample::{Cell, Sample, Units, Visit};
 /// It hands the rows to a taker, each as soon as a sample is past its bucket. Samples that are not let through are not
 /// told of their own buckets, but of the empty ones past them.
 #[derive(Drop)]
-pub struct LastValues<T: Take> {
-    filters: Filters,
+pub struct LastValues<'f, T: Take> {
+    filters: &'f Filters,
     filling: Filling,
     current: Current,
     taker: T,
@@ -36,21 +36,21 @@ pub(crate) struct Current {
     latest: Option<Cell>,
 }
 
-impl<T: Take> Model for LastValues<T> {
+impl<'f, T: Take> Model for LastValues<'f, T> {
     ghost use Rattle.ts_range.specs.LastValues.{LastValues as Last, IsLasting, values_of};
 
     ghost Value = { Last };
 
-    ghost view = { λ w. values_of w.filters w.filling w.seen.points };
+    ghost view = { λ w. values_of w.filters.now w.filling w.seen.points };
 
-    ghost invariant = { λ w. IsLasting (T.has w.taker) (values_of w.filters w.filling w.seen.points) w.current };
+    ghost invariant = { λ w. IsLasting (T.has w.taker) (values_of w.filters.now w.filling w.seen.points) w.current };
 }
 
-impl<T: Take> LastValues<T> {
+impl<'f, T: Take> LastValues<'f, T> {
     // No sample was given yet, and no row handed on.
-    pub(crate) fn new(filters: Filters, filling: Filling, taker: T) -> LastValues<T>
+    pub(crate) fn new(filters: &'f Filters, filling: Filling, taker: T) -> LastValues<'f, T>
         requires { T.has taker [] }
-        ensures { result ≡ values_of filters filling [] }
+        ensures { result ≡ values_of filters.now filling [] }
     {
         LastValues {
             filters,
@@ -70,7 +70,7 @@ impl<T: Take> LastValues<T> {
 
     /// The taker, to which the rows of all buckets were handed.
     pub fn finish(self) -> T
-        ensures { (lo hi : ℕ) → IsLine lo hi self → T.has result (last_rows self) }
+        ensures { (lo hi : ℕ) → IsLine lo hi self.entry → T.has result (last_rows self.entry) }
     {
         let LastValues {
             filters: _,
@@ -85,7 +85,7 @@ impl<T: Take> LastValues<T> {
     }
 }
 
-impl<T: Take> Visit for LastValues<T> {
+impl<T: Take> Visit for LastValues<'_, T> {
     ghost use Rattle.std.specs.Prelude.{◌^◌};
     ghost use Rattle.std.proofs.Common.{arith};
     ghost use Rattle.ts_range.specs.LastValues.{with_one};
@@ -97,7 +97,7 @@ impl<T: Take> Visit for LastValues<T> {
     #[inline(always)]
     fn sample(&mut self, sample: &Sample) {
         take_sample(
-            &self.filters,
+            self.filters,
             &self.filling,
             &mut self.current,
             &mut self.taker,

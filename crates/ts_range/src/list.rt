@@ -6,7 +6,7 @@ ghost use Rattle.ts_range.specs.Query.{cell_of, row_of};
 ghost use Rattle.ts_range.specs.Taking.{IsListOf, no_limit};
 
 use crate::row::Row;
-use crate::take::Take;
+use crate::take::{Keep, Take};
 use std::alloc::{AllocError, Global};
 use ts_sample::Cell;
 
@@ -59,6 +59,12 @@ impl Take for RowList {
 
     fn is_full(&self) -> bool {
         self.lost
+    }
+}
+
+impl Keep for RowList {
+    fn lose(&mut self) {
+        self.lost = true;
     }
 }
 

@@ -21,7 +21,7 @@ pub(crate) struct Starts {
 }
 
 impl Starts {
-    ghost use Rattle.std.specs.Prelude.{◌≡◌, ◌<◌, ◌==◌, [], ◌∷◌, length, Some, slice_get};
+    ghost use Rattle.std.specs.Prelude.{◌≡◌, ◌<◌, [], ◌∷◌, length, Some, slice_get};
     ghost use Rattle.ts_spec.specs.Answer.{starts_between};
     ghost use Rattle.ts_range.specs.Order.{in_order};
     ghost use Rattle.ts_range.specs.Starts.{starts_of, starts_if, starts_within};
@@ -86,13 +86,6 @@ impl Starts {
             None => self.count,
             Some(count) => self.count.min(count),
         }
-    }
-
-    // Whether it is the first one.
-    pub(crate) fn is_first(&self, start: u64) -> bool
-        ensures { result ≡ (start == self.now.first) }
-    {
-        start == self.first
     }
 
     // The one at this place, counted from the last one where that comes first.

@@ -77,15 +77,15 @@ impl Stretch {
 
     /// A walk over the samples from the first time to the last one, which tells empty buckets too. `ahead` is the last
     /// sample before the first bucket, and `prior` the last one before the first time.
-    pub fn walk<T: Take>(
+    pub fn walk<'f, T: Take>(
         &self,
-        filters: Filters,
+        filters: &'f Filters,
         ahead: Option<Sample>,
         prior: Option<Sample>,
         taker: T,
-    ) -> Walk<Filled<T>>
+    ) -> Walk<'f, Filled<T>>
         requires { T.has taker [] }
-        ensures lets { (p : Point) → lets result p ≡ passes filters p }
+        ensures lets { (p : Point) → lets result p ≡ passes filters.now p }
         ensures buckets { result.buckets ≡ Some (begun (buckets_of self.now.buckets)) }
         ensures limit { result.limit ≡ record { count = None; filling = Some (filling_with self.now ahead prior) } }
         ensures seen { result.seen ≡ [] }
@@ -100,16 +100,16 @@ impl Stretch {
 
     /// The same, where an empty bucket says a value that the filters may hide: a visitor of all samples from the first
     /// time to the last one.
-    pub fn last_values<T: Take>(
+    pub fn last_values<'f, T: Take>(
         &self,
-        filters: Filters,
+        filters: &'f Filters,
         ahead: Option<Sample>,
         prior: Option<Sample>,
         taker: T,
-    ) -> LastValues<T>
+    ) -> LastValues<'f, T>
         requires { T.has taker [] }
         ensures filling { result.filling ≡ filling_with self.now ahead prior }
-        ensures counts { (p : Point) → counts result p ≡ passes filters p }
+        ensures counts { (p : Point) → counts result p ≡ passes filters.now p }
         ensures seen { result.seen ≡ [] }
     {
         LastValues::new(filters, self.filling(ahead, prior), taker)

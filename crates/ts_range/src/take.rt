@@ -23,3 +23,10 @@ pub trait Take: Drop {
     fn is_full(&self) -> bool
         ensures { result ≡ true → (rows more : List TheRow) → has self.now rows → has self.now (rows ++ more) };
 }
+
+/// A taker that keeps rows, for which there may be no memory.
+pub trait Keep: Take {
+    /// Notes that there was no memory for some row.
+    fn lose(&mut self)
+        ensures { (rows : List TheRow) → Self.has self.new rows };
+}

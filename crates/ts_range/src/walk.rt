@@ -19,15 +19,15 @@ use ts_sample::{Cell, Sample, Visit};
 /// A visitor that answers a question: it hands the rows of the samples that it is given to a taker, each as soon as
 /// it is known. It can take 10^14 samples, which come in ascending time.
 #[derive(Drop)]
-pub struct Walk<T: Take> {
-    filters: Filters,
+pub struct Walk<'f, T: Take> {
+    filters: &'f Filters,
     // Where buckets are told, and not samples.
     cut: Option<Cutter>,
     taker: T,
     seen: Trail,
 }
 
-impl<T: Take> Model for Walk<T> {
+impl<'f, T: Take> Model for Walk<'f, T> {
     ghost use Rattle.std.specs.Prelude.{filter, option_map};
     ghost use Rattle.ts_range.specs.Query.{buckets_of};
     ghost use Rattle.ts_range.specs.Filters.{passes};
@@ -36,17 +36,17 @@ impl<T: Take> Model for Walk<T> {
     ghost Value = { Walking };
 
     ghost view = { λ w. record {
-      times = option_map (λ times. times.items) w.filters.times;
-      values = w.filters.values;
+      times = option_map (λ times. times.items) w.filters.now.times;
+      values = w.filters.now.values;
       buckets = option_map (λ c. buckets_of c.buckets) w.cut;
       limit = T.limit w.taker;
       seen = w.seen.points;
     } };
 
-    ghost invariant = { λ w. IsWalk (T.has w.taker) w.cut w.seen.points (filter (passes w.filters) w.seen.points) };
+    ghost invariant = { λ w. IsWalk (T.has w.taker) w.cut w.seen.points (filter (passes w.filters.now) w.seen.points) };
 }
 
-impl<T: Take> Walk<T> {
+impl<'f, T: Take> Walk<'f, T> {
     ghost use Rattle.std.specs.Prelude.{◌≡◌, ◌≤◌, [], ◌++◌, filter, IfOk, IfErr, IfSome, IfNone};
     ghost use Rattle.ts_spec.specs.Sample.{Point, IsAscending, between};
     ghost use Rattle.ts_range.specs.Query.{buckets_of};
@@ -55,9 +55,9 @@ impl<T: Take> Walk<T> {
 
     /// Lets through what these filters do, and tells of these buckets, or of each sample. No sample was given yet,
     /// and no row handed on.
-    pub fn new(filters: Filters, buckets: Option<Buckets>, taker: T) -> Walk<T>
+    pub fn new(filters: &'f Filters, buckets: Option<Buckets>, taker: T) -> Walk<'f, T>
         requires { T.has taker [] }
-        ensures lets { (p : Point) → lets result p ≡ passes filters p }
+        ensures lets { (p : Point) → lets result p ≡ passes filters.now p }
         ensures buckets { result.buckets ≡ option_map buckets_of buckets }
         ensures limit { result.limit ≡ T.limit taker }
         ensures seen { result.seen ≡ [] }
@@ -86,8 +86,8 @@ impl<T: Take> Walk<T> {
 
     /// The taker, to which the rows of all samples were handed.
     pub fn finish(self) -> T
-        ensures rows { IsAscending self.seen → (asked : List Point) → T.has result (rows_of_walk self asked) }
-        ensures limit { T.limit result ≡ self.limit }
+        ensures rows { IsAscending self.entry.seen → (asked : List Point) → T.has result (rows_of_walk self.entry asked) }
+        ensures limit { T.limit result ≡ self.entry.limit }
     {
         let Walk {
             filters: _,
@@ -102,11 +102,11 @@ impl<T: Take> Walk<T> {
     }
 
     /// The taker, if more samples would change nothing of the rows that it keeps; else the walk as it is.
-    pub fn finish_if_full(self) -> Result<T, Walk<T>>
-        ensures rows { IfOk result (λ taker. (more asked : List Point) → IsAscending (self.seen ++ more)
-            → T.has taker (rows_of_walk (record self { seen = self.seen ++ more }) asked)) }
-        ensures limit { IfOk result (λ taker. T.limit taker ≡ self.limit) }
-        ensures walk { IfErr result (λ walk. walk ≡ self) }
+    pub fn finish_if_full(self) -> Result<T, Walk<'f, T>>
+        ensures rows { IfOk result (λ taker. (more asked : List Point) → IsAscending (self.entry.seen ++ more)
+            → T.has taker (rows_of_walk (record self.entry { seen = self.entry.seen ++ more }) asked)) }
+        ensures limit { IfOk result (λ taker. T.limit taker ≡ self.entry.limit) }
+        ensures walk { IfErr result (λ walk. walk ≡ self.entry) }
     {
         if !self.taker.is_full() {
             return Err(self);
@@ -121,7 +121,7 @@ impl<T: Take> Walk<T> {
     }
 }
 
-impl<T: Take> Visit for Walk<T> {
+impl<T: Take> Visit for Walk<'_, T> {
     ghost use Rattle.std.specs.Prelude.{◌-◌, ◌^◌, length};
     ghost use Rattle.ts_range.specs.Walking.{with_seen, lowered};
 
@@ -131,7 +131,7 @@ impl<T: Take> Visit for Walk<T> {
 
     #[inline(always)]
     fn sample(&mut self, sample: &Sample) {
-        take_sample(&self.filters, &mut self.cut, &mut self.taker, sample);
+        take_sample(self.filters, &mut self.cut, &mut self.taker, sample);
         self.seen = Trail::with(&self.seen, sample);
     }
 

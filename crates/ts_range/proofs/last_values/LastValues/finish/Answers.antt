@@ -6,7 +6,7 @@ use Rattle.ts_range.proofs.last_values.LastValues.finish.Goals as goal
 pub returns : goal.returns
 returns g c = λ lo hi line.
     let has = g.T.Take.has c.tell.new.taker in
-    let v = values_of c.self.inside.filters c.self.inside.filling c.self.inside.seen.points in
+    let v = values_of c.self.inside.filters.now c.self.inside.filling c.self.inside.seen.points in
     let inside : IsLine lo hi v = subst (IsLine lo hi) (sym c.self.view_is) line in
     let told = c.tell.ensures v lo hi refl inside (c.reach_last.ensures.current v lo hi refl inside (c.self.invariant.known lo hi inside)) in
     subst (λ (w : LastValues). has (last_rows w)) c.self.view_is

@@ -5,7 +5,7 @@ use Rattle.ts_range.proofs.last_values.LastValues.new.Goals as goal
 
 pub invariant_of-result : goal.invariant_of-result
 invariant_of-result g c =
-    let v = values_of c.args.filters c.args.filling c.new.result.points in
+    let v = values_of c.args.filters.now c.args.filling c.new.result.points in
     record {
       within = omega arith;
       known = λ lo hi line b is. none-seen (g.T.Take.has c.args.taker) v c.new.ensures c.requires b;

@@ -13,7 +13,7 @@ use Rattle.ts_range.proofs.walk.Walk.finish_if_full.Goals as goal
 pub returns-clause-rows : goal.returns-clause-rows
 returns-clause-rows g c = λ more asked rises.
     let has = g.T.Take.has c.self.inside.taker in
-    let lets = passes c.self.inside.filters in
+    let lets = passes c.self.inside.filters.now in
     let seen = c.self.inside.seen.points in
     let parts : filter lets (seen ++ more) ≡ filter lets seen ++ filter lets more = filter-append lets seen more in
     let same : c.args.self.seen ≡ seen = sym (ap (λ (w : Walking). w.seen) c.self.view_is) in

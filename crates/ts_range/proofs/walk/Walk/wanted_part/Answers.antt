@@ -9,12 +9,12 @@ use Rattle.ts_range.proofs.walk.Walk.wanted_part.Goals as goal
 
 pub returns-clause-all : goal.returns-clause-all
 returns-clause-all g c =
-    let test = passes c.self.inside.filters in
+    let test = passes c.self.inside.filters.now in
     subst (λ (w : Walking). IfSome c.part_of.result (λ part. (ps : List Point) → filter (lets w) (between part.0 part.1 ps) ≡ filter (lets w) (between c.args.from c.args.to ps))) c.self.view_is
     (IfSome_then c.part_of.result c.part_of.ensures.all (λ part same ps. same-part test c.args.from c.args.to part.0 part.1 same ps))
 
 pub returns-clause-none : goal.returns-clause-none
 returns-clause-none g c =
-    let test = passes c.self.inside.filters in
+    let test = passes c.self.inside.filters.now in
     subst (λ (w : Walking). IfNone c.part_of.result ((ps : List Point) → filter (lets w) (between c.args.from c.args.to ps) ≡ [])) c.self.view_is
     (if-none c.part_of.result (λ none ps. empty-part test c.args.from c.args.to none ps) c.part_of.ensures.none)

@@ -9,7 +9,7 @@ use Rattle.ts_range.proofs.walk.WalkVisit.sample.Goals as goal
 
 pub invariant_of-self : goal.invariant_of-self
 invariant_of-self g c =
-    let lets = passes c.self.inside.filters in
+    let lets = passes c.self.inside.filters.now in
     let old = c.self.inside.seen.points in
     let p = c.args.sample.now in
     let longer : length (old ++ p ∷ []) ≡ length old + 1 = length-append old (p ∷ []) in

@@ -1,8 +1,0 @@
-use Rattle.std.proofs.Common.{length, ◌-◌, ◌<◌}
-use Rattle.ts_range.proofs.place.reach_from_front.Given as goal
-
-abbrev pub invariant-loop-bound : goal.invariant-loop-bound
-invariant-loop-bound l = 0 < l.bound
-
-abbrev pub decreases-loop-bound : goal.decreases-loop-bound
-decreases-loop-bound l = length l.samples - l.bound
