@@ -1,7 +1,6 @@
 -- What `pipe` did with an input is how that was answered.
 use Rattle.std.specs.Prelude.{Option, Some}
-use Rattle.std.proofs.Common.{◌≡◌, ℕ, ◌<◌, ◌≤◌, List, [], length, refl, subst}
-use Rattle.ts_io.specs.Causes.{Rose}
+use Rattle.std.proofs.Common.{◌≡◌, ℕ, List, [], refl, subst}
 use Rattle.ts_spec.specs.declared.wire.WireLimits.{WireLimits}
 use Rattle.ts_engine.specs.declared.piped.Outcome.{Outcome}
 use Rattle.ts_engine.specs.Answered.{InputAnswered}

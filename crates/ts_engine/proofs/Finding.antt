@@ -1,23 +1,18 @@
 -- What the database finds of a question.
-use Rattle.std.proofs.Common.{◌≡◌, ℕ, Bool, true, false, List, [], ◌∷◌, refl, sym, ◌∙◌, ap, subst}
+use Rattle.std.proofs.Common.{◌≡◌, Bool, true, false, List, [], ◌∷◌, refl, sym, ◌∙◌, ap, subst}
 use Rattle.std.specs.Prelude.{⊤, Option, None, Some, is_some, Ok, Err}
 use Rattle.std.proofs.lemmas.Bool.{false≢true}
 use Rattle.ts_spec.specs.declared.limits.Limits.{Limits}
 use Rattle.ts_spec.specs.Key.{Key}
 use Rattle.ts_spec.specs.Keyed.{get}
-use Rattle.ts_spec.specs.Answer.{answer}
-use Rattle.ts_spec.specs.Command as query
-use Rattle.ts_spec.specs.Questions.{asked, rows_response, range_response}
-use Rattle.ts_engine.specs.Answering.{IsReplyText}
+use Rattle.ts_spec.specs.Questions.{asked}
 use Rattle.ts_spec.specs.Rules.{open_of, opened, shown_by, shown_at, latest_at, closed_rows}
-use Rattle.ts_spec.specs.Sample.{Point, IsAscending, first_of, last_of, later_or}
+use Rattle.ts_spec.specs.Sample.{Point, IsAscending, first_of, last_of}
 use Rattle.ts_spec.specs.State.{Rule, Record, State, rule_into, edge}
 use Rattle.ts_spec.specs.Valid.{IsValid}
 use Rattle.ts_spec.proofs.Samples.{ascending-times, ascending-put_all}
-use Rattle.ts_range.specs.declared.row.Asked.{Asked}
 use Rattle.ts_range.specs.Walk.{times_of}
-use Rattle.std.specs.declared.alloc.AllocError.{AllocError}
-use Rattle.ts_db.specs.declared.fault.DbFault.TheVariants.{NoKey, Memory}
+use Rattle.ts_db.specs.declared.fault.DbFault.TheVariants.{NoKey}
 use Rattle.ts_spec.specs.Kept.{Keeping}
 use Rattle.ts_spec.specs.KeptQuestions.{kept_asked}
 use Rattle.ts_spec.proofs.KeptAsked.{asked-kept}
@@ -51,20 +46,6 @@ asked_ascending limits m false k valid = go (get k m) refl (rule_into m k)
     go None is r = tt
     go (Some d) is r = shows_ascending d (valid.sound k d is).ascending r
 
--- the first of the two ends is the time of the first sample
-pub first_end : (ps : List Point) (p : Point) (first last : ℕ) → Some (first, last) ≡ ends_of ps → first_of ps ≡ Some p → first ≡ p.time
-first_end [] p first last ends is = absurd (cc ends)
-first_end (q ∷ qs) p first last ends is =
-    let both : (first, last) ≡ (q.time, (later_or q (last_of qs)).time) = cc ends in
-    let same : q ≡ p = cc is in
-    ap (λ (e : ℕ × ℕ). e.0) both ∙ ap (λ (x : Point). x.time) same
-
--- the rows of a key that is there
-pub range_response_found : (limits : Limits) (m : State) (key : Key) (with_open : Bool) (q : query.Query) (o : Option Record) (what : Asked → Type 0) (a : Asked) (written : List ℕ)
-    → Finds o what (Ok a) → IsReplyText (rows_response (answer limits.empty_rows q (asked m with_open key))) written → IsReplyText (range_response limits m key with_open q o) written
-range_response_found limits m key with_open q None what a written finds is = absurd finds
-range_response_found limits m key with_open q (Some d) what a written finds is = is
-
 -- what is kept of a key shows ascending samples too
 pub kept_ascending : (stock : Stock) → Leads stock (λ held. ⊤) → (latest : Bool) (k : Key) → IsAscending (kept_asked stock.keys latest k)
 kept_ascending stock w latest k =
@@ -76,15 +57,7 @@ kept_ascending stock w latest k =
 pub asked_stands : (stock : Stock) (latest : Bool) (k : Key) (from : Held) → Stands stock from → kept_asked stock.keys latest k ≡ asked from.state latest k
 asked_stands stock latest k from stands = ap (λ (keys : Keeping). kept_asked keys latest k) stands.state.kept ∙ asked-kept from.state latest k
 
--- a key that is there, and one that is not
-pub finds_here : {T : Type 0} (o : Option Record) (what : T → Type 0) (x : T) → true ≡ is_some o → what x → Finds o what (Ok x)
-finds_here None what x here is = absurd (false≢true (sym here))
-finds_here (Some d) what x here is = is
-
+-- a key that is not there
 pub finds_none : {T : Type 0} (o : Option Record) (what : T → Type 0) → false ≡ is_some o → Finds o what (Err NoKey)
 finds_none None what here = refl
 finds_none (Some d) what here = absurd (false≢true here)
-
-pub finds_memory : {T : Type 0} (o : Option Record) (what : T → Type 0) (e : AllocError) → true ≡ is_some o → Finds o what (Err (Memory e))
-finds_memory None what e here = absurd (false≢true (sym here))
-finds_memory (Some d) what e here = tt

@@ -1,12 +1,11 @@
 -- The rows that a walk over the samples of a key hands on.
 use Rattle.std.proofs.Common.{◌≡◌, List, [], ◌∷◌, ◌++◌, sym, ◌∙◌, ap, subst, append-nil, append_assoc, ℕ, Bool, true}
-use Rattle.std.specs.Prelude.{filter, Option, None, Some, is_some, Result, Ok, Err, IfOk, IfErr, IfNone}
+use Rattle.std.specs.Prelude.{filter, Option, None, Some, is_some}
 use Rattle.std.proofs.lemmas.Bool.{false≢true}
 use Rattle.ts_spec.specs.declared.limits.Limits.{Limits}
 use Rattle.ts_spec.specs.Command.{Query}
 use Rattle.ts_spec.specs.Key.{Key}
 use Rattle.ts_spec.specs.Questions.{asked, rows_response, range_response}
-use Rattle.ts_spec.specs.Response.{Rows}
 use Rattle.ts_spec.specs.State.{Record, State}
 use Rattle.ts_spec.specs.Sample.{Point, IsAscending}
 use Rattle.ts_spec.specs.Answer.{Row, answer}
@@ -27,28 +26,8 @@ walk-handed has w end ps none rises is rows asked =
     let seen : end.seen ≡ ps = ap (λ (x : Walking). x.seen) all in
     subst has (ap (λ (x : Walking). rows_of_walk x asked) all) (rows (subst IsAscending (sym seen) rises) asked)
 
--- a key that is there is answered with its rows
-pub rows_here : (limits : Limits) (m : State) (key : Key) (with_open : Bool) (q : Query) (o : Option Record) (rows : List Row) (written : List ℕ) → true ≡ is_some o
-    → answer limits.empty_rows q (asked m with_open key) ≡ Some rows → IsReplyText (Rows rows) written → IsReplyText (range_response limits m key with_open q o) written
-rows_here limits m key with_open q None rows written here is told = absurd (false≢true (sym here))
-rows_here limits m key with_open q (Some d) rows written here is told = subst (λ (x : Option (List Row)). IsReplyText (rows_response x) written) (sym is) told
-
--- what holds of a result for each key
-pub for-each-key : {X E : Type 0} (r : Result X E) (P : Key → Type 0) (Q : Key → X → Type 0) → ((k : Key) → P k → IfOk r (λ x. Q k x)) → IfOk r (λ x. (k : Key) → P k → Q k x)
-for-each-key (Ok x) P Q h = h
-for-each-key (Err e) P Q h = tt
-
-pub for-each-key-refused : {X E : Type 0} (r : Result X E) (fault : E) (P Q : Key → Type 0) → ((k : Key) → P k → IfErr r (λ e. e ≡ fault → Q k)) → IfErr r (λ e. e ≡ fault → (k : Key) → P k → Q k)
-for-each-key-refused (Ok x) fault P Q h = tt
-for-each-key-refused (Err e) fault P Q h = λ is k at. h k at is
-
 -- a key that is there is answered with its rows, or that they are too many
 pub answer_here : (limits : Limits) (m : State) (key : Key) (with_open : Bool) (q : Query) (o : Option Record) (written : List ℕ) → true ≡ is_some o
     → IsReplyText (rows_response (answer limits.empty_rows q (asked m with_open key))) written → IsReplyText (range_response limits m key with_open q o) written
 answer_here limits m key with_open q None written here told = absurd (false≢true (sym here))
 answer_here limits m key with_open q (Some d) written here told = told
-
--- what follows where there is no value
-pub none_then : {X P Q : Type 0} (o : Option X) → (P → Q) → IfNone o P → IfNone o Q
-none_then None f h = f h
-none_then (Some x) f h = tt

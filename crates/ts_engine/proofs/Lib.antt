@@ -1,5 +1,6 @@
 pub mod Added
 pub mod Answered
+pub mod Asking
 pub mod Carried
 pub mod Carrying
 pub mod Dropping

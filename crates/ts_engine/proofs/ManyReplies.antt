@@ -31,7 +31,7 @@ AreAdded o before after = AreAddedOrLost false o before after
 abbrev kept_many : Limits → Keeping → Wanted → List Key → Response
 kept_many limits m wanted.Key ks = Keys ks
 kept_many limits m (wanted.Last latest show) ks = LastRows (map (kept_last_member m latest (show_of show)) ks)
-kept_many limits m (wanted.Rows latest show query) ks = members_response (kept_members_of limits m latest (show_of show) (query_of query) ks)
+kept_many limits m (wanted.Rows latest show query filters) ks = members_response (kept_members_of limits m latest (show_of show) (query_of query) ks)
 
 -- a reply to each
 each-replied : (reply : Key → Reply) (ks : List Key) → replies_of (λ k. Some (reply k)) ks ≡ Some (map reply ks)
@@ -64,7 +64,7 @@ kept-told limits m (wanted.Last latest show) ks before after empty added =
     text-added (map (λ k. last_member_reply (kept_last_member m latest (show_of show) k)) ks) _ before after
     (each-replied (λ k. last_member_reply (kept_last_member m latest (show_of show) k)) ks) empty added
     ∙ ap (λ (l : List Reply). text (array l)) (sym (map-map last_member_reply (kept_last_member m latest (show_of show)) ks))
-kept-told limits m (wanted.Rows latest show query) ks before after empty added =
+kept-told limits m (wanted.Rows latest show query filters) ks before after empty added =
     go (kept_members_of limits m latest (show_of show) (query_of query) ks)
     (subst (λ (p : Option (List Reply)). AreAdded p before after) (rows-replied limits m latest (show_of show) (query_of query) ks) added)
   where
@@ -76,7 +76,7 @@ kept-told limits m (wanted.Rows latest show query) ks before after empty added =
 kept-none : (limits : Limits) (m : Keeping) (w : Wanted) (ks : List Key) → replies_of (reply_at limits m w) ks ≡ None → kept_many limits m w ks ≡ Refused EmptyRows
 kept-none limits m wanted.Key ks none = absurd (cc (each-replied (λ k. Bulk k) ks, none))
 kept-none limits m (wanted.Last latest show) ks none = absurd (cc (each-replied (λ k. last_member_reply (kept_last_member m latest (show_of show) k)) ks, none))
-kept-none limits m (wanted.Rows latest show query) ks none =
+kept-none limits m (wanted.Rows latest show query filters) ks none =
     go (kept_members_of limits m latest (show_of show) (query_of query) ks) (sym (rows-replied limits m latest (show_of show) (query_of query) ks) ∙ none)
   where
     go : (o : Option (List Member)) → option_map (map member_reply) o ≡ None → members_response o ≡ Refused EmptyRows
@@ -93,7 +93,7 @@ kept-stands stock w fs from stands =
     go : (w : Wanted) → kept_many stock.limits (kept from.state) w (selection from.state fs) ≡ many_response from w fs
     go wanted.Key = refl
     go (wanted.Last latest show) = ap (λ (ms : List Member). LastRows ms) (last_members-kept from.state latest (show_of show) (selection from.state fs))
-    go (wanted.Rows latest show query) =
+    go (wanted.Rows latest show query filters) =
         ap members_response (members-kept stock.limits from.state latest (show_of show) (query_of query) (selection from.state fs))
         ∙ ap (λ (l : Limits). members_response (members_of l from.state latest (show_of show) (query_of query) (selection from.state fs))) (sym stands.limits)
 
@@ -111,7 +111,7 @@ many-refused stock w fs after none is from stands =
 kept-yields : (limits : Limits) (m : Keeping) (w : Wanted) (ks : List Key) → is_none (replies_of (reply_at limits m w) ks) ≡ false → YieldsToMemory (kept_many limits m w ks)
 kept-yields limits m wanted.Key ks told = tt
 kept-yields limits m (wanted.Last latest show) ks told = tt
-kept-yields limits m (wanted.Rows latest show query) ks told =
+kept-yields limits m (wanted.Rows latest show query filters) ks told =
     go (kept_members_of limits m latest (show_of show) (query_of query) ks)
     (subst (λ (p : Option (List Reply)). is_none p ≡ false) (rows-replied limits m latest (show_of show) (query_of query) ks) told)
   where
@@ -148,4 +148,4 @@ pub never-refused : (limits : Limits) (m : Keeping) (w : Wanted) (ks : List Key)
 never-refused limits m wanted.Key ks can = ap (λ (o : Option (List Reply)). is_none o) (each-replied (λ k. Bulk k) ks)
 never-refused limits m (wanted.Last latest show) ks can =
     ap (λ (o : Option (List Reply)). is_none o) (each-replied (λ k. last_member_reply (kept_last_member m latest (show_of show) k)) ks)
-never-refused limits m (wanted.Rows latest show query) ks can = absurd (cc can)
+never-refused limits m (wanted.Rows latest show query filters) ks can = absurd (cc can)

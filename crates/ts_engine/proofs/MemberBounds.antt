@@ -27,3 +27,8 @@ module _ (most : Key → ℕ) (ids : Keyed Id) (keys : List Key) where
 
   pub left-few : (rest : List Id) (old now : ℕ) → Left rest old now → now ≤ old + sum_by most keys
   left-few rest old now is = omega (arith, is.few)
+
+-- nothing is taken of any key
+pub sum-none : (keys : List Key) → sum_by (λ (key : Key). 0) keys ≡ 0
+sum-none [] = omega arith
+sum-none (k ∷ ks) = omega (arith, sum_by-cons (λ (key : Key). 0) k ks, sum-none ks)

@@ -9,7 +9,7 @@ use Rattle.ts_spec.specs.Key.{Key}
 use Rattle.ts_spec.specs.Keyed.{get}
 use Rattle.ts_spec.specs.Kept.{Keeping}
 use Rattle.ts_spec.specs.KeptQuestions.{kept_asked, kept_labels_at, kept_member}
-use Rattle.ts_spec.specs.Questions.{labels_shown, rows_response}
+use Rattle.ts_spec.specs.Questions.{labels_shown}
 use Rattle.ts_spec.specs.Replies.{member_reply}
 use Rattle.ts_spec.specs.Response.{Member}
 use Rattle.ts_spec.specs.State.{Label}
@@ -18,18 +18,17 @@ use Rattle.ts_labels.specs.declared.show.Show.{Show}
 use Rattle.ts_labels.specs.Show.{show_of}
 use Rattle.ts_range.specs.declared.fault.RangeFault.{RangeFault}
 use Rattle.ts_multi.specs.Members.{member_with}
-use Rattle.ts_db.specs.Held.{YieldsToMemory}
-use Rattle.ts_engine.specs.Members.{in_memory, rows_at, IsAdded}
+use Rattle.ts_engine.specs.Members.{in_memory, is_too_many, rows_at, IsAdded}
 
 -- what follows where a call that may only find no memory is done
 pub in-memory-done : (r : Result (Unit {0}) AllocError) (x : Result (Unit {0}) RangeFault) (P Q : Type 0) → x ≡ in_memory r → (P → Q) → OnOk r P → OnOk x Q
 in-memory-done (Ok done) x P Q is more h = subst (λ (y : Result (Unit {0}) RangeFault). OnOk y Q) (sym is) (more h)
 in-memory-done (Err fault) x P Q is more h = subst (λ (y : Result (Unit {0}) RangeFault). OnOk y Q) (sym is) tt
 
--- what holds of any fault
-pub all-errs : {T E : Type 0} (r : Result T E) (P : E → Type 0) → ((fault : E) → P fault) → IfErr r P
-all-errs (Ok x) P h = tt
-all-errs (Err fault) P h = h fault
+-- its fault is not that the rows are too many
+pub memory-fault : (r : Result (Unit {0}) AllocError) (x : Result (Unit {0}) RangeFault) (Q : Bool → Type 0) → x ≡ in_memory r → Q false → IfErr x (λ fault. Q (is_too_many fault))
+memory-fault (Ok done) x Q is told = subst (λ (y : Result (Unit {0}) RangeFault). IfErr y (λ fault. Q (is_too_many fault))) (sym is) tt
+memory-fault (Err fault) x Q is told = subst (λ (y : Result (Unit {0}) RangeFault). IfErr y (λ fault. Q (is_too_many fault))) (sym is) told
 
 -- the member that a key and labels make is that of what is kept
 pub member-told : (m : Keeping) (show : Show) (key k : Key) (labels : List Label) (rows : List Row) → k ≡ key → labels ≡ kept_labels_at (get key m)
@@ -44,20 +43,9 @@ module _ (limits : Limits) (m : Keeping) (latest : Bool) (show : command.Show) (
       subst (λ (o : Option (List Row)). IsAdded (option_map (λ rows. member_reply (kept_member m show key rows)) o) before after) (sym answered)
       (added ∙ ap (λ (x : Member). before ++ text (member_reply x)) is)
 
-  -- they are too many
-  pub rows-none : answer limits.empty_rows q (kept_asked m latest key) ≡ None → rows_at limits m latest show q key ≡ None
-  rows-none none = ap (option_map (λ rows. member_reply (kept_member m show key rows))) none
-
   -- they are not
   pub rows-some : (rows : List Row) → answer limits.empty_rows q (kept_asked m latest key) ≡ Some rows → is_none (rows_at limits m latest show q key) ≡ false
   rows-some rows answered = ap (λ (o : Option (List Row)). is_none (option_map (λ rows. member_reply (kept_member m show key rows)) o)) answered
-
-  pub rows-lost : YieldsToMemory (rows_response (answer limits.empty_rows q (kept_asked m latest key))) → is_none (rows_at limits m latest show q key) ≡ false
-  rows-lost yields = go (answer limits.empty_rows q (kept_asked m latest key)) yields
-    where
-      go : (o : Option (List Row)) → YieldsToMemory (rows_response o) → is_none (option_map (λ rows. member_reply (kept_member m show key rows)) o) ≡ false
-      go None is = absurd is
-      go (Some rows) is = refl
 
   -- there is no member exactly where they are
   pub rows-refused : is_none (answer limits.empty_rows q (kept_asked m latest key)) ≡ is_none (rows_at limits m latest show q key)

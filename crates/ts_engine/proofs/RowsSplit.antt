@@ -18,6 +18,7 @@ use Rattle.ts_range.specs.declared.query.Query.{Query}
 use Rattle.ts_range.specs.Query.{buckets_of, query_of}
 use Rattle.ts_range.specs.Walking.{rows_chosen}
 use Rattle.ts_range.proofs.Groups.{rows-append}
+use Rattle.ts_engine.specs.Asking.{rows_in}
 use Rattle.ts_engine.proofs.ReachingBack.{parts}
 
 -- ---- at the start of a bucket
@@ -62,10 +63,6 @@ rows-split o lets from to t l rises less le starts =
     (All-filter lets (λ p. not (nat_lt p.time t) ≡ true) (between t to l)
     (All-weaker (λ p. is_within t to p.time ≡ true) (λ p. not (nat_lt p.time t) ≡ true) (λ p is. within-from t to p.time is) (between t to l) (filter_passes (λ (p : Point). is_within t to p.time) l)))
     ∙ ap (λ (ps : List Point). rows_chosen o l (filter lets ps) ++ rows_chosen o l late) same
-
--- the rows of a question of the samples between two times, the first one first
-abbrev pub rows_in : Query → List Point → (from to : ℕ) → List Row
-rows_in q l from to = rows_chosen (option_map buckets_of q.buckets) l (filter (is_let_through (query_of q)) (between from to l))
 
 -- a bucket begins at a time, where there are buckets
 abbrev pub Begins : Query → ℕ → Type 0

@@ -1,6 +1,6 @@
 -- What `pipe` did with an input that it answered whole.
 use Rattle.std.specs.Prelude.{Option, Some}
-use Rattle.std.proofs.Common.{◌≡◌, ◌⊎◌, inl, inr, ℕ, List, [], ◌∷◌, ◌++◌, length, refl, sym, ◌∙◌, ap, subst, append-nil}
+use Rattle.std.proofs.Common.{◌≡◌, inl, inr, ℕ, List, [], ◌∷◌, ◌++◌, length, refl, ◌∙◌, ap, subst, append-nil}
 use Rattle.ts_io.specs.Counts.{Counts, counts_of}
 use Rattle.ts_io.specs.Sinks.{Grows}
 use Rattle.ts_spec.specs.Run.{Runs}

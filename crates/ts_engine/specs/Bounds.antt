@@ -1,12 +1,13 @@
--- How many steps a question takes at most, by what contracts see of a database. Each sample that is decoded is a step, and so is each filter
+-- How many steps a command takes at most, by what contracts see of a database. Each sample that is decoded is a step, and so is each filter
 -- that is asked whether the labels of a key pass it.
 use Rattle.std.specs.Prelude.{ℕ, ◌+◌, ◌*◌, ◌≤◌, ⊤, if◌then◌else◌, List, length, sum_by}
-use Rattle.ts_spec.specs.Command.{Command, Range, MRange}
+use Rattle.ts_spec.specs.Command.{Command, Alter, Add, Incr, Madd, DelRange, Range, MRange, MGet, QueryIndex, InfoOf}
 use Rattle.ts_spec.specs.Filter.{Filter, all_hold}
 use Rattle.ts_spec.specs.Key.{Key}
 use Rattle.ts_spec.specs.Keyed.{get}
 use Rattle.ts_spec.specs.KeptQuestions.{kept_labels_at, kept_selection}
-use Rattle.ts_db.specs.Bounds.{walk_steps, selection_steps}
+use Rattle.ts_spec.specs.Outcome.{time_of}
+use Rattle.ts_db.specs.Bounds.{walk_steps, write_steps, deletion_steps, selection_steps}
 use Rattle.ts_db.specs.Held.{Stock, reach_at}
 use Rattle.ts_engine.specs.declared.wanted.Wanted.{Wanted}
 use Rattle.ts_engine.specs.declared.wanted.Wanted.TheVariants as wanted
@@ -23,14 +24,23 @@ questions_steps stock filters from to = selection_steps stock filters + sum_by (
 abbrev pub wanted_steps : Stock → Wanted → Key → ℕ
 wanted_steps stock wanted.Key key = 0
 wanted_steps stock (wanted.Last latest show) key = 0
-wanted_steps stock (wanted.Rows latest show query) key = question_steps stock key query.from query.to
+wanted_steps stock (wanted.Rows latest show query filters) key = question_steps stock key query.from query.to
 
 -- to see whether a key passes filters, and whether what is told of it is too much
 abbrev pub tried_steps : Stock → List Filter → Wanted → Key → ℕ
 tried_steps stock filters w key = length filters + (if all_hold filters (kept_labels_at (get key stock.keys)) then wanted_steps stock w key else 0)
 
--- a command that asks for the samples of an interval takes no more steps than its question
-abbrev pub IsBounded : Stock → Command → (old new : ℕ) → Type 0
-IsBounded stock (Range key latest query) old new = new ≤ old + question_steps stock key query.from query.to
-IsBounded stock (MRange latest show filters query) old new = new ≤ old + questions_steps stock filters query.from query.to
-IsBounded stock other old new = ⊤
+-- Each command takes no more steps than its change or its question, and none where no sample is looked at. The triples of TS.MADD
+-- are writes one after another, each of which takes what it may on the database that it meets.
+abbrev pub IsBounded : Stock → (reading : ℕ) → Command → (old new : ℕ) → Type 0
+IsBounded stock reading (Alter key change) old new = new ≤ old + 2 * reach_at stock key
+IsBounded stock reading (Add key at value on spec) old new = new ≤ old + write_steps stock key (time_of reading at)
+IsBounded stock reading (Incr key change at spec) old new = new ≤ old + write_steps stock key (time_of reading at)
+IsBounded stock reading (Madd triples) old new = ⊤
+IsBounded stock reading (DelRange key from to) old new = new ≤ old + deletion_steps stock key from to
+IsBounded stock reading (Range key latest query) old new = new ≤ old + question_steps stock key query.from query.to
+IsBounded stock reading (MRange latest show filters query) old new = new ≤ old + questions_steps stock filters query.from query.to
+IsBounded stock reading (MGet latest show filters) old new = new ≤ old + selection_steps stock filters
+IsBounded stock reading (QueryIndex filters) old new = new ≤ old + selection_steps stock filters
+IsBounded stock reading (InfoOf key) old new = new ≤ old + 2 * reach_at stock key
+IsBounded stock reading other old new = new ≤ old

@@ -1,11 +1,13 @@
 pub mod Answered
 pub mod Answering
 pub mod Asked
+pub mod Asking
 pub mod Bounds
 pub mod Ending
 pub mod Generated
 pub mod Going
 pub mod Headline
+pub mod Limits
 pub mod Members
 pub mod Piping
 pub mod RowTexts

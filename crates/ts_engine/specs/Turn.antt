@@ -6,7 +6,6 @@ use Rattle.ts_spec.specs.Command.{Triple, Command, Madd, DeleteRule, Get, Ping, 
 use Rattle.ts_spec.specs.Grammar.{command, makes_list, needs_clock}
 use Rattle.ts_spec.specs.Refusal.{Fault}
 use Rattle.ts_spec.specs.Replies.{array, fault_reply, memory_reply, item_reply, reply_to}
-use Rattle.ts_spec.specs.Response.{Response}
 use Rattle.ts_spec.specs.State.{State}
 use Rattle.ts_spec.specs.Step.{Outcome, step, triple_step, item_of}
 use Rattle.ts_spec.specs.Text.{Reply, text}

@@ -1,10 +1,8 @@
 // What is done where the words of the command line ask to serve.
 ghost use Rattle.std.specs.Prelude.{◌≡◌, ◌≢◌, ◌⊎◌, ◌≤◌, false};
 ghost use Rattle.ts_io.specs.Causes.{Rose};
-ghost use Rattle.ts_db.specs.Held.{Carries};
 ghost use Rattle.ts_engine.specs.Asked.{Connections, AllServed};
 ghost use Rattle.ts_engine.specs.Asked as asked;
-ghost use Rattle.ts_engine.specs.Serving.{Serves};
 ghost use Rattle.ts_engine.specs.Top.{AreUsable};
 
 use crate::serving::{Served, serve};
@@ -12,7 +10,6 @@ use crate::status::report;
 use std::alloc::Global;
 use ts_db::{Db, Limits};
 use ts_io::{Clock, Listener, Sink};
-use ts_resp::WireLimits;
 use ts_words::Status;
 
 // Serves so many connections at the address, over a new database. A status other than `Ended` has its line on `err`.
@@ -46,53 +43,14 @@ pub(crate) fn serve_address<N: Listener, K: Sink, E: Sink, C: Clock>(
     ensures no_accept_fault { result ≢ Status.AcceptFault → result ≢ Status.WriteFault → N.faults net.new ≡ N.faults net.old }
     ensures no_write_fault { result ≢ Status.WriteFault → (K.faults out.new ≡ K.faults out.old) × (E.faults err.new ≡ E.faults err.old) }
 {
-    let mut db = Db::new(alloc, limits);
-    let served = open_and_serve(
-        alloc,
-        &mut db,
-        address,
-        net,
-        out,
-        clock,
-        links,
-        limits.wire,
-        budget,
-    );
-    report(err, status_served(served), 0)
-}
-
-// Opens the address, and serves the connections that come there.
-fn open_and_serve<N: Listener, K: Sink, C: Clock>(
-    alloc: Global,
-    db: &mut Db,
-    address: &str,
-    net: &mut N,
-    out: &mut K,
-    clock: &mut C,
-    links: u32,
-    limits: WireLimits,
-    budget: u64,
-) -> Served
-    requires words { 1 ≤ limits.words }
-    requires word_bytes { 1 ≤ limits.word_bytes }
-    requires request_bytes { 1 ≤ limits.request_bytes }
-    requires line_bytes { 1 ≤ limits.line_bytes }
-    requires budget { 1 ≤ budget }
-    requires net { N.is_out net.old ≡ false }
-    requires links { 1 ≤ links }
-    ensures serves { Carries db.old db.new (λ from to. Serves
-        (record { left = N.In.left; reads = N.In.faults; has = N.Out.has; writes = N.Out.faults }) limits budget result 1 links
-        (record { held = from; readings = C.readings clock.old }) (record { held = to; readings = C.readings clock.new })
-        (N.coming net.old) (N.coming net.new) (N.closed net.old) (N.closed net.new) (K.has out.old) (K.has out.new)) }
-    ensures net { N.is_out net.new ≡ false }
-    ensures accept_fault { result ≡ Served.AcceptFault → Rose (N.faults net.old) (N.faults net.new) }
-    ensures write_fault { result ≡ Served.WriteFault → Rose (K.faults out.old) (K.faults out.new) }
-    ensures no_accept_fault { result ≢ Served.AcceptFault → N.faults net.new ≡ N.faults net.old }
-    ensures no_write_fault { result ≢ Served.WriteFault → K.faults out.new ≡ K.faults out.old }
-{
     match net.open(address) {
-        Ok(()) => serve(alloc, db, net, out, clock, links, limits, budget),
-        Err(_) => Served::AcceptFault,
+        Ok(()) => {
+            let mut db = Db::new(alloc, limits);
+            let wire = limits.wire;
+            let served = serve(alloc, &mut db, net, out, clock, links, wire, budget);
+            report(err, status_served(served), 0)
+        }
+        Err(_) => report(err, Status::AcceptFault, 0),
     }
 }
 

@@ -1,12 +1,13 @@
 // The commands that change one series.
-ghost use Rattle.std.specs.Prelude.{◌≡◌, ◌≤◌};
+ghost use Rattle.std.specs.Prelude.{◌≡◌, ◌≤◌, ◌+◌, ◌*◌};
 ghost use Rattle.ts_spec.specs.Keyed.{get};
 ghost use Rattle.ts_spec.specs.Sample.{MAX_TIME};
 ghost use Rattle.ts_spec.specs.Settings.{IsTime};
 ghost use Rattle.ts_spec.specs.Step.{time_of, create, alter_at, add_at, incr_at, delete_at};
 ghost use Rattle.ts_labels.specs.Spec.{spec_of, change_of};
 ghost use Rattle.ts_resp.specs.Replies.{reply_of};
-ghost use Rattle.ts_db.specs.Held.{Carries};
+ghost use Rattle.ts_db.specs.Bounds.{write_steps, deletion_steps};
+ghost use Rattle.ts_db.specs.Held.{Carries, reach_at};
 ghost use Rattle.ts_engine.specs.Answering.{IsShort};
 ghost use Rattle.ts_engine.specs.Turn.{StepOrMemory};
 
@@ -35,6 +36,7 @@ pub(crate) fn alter<L: Ledger>(
     ensures answer { Carries db.old db.new (λ from to. StepOrMemory (alter_at from.limits from.state key.now (change_of change) (get key.now from.state))
         from (reply_of result) to) }
     ensures short { IsShort (reply_of result) }
+    ensures steps { steps.new ≤ steps.old + 2 * reach_at db.old key.now }
 {
     done_reply(db.alter(key, change, steps))
 }
@@ -53,6 +55,7 @@ pub(crate) fn add<L: Ledger>(
     ensures answer { Carries db.old db.new (λ from to. StepOrMemory (add_at from.limits from.state key time value on (spec_of spec) (get key from.state))
         from (reply_of result) to) }
     ensures short { IsShort (reply_of result) }
+    ensures steps { steps.new ≤ steps.old + write_steps db.old key time }
 {
     number_reply(db.add(key, time, value, on, spec, steps))
 }
@@ -70,6 +73,7 @@ pub(crate) fn incr<L: Ledger>(
     ensures answer { Carries db.old db.new (λ from to. StepOrMemory (incr_at from.limits from.state key change time (spec_of spec) (get key from.state))
         from (reply_of result) to) }
     ensures short { IsShort (reply_of result) }
+    ensures steps { steps.new ≤ steps.old + write_steps db.old key time }
 {
     number_reply(db.incr(key, change, time, spec, steps))
 }
@@ -86,6 +90,7 @@ pub(crate) fn delete<L: Ledger>(
     ensures answer { Carries db.old db.new (λ h h'. StepOrMemory (delete_at h.limits h.state key.now from to (get key.now h.state))
         h (reply_of result) h') }
     ensures short { IsShort (reply_of result) }
+    ensures steps { steps.new ≤ steps.old + deletion_steps db.old key.now from to }
 {
     number_reply(db.delete_range(key, from, to, steps))
 }

@@ -19,6 +19,7 @@ use crate::wanted::Wanted;
 use std::sync::ledger::Ledger;
 use ts_command::Command;
 use ts_db::Db;
+use ts_range::Filters;
 use ts_resp::{Out, put};
 use ts_sample::Steps;
 
@@ -37,7 +38,7 @@ pub fn execute<L: Ledger>(
     requires time { HasTime command }
     ensures executes { Carries db.old db.new (λ from to. Executes reading (command_of command) from out.new.bytes to) }
     ensures room { 128 ≤ length out.new.bytes + out.new.spare }
-    ensures steps { IsBounded db.old (command_of command) steps.old steps.new }
+    ensures steps { IsBounded db.old reading (command_of command) steps.old steps.new }
 {
     out.clear();
     match command {
@@ -81,6 +82,7 @@ pub fn execute<L: Ledger>(
             let wanted = Wanted::Rows {
                 latest,
                 show,
+                filters: Filters::of(&query).ok(),
                 query,
             };
             put_members(db, &filters, &wanted, out, steps);

@@ -1,11 +1,11 @@
 // TS.INFO: what is told of a series and of how it is kept.
-ghost use Rattle.std.specs.Prelude.{◌≡◌, ◌+◌, ◌≤◌, [], length, map, Some, IfOk};
+ghost use Rattle.std.specs.Prelude.{◌≡◌, ◌+◌, ◌*◌, ◌≤◌, [], length, map, Some, IfOk};
 ghost use Rattle.ts_spec.specs.Keyed.{get};
 ghost use Rattle.ts_spec.specs.Questions.{info_response};
 ghost use Rattle.ts_spec.specs.Replies as spec;
 ghost use Rattle.ts_spec.specs.Text.{Simple, Value};
 ghost use Rattle.ts_resp.specs.Replies.{reply_of};
-ghost use Rattle.ts_db.specs.Held.{Held, Stands};
+ghost use Rattle.ts_db.specs.Held.{Held, Stands, reach_at};
 ghost use Rattle.ts_db.specs.Information.{info_of, rule_info_of};
 ghost use Rattle.ts_engine.specs.Answering.{IsReplyText};
 
@@ -26,6 +26,7 @@ pub(crate) fn put_info<L: Ledger>(db: &Db, key: &Word, out: &mut Out, steps: &mu
     requires room { 128 ≤ out.old.spare }
     ensures reply { (from : Held) → Stands db.now from → IsReplyText (info_response from.state key.now (get key.now from.state)) out.new.bytes }
     ensures room { 128 ≤ length out.new.bytes + out.new.spare }
+    ensures steps { steps.new ≤ steps.old + 2 * reach_at db.now key.now }
 {
     match db.info(key, steps) {
         Ok(info) => match info_reply(info) {

@@ -10,7 +10,7 @@ ghost use Rattle.ts_db.specs.Bounds.{selection_steps};
 ghost use Rattle.ts_db.specs.Held.{Held, Stands, IsLive, AreNumbersOf};
 ghost use Rattle.ts_engine.specs.Answering.{IsReplyText};
 ghost use Rattle.ts_engine.specs.Bounds.{wanted_steps};
-ghost use Rattle.ts_engine.specs.Members.{reply_at, replies_of, IsAddedOrLost, AreAddedOrLost, many_response};
+ghost use Rattle.ts_engine.specs.Members.{reply_at, replies_of, AreAsAsked, IsAddedOrLost, AreAddedOrLost, many_response};
 
 use crate::answers::too_many_rows;
 use crate::member::{add_member, is_refused};
@@ -33,6 +33,7 @@ pub(crate) fn put_members<L: Ledger>(
     out: &mut Out,
     steps: &mut Steps<L>,
 )
+    requires lets { AreAsAsked wanted.now }
     requires empty { out.old.bytes ≡ [] }
     requires room { 128 ≤ out.old.spare }
     ensures reply { (from : Held) → Stands db.now from → IsReplyText (many_response from wanted.now filters.now) out.new.bytes }
@@ -74,7 +75,8 @@ fn add_members<L: Ledger>(
     out: &mut Out,
     steps: &mut Steps<L>,
 ) -> Result<bool, RangeFault>
-    requires { All (IsLive db.now.ids) ids.now }
+    requires live { All (IsLive db.now.ids) ids.now }
+    requires lets { AreAsAsked wanted.now }
     ensures added { IfOk result (λ lost. (keys : List Key) → AreNumbersOf db.now.ids keys ids.now
         → AreAddedOrLost lost (replies_of (reply_at db.now.limits db.now.keys wanted.now) keys) out.old.bytes out.new.bytes) }
     ensures refused { IfErr result (λ fault. (keys : List Key) → AreNumbersOf db.now.ids keys ids.now
@@ -110,7 +112,8 @@ fn add_next<L: Ledger>(
     out: &mut Out,
     steps: &mut Steps<L>,
 ) -> Result<bool, RangeFault>
-    requires { IsLive db.now.ids id }
+    requires live { IsLive db.now.ids id }
+    requires lets { AreAsAsked wanted.now }
     ensures added { IfOk result (λ now. (key : Key) → get key db.now.ids ≡ Some id → IsAddedOrLost now (reply_at db.now.limits db.now.keys wanted.now key) out.old.bytes out.new.bytes) }
     ensures stays { IfOk result (λ now. now ≡ false → lost ≡ false) }
     ensures refused { IfErr result (λ fault. (key : Key) → get key db.now.ids ≡ Some id → reply_at db.now.limits db.now.keys wanted.now key ≡ None) }

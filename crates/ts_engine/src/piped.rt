@@ -2,6 +2,7 @@
 ghost use Rattle.std.specs.Prelude.{◌≡◌, ◌+◌, ◌<◌, ◌≤◌, ◌^◌, length, None, Some};
 ghost use Rattle.ts_resp.specs.Reading.{fed, unfinished};
 ghost use Rattle.ts_db.specs.Held.{Carries};
+ghost use Rattle.ts_engine.specs.Limits.{CanRead};
 ghost use Rattle.ts_engine.specs.Standing.{spot, reader_of, ended_of, HasAnswered};
 ghost use Rattle.ts_engine.specs.Piping.{Piped, Pumped, HasCauses, HasCausesOr};
 ghost use Rattle.ts_engine.specs.Ending.{end_at, end_by};
@@ -64,10 +65,7 @@ pub fn pipe<S: Source, K: Sink, C: Clock>(
     limits: WireLimits,
     budget: u64,
 ) -> Outcome
-    requires words { 1 ≤ limits.words }
-    requires word_bytes { 1 ≤ limits.word_bytes }
-    requires request_bytes { 1 ≤ limits.request_bytes }
-    requires line_bytes { 1 ≤ limits.line_bytes }
+    requires limits { CanRead limits }
     requires budget { 1 ≤ budget }
     ensures piped { Carries db.old db.new (λ from to. Piped limits budget result
         (record { held = from; readings = C.readings clock.old }) (record { held = to; readings = C.readings clock.new })

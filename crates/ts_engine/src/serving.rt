@@ -3,6 +3,7 @@ ghost use Rattle.std.specs.Prelude.{◌≡◌, ◌≢◌, ◌≤◌, false, OnOk
 ghost use Rattle.ts_io.specs.Causes.{HasCause, Rose};
 ghost use Rattle.ts_io.specs.Sinks.{Grows, GrowsByFront};
 ghost use Rattle.ts_db.specs.Held.{Carries};
+ghost use Rattle.ts_engine.specs.Limits.{CanRead};
 ghost use Rattle.ts_engine.specs.Serving.{Serves, line_at};
 ghost use Rattle.ts_engine.specs.Serving as lines;
 
@@ -40,10 +41,7 @@ pub fn serve<N: Listener, K: Sink, C: Clock>(
     limits: WireLimits,
     budget: u64,
 ) -> Served
-    requires words { 1 ≤ limits.words }
-    requires word_bytes { 1 ≤ limits.word_bytes }
-    requires request_bytes { 1 ≤ limits.request_bytes }
-    requires line_bytes { 1 ≤ limits.line_bytes }
+    requires limits { CanRead limits }
     requires budget { 1 ≤ budget }
     requires net { N.is_out net.old ≡ false }
     ensures serves { Carries db.old db.new (λ from to. Serves
@@ -78,10 +76,7 @@ fn serve_link<N: Listener, K: Sink, C: Clock>(
     limits: WireLimits,
     budget: u64,
 ) -> Served
-    requires words { 1 ≤ limits.words }
-    requires word_bytes { 1 ≤ limits.word_bytes }
-    requires request_bytes { 1 ≤ limits.request_bytes }
-    requires line_bytes { 1 ≤ limits.line_bytes }
+    requires limits { CanRead limits }
     requires budget { 1 ≤ budget }
     requires net { N.is_out net.old ≡ false }
     ensures serves { Carries db.old db.new (λ from to. Serves

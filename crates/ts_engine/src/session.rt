@@ -1,6 +1,7 @@
 // The requests of one stream.
 ghost use Rattle.std.specs.Prelude.{◌≡◌, ◌+◌, ◌<◌, ◌≤◌, ◌^◌, [], length, None, Some, IfOk, IfNone, IfSome};
 ghost use Rattle.ts_engine.specs.Going.{end_of};
+ghost use Rattle.ts_engine.specs.Limits.{CanRead};
 
 use crate::go::Go;
 use crate::turn::take_turn;
@@ -31,10 +32,7 @@ impl Session {
 
     /// A session to which no byte came.
     pub fn new(alloc: Global, limits: WireLimits) -> Result<Session, AllocError>
-        requires words { 1 ≤ limits.words }
-        requires word_bytes { 1 ≤ limits.word_bytes }
-        requires request_bytes { 1 ≤ limits.request_bytes }
-        requires line_bytes { 1 ≤ limits.line_bytes }
+        requires limits { CanRead limits }
         ensures { IfOk result (Begins limits) }
     {
         let room = Out::new(alloc)?;

@@ -3,7 +3,7 @@ ghost use Rattle.std.specs.Prelude.{◌≡◌};
 ghost use Rattle.ts_engine.specs.Members.{can_be_refused};
 
 use ts_labels::Show;
-use ts_range::Query;
+use ts_range::{Filters, Query};
 
 /// What an answer over many series tells of each.
 #[derive(Drop)]
@@ -20,6 +20,8 @@ pub(crate) enum Wanted {
         latest: bool,
         show: Show,
         query: Query,
+        /// What the query lets through, unless there was no memory for that.
+        filters: Option<Filters>,
     },
 }
 

@@ -1,4 +1,4 @@
-use Rattle.std.proofs.Common.{ℕ, ◌+◌, ◌≤◌, List, refl, ◌∙◌, ap, subst}
+use Rattle.std.proofs.Common.{ℕ, ◌+◌, ◌≤◌, List, refl, ◌∙◌, ap, subst, arith}
 use Rattle.ts_labels.specs.Spec.{spec_of, change_of}
 use Rattle.ts_labels.specs.Show.{show_of}
 use Rattle.ts_spec.specs.Filter.{Filter}
@@ -20,8 +20,9 @@ use Rattle.ts_engine.specs.Turn.{IsStep, StepOrMemory, takes_memory}
 use Rattle.ts_engine.proofs.Executed.{alone, step_executes, sure_executes, executes_with, asks_execute, asks_surely, pings_execute}
 use Rattle.std.specs.Prelude.{sum_by, IsTrue}
 use Rattle.ts_spec.specs.KeptQuestions.{kept_selection}
-use Rattle.ts_db.specs.Bounds.{selection_steps}
+use Rattle.ts_db.specs.Bounds.{write_steps, selection_steps}
 use Rattle.ts_engine.specs.Bounds.{wanted_steps}
+use Rattle.ts_engine.proofs.MemberBounds.{sum-none}
 use Rattle.ts_engine.proofs.execution.execute.Goals as goal
 
 pub returns-in-Create-clause-executes : goal.returns-in-Create-clause-executes
@@ -77,7 +78,7 @@ returns-in-Range-clause-executes g c =
 
 pub returns-in-MRange-clause-executes : goal.returns-in-MRange-clause-executes
 returns-in-MRange-clause-executes g c =
-    let wanted = Rows c.in-MRange.latest c.in-MRange.show c.in-MRange.query in
+    let wanted = Rows c.in-MRange.latest c.in-MRange.show c.in-MRange.query c.ok.result in
     rw c.in-MRange.is (asks_execute c.args.reading (MRange c.in-MRange.latest (show_of c.in-MRange.show) c.in-MRange.filters.items (query_of c.in-MRange.query)) c.args.db.now c.put_members.new.out.bytes
     (λ (h : Held). many_response h wanted c.in-MRange.filters.items) (λ (h : Held). YieldsToMemory (many_response h wanted c.in-MRange.filters.items)) (λ from y. (refl, y)) (λ from. record { says = refl; state = refl; limits = refl })
     (subst (λ (fs : List Filter). (from : Held) → Stands c.args.db.now from → IsReplyText (many_response from wanted fs) c.put_members.new.out.bytes) c.deref.ensures.value c.put_members.ensures.reply))
@@ -117,8 +118,8 @@ returns-in-Echo-clause-executes g c =
 
 pub returns-in-Quit-clause-executes : goal.returns-in-Quit-clause-executes
 returns-in-Quit-clause-executes g c =
-    rw c.in-Quit.is (executes_with c.args.reading Quit c.args.db.now (reply_of c.ok.result) c.put-in-Quit.new.out.bytes (λ from stands. record { says = c.ok.ensures; state = refl; limits = refl })
-    (alone (reply_of c.ok.result) c.clear.new.self.bytes c.put-in-Quit.new.out.bytes c.put-in-Quit.ensures.bytes c.clear.ensures.empty))
+    rw c.in-Quit.is (executes_with c.args.reading Quit c.args.db.now (reply_of c.ok-in-Quit.result) c.put-in-Quit.new.out.bytes (λ from stands. record { says = c.ok-in-Quit.ensures; state = refl; limits = refl })
+    (alone (reply_of c.ok-in-Quit.result) c.clear.new.self.bytes c.put-in-Quit.new.out.bytes c.put-in-Quit.ensures.bytes c.clear.ensures.empty))
 
 pub returns-in-Drop-clause-executes : goal.returns-in-Drop-clause-executes
 returns-in-Drop-clause-executes g c =
@@ -136,7 +137,24 @@ returns-in-Exists-clause-executes g c =
     })
     (alone (reply_of c.count_keys.result) c.clear.new.self.bytes c.put-in-Exists.new.out.bytes c.put-in-Exists.ensures.bytes c.clear.ensures.empty))
 
--- the questions over an interval
+-- ---- how many steps it takes
+
+pub returns-in-Alter-clause-steps : goal.returns-in-Alter-clause-steps
+returns-in-Alter-clause-steps g c = rw c.in-Alter.is c.alter.ensures.steps
+
+pub returns-in-Add-clause-steps : goal.returns-in-Add-clause-steps
+returns-in-Add-clause-steps g c =
+    rw c.in-Add.is (subst (λ (t : ℕ). c.add.new.steps ≤ c.args.steps.now + write_steps c.args.db.now c.in-Add.key t) c.time_at.ensures.time c.add.ensures.steps)
+
+pub returns-in-Incr-clause-steps : goal.returns-in-Incr-clause-steps
+returns-in-Incr-clause-steps g c =
+    rw c.in-Incr.is (subst (λ (t : ℕ). c.incr.new.steps ≤ c.args.steps.now + write_steps c.args.db.now c.in-Incr.key t) c.time_at-in-Incr.ensures.time c.incr.ensures.steps)
+
+pub returns-in-Madd-clause-steps : goal.returns-in-Madd-clause-steps
+returns-in-Madd-clause-steps g c = rw c.in-Madd.is tt
+
+pub returns-in-DelRange-clause-steps : goal.returns-in-DelRange-clause-steps
+returns-in-DelRange-clause-steps g c = rw c.in-DelRange.is c.delete.ensures.steps
 
 pub returns-in-Range-clause-steps : goal.returns-in-Range-clause-steps
 returns-in-Range-clause-steps g c = rw c.in-Range.is c.put_range.ensures.steps
@@ -144,7 +162,25 @@ returns-in-Range-clause-steps g c = rw c.in-Range.is c.put_range.ensures.steps
 pub returns-in-MRange-clause-steps : goal.returns-in-MRange-clause-steps
 returns-in-MRange-clause-steps g c =
     let stock = c.args.db.now in
-    let wanted = Rows c.in-MRange.latest c.in-MRange.show c.in-MRange.query in
+    let wanted = Rows c.in-MRange.latest c.in-MRange.show c.in-MRange.query c.ok.result in
     rw c.in-MRange.is
     (subst (λ (fs : List Filter). c.put_members.new.steps ≤ c.args.steps.now + (selection_steps stock fs + sum_by (wanted_steps stock wanted) (kept_selection stock.keys fs)))
     c.deref.ensures.value c.put_members.ensures.steps)
+
+-- a selection of which no rows are told
+pub returns-in-MGet-clause-steps : goal.returns-in-MGet-clause-steps
+returns-in-MGet-clause-steps g c =
+    let stock = c.args.db.now in
+    rw c.in-MGet.is
+    (subst (λ (fs : List Filter). c.put_members-in-MGet.new.steps ≤ c.args.steps.now + selection_steps stock fs) c.deref-in-MGet.ensures.value
+    (omega (arith, c.put_members-in-MGet.ensures.steps, sum-none (kept_selection stock.keys c.deref-in-MGet.result.now))))
+
+pub returns-in-QueryIndex-clause-steps : goal.returns-in-QueryIndex-clause-steps
+returns-in-QueryIndex-clause-steps g c =
+    let stock = c.args.db.now in
+    rw c.in-QueryIndex.is
+    (subst (λ (fs : List Filter). c.put_members-in-QueryIndex.new.steps ≤ c.args.steps.now + selection_steps stock fs) c.deref-in-QueryIndex.ensures.value
+    (omega (arith, c.put_members-in-QueryIndex.ensures.steps, sum-none (kept_selection stock.keys c.deref-in-QueryIndex.result.now))))
+
+pub returns-in-InfoOf-clause-steps : goal.returns-in-InfoOf-clause-steps
+returns-in-InfoOf-clause-steps g c = rw c.in-InfoOf.is c.put_info.ensures.steps

@@ -1,5 +1,5 @@
-use Rattle.std.proofs.Common.{sym, ◌∙◌}
-use Rattle.ts_engine.specs.Members.{reply_at}
+use Rattle.std.proofs.Common.{ap, sym, ◌∙◌}
+use Rattle.ts_engine.specs.Members.{is_too_many, reply_at}
 use Rattle.ts_engine.proofs.ManyReplies.{none-by}
 use Rattle.ts_engine.proofs.ManyTexts.{added-kept, told-lost}
 use Rattle.ts_engine.proofs.members.add_next.Goals as goal
@@ -20,4 +20,4 @@ returns-in-Ok-clause-added g c = λ key at.
 pub returns-in-Err-Memory-clause-added : goal.returns-in-Err-Memory-clause-added
 returns-in-Err-Memory-clause-added g c = λ key at.
     told-lost (reply_at c.args.db.now.limits c.args.db.now.keys c.args.wanted.now key) c.args.out.now.bytes c.add_member.new.out.bytes
-    (c.in-Err-Memory.ensures.lost (λ is. absurd (cc (c.in-Err-Memory.field-0-is, is))) key at)
+    (sym (c.in-Err-Memory.ensures.fault key at) ∙ ap is_too_many c.in-Err-Memory.field-0-is)

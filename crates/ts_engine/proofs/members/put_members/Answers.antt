@@ -11,8 +11,8 @@ use Rattle.ts_engine.proofs.ManyTexts.{numbers-live}
 use Rattle.ts_engine.proofs.ManyReplies.{many-refused, many-settled}
 use Rattle.ts_engine.proofs.members.put_members.Goals as goal
 
-pub add_members-requires : goal.add_members-requires
-add_members-requires g c =
+pub add_members-requires-clause-live : goal.add_members-requires-clause-live
+add_members-requires-clause-live g c =
     let keys = kept_selection c.args.db.now.keys c.args.filters.now in
     numbers-live c.args.db.now.ids keys c.deref.result.now (subst (AreNumbersOf c.args.db.now.ids keys) (sym c.deref.ensures.value) c.in-Ok.ensures.numbers)
 
