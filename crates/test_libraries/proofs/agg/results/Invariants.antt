@@ -1,0 +1,8 @@
+use Rattle.std.proofs.Common.{◌≡◌, List, length}
+use Rattle.ts_spec.specs.Sample.{Point}
+use Rattle.ts_agg.specs.Running.{StandsFor}
+use Rattle.test_libraries.proofs.agg.results.Given as goal
+
+-- it stands for as many samples as have been taken
+abbrev pub invariant-loop-millionths : goal.invariant-loop-millionths
+invariant-loop-millionths l = (ps : List Point) × StandsFor l.running ps × (length ps ≡ l.millionths-index)

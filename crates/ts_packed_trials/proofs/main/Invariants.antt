@@ -1,4 +1,0 @@
-use Rattle.ts_packed_trials.proofs.main.Given as goal
-
-abbrev pub ghosts-answers : goal.ghosts-answers
-ghosts-answers a = record { name = a.blank.name; parts = a.blank.parts }
