@@ -25,7 +25,8 @@ fn parts_of_intervals(rt: HostRuntime) -> Result<(), Fail> {
     let alloc = rt.alloc();
     let mut asked = query(None, None, false);
     asked.times = Some(vec![in alloc; 7, 3, 5]?);
-    let walk = Walk::new(Filters::of(&asked)?, None, RowList::with_room(alloc, 0)?);
+    let filters = Filters::of(&asked)?;
+    let walk = Walk::new(&filters, None, RowList::with_room(alloc, 0)?);
     for (from, to, part) in [
         (0u64, 9u64, Some((3u64, 7u64))),
         (3, 5, Some((3, 5))),
