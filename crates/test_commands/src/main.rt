@@ -3,9 +3,10 @@
 //!
 //! - `with` and what it is run with: a limit, as `keys 1`, of requests as `wire_words 3`, or the `budget` of bytes; the `words`
 //!   of the command line, if it is not `pipe`; what the clock shows, as `clock 1000,900`; how many bytes come at once, in one
-//!   run after another, as `pieces 4096,1`; `cuts`, for pieces of each size; how many bytes a write takes, as `takes 1`; which
-//!   calls of the listener fail, as `failing_calls 3`, its `open` and each `accept` counted from 1; `encodings`, for series of
-//!   TS.CREATE in either one; the `numbers` from one up to another; or the `lengths` of a word, from one up to another;
+//!   run after another, as `pieces 4096,1`; `cuts`, for pieces of each size, and for two pieces that are cut at each byte; how
+//!   many bytes a write takes, as `takes 1`; which calls of the listener fail, as `failing_calls 3`, its `open` and each
+//!   `accept` counted from 1; `encodings`, for series of TS.CREATE in either one; the `numbers` from one up to another; or the
+//!   `lengths` of a word, from one up to another;
 //! - a command, and after ` -> ` the reply that is due to it: its lines, apart by ` | `, or `[1:2, 3:4]` for rows, each with
 //!   a time and a value. A part in braces stands once for each number, which takes the place of each `#`; each `@` is the
 //!   number that is as far from the end. After `each ` the whole line stands so. In place of `^` stands the word, and in a

@@ -4,8 +4,9 @@ use crate::setting::Setting;
 use crate::stream::Stream;
 use crate::texts::Exchange;
 use std::alloc::{AllocError, Global};
+use std::io::Read;
 use ts_engine::{Db, Outcome, pipe, top};
-use ts_io::{Ends, MemClock, MemListener, MemSink, MemSource};
+use ts_io::{Ends, MemClock, MemListener, MemSink, MemSource, Source, StdSource};
 
 // A stream, with what is sent and what is due.
 #[derive(Drop)]
@@ -25,16 +26,51 @@ pub(crate) fn is_answered(
     piece: usize,
 ) -> Result<bool, AllocError> {
     let takes = setting.takes();
-    let mut ends = own.stream.ends(&own.exchange, piece, takes)?;
-    let mut err = MemSink::new(alloc, takes.max(1), Vec::new(alloc));
+    let ends = own.stream.ends(&own.exchange, piece, takes)?;
+    let others = ends_of(alloc, links, piece, takes)?;
+    is_answered_over(
+        alloc, setting, ends.input, ends.out, others, own, links, end,
+    )
+}
+
+// The same where the input comes in two pieces, of which the first has so many bytes.
+pub(crate) fn is_answered_in_two(
+    alloc: Global,
+    setting: &Setting,
+    own: &Talking,
+    end: &End,
+    first: usize,
+) -> Result<bool, AllocError> {
+    let takes = setting.takes();
+    let (early, late) = own
+        .exchange
+        .input
+        .split_at(first.min(own.exchange.input.len()));
+    let input = StdSource::new(early.chain(late));
+    let out = own.stream.ends(&own.exchange, 1, takes)?.out;
+    is_answered_over(alloc, setting, input, out, Vec::new(alloc), own, &[], end)
+}
+
+// Whether a run over this input writes what is due to the output and to each connection, and nothing else, and ends so.
+fn is_answered_over<S: Source + Drop>(
+    alloc: Global,
+    setting: &Setting,
+    mut input: S,
+    mut out: MemSink,
+    others: Vec<Ends<MemSource, MemSink>>,
+    own: &Talking,
+    links: &[Talking],
+    end: &End,
+) -> Result<bool, AllocError> {
+    let mut err = MemSink::new(alloc, setting.takes().max(1), Vec::new(alloc));
     let mut clock = MemClock::new(Vec::from_slice(alloc, &setting.readings)?);
     let failing = Vec::from_slice(alloc, &setting.failing_calls)?;
-    let mut net = MemListener::new(alloc, ends_of(alloc, links, piece, takes)?, failing)?;
+    let mut net = MemListener::new(alloc, others, failing)?;
     let status = top(
         alloc,
         &setting.words(alloc)?,
-        &mut ends.input,
-        &mut ends.out,
+        &mut input,
+        &mut out,
         &mut err,
         &mut clock,
         &mut net,
@@ -42,7 +78,7 @@ pub(crate) fn is_answered(
         setting.budget.max(1),
     );
     Ok(
-        ends.out.bytes() == own.exchange.out.as_slice()
+        out.bytes() == own.exchange.out.as_slice()
             && are_answered(net.done(), links)
             && end.is(status.code(), err.bytes()),
     )

@@ -1,7 +1,7 @@
 // A talk: requests with the replies that are due to them, and what they are run with.
 use crate::end::End;
 use crate::round::Round;
-use crate::run::{Talking, comes_to, is_answered};
+use crate::run::{Talking, comes_to, is_answered, is_answered_in_two};
 use crate::setting::Setting;
 use crate::stream::Stream;
 use std::alloc::{AllocError, Global};
@@ -154,10 +154,12 @@ impl Talk {
         }
     }
 
-    // Whether they have them in pieces of each size.
+    // Whether they have them in pieces of each size, and in two pieces that are cut at each byte.
     fn is_answered_cut(&self, own: &Talking) -> Result<bool, AllocError> {
         for size in 0..own.exchange.input.len() {
-            if !self.is_answered_by(own, &[], size)? {
+            if !self.is_answered_by(own, &[], size)?
+                || !is_answered_in_two(self.alloc, &self.setting, own, &self.end, size)?
+            {
                 return Ok(false);
             }
         }
