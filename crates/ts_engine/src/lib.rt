@@ -23,6 +23,7 @@ mod narrowed;
 mod piped;
 mod question;
 mod questions;
+mod replying;
 mod room;
 mod row_texts;
 mod rows_into;

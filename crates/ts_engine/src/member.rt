@@ -18,7 +18,7 @@ ghost use Rattle.ts_engine.specs.Bounds.{question_steps, wanted_steps};
 ghost use Rattle.ts_engine.specs.Members.{reply_at, rows_at, AreAsAsked, IsAdded, in_memory, is_too_many};
 
 use crate::question::Question;
-use crate::rows_into::rows_into;
+use crate::rows_into::{rows_back, rows_into};
 use crate::told::{Told, has_too_many_rows, told_of};
 use crate::wanted::Wanted;
 use std::alloc::AllocError;
@@ -174,6 +174,9 @@ fn rows_told<L: Ledger>(
     ensures rows { IfOk result (λ found. map row_of found.items ≡ rows_asked question.now) }
     ensures seams { IsSeamed (pieces_asked question.now) question.now.query.now.from question.now.query.now.to (steps.old + steps_beside question.now told.now) steps.new }
 {
+    if question.query.reverse {
+        return rows_back(question, told, steps);
+    }
     let taker = RowList::with_room(question.db.alloc(), 0)?;
     rows_into(question, told, taker, steps).into_rows()
 }

@@ -82,8 +82,8 @@ fn hand_on<T: Take>(rows: &[Row], taker: &mut T)
     }
 }
 
-// The rows, the last one first.
-fn rows_back<L: Ledger>(
+/// The rows of what is told, the last one first.
+pub(crate) fn rows_back<L: Ledger>(
     question: &Question<'_>,
     told: &Told,
     steps: &mut Steps<L>,

@@ -4,21 +4,20 @@ ghost use Rattle.ts_engine.specs.Going.{end_of};
 ghost use Rattle.ts_engine.specs.Limits.{CanRead};
 
 use crate::go::Go;
-use crate::turn::take_turn;
 use std::alloc::{AllocError, Global};
 use std::marker::Brand;
 use std::sync::ledger::{Blank, Ledger};
 use ts_db::Db;
-use ts_io::{Clock, Sink, write_all_counted};
-use ts_resp::{Next, Out, Protocol, Reader, Reply, WireLimits, Word, put};
+use ts_io::{Clock, Sink};
+use ts_resp::{Next, Out, Reader, WireLimits};
 use ts_sample::Steps;
 
 /// Answers the requests of one stream, which comes in pieces.
 #[derive(Drop)]
 pub struct Session {
-    reader: Reader,
-    room: Out,
-    executed: u64,
+    pub(crate) reader: Reader,
+    pub(crate) room: Out,
+    pub(crate) executed: u64,
     ended: Option<Go>,
     ghost fits: { 128 ≤ length room.bytes + room.spare },
     ghost counted: { executed ≤ reader.begin },
@@ -27,7 +26,7 @@ pub struct Session {
 impl Session {
     ghost use Rattle.ts_resp.specs.Reading.{fed, unfinished};
     ghost use Rattle.ts_db.specs.Held.{Carries};
-    ghost use Rattle.ts_engine.specs.Session.{GoesOn, Answers, Replied, Refused, WroteOrFault};
+    ghost use Rattle.ts_engine.specs.Session.{GoesOn, Answers, WroteOrFault};
     ghost use Rattle.ts_engine.specs.Standing.{spot, reader_of, executed_by, ended_of, Begins, HasAnswered};
 
     /// A session to which no byte came.
@@ -158,50 +157,6 @@ impl Session {
             Next::NotYet => Some(Go::More),
             Next::Memory => Some(Go::Memory),
             Next::Broken(fault) => Some(self.refuse(fault, out)),
-        }
-    }
-
-    // Gives the request its turn and writes its reply.
-    fn answer<C: Clock, K: Sink, L: Ledger>(
-        &mut self,
-        words: Vec<Word>,
-        db: &mut Db,
-        clock: &mut C,
-        out: &mut K,
-        steps: &mut Steps<L>,
-    ) -> Option<Go>
-        requires counted { executed_by self.old < (reader_of self.old).begin }
-        requires bounded { (reader_of self.old).begin < 2 ^ 64 }
-        ensures replied { Carries db.old db.new (λ from to. Replied result words.items
-            (spot self.old from (C.readings clock.old)) (spot self.new to (C.readings clock.new)) (K.has out.old) (K.has out.new)) }
-        ensures reader { reader_of self.new ≡ reader_of self.old }
-        ensures ends { result ≡ Some Go.More → ⊥ }
-        ensures cause { WroteOrFault (K.faults out.old) (K.faults out.new) result }
-    {
-        let mut words = words;
-        let quits = take_turn(db, &mut words, clock, &mut self.room, steps);
-        self.reader.give_back(words);
-        self.executed += 1;
-        match write_all_counted(out, self.room.bytes()) {
-            Ok(()) if quits => Some(Go::Quit),
-            Ok(()) => None,
-            Err(_) => Some(Go::WriteFault),
-        }
-    }
-
-    // Writes the error that answers a broken stream.
-    fn refuse<K: Sink>(&mut self, fault: Protocol, out: &mut K) -> Go
-        ensures refused { Refused result fault (K.has out.old) (K.has out.new) }
-        ensures ends { result ≡ Go.More → ⊥ }
-        ensures reader { reader_of self.new ≡ reader_of self.old }
-        ensures executed { executed_by self.new ≡ executed_by self.old }
-        ensures cause { WroteOrFault (K.faults out.old) (K.faults out.new) (Some result) }
-    {
-        self.room.clear();
-        put(&Reply::Error(fault.message()), &mut self.room);
-        match write_all_counted(out, self.room.bytes()) {
-            Ok(()) => Go::Broken(fault),
-            Err(_) => Go::WriteFault,
         }
     }
 }

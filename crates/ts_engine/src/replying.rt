@@ -1,0 +1,61 @@
+// What a session writes: the reply to a request that has its turn, and the error that answers a broken stream.
+ghost use Rattle.std.specs.Prelude.{◌≡◌, ◌<◌, ◌^◌, Some};
+
+use crate::go::Go;
+use crate::session::Session;
+use crate::turn::take_turn;
+use std::sync::ledger::Ledger;
+use ts_db::Db;
+use ts_io::{Clock, Sink, write_all_counted};
+use ts_resp::{Protocol, Reply, Word, put};
+use ts_sample::Steps;
+
+impl Session {
+    ghost use Rattle.ts_db.specs.Held.{Carries};
+    ghost use Rattle.ts_engine.specs.Session.{Replied, Refused, WroteOrFault};
+    ghost use Rattle.ts_engine.specs.Standing.{spot, reader_of, executed_by};
+
+    // Gives the request its turn and writes its reply.
+    pub(crate) fn answer<C: Clock, K: Sink, L: Ledger>(
+        &mut self,
+        words: Vec<Word>,
+        db: &mut Db,
+        clock: &mut C,
+        out: &mut K,
+        steps: &mut Steps<L>,
+    ) -> Option<Go>
+        requires counted { executed_by self.old < (reader_of self.old).begin }
+        requires bounded { (reader_of self.old).begin < 2 ^ 64 }
+        ensures replied { Carries db.old db.new (λ from to. Replied result words.items
+            (spot self.old from (C.readings clock.old)) (spot self.new to (C.readings clock.new)) (K.has out.old) (K.has out.new)) }
+        ensures reader { reader_of self.new ≡ reader_of self.old }
+        ensures ends { result ≡ Some Go.More → ⊥ }
+        ensures cause { WroteOrFault (K.faults out.old) (K.faults out.new) result }
+    {
+        let mut words = words;
+        let quits = take_turn(db, &mut words, clock, &mut self.room, steps);
+        self.reader.give_back(words);
+        self.executed += 1;
+        match write_all_counted(out, self.room.bytes()) {
+            Ok(()) if quits => Some(Go::Quit),
+            Ok(()) => None,
+            Err(_) => Some(Go::WriteFault),
+        }
+    }
+
+    // Writes the error that answers a broken stream.
+    pub(crate) fn refuse<K: Sink>(&mut self, fault: Protocol, out: &mut K) -> Go
+        ensures refused { Refused result fault (K.has out.old) (K.has out.new) }
+        ensures ends { result ≡ Go.More → ⊥ }
+        ensures reader { reader_of self.new ≡ reader_of self.old }
+        ensures executed { executed_by self.new ≡ executed_by self.old }
+        ensures cause { WroteOrFault (K.faults out.old) (K.faults out.new) (Some result) }
+    {
+        self.room.clear();
+        put(&Reply::Error(fault.message()), &mut self.room);
+        match write_all_counted(out, self.room.bytes()) {
+            Ok(()) => Go::Broken(fault),
+            Err(_) => Go::WriteFault,
+        }
+    }
+}
