@@ -84,7 +84,9 @@ fn look_ups<L: Ledger>(
     steps: &mut Steps<L>,
 ) -> Result<bool, AllocError> {
     let chunk = chunk_with_marks(alloc, list, steps)?;
+    let marks = chunk.marks();
     let mut holds = chunk.raw() == chunk_of(alloc, list)?.raw() && 3_400 <= chunk.bytes();
+    holds = holds && 0 < marks && marks <= chunk.raw().len() / 256;
     for from in 0..9_000 {
         let to = from + 150;
         let mut wanted = Vec::new(alloc);

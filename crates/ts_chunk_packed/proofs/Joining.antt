@@ -1,5 +1,5 @@
 -- Parts of a chunk's samples, and of its bytes.
-use Rattle.std.proofs.Common.{◌≡◌, ℕ, ◌+◌, ◌-◌, ◌*◌, ◌<◌, ◌≤◌, true, false, pos, if◌then◌else◌, ◌&&◌, List, [], ◌∷◌, ◌++◌, length, take, drop, refl, sym, ap, ◌∙◌, subst, append_assoc, append-nil, arith, length-append}
+use Rattle.std.proofs.Common.{◌≡◌, ℕ, ◌+◌, ◌-◌, ◌*◌, ◌<◌, ◌≤◌, true, false, pos, if◌then◌else◌, ◌&&◌, ◌==◌, List, [], ◌∷◌, ◌++◌, length, take, drop, refl, sym, ap, ◌∙◌, subst, append_assoc, append-nil, arith, length-append}
 use Rattle.std.specs.Prelude.{Option, None, Some, nat_lt, nat_le, unwrap_or, is_some}
 use Rattle.std.proofs.lemmas.Bool.Decides.{nat_tests}
 use Rattle.std.proofs.lemmas.List.{take_at, take-append-drop}
@@ -10,7 +10,7 @@ use Rattle.ts_sample.proofs.Parted.{filter_alike}
 use Rattle.ts_sample.specs.Chunk.{AreFine, IsChunk, IsPast}
 use Rattle.ts_sample.proofs.Lists.{fine-append, ascending-left, past-before, fine-left}
 use Rattle.ts_sample.proofs.Fitting.{grows-on}
-use Rattle.ts_chunk_packed.specs.Chunk.{Samples, IsFirst, IsPacked}
+use Rattle.ts_chunk_packed.specs.Chunk.{Samples, IsPacked}
 use Rattle.ts_chunk_packed.specs.Laws.{three_each, three_or_more, no_fewer}
 use Rattle.ts_chunk_packed.specs.Packed.{State, begin, packed_from, packed, state_from, samples_of}
 use Rattle.ts_chunk_packed.specs.Rest.{Left, IsRestOf}
@@ -125,7 +125,7 @@ module _ (p : Point) (all : List Point) (rises : IsAscending all) {t : ℕ} (tim
 
 -- ---- the samples before a time, in a chunk of their own
 
-module _ {limit capacity : ℕ} {written : List ℕ} {count step : ℕ} {begins : Point} {ends : Option Point} (was : IsPacked limit capacity written count step begins ends) {now : Samples}
+module _ {limit capacity : ℕ} {written : List ℕ} {count step : ℕ} {begins ends : Option Point} (was : IsPacked limit capacity written count step begins ends) {now : Samples}
     (is : (record { limit = limit; list = samples_of count written }) ≡ now) where
   pub list_is : samples_of count written ≡ now.list
   list_is = ap (λ (x : Samples). x.list) is
@@ -169,9 +169,10 @@ module _ {limit capacity : ℕ} {written : List ℕ} {count step : ℕ} {begins 
     pub front_list : {taken : List ℕ} → taken ≡ take (length written - length bytes) written → samples_of (count - length r.list) taken ≡ of.front
     front_list is = (λ i. samples_of (front_count i) ((is ∙ front_bytes) i)) ∙ samples_back of.front
 
-    pub front_chunk : {room : ℕ} {taken : List ℕ} {far : ℕ} {last : Option Point} → limit ≤ room → taken ≡ take (length written - length bytes) written → pos far ≡ r.state.step
-        → last ≡ (if r.state.begun then Some r.state.before else None) → IsPacked limit room taken (count - length r.list) far begins last
-    front_chunk {room} {taken} {far} {last} enough is step_is last_is =
+    pub front_chunk : {room : ℕ} {taken : List ℕ} {far : ℕ} {head last : Option Point} → limit ≤ room → taken ≡ take (length written - length bytes) written → pos far ≡ r.state.step
+        → head ≡ (if count - length r.list == 0 then None else begins) → last ≡ (if r.state.begun then Some r.state.before else None)
+        → IsPacked limit room taken (count - length r.list) far head last
+    front_chunk {room} {taken} {far} {head} {last} enough is step_is head_is last_is =
         let all : samples_of (count - length r.list) taken ≡ of.front = front_list is in
         let chunk : IsChunk packed limit of.front =
         record {
@@ -181,14 +182,14 @@ module _ {limit capacity : ℕ} {written : List ℕ} {count step : ℕ} {begins 
           fits = omega (arith, written_within was, ap length both, length-append (packed of.front) bytes);
         } in
         let last_front : last ≡ last_of of.front = last_is ∙ ap (λ (t : State). if t.begun then Some t.before else None) of.state ∙ last-known of.front in
-        let first_all : IsFirst begins (of.front ++ r.list) = subst (IsFirst begins) (list_is ∙ of.whole) was.first in
+        let first_all : begins ≡ first_of (of.front ++ r.list) = was.first ∙ ap first_of (list_is ∙ of.whole) in
         record {
           chunk = subst (IsChunk packed limit) (sym all) chunk;
           room = enough;
           bytes = is ∙ front_bytes ∙ ap packed (sym all);
           count = front_count ∙ ap length (sym all);
           step = step_is ∙ ap (λ (t : State). t.step) of.state ∙ ap (λ (l : List Point). (state_from begin l).step) (sym all);
-          first = subst (IsFirst begins) (sym all) (first-front begins of.front r.list first_all);
+          first = head_is ∙ first-front begins (count - length r.list) of.front r.list (front_count) first_all ∙ ap first_of (sym all);
           last = last_front ∙ ap last_of (sym all);
         }
 
@@ -255,6 +256,6 @@ module _ {limit capacity : ℕ} {written : List ℕ} {count step : ℕ} {begins 
             bytes = is ∙ joined ∙ ap packed (sym all);
             count = both_count many many_is ∙ ap length (sym all);
             step = step_is ∙ ap (λ (t : State). t.step) state ∙ ap (λ (l : List Point). (state_from begin l).step) (sym all);
-            first = subst (IsFirst begins) (sym all) (first-both begins now.list r.list some (subst (IsFirst begins) list_is was.first));
+            first = was.first ∙ ap first_of list_is ∙ first-both now.list r.list some ∙ ap first_of (sym all);
             last = last_is ∙ ap (λ (t : State). if t.begun then Some t.before else None) state ∙ last-known (now.list ++ r.list) ∙ ap last_of (sym all);
           }

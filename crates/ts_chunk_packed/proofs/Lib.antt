@@ -7,6 +7,7 @@ pub mod Joining
 pub mod Late
 pub mod Listing
 pub mod Marking
+pub mod Spacing
 pub mod Placing
 pub mod Pushing
 pub mod Resting

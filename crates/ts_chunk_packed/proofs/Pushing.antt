@@ -1,5 +1,5 @@
 -- A sample past the last one.
-use Rattle.std.proofs.Common.{◌≡◌, ℕ, ◌+◌, ◌*◌, ◌-◌, ◌<◌, ◌≤◌, true, pos, List, [], ◌∷◌, ◌++◌, length, refl, sym, ap, ◌∙◌, subst, arith, length-append}
+use Rattle.std.proofs.Common.{◌≡◌, ℕ, ◌+◌, ◌*◌, ◌-◌, ◌≤◌, true, pos, List, [], ◌∷◌, ◌++◌, length, refl, sym, ap, ◌∙◌, subst, arith, length-append}
 use Rattle.std.specs.Prelude.{Option, None, Some, nat_le, unwrap_or, is_some}
 use Rattle.std.proofs.lemmas.Bool.Decides.{nat_tests}
 use Rattle.std.proofs.lemmas.Int.{ints}
@@ -7,33 +7,25 @@ use Rattle.ts_spec.specs.Sample.{Point, MAX_TIME, first_of, last_of}
 use Rattle.ts_sample.specs.Sample.{IsFine}
 use Rattle.ts_sample.specs.Chunk.{IsChunk, IsLimit, IsPast}
 use Rattle.ts_sample.proofs.Lists.{fine-append, ascending-push, last-push}
-use Rattle.ts_chunk_packed.specs.Chunk.{Samples, IsFirst, IsPacked}
+use Rattle.ts_chunk_packed.specs.Chunk.{Samples, IsPacked}
 use Rattle.ts_chunk_packed.specs.Laws.{IsKnown, most_coded, three_or_more}
 use Rattle.ts_chunk_packed.specs.Packed.{State, begin, next, coded, packed, state_from, samples_of, decoded}
 use Rattle.ts_chunk_packed.proofs.Listing.{samples_back, state_is, past_before, all_known, packed-push, state-push}
 
-first-push : (q head : Point) (ps : List Point) (p : Point) → IsFirst q ps → (length ps ≡ 0 → head ≡ p) → (0 < length ps → head ≡ q) → IsFirst head (ps ++ p ∷ [])
-first-push q head [] p is none some = none refl
-first-push q head (r ∷ ps) p is none some = some (omega arith) ∙ is
-
-no_first : (ps : List Point) → length ps ≡ 0 → None ≡ first_of ps
-no_first [] none = refl
-no_first (p ∷ ps) none = absurd (omega (arith, none))
-
-one_first : (q : Point) (ps : List Point) → IsFirst q ps → 0 < length ps → Some q ≡ first_of ps
-one_first q [] is some = absurd (omega arith)
-one_first q (p ∷ ps) is some = ap Some is
+first-push : (begins : Option Point) (ps : List Point) (p : Point) → begins ≡ first_of ps → Some (unwrap_or begins p) ≡ first_of (ps ++ p ∷ [])
+first-push begins [] p is = ap (λ (o : Option Point). Some (unwrap_or o p)) is
+first-push begins (r ∷ ps) p is = ap (λ (o : Option Point). Some (unwrap_or o p)) is
 
 -- no bytes are a chunk without samples
-pub empty : (limit capacity : ℕ) (written : List ℕ) (begins : Point) → written ≡ [] → IsLimit limit → limit ≤ capacity → IsPacked limit capacity written 0 0 begins None
+pub empty : (limit capacity : ℕ) (written : List ℕ) → written ≡ [] → IsLimit limit → limit ≤ capacity → IsPacked limit capacity written 0 0 None None
 unfolding samples_of decoded
-empty limit capacity written begins none bounds room = record {
+empty limit capacity written none bounds room = record {
   chunk = record { bounds = bounds; ascending = tt; fine = tt; fits = omega arith };
   room = room;
   bytes = none;
   count = refl;
   step = refl;
-  first = tt;
+  first = refl;
   last = refl;
 }
 
@@ -42,7 +34,7 @@ unfolding samples_of decoded
 no_samples written = refl
 
 -- what a chunk knows of its samples
-module _ {limit capacity : ℕ} {written : List ℕ} {count step : ℕ} {begins : Point} {ends : Option Point} (was : IsPacked limit capacity written count step begins ends) where
+module _ {limit capacity : ℕ} {written : List ℕ} {count step : ℕ} {begins ends : Option Point} (was : IsPacked limit capacity written count step begins ends) where
   abbrev pub list : List Point
   list = samples_of count written
 
@@ -57,11 +49,8 @@ module _ {limit capacity : ℕ} {written : List ℕ} {count step : ℕ} {begins 
   state {now} is =
       (λ i. record { before = unwrap_or (was.last i) begin.before; step = was.step i; begun = is_some (was.last i) }) ∙ state_is list ∙ ap (λ (x : Samples). state_from begin x.list) is
 
-  pub none_first : {now : Samples} → (record { limit = limit; list = list }) ≡ now → count ≡ 0 → None ≡ first_of now.list
-  none_first {now} is none = no_first list (omega (arith, was.count, none)) ∙ ap (λ (x : Samples). first_of x.list) is
-
-  pub some_first : {now : Samples} → (record { limit = limit; list = list }) ≡ now → 0 < count → Some begins ≡ first_of now.list
-  some_first {now} is some = one_first begins list was.first (omega (arith, was.count, some)) ∙ ap (λ (x : Samples). first_of x.list) is
+  pub first_is : {now : Samples} → (record { limit = limit; list = list }) ≡ now → begins ≡ first_of now.list
+  first_is {now} is = was.first ∙ ap (λ (x : Samples). first_of x.list) is
 
   -- the bytes with one sample more
   pub with_more : (p : Point) → written ++ coded (state_from begin list) p ≡ packed (list ++ p ∷ [])
@@ -118,9 +107,9 @@ module _ {limit capacity : ℕ} {written : List ℕ} {count step : ℕ} {begins 
     list-pushed =
         ap (samples_of (count + 1)) (with_more p) ∙ ap (λ (n : ℕ). samples_of n (packed (list ++ p ∷ []))) (sym long) ∙ samples_back (list ++ p ∷ [])
 
-    pub packed-pushed : (grown : ℕ) (after : List ℕ) (far : ℕ) (head : Point) → capacity ≤ grown → after ≡ written ++ coded (state_from begin list) p
-        → pos far ≡ (next (state_from begin list) p).step → (count ≡ 0 → head ≡ p) → (0 < count → head ≡ begins) → IsPacked limit grown after (count + 1) far head (Some p)
-    packed-pushed grown after far head more is step_is none some =
+    pub packed-pushed : (grown : ℕ) (after : List ℕ) (far : ℕ) (head : Option Point) → capacity ≤ grown → after ≡ written ++ coded (state_from begin list) p
+        → pos far ≡ (next (state_from begin list) p).step → head ≡ Some (unwrap_or begins p) → IsPacked limit grown after (count + 1) far head (Some p)
+    packed-pushed grown after far head more is step_is head_is =
         let all : samples_of (count + 1) after ≡ list ++ p ∷ [] = ap (samples_of (count + 1)) is ∙ list-pushed in
         let chunk : IsChunk packed limit (list ++ p ∷ []) =
         record { bounds = was.chunk.bounds; ascending = ascending-push list p was.chunk.ascending past; fine = fine-append list (p ∷ []) was.chunk.fine (fine, tt); fits = fits } in
@@ -130,6 +119,6 @@ module _ {limit capacity : ℕ} {written : List ℕ} {count step : ℕ} {begins 
           bytes = is ∙ with_more p ∙ ap packed (sym all);
           count = sym long ∙ ap length (sym all);
           step = step_is ∙ ap (λ (x : State). x.step) (sym (state-push begin list p)) ∙ ap (λ (l : List Point). (state_from begin l).step) (sym all);
-          first = subst (IsFirst head) (sym all) (first-push begins head list p was.first (λ e. none (omega (arith, was.count, e))) (λ any. some (omega (arith, was.count, any))));
+          first = head_is ∙ first-push begins list p was.first ∙ ap first_of (sym all);
           last = sym (last-push list p) ∙ ap last_of (sym all);
         }

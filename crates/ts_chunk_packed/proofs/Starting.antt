@@ -167,7 +167,7 @@ rest_either mark time all r up (Some x) is early none past =
     rest_from all (mark x).count r past time up (subst (λ (s : State). s.before.time < time) is.state early)
 
 -- the same of a chunk's fields
-module _ {limit capacity : ℕ} {written : List ℕ} {many far : ℕ} {begins : Point} {ends : Option Point} {places : List Marked} (was : IsMarked limit capacity written many far begins ends places)
+module _ {limit capacity : ℕ} {written : List ℕ} {many far : ℕ} {begins ends : Option Point} {places : List Marked} (was : IsMarked limit capacity written many far begins ends places)
     {now : Samples} (is : (record { limit = limit; list = samples_of many written }) ≡ now) where
   list_here : samples_of many written ≡ now.list
   list_here = list_is was.packed is

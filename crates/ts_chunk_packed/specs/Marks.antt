@@ -1,5 +1,5 @@
 -- Places in a chunk where decoding may begin.
-use Rattle.std.specs.Prelude.{◌≡◌, ℕ, ◌≤◌, ⊤, List, [], Option, None, Some, take, length, All}
+use Rattle.std.specs.Prelude.{◌≡◌, ℕ, ◌+◌, ◌≤◌, ⊤, List, [], ◌∷◌, Option, None, Some, take, length, All}
 use Rattle.std.specs.Global.{Box}
 use Rattle.ts_spec.specs.Sample.{Point}
 use Rattle.ts_chunk_packed.specs.Packed.{State, begin, packed, state_from}
@@ -41,3 +41,18 @@ pub record EndsAt (ps : List Point) (at count : ℕ) : Type 0 where
 abbrev pub marks_of : Option (Box (List Marked)) → List Marked
 marks_of None = []
 marks_of (Some ms) = ms.value
+
+-- each of the marks stands 256 bytes or more past the one before it, and the first so far past a place
+abbrev pub AreSpaced : (place : ℕ) → List Marked → Type 0
+AreSpaced place [] = ⊤
+AreSpaced place (m ∷ ms) = (place + 256 ≤ m.at) × AreSpaced m.at ms
+
+-- where the last of the marks stands, or the place where there is none
+abbrev pub end_of : (place : ℕ) → List Marked → ℕ
+end_of place [] = place
+end_of place (m ∷ ms) = end_of m.at ms
+
+-- The marks stand apart, and the next one is due where it stands apart from the last.
+pub record IsSpaced (due : ℕ) (ms : List Marked) : Type 0 where
+  pub spaced : AreSpaced 0 ms
+  pub next : end_of 0 ms + 256 ≤ due

@@ -1,10 +1,11 @@
 // A chunk in the packed format.
-ghost use Rattle.std.specs.Prelude.{◌≡◌, ◌<◌};
+ghost use Rattle.std.specs.Prelude.{◌≡◌, Some};
+ghost use Rattle.std.specs.Option.{unwrap_or};
 
+mod fields;
 mod parts;
 
 use crate::coding::{WIDEST, encode, width_of};
-use crate::context::no_sample;
 use crate::late_marks::LateMarks;
 use crate::mark::{Mark, Offset};
 use crate::splicing::take_over;
@@ -21,7 +22,7 @@ pub struct PackedChunk {
     bytes: Vec<u8>,
     count: u32,
     step: u64,
-    first: Sample,
+    first: Option<Sample>,
     last: Option<Sample>,
     marks: LateMarks,
 }
@@ -62,7 +63,7 @@ impl Chunk for PackedChunk {
             bytes: Vec::with_capacity(alloc, limit as usize)?,
             count: 0,
             step: 0,
-            first: no_sample(),
+            first: None,
             last: None,
             marks: LateMarks::new(),
         })
@@ -81,10 +82,7 @@ impl Chunk for PackedChunk {
     }
 
     fn first(&self) -> Option<Sample> {
-        if self.count == 0 {
-            return None;
-        }
-        Some(self.first)
+        self.first
     }
 
     fn last(&self) -> Option<Sample> {
@@ -146,7 +144,7 @@ impl Chunk for PackedChunk {
         };
         self.marks.set(&context, place);
         encode(&mut self.bytes, &context, sample);
-        keep_first(&mut self.first, self.count, sample);
+        keep_first(&mut self.first, sample);
         self.count += 1;
         self.step = context.step_to(sample);
         self.last = Some(*sample);
@@ -182,12 +180,11 @@ impl Chunk for PackedChunk {
     ghost one_fits = { one_within };
 }
 
-// Keeps the first of so many samples, and this one where there was none.
-fn keep_first(first: &mut Sample, count: u32, sample: &Sample)
-    ensures none { count ≡ 0 → first.new ≡ sample.now }
-    ensures some { 0 < count → first.new ≡ first.old }
+// Keeps the first sample, and this one where there was none.
+fn keep_first(first: &mut Option<Sample>, sample: &Sample)
+    ensures { first.new ≡ Some (unwrap_or first.old sample.now) }
 {
-    if count == 0 {
-        *first = *sample;
+    if first.is_none() {
+        *first = Some(*sample);
     }
 }

@@ -1,8 +1,8 @@
 // The marks of a chunk that late samples come to. A chunk that only grows at its end has none, and no room for any.
-ghost use Rattle.std.specs.Prelude.{◌≡◌, ◌<◌, ◌≤◌, List, ◌++◌, take, length, IfOk, IfSome};
+ghost use Rattle.std.specs.Prelude.{◌≡◌, ◌<◌, ◌≤◌, ◌*◌, List, ◌++◌, take, length, IfOk, IfSome};
 ghost use Rattle.ts_spec.specs.Sample.{Point};
 ghost use Rattle.ts_chunk_packed.specs.Marks.{IsMark, AreMarks, EndsAt};
-ghost use Rattle.ts_chunk_packed.specs.Packed.{begin, state_from};
+ghost use Rattle.ts_chunk_packed.specs.Packed.{begin, packed, state_from};
 
 use crate::context::Context;
 use crate::mark::{Mark, Offset};
@@ -50,6 +50,16 @@ impl LateMarks {
             return;
         };
         marks.set(context, place);
+    }
+
+    /// How many there are: at most one for each 256 bytes of the samples.
+    pub fn len(&self) -> usize
+        ensures { (ps : List Point) → AreMarks ps self.now → 256 * result ≤ length (packed ps) }
+    {
+        match &self.marks {
+            Some(marks) => marks.len(),
+            None => 0,
+        }
     }
 
     /// The last mark past which no sample before this time is left out, if there is one.

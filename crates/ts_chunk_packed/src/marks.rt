@@ -1,9 +1,9 @@
 // The marks of a chunk: a few places past some of its samples, so that decoding needn't begin at the front. Nothing
 // but speed depends on which there are.
-ghost use Rattle.std.specs.Prelude.{◌≡◌, ◌<◌, ◌≤◌, List, ◌++◌, take, length, IfOk, IfSome};
+ghost use Rattle.std.specs.Prelude.{◌≡◌, ◌<◌, ◌≤◌, ◌*◌, List, ◌++◌, take, length, IfOk, IfSome};
 ghost use Rattle.ts_spec.specs.Sample.{Point};
 ghost use Rattle.ts_chunk_packed.specs.Marks.{Marked, IsMark, AreMarks, EndsAt};
-ghost use Rattle.ts_chunk_packed.specs.Packed.{begin, state_from};
+ghost use Rattle.ts_chunk_packed.specs.Packed.{begin, packed, state_from};
 
 use crate::context::Context;
 use crate::mark::{Mark, Offset};
@@ -28,6 +28,10 @@ impl Model for Marks {
     ghost Value = { List Marked };
 
     ghost view = { λ m. m.list.items };
+
+    ghost use Rattle.ts_chunk_packed.specs.Marks.{IsSpaced};
+
+    ghost invariant = { λ m. IsSpaced m.due m.list.items };
 }
 
 impl Marks {
@@ -41,6 +45,13 @@ impl Marks {
         })
     }
 
+    /// How many there are: at most one for each 256 bytes of the samples.
+    pub fn len(&self) -> usize
+        ensures { (ps : List Point) → AreMarks ps self.now → 256 * result ≤ length (packed ps) }
+    {
+        self.list.len()
+    }
+
     // Keeps one more mark, if it is due and there is room.
     fn keep(&mut self, mark: Mark)
         ensures { (ps : List Point) → AreMarks ps self.old → IsMark ps mark → AreMarks ps self.new }
@@ -49,8 +60,11 @@ impl Marks {
         if at < self.due || self.list.len() == self.list.capacity() {
             return;
         }
+        let Some(due) = at.checked_add(SPACING) else {
+            return;
+        };
         self.list.push_reserved(mark);
-        self.due = at.saturating_add(SPACING);
+        self.due = due;
     }
 
     /// Sets a mark past all samples of a chunk, if one is due. It takes no memory.

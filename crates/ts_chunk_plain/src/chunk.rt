@@ -4,6 +4,8 @@ ghost use Rattle.ts_chunk_plain.specs.Plain.{plain, sample_of};
 ghost use Rattle.ts_sample.specs.Chunk.{AreFine};
 ghost use Rattle.ts_spec.specs.Sample.{IsAscending, first_of, last_of};
 
+mod fields;
+
 use crate::piece::{WIDTH, decode, encode};
 use crate::pieces::{joined, place_of, place_past, walk};
 use std::alloc::{AllocError, Global};

@@ -37,3 +37,15 @@ impl Rule {
         }
     }
 }
+
+// A rule is these fields and no others: a further one, such as a copy of its samples, does not compile here.
+fn fields(it: &Rule) {
+    let Rule {
+        dest: _,
+        agg: _,
+        grid: _,
+        made: _,
+        current: _,
+        running: _,
+    } = it;
+}

@@ -93,3 +93,11 @@ impl<C: Chunk> Chunks<C> {
         start..self.upto(to).max(start)
     }
 }
+
+// A list of chunks is these fields and no others: a further one, such as a copy of its samples, does not compile here.
+fn fields<C: Chunk>(it: &Chunks<C>) {
+    let Chunks {
+        chunks: _,
+        count: _,
+    } = it;
+}

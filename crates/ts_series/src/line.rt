@@ -137,3 +137,14 @@ impl<C: Chunk> Line<C> {
         self.born += 1;
     }
 }
+
+// A series is these fields and no others: a further one, such as a copy of its samples, does not compile here.
+fn fields<C: Chunk>(it: &Line<C>) {
+    let Line {
+        alloc: _,
+        options: _,
+        chunks: _,
+        high: _,
+        born: _,
+    } = it;
+}

@@ -1,5 +1,5 @@
 // Parts of a chunk: what is left of it from a time or a place on, what stands before, and the rest of another.
-ghost use Rattle.std.specs.Prelude.{◌≡◌, ◌+◌, ◌<◌, nat_lt, nat_le, if◌then◌else◌, ◌++◌, length, IfOk, IfSome, IfNone};
+ghost use Rattle.std.specs.Prelude.{◌≡◌, ◌+◌, ◌<◌, nat_lt, nat_le, if◌then◌else◌, ◌==◌, ◌++◌, length, None, IfOk, IfSome, IfNone};
 ghost use Rattle.ts_spec.specs.Sample.{IsAscending, at_times};
 ghost use Rattle.ts_chunk_packed.specs.Marks.{AreMarks, IsMark, IsPlace, EndsAt, passed};
 ghost use Rattle.ts_chunk_packed.specs.Packed.{begin, state_from, packed};
@@ -11,6 +11,7 @@ use crate::late_marks::LateMarks;
 use crate::mark::{Mark, Offset};
 use crate::rest::Rest;
 use std::alloc::{AllocError, Global};
+use ts_sample::Sample;
 
 impl PackedChunk {
     // What is known of its samples.
@@ -74,7 +75,7 @@ impl PackedChunk {
             bytes,
             count,
             step: context.step(),
-            first: self.first,
+            first: kept_first(count, self.first),
             last: context.last(),
             marks,
         })
@@ -148,4 +149,11 @@ impl PackedChunk {
         self.marks.keep_moved(&other.marks, from, to);
         true
     }
+}
+
+// The first of so many samples, where this is the first of those and others.
+fn kept_first(count: u32, first: Option<Sample>) -> Option<Sample>
+    ensures { result ≡ (if count == 0 then None else first) }
+{
+    if count == 0 { None } else { first }
 }

@@ -1,4 +1,4 @@
-use Rattle.std.proofs.Common.{◌≡◌, ◌-◌, ◌++◌, ◌∙◌, ap, sym, subst, length, take, if◌then◌else◌, rules, arith}
+use Rattle.std.proofs.Common.{◌≡◌, ◌-◌, ◌==◌, ◌++◌, ◌∙◌, ap, sym, subst, length, take, if◌then◌else◌, rules, arith}
 use Rattle.std.specs.Prelude.{None, Some, vec_capacity, vec_len}
 use Rattle.ts_chunk_packed.specs.Chunk.{IsPacked}
 use Rattle.ts_chunk_packed.specs.Marks.{AreMarks}
@@ -28,10 +28,11 @@ invariant_of-result c =
     let items : grown.items ≡ take (length f.bytes.items - length c.bytes.result.now) f.bytes.items =
     c.in_ok-extend_from_slice.ensures.items ∙ (λ i. c.in_ok-bytes.ensures.items i ++ (c.split_at.ensures.front ∙ (λ j. take ((c.len.ensures ∙ len) j - length c.bytes.result.now) (c.deref.ensures.value j))) i) in
     let rest = of (goal.at.invariant_of-result c).After-bytes in
-    let packed : IsPacked f.limit (vec_capacity grown) grown.items (f.count - c.len-2.result) c.step.result f.first c.last.result =
-    subst (λ n. IsPacked f.limit (vec_capacity grown) grown.items (f.count - n) c.step.result f.first c.last.result) (sym c.len-2.ensures)
+    let packed : IsPacked f.limit (vec_capacity grown) grown.items (f.count - c.len-2.result) c.step.result c.kept_first.result c.last.result =
+    subst (λ n. IsPacked f.limit (vec_capacity grown) grown.items (f.count - n) c.step.result c.kept_first.result c.last.result) (sym c.len-2.ensures)
     (front_chunk was c.self.view_is rest c.bytes.ensures (omega (arith, c.in_ok-bytes.ensures.capacity, c.extend_from_slice.ensures.capacity)) items
     (c.step.ensures ∙ ap (λ (s : State). s.step) c.context-context.ensures)
+    (c.kept_first.ensures ∙ ap (λ n. if f.count - n == 0 then None else f.first) c.len-2.ensures)
     (c.last.ensures ∙ ap (λ (s : State). if s.begun then Some s.before else None) c.context-context.ensures)) in
     let list = ap (λ n. samples_of (f.count - n) grown.items) c.len-2.ensures ∙ front_list was c.self.view_is rest c.bytes.ensures items in
     record { packed = packed; marks = subst (λ l. AreMarks l c.pass_before.new.marks) (sym list) c.pass_before.ensures.marks }

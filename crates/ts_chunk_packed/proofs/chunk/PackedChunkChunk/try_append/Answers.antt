@@ -62,7 +62,7 @@ invariant_of-self c =
     record {
       packed = packed-pushed c.self.invariant.packed p c.known.ensures (past at) (fits at) (vec_capacity c.encode.new.bytes) c.encode.new.bytes.items c.step_to-self-inside.result
           c.keep_first.new.first (omega (arith, c.encode.ensures.capacity)) (items at) (c.step_to-self-inside.ensures.step ∙ ap (λ (s : State). (next s p).step) (state at))
-          c.keep_first.ensures.none c.keep_first.ensures.some;
+          c.keep_first.ensures;
       marks = subst (λ l. AreMarks l c.set.new.self) (sym (more at)) (marks_on (list at) (p ∷ []) c.set.new.self (c.set.ensures (list at) (state at) ends c.self.invariant.marks));
     }
 
