@@ -11,6 +11,12 @@ take-add n m xs le =
     ∙ ap (λ (k : ℕ). take (k + m) (take n xs ++ drop n xs)) len
     ∙ take-append-add (take n xs) (drop n xs) m
 
+-- a front, and then the first m bytes of the rest
+pub front_on : (n m : ℕ) (bytes : List ℕ) → n + m ≤ length bytes → take n bytes ++ take m (take (length bytes - n) (drop n bytes)) ≡ take (n + m) bytes
+front_on n m bytes le =
+    let rest : take (length bytes - n) (drop n bytes) ≡ drop n bytes = take_all _ _ (omega (arith, length-drop n bytes)) in
+    ap (λ (l : List ℕ). take n bytes ++ take m l) rest ∙ sym (take-add n m bytes (omega arith))
+
 pub grows_none : (has : List ℕ → Type 0) → Grows has has []
 grows_none has = record { each = λ w had. subst has (sym (append-nil w)) had }
 
@@ -21,10 +27,7 @@ module _ (old mid new : List ℕ → Type 0) where
 
   -- a front was written, and then the first m bytes of the rest
   pub grows_on : (n m : ℕ) (bytes : List ℕ) → Grows old mid (take n bytes) → n + m ≤ length bytes → Grows mid new (take m (take (length bytes - n) (drop n bytes))) → Grows old new (take (n + m) bytes)
-  grows_on n m bytes p le q =
-      let rest : take (length bytes - n) (drop n bytes) ≡ drop n bytes = take_all _ _ (omega (arith, length-drop n bytes)) in
-      let more : Grows mid new (take m (drop n bytes)) = subst (λ (l : List ℕ). Grows mid new (take m l)) rest q in
-      subst (λ (l : List ℕ). Grows old new l) (sym (take-add n m bytes (omega arith))) (grows_twice (take n bytes) (take m (drop n bytes)) p more)
+  grows_on n m bytes p le q = subst (λ (l : List ℕ). Grows old new l) (front_on n m bytes le) (grows_twice (take n bytes) (take m (take (length bytes - n) (drop n bytes))) p q)
 
 -- all was written
 pub grows_all : (old new : List ℕ → Type 0) (n : ℕ) (bytes : List ℕ) → length bytes ≤ n → Grows old new (take n bytes) → Grows old new bytes

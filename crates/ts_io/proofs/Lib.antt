@@ -1,3 +1,4 @@
+pub mod Adding
 pub mod Batching
 pub mod Counting
 pub mod Growth

@@ -1,5 +1,5 @@
 -- What a read from memory copies, and what it leaves.
-use Rattle.std.proofs.Common.{◌≡◌, ℕ, ◌+◌, ◌-◌, ◌<◌, ◌≤◌, min, List, [], ◌++◌, length, take, drop, sym, ◌∙◌, ap, arith, length-drop, take-append-drop}
+use Rattle.std.proofs.Common.{◌≡◌, ℕ, zero, suc, ◌+◌, ◌-◌, ◌^◌, ◌<◌, ◌≤◌, min, List, [], ◌∷◌, ◌++◌, length, take, drop, refl, sym, ◌∙◌, ap, arith, length-drop, length-take, take-append-drop}
 use Rattle.std.proofs.lemmas.List.{take_all, drop-drop, nil_from_length}
 
 -- the first n bytes from this place on were copied: they and the later ones are what was left
@@ -15,3 +15,25 @@ pub read_none : (bytes : List ℕ) (place piece room n : ℕ) → 1 ≤ piece �
 read_none bytes place piece room n some is none asked =
     let whole : take (length bytes - place) (drop place bytes) ≡ drop place bytes = take_all _ _ (omega (arith, length-drop place bytes)) in
     nil_from_length _ (omega (arith, ap length whole, length-drop place bytes, length-drop (place + n) bytes))
+
+-- past the end all places are alike
+drop_same : (xs : List ℕ) (a b : ℕ) → min a (length xs) ≡ min b (length xs) → drop a xs ≡ drop b xs
+drop_same [] zero zero e = refl
+drop_same [] zero (suc b) e = refl
+drop_same [] (suc a) zero e = refl
+drop_same [] (suc a) (suc b) e = refl
+drop_same (x ∷ xs) zero zero e = refl
+drop_same (x ∷ xs) zero (suc b) e = absurd (omega arith)
+drop_same (x ∷ xs) (suc a) zero e = absurd (omega arith)
+drop_same (x ∷ xs) (suc a) (suc b) e = drop_same xs a b (omega arith)
+
+module _ (bytes : List ℕ) (place start new n : ℕ) (within : start ≡ min (length bytes) place) (few : length bytes ≤ 2 ^ 64 - 1) (moved : new ≡ min (place + n) (2 ^ 64 - 1)) (left : n ≤ length (take (length bytes - start) (drop start bytes))) where
+  -- a read from this place on goes on at the new one, whether or not they are past the end
+  pub read_on : drop new bytes ≡ drop (start + n) bytes
+  read_on = drop_same bytes new (start + n) (omega (arith, length-take (length bytes - start) (drop start bytes), length-drop start bytes))
+
+  pub read_from : (buf : List ℕ) → take n buf ≡ take n (take (length bytes - start) (drop start bytes)) → drop place bytes ≡ take n buf ++ drop new bytes
+  read_from buf copied =
+      drop_same bytes place start (omega arith)
+      ∙ read_front bytes buf start n copied
+      ∙ ap (λ (l : List ℕ). take n buf ++ l) (sym read_on)

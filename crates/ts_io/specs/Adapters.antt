@@ -1,5 +1,6 @@
--- What the adapters over std's readers, writers and listeners hold.
+-- What the adapters over std's readers, writers, listeners and files hold.
 use Rattle.std.specs.Prelude.{◌≡◌, ℕ, suc, ◌-◌, ◌^◌, min, Bool, List, [], ◌∷◌, Option, None, Some}
+use Rattle.ts_io.specs.declared.file_log.FileLog.{FileLog}
 use Rattle.ts_io.specs.declared.std_sink.StdSink.{StdSink}
 use Rattle.ts_io.specs.declared.std_source.StdSource.{StdSource}
 use Rattle.ts_io.specs.declared.tcp_net.TcpNet.{TcpNet}
@@ -27,6 +28,13 @@ failed_listens_of s = s.faults
 
 abbrev pub hands_out : {R : Type 0} → TcpNet R → Bool
 hands_out s = s.is_out
+
+-- the reading place of a log over a file, and how many of its calls failed
+abbrev pub log_place_of : {R : Type 0} → FileLog R → ℕ
+log_place_of l = l.place
+
+abbrev pub failed_log_calls_of : {R : Type 0} → FileLog R → ℕ
+failed_log_calls_of l = l.faults
 
 -- the list w stands in the other, in order, with so many more bytes among its own
 pub data IsAmong : List ℕ → List ℕ → ℕ → Type 0 where

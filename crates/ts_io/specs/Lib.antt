@@ -5,5 +5,6 @@ pub mod Causes
 pub mod Clocks
 pub mod Counts
 pub mod Links
+pub mod Logs
 pub mod Sinks
 pub mod Sources

@@ -1,6 +1,6 @@
-//! The outside: where bytes come from, where they go, the clock and the listener, as traits that count their
-//! faults; devices in memory, whose failures are chosen beforehand; and adapters over std's readers, writers,
-//! clock and network.
+//! The outside: where bytes come from, where they go, the log, the clock and the listener, as traits that count
+//! their faults; devices in memory, whose failures are chosen beforehand; and adapters over std's readers, writers,
+//! files, clock and network.
 //!
 //! A count of calls or of faults is kept in a `u64` and stops at 18446744073709551615. The calls of a device in
 //! memory are numbered from 1 on, so each call from that one on has that number.
@@ -9,11 +9,15 @@
 mod batches;
 mod clock;
 mod connection;
+mod copying;
 mod count_sink;
 mod failed;
+mod file_log;
 mod listener;
+mod log;
 mod mem_clock;
 mod mem_listener;
+mod mem_log;
 mod mem_sink;
 mod mem_source;
 mod schedule;
@@ -33,9 +37,12 @@ pub use clock::Clock;
 pub use connection::{Connection, Wait};
 pub use count_sink::CountSink;
 pub use failed::Failed;
+pub use file_log::FileLog;
 pub use listener::{Ends, Listener};
+pub use log::{Log, append_all_counted};
 pub use mem_clock::MemClock;
 pub use mem_listener::MemListener;
+pub use mem_log::MemLog;
 pub use mem_sink::MemSink;
 pub use mem_source::MemSource;
 pub use sink::{Sink, write_all_counted};

@@ -1,9 +1,10 @@
 // A source for tests and for workloads, which gives bytes that are in memory.
-ghost use Rattle.std.specs.Prelude.{◌≡◌, ◌≤◌, ◌↔◌, Some, length, min, take, IsErr, IfOk, Contains, is_err};
+ghost use Rattle.std.specs.Prelude.{◌≡◌, ◌≤◌, ◌↔◌, Some, length, min, IsErr, IfOk, Contains, is_err};
 ghost use Rattle.std.specs.Io.{ReadsAtMost};
 ghost use Rattle.std.specs.Io.KnownBytes.{ReadConsumes};
 ghost use Rattle.ts_io.specs.Causes.{HasCause};
 
+use crate::copying::copy_front;
 use crate::schedule::Schedule;
 use crate::{Failed, Source};
 use std::marker::Model;
@@ -70,14 +71,4 @@ impl Source for MemSource {
         self.place += count;
         Ok(count)
     }
-}
-
-// Copies the first bytes of `from`, at most so many, to the front of `to`, and says how many.
-fn copy_front(from: &[u8], most: usize, to: &mut [u8]) -> usize
-    ensures count { result ≡ min most (min (length to.old) (length from.now)) }
-    ensures copied { take result to.new ≡ take result from.now }
-{
-    let count = most.min(to.len()).min(from.len());
-    to[..count].copy_from_slice(&from[..count]);
-    count
 }

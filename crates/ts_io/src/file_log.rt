@@ -1,0 +1,158 @@
+// A log over a file.
+ghost use Rattle.std.specs.Prelude.{◌≡◌, ◌<◌, ◌≤◌, None, length, IfOk, OnOk, OnErr};
+ghost use Rattle.std.specs.Io.{ReadsAtMost, WritesAtMost};
+ghost use Rattle.ts_io.specs.Adapters.{failed_log_calls_of, log_place_of};
+ghost use Rattle.ts_io.specs.Causes.{HasCause, counted};
+ghost use Rattle.ts_io.specs.Logs.{ReadMoves};
+
+use crate::failed::count_failure;
+use crate::{Failed, Log};
+use std::fs::{File, OpenOptions};
+use std::io;
+use std::io::{ErrorKind, Write};
+use std::os::unix::fs::FileExt;
+use std::rt::Files;
+
+/// A log over a file of the system, which counts its errors. It tells nothing of its content.
+///
+/// The file is locked as long as it is open here, so that no other program with such a log adds to it. It is open until
+/// another one is opened, or the log is dropped.
+#[derive(Drop)]
+pub struct FileLog<R> {
+    rt: R,
+    file: Option<File>,
+    place: u64,
+    faults: u64,
+}
+
+impl<R: Files<File = File>> FileLog<R> {
+    /// A log that has no file yet.
+    pub fn new(rt: R) -> Self
+        ensures place { log_place_of result ≡ 0 }
+        ensures faults { failed_log_calls_of result ≡ 0 }
+        ensures content { ⟦<FileLog<R> as Log>⟧.content result ≡ None }
+    {
+        FileLog {
+            rt,
+            file: None,
+            place: 0,
+            faults: 0,
+        }
+    }
+
+    // The file of this name, locked. It is made where it is missing, and all writes go to its end.
+    fn locked(&self, name: &str) -> io::Result<File> {
+        let file = OpenOptions::new()
+            .read(true)
+            .append(true)
+            .create(true)
+            .open(&self.rt, name)?;
+        file.try_lock()?;
+        Ok(file)
+    }
+
+    // The file that is open.
+    fn file(&self) -> io::Result<&File> {
+        match &self.file {
+            Some(file) => Ok(file),
+            None => Err(io::Error::from(ErrorKind::NotConnected)),
+        }
+    }
+
+    fn read_once(&self, buf: &mut [u8]) -> io::Result<usize>
+        ensures { ReadsAtMost result buf.new }
+    {
+        self.file()?.read_at(buf, self.place)
+    }
+
+    // A file that is shorter is not made longer.
+    fn cut_and_sync(&self, len: u64) -> io::Result<()> {
+        let file = self.file()?;
+        if len < file.metadata()?.len() {
+            file.set_len(len)?;
+        }
+        file.sync_data()
+    }
+
+    // A write of nothing has failed.
+    fn write_once(&self, bytes: &[u8]) -> io::Result<usize>
+        ensures bound { WritesAtMost result bytes.now }
+        ensures progress { 0 < length bytes.now → IfOk result (λ n. 0 < n) }
+    {
+        let mut file = self.file()?;
+        match file.write(bytes) {
+            Ok(0) if !bytes.is_empty() => Err(io::Error::from(ErrorKind::WriteZero)),
+            outcome => outcome,
+        }
+    }
+}
+
+impl<R: Files<File = File>> Log for FileLog<R> {
+    ghost content = { λ _. None };
+
+    ghost place = { log_place_of };
+
+    ghost faults = { failed_log_calls_of };
+
+    /// Opens the file of this name, which is made where it is missing, and locks it. The file that was open is closed
+    /// first. It fails where another log has the file open, and then the file is as it was.
+    fn open(&mut self, name: &str) -> Result<(), Failed>
+        ensures start { OnOk result (log_place_of self.new ≡ 0) }
+        ensures failed { OnErr result (log_place_of self.new ≡ log_place_of self.old) }
+        ensures cause { HasCause (failed_log_calls_of self.old) (failed_log_calls_of self.new) result }
+        ensures err { OnErr result (failed_log_calls_of self.new ≡ counted (failed_log_calls_of self.old)) }
+    {
+        self.file = None;
+        match self.locked(name) {
+            Ok(file) => {
+                self.file = Some(file);
+                self.place = 0;
+                Ok(())
+            }
+            Err(_) => Err(count_failure(&mut self.faults)),
+        }
+    }
+
+    /// Where no file is open it fails.
+    fn read(&mut self, buf: &mut [u8]) -> Result<usize, Failed>
+        ensures bound { ReadsAtMost result buf.new }
+        ensures place { ReadMoves (log_place_of self.old) (log_place_of self.new) result }
+        ensures cause { HasCause (failed_log_calls_of self.old) (failed_log_calls_of self.new) result }
+        ensures err { OnErr result (failed_log_calls_of self.new ≡ counted (failed_log_calls_of self.old)) }
+    {
+        match self.read_once(buf) {
+            Ok(count) => {
+                self.place = self.place.saturating_add(count as u64);
+                Ok(count)
+            }
+            Err(_) => Err(count_failure(&mut self.faults)),
+        }
+    }
+
+    /// It is `Ok` once the system says that the file is on the disk with this length. Where no file is open it fails.
+    fn cut(&mut self, len: u64) -> Result<(), Failed>
+        requires { len ≤ log_place_of self.old }
+        ensures place { log_place_of self.new ≡ log_place_of self.old }
+        ensures cause { HasCause (failed_log_calls_of self.old) (failed_log_calls_of self.new) result }
+        ensures err { OnErr result (failed_log_calls_of self.new ≡ counted (failed_log_calls_of self.old)) }
+    {
+        match self.cut_and_sync(len) {
+            Ok(()) => Ok(()),
+            Err(_) => Err(count_failure(&mut self.faults)),
+        }
+    }
+
+    /// One write of the system. Where no file is open it fails.
+    fn append(&mut self, bytes: &[u8]) -> Result<usize, Failed>
+        ensures bound { WritesAtMost result bytes.now }
+        ensures progress { 0 < length bytes.now → IfOk result (λ n. 0 < n) }
+        ensures place { log_place_of self.new ≡ log_place_of self.old }
+        ensures cause { HasCause (failed_log_calls_of self.old) (failed_log_calls_of self.new) result }
+        ensures err { OnErr result (failed_log_calls_of self.new ≡ counted (failed_log_calls_of self.old)) }
+    {
+        match self.write_once(bytes) {
+            Ok(count) => Ok(count),
+            Err(_) => Err(count_failure(&mut self.faults)),
+        }
+    }
+}
