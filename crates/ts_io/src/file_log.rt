@@ -10,6 +10,7 @@ use crate::{Failed, Log};
 use std::fs::{File, OpenOptions};
 use std::io;
 use std::io::{ErrorKind, Write};
+use std::os::fd::AsRawFd;
 use std::os::unix::fs::FileExt;
 use std::rt::Files;
 
@@ -47,6 +48,7 @@ impl<R: Files<File = File>> FileLog<R> {
             .append(true)
             .create(true)
             .open(&self.rt, name)?;
+        let file = above_streams(file)?;
         file.try_lock()?;
         Ok(file)
     }
@@ -155,4 +157,13 @@ impl<R: Files<File = File>> Log for FileLog<R> {
             Err(_) => Err(count_failure(&mut self.faults)),
         }
     }
+}
+
+// The same file, under a number that no standard stream has. Where such a stream was closed, the system gives its number to
+// the next file that is opened, and what is then written to the stream would go into that.
+fn above_streams(file: File) -> io::Result<File> {
+    if file.as_raw_fd() <= 2 {
+        return file.try_clone();
+    }
+    Ok(file)
 }
