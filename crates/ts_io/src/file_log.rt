@@ -131,7 +131,8 @@ impl<R: Files<File = File>> Log for FileLog<R> {
         }
     }
 
-    /// It is `Ok` once the system says that the file is on the disk with this length. Where no file is open it fails.
+    /// It is `Ok` once the system says that what is left is on the disk. Where it cuts the file and then can't say so, the
+    /// call has failed, and the file is cut. Where no file is open it fails.
     fn cut(&mut self, len: u64) -> Result<(), Failed>
         requires { len ≤ log_place_of self.old }
         ensures place { log_place_of self.new ≡ log_place_of self.old }
