@@ -5,7 +5,8 @@
 //!   of the command line, if it is not `pipe`; what the clock shows, as `clock 1000,900`; how many bytes come at once, in one
 //!   run after another, as `pieces 4096,1`; `cuts`, for pieces of each size, and for two pieces that are cut at each byte; how
 //!   many bytes a write takes, as `takes 1`; which calls of the listener fail, as `failing_calls 3`, its `open` and each
-//!   `accept` counted from 1; `encodings`, for series of TS.CREATE in either one; the `numbers` from one up to another; or the
+//!   `accept` counted from 1; that one more connection waits, and that the `next_call` after the run `comes` to it, or `fails`
+//!   first; `encodings`, for series of TS.CREATE in either one; the `numbers` from one up to another; or the
 //!   `lengths` of a word, from one up to another;
 //! - a command, and after ` -> ` the reply that is due to it: its lines, apart by ` | `, or `[1:2, 3:4]` for rows, each with
 //!   a time and a value. A part in braces stands once for each number, which takes the place of each `#`; each `@` is the
@@ -25,6 +26,7 @@
 
 mod end;
 mod line;
+mod next_call;
 mod patterns;
 mod round;
 mod run;

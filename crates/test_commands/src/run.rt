@@ -1,5 +1,6 @@
 // Runs of the program, and calls of `pipe`, over devices in memory.
 use crate::end::End;
+use crate::next_call::silent;
 use crate::setting::Setting;
 use crate::stream::Stream;
 use crate::texts::Exchange;
@@ -65,7 +66,11 @@ fn is_answered_over<S: Source + Drop>(
     let mut err = MemSink::new(alloc, setting.takes().max(1), Vec::new(alloc));
     let mut clock = MemClock::new(Vec::from_slice(alloc, &setting.readings)?);
     let failing = Vec::from_slice(alloc, &setting.failing_calls)?;
-    let mut net = MemListener::new(alloc, others, failing)?;
+    let mut coming = others;
+    if setting.next_call.is_made() {
+        coming.push(silent(alloc))?;
+    }
+    let mut net = MemListener::new(alloc, coming, failing)?;
     let status = top(
         alloc,
         &setting.words(alloc)?,
@@ -80,7 +85,8 @@ fn is_answered_over<S: Source + Drop>(
     Ok(
         out.bytes() == own.exchange.out.as_slice()
             && are_answered(net.done(), links)
-            && end.is(status.code(), err.bytes()),
+            && end.is(status.code(), err.bytes())
+            && setting.next_call.is_next(&mut net),
     )
 }
 

@@ -2,6 +2,7 @@
 ghost use Rattle.std.specs.Prelude.{◌≤◌};
 ghost use Rattle.ts_engine.specs.Top.{AreUsable};
 
+use crate::next_call::NextCall;
 use std::alloc::{AllocError, Global};
 use ts_engine::Limits;
 
@@ -38,6 +39,7 @@ pub(crate) struct Setting {
     pub(crate) readings: Vec<u64>,
     // The numbers of the calls of the listener that fail.
     pub(crate) failing_calls: Vec<u64>,
+    pub(crate) next_call: NextCall,
     // How many bytes a read takes at most, in one run after another.
     pub(crate) pieces: Vec<u64>,
     // Whether the requests also come in pieces of each size.
@@ -61,6 +63,7 @@ impl Setting {
             budget: 1 << 60,
             readings: Vec::new(alloc),
             failing_calls: Vec::new(alloc),
+            next_call: NextCall::Unmade,
             pieces: Vec::new(alloc),
             cuts: false,
             takes: 4096,
@@ -76,6 +79,7 @@ impl Setting {
         match name {
             "words" => self.words = Some(String::from_str(alloc, what)?),
             "failing_calls" => return take_list(what, &mut self.failing_calls),
+            "next_call" => return Ok(self.next_call.take(what)),
             "clock" => return take_list(what, &mut self.readings),
             "pieces" => return take_list(what, &mut self.pieces),
             "cuts" => self.cuts = true,
