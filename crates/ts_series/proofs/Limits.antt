@@ -1,6 +1,6 @@
 -- The limits of the chunks after a change, and the samples that such chunks can have.
-use Rattle.std.proofs.Common.{◌≡◌, inl, inr, ℕ, zero, suc, ◌≤◌, List, [], ◌∷◌, ◌++◌, take, drop, refl, sym, ap, subst, arith}
-use Rattle.std.specs.Prelude.{max}
+use Rattle.std.proofs.Common.{◌≡◌, inl, inr, ℕ, zero, suc, ◌-◌, ◌≤◌, List, [], ◌∷◌, ◌++◌, take, drop, refl, sym, ap, subst, arith}
+use Rattle.std.specs.Prelude.{max, slice_range}
 use Rattle.ts_series.specs.Held.{Change, IsAmong, AreAmong, HasLimits, greatest, limits_after}
 use Rattle.ts_series.specs.History.{History, reach, limit_for, KeepsLimits, KeepsReach}
 use Rattle.ts_series.proofs.NewChunks.{among-one, among-append}
@@ -34,11 +34,15 @@ among-drop one zero ns ms h = h
 among-drop one (suc n) ns [] h = tt
 among-drop one (suc n) ns (m ∷ ms) h = among-drop one n ns ms h.1
 
+-- those in whose place the new ones stand are among them
+among-part : (one : ℕ) (c : Change) (ns : List ℕ) → AreAmong one ns (slice_range ns c.start c.end)
+among-part one c ns = among-take one (c.end - c.start) ns (drop c.start ns) (among-drop one c.start ns ns (among-self one ns))
+
 -- after a change whose new limits are among them
 pub among-after : (one : ℕ) (c : Change) (ns : List ℕ) → HasLimits one ns c → AreAmong one ns (limits_after c ns)
 among-after one c ns h =
     among-append one ns (take c.start ns ++ c.limits) (drop c.end ns)
-    (among-append one ns (take c.start ns) c.limits (among-take one c.start ns ns (among-self one ns)) h)
+    (among-append one ns (take c.start ns) c.limits (among-take one c.start ns ns (among-self one ns)) (among-then one ns (slice_range ns c.start c.end) c.limits (among-part one c ns) h))
     (among-drop one c.end ns ns (among-self one ns))
 
 -- ---- how many samples a chunk of these limits can have

@@ -1,6 +1,6 @@
 -- Chunks made anew of what a chunk is cut into.
-use Rattle.std.proofs.Common.{◌≡◌, ◌≢◌, inl, inr, ℕ, zero, suc, ◌<◌, ◌≤◌, List, [], ◌∷◌, ◌++◌, length, get_or, map, refl, sym, ap, subst, arith, length-append}
-use Rattle.std.specs.Prelude.{max}
+use Rattle.std.proofs.Common.{◌≡◌, ◌≢◌, inl, inr, ℕ, zero, suc, ◌+◌, ◌-◌, ◌<◌, ◌≤◌, List, [], ◌∷◌, ◌++◌, length, get_or, take, drop, map, refl, sym, ap, subst, arith, length-append}
+use Rattle.std.specs.Prelude.{max, slice_range}
 use Rattle.std.specs.List.{All}
 use Rattle.std.proofs.lemmas.List.Elements.{All-head, All-tail}
 use Rattle.ts_spec.specs.Sample.{Point, IsAscending, outside}
@@ -64,10 +64,21 @@ pub among-one : (one : ℕ) (ms : List ℕ) → IsAmong one ms one
 among-one one [] = refl
 among-one one (m ∷ ms) = inr (among-one one ms)
 
-pub among-at : (one i : ℕ) (ms : List ℕ) → i < length ms → IsAmong one ms (get_or ms i 0)
-among-at one i [] within = absurd (omega arith)
-among-at one zero (m ∷ ms) within = inl refl
-among-at one (suc i) (m ∷ ms) within = inr (among-at one i ms (omega arith))
+among-front : (one i n : ℕ) (ms : List ℕ) → i < n → i < length ms → IsAmong one (take n ms) (get_or ms i 0)
+among-front one i zero ms below within = absurd (omega arith)
+among-front one i (suc n) [] below within = absurd (omega arith)
+among-front one zero (suc n) (m ∷ ms) below within = inl refl
+among-front one (suc i) (suc n) (m ∷ ms) below within = inr (among-front one i n ms (omega arith) (omega arith))
+
+among-part : (one i a n : ℕ) (ms : List ℕ) → a ≤ i → i < a + n → i < length ms → IsAmong one (take n (drop a ms)) (get_or ms i 0)
+among-part one i zero n ms from below within = among-front one i n ms (omega arith) within
+among-part one i (suc a) n [] from below within = absurd (omega arith)
+among-part one zero (suc a) n (m ∷ ms) from below within = absurd (omega arith)
+among-part one (suc i) (suc a) n (m ∷ ms) from below within = among-part one i a n ms (omega arith) (omega arith) (omega arith)
+
+-- one at a place from a place up to another is among those
+pub among-range : (one i start end : ℕ) (ms : List ℕ) → start ≤ i → i < end → i < length ms → IsAmong one (slice_range ms start end) (get_or ms i 0)
+among-range one i start end ms from below within = among-part one i start (end - start) ms from (omega arith) within
 
 pub among-all : {X : Type 0} (most : X → ℕ) (one n : ℕ) (ms : List ℕ) (cs : List X) → IsAmong one ms n → HaveLimit most n cs → AreAmong one ms (map most cs)
 among-all most one n ms [] h same = tt

@@ -1,6 +1,6 @@
 -- Changes of chunks that are planned.
 use Rattle.std.proofs.Common.{◌≡◌, ℕ, zero, suc, ◌-◌, ◌<◌, ◌≤◌, true, List, [], ◌∷◌, ◌++◌, length, get_or, take, drop, map, sym, ◌∙◌, ap, subst, arith, append_assoc, append-nil, leb-true}
-use Rattle.std.specs.Prelude.{nat_le, not, Option, None, Some}
+use Rattle.std.specs.Prelude.{nat_le, not, slice_range, Option, None, Some}
 use Rattle.std.proofs.Math.Seq.{drop-length}
 use Rattle.std.proofs.lemmas.List.{map-append, length-take, get_or-take}
 use Rattle.ts_spec.specs.Sample.{Point, IsAfter, IsAscending, at_times, is_within, outside, put, last_of}
@@ -14,7 +14,7 @@ use Rattle.ts_series.proofs.Joined.{joined-parts, chunk-at, chunks-length, chunk
 use Rattle.ts_series.proofs.Meeting.{last-joined}
 use Rattle.ts_series.proofs.PieceCounts.{mapped-at, joined-replaced}
 use Rattle.ts_series.proofs.PutBetween.{put-past, none-from, put-piece, place-within}
-use Rattle.ts_series.proofs.NewChunks.{longest-both, cut-chunks, among-one, among-at, among-all, among-append}
+use Rattle.ts_series.proofs.NewChunks.{longest-both, cut-chunks, among-one, among-range, among-all, among-append}
 use Rattle.ts_series.proofs.EarlyLate.{rest-past}
 
 pub ready-none : (format : List Point → List ℕ) (h : Held) (start end : ℕ) (pieces : List (List Point)) (limits : List ℕ) → start ≤ end → end ≤ length h.pieces → IsAscending (joined (replaced start end pieces h.pieces))
@@ -130,7 +130,7 @@ pub record IsOne {X : Type 0} (format : List Point → List ℕ) (list : X → L
   pub within : i < length h.pieces
   pub piece : list x ≡ get_or h.pieces i []
   pub chunk : IsChunk format (most x) (list x)
-  pub among : (one : ℕ) → IsAmong one h.limits (most x)
+  pub among : (one start end : ℕ) → start ≤ i → i < end → IsAmong one (slice_range h.limits start end) (most x)
 
 pub one-at : {X : Type 0} {format : List Point → List ℕ} (list : X → List Point) (most : X → ℕ) (cs : List X) {room count : ℕ} (h : Held)
     → ◌≡◌ {A = Held} (record { pieces = map list cs; limits = map most cs; room = room }) h → AreKept format (map list cs) (map most cs) count
@@ -145,36 +145,36 @@ one-at {format = format} list most cs {count = count} h view are i x within is =
       piece = here;
       chunk = subst (λ n. IsChunk format n (list x)) (sym limit)
           (subst (λ (ps : List Point). IsChunk format (get_or h.limits i 0) ps) (sym here) (chunk-at format i h.pieces h.limits kept.chunks within));
-      among = λ one. subst (IsAmong one h.limits) (sym limit) (among-at one i h.limits inside);
+      among = λ one start end from below. subst (IsAmong one (slice_range h.limits start end)) (sym limit) (among-range one i start end h.limits from below inside);
     }
 
--- these are chunks with these samples, and with limits of chunks that there are
-pub record AreNew (format : List Point → List ℕ) (h : Held) (ps : List Point) (pieces : List (List Point)) (limits : List ℕ) : Type 0 where
+-- these are chunks with these samples, and with limits of the chunks from one place up to another
+pub record AreNew (format : List Point → List ℕ) (h : Held) (start end : ℕ) (ps : List Point) (pieces : List (List Point)) (limits : List ℕ) : Type 0 where
   pub list : joined pieces ≡ ps
   pub chunks : AreChunks format pieces limits
-  pub among : (one : ℕ) → AreAmong one h.limits limits
+  pub among : (one : ℕ) → AreAmong one (slice_range h.limits start end) limits
 
 module _ {X : Type 0} {format : List Point → List ℕ} {list : X → List Point} {most : X → ℕ} {h : Held} {i : ℕ} {x : X} (one : IsOne format list most h i x) where
   pub piece-short : length (list x) ≤ longest h.pieces
   piece-short = omega (arith, ap length one.piece, longest-at i h.pieces)
 
   -- what it is cut into without the samples of an interval
-  pub without-it : (from to : ℕ) (new : List X) → IsCut format (most x) (outside from to (list x)) (map list new) → HaveLimit most (most x) new
-      → AreNew format h (outside from to (get_or h.pieces i [])) (map list new) (map most new)
-  without-it from to new cut bound = record {
+  pub without-it : (start end : ℕ) → start ≤ i → i < end → (from to : ℕ) (new : List X) → IsCut format (most x) (outside from to (list x)) (map list new) → HaveLimit most (most x) new
+      → AreNew format h start end (outside from to (get_or h.pieces i [])) (map list new) (map most new)
+  without-it start end behind below from to new cut bound = record {
     list = joined-cut format (most x) (outside from to (list x)) (map list new) cut ∙ ap (outside from to) one.piece;
     chunks = cut-chunks format list most (most x) one.chunk.bounds (outside from to (list x)) new cut bound
         (ascending-times (λ t. not (is_within from to t)) (list x) one.chunk.ascending) (fine-times (λ t. not (is_within from to t)) (list x) one.chunk.fine);
-    among = λ k. among-all most k (most x) h.limits new (one.among k) bound;
+    among = λ k. among-all most k (most x) (slice_range h.limits start end) new (one.among k start end behind below) bound;
   }
 
   -- what it is cut into with a sample
-  pub with-it : (p : Point) → IsFine p → (new : List X) → IsCut format (most x) (put p (list x)) (map list new) → HaveLimit most (most x) new
-      → AreNew format h (put p (get_or h.pieces i [])) (map list new) (map most new)
-  with-it p fine new cut bound = record {
+  pub with-it : (start end : ℕ) → start ≤ i → i < end → (p : Point) → IsFine p → (new : List X) → IsCut format (most x) (put p (list x)) (map list new) → HaveLimit most (most x) new
+      → AreNew format h start end (put p (get_or h.pieces i [])) (map list new) (map most new)
+  with-it start end behind below p fine new cut bound = record {
     list = joined-cut format (most x) (put p (list x)) (map list new) cut ∙ ap (put p) one.piece;
     chunks = cut-chunks format list most (most x) one.chunk.bounds (put p (list x)) new cut bound (ascending-put p (list x) one.chunk.ascending) (fine-put p (list x) fine one.chunk.fine);
-    among = λ k. among-all most k (most x) h.limits new (one.among k) bound;
+    among = λ k. among-all most k (most x) (slice_range h.limits start end) new (one.among k start end behind below) bound;
   }
 
 -- where a sample that is not past the last one goes
@@ -213,10 +213,10 @@ module _ {X : Type 0} (list : X → List Point) (most : X → ℕ) (cs ds es : L
   pub both-short : (n : ℕ) → longest (map list cs) ≤ n → longest (map list ds) ≤ n → longest (map list es) ≤ n
   both-short n h k = subst (λ (pss : List (List Point)). longest pss ≤ n) (sym both-lists) (longest-both (map list cs) (map list ds) n h k)
 
-  pub both-new : {format : List Point → List ℕ} {h : Held} {ps qs : List Point} → AreNew format h ps (map list cs) (map most cs) → AreNew format h qs (map list ds) (map most ds)
-      → AreNew format h (ps ++ qs) (map list es) (map most es)
-  both-new {format} {h} one two = record {
+  pub both-new : {format : List Point → List ℕ} {h : Held} {start end : ℕ} {ps qs : List Point} → AreNew format h start end ps (map list cs) (map most cs)
+      → AreNew format h start end qs (map list ds) (map most ds) → AreNew format h start end (ps ++ qs) (map list es) (map most es)
+  both-new {format} {h} {start} {end} one two = record {
     list = both-joined ∙ (λ i. one.list i ++ two.list i);
     chunks = both-chunks format one.chunks two.chunks;
-    among = λ k. subst (AreAmong k h.limits) (sym both-most) (among-append k h.limits (map most cs) (map most ds) (one.among k) (two.among k));
+    among = λ k. subst (AreAmong k (slice_range h.limits start end)) (sym both-most) (among-append k (slice_range h.limits start end) (map most cs) (map most ds) (one.among k) (two.among k));
   }

@@ -1,5 +1,5 @@
 -- The samples of a series in pieces, one for each chunk that keeps them.
-use Rattle.std.specs.Prelude.{◌≡◌, ◌≢◌, ◌⊎◌, ℕ, suc, ◌≤◌, ◌<◌, nat_le, max, ⊤, List, [], ◌∷◌, ◌++◌, take, drop, get_or, length, Option, None, Some}
+use Rattle.std.specs.Prelude.{◌≡◌, ◌≢◌, ◌⊎◌, ℕ, suc, ◌≤◌, ◌<◌, nat_le, max, ⊤, List, [], ◌∷◌, ◌++◌, take, drop, get_or, length, slice_range, Option, None, Some}
 use Rattle.ts_spec.specs.Sample.{Point, IsAscending, at_times, outside, last_of}
 use Rattle.ts_sample.specs.Chunk.{IsChunk, IsPast, Fits, joined}
 
@@ -125,9 +125,9 @@ abbrev pub AreAmong : (one : ℕ) → List ℕ → List ℕ → Type 0
 AreAmong one before [] = ⊤
 AreAmong one before (n ∷ ns) = IsAmong one before n × AreAmong one before ns
 
--- the limits of the new chunks are among those before, or this one
+-- Each new chunk has the limit of one in whose place it stands, or this one. So it has this one where it begins past all others.
 abbrev pub HasLimits : (one : ℕ) → List ℕ → Change → Type 0
-HasLimits one before c = AreAmong one before c.limits
+HasLimits one before c = AreAmong one (slice_range before c.start c.end) c.limits
 
 -- the time is not past the last sample
 abbrev pub IsUpTo : (time : ℕ) → Option Point → Type 0

@@ -137,7 +137,7 @@ impl<C: Chunk> Chunks<C> {
         requires { IsMeeting from to self.now.pieces start end }
         ensures list { IfOk result (λ v. joined (map C.list v.items) ≡ outside from to (joined (slice_range self.now.pieces start end))) }
         ensures chunks { IfOk result (λ v. AreChunks C.format (map C.list v.items) (map C.most v.items)) }
-        ensures limits { (one : ℕ) → IfOk result (λ v. AreAmong one self.now.limits (map C.most v.items)) }
+        ensures limits { (one : ℕ) → IfOk result (λ v. AreAmong one (slice_range self.now.limits start end) (map C.most v.items)) }
         ensures lengths { IfOk result (λ v. longest (map C.list v.items) ≤ longest self.now.pieces) }
         ensures counted { steps.old ≤ steps.new }
         ensures bounded { steps.new ≤ steps.old + 2 * longest self.now.pieces }

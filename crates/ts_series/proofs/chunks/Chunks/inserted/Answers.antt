@@ -1,4 +1,4 @@
-use Rattle.std.proofs.Common.{length, map, refl, ap, arith}
+use Rattle.std.proofs.Common.{◌+◌, length, map, refl, ap, arith}
 use Rattle.std.proofs.lemmas.List.{length-map}
 use Rattle.ts_spec.specs.Sample.{Point}
 use Rattle.ts_series.specs.Held.{Held}
@@ -30,7 +30,7 @@ returns-in_err-chunks-clause-bounded g c =
 pub invariant_of-result : goal.invariant_of-result
 invariant_of-result g c =
     let at = goal.at.invariant_of-result g c in
-    (with-it (one g at.After-upsert) c.args.sample.now c.known.ensures c.in_ok-chunks.chunks.items c.in_ok-chunks.ensures.cut c.in_ok-chunks.ensures.limits).chunks
+    (with-it (one g at.After-upsert) c.before-place.result (c.before-place.result + 1) (omega arith) (omega arith) c.args.sample.now c.known.ensures c.in_ok-chunks.chunks.items c.in_ok-chunks.ensures.cut c.in_ok-chunks.ensures.limits).chunks
 
 pub returns : goal.returns
 returns g c =
@@ -42,7 +42,7 @@ returns g c =
     let kept = kept-view g.C.Chunk.format _ now c.self.inside.count c.self.view_is c.self.invariant in
     let time = ap (λ (q : Point). q.time) c.sample.view_is in
     let here = one g at.After-upsert in
-    let new = with-it here p c.known.ensures cs c.in_ok-chunks.ensures.cut c.in_ok-chunks.ensures.limits in
+    let new = with-it here c.before-place.result (c.before-place.result + 1) (omega arith) (omega arith) p c.known.ensures cs c.in_ok-chunks.ensures.cut c.in_ok-chunks.ensures.limits in
     record {
       ready = inserted-ready now kept p time c.requires.late b.within b.earlier b.reached (map g.C.Chunk.list cs) (omega arith) new.list (map g.C.Chunk.most cs);
       nothing_appended = refl;

@@ -34,7 +34,7 @@ pub returns-then-start-end-2 : goal.returns-then-start-end-2
 returns-then-start-end-2 g c =
     let now = c.args.self.now in
     let one = first g (goal.at.returns-then-start-end-2 g c).After-without in
-    let new = without-it one c.args.from c.args.to c.in_ok-chunks.chunks.items c.in_ok-chunks.ensures.cut c.in_ok-chunks.ensures.limits in
+    let new = without-it one c.args.start c.args.end (omega arith) (omega arith) c.args.from c.args.to c.in_ok-chunks.chunks.items c.in_ok-chunks.ensures.cut c.in_ok-chunks.ensures.limits in
     record {
       list = new.list ∙ sym (left-one c.args.from c.args.to c.args.start c.args.end now.pieces c.if-start-end-2.true c.requires.within);
       chunks = new.chunks;
@@ -55,8 +55,8 @@ returns g c =
     let all = c.append.new.self.items in
     let one = first g at.After-without in
     let two = last g at.After-without-2 in
-    let front = without-it one from to cs c.in_ok-chunks.ensures.cut c.in_ok-chunks.ensures.limits in
-    let back = without-it two from to ds c.in_ok-rest.ensures.cut c.in_ok-rest.ensures.limits in
+    let front = without-it one c.args.start c.args.end (omega arith) (omega arith) from to cs c.in_ok-chunks.ensures.cut c.in_ok-chunks.ensures.limits in
+    let back = without-it two c.args.start c.args.end (omega arith) (omega arith) from to ds c.in_ok-rest.ensures.cut c.in_ok-rest.ensures.limits in
     let both = both-new g.C.Chunk.list g.C.Chunk.most cs ds all c.in_ok-append.ensures.items front back in
     record {
       list = both.list ∙ sym (left-two from to c.args.start c.args.end now.pieces c.requires (omega arith));

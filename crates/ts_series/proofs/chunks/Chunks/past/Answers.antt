@@ -1,4 +1,5 @@
 use Rattle.std.proofs.Common.{◌≡◌, ◌∙◌, length, sym, ap, arith}
+use Rattle.std.specs.Prelude.{slice_range}
 use Rattle.std.proofs.lemmas.List.{length-map}
 use Rattle.ts_series.specs.Held.{Held}
 use Rattle.ts_series.proofs.PlannedPieces.{past-chunk, into-list, into-ready, new-list, new-ready, new-limits}
@@ -40,6 +41,6 @@ returns g c =
     record {
       ready = new-ready g.C.Chunk.list g.C.Chunk.most cs now c.self.view_is c.self.invariant p c.requires.within size c.requires.past one empty is;
       limits = new-limits g.C.Chunk.list g.C.Chunk.most cs now c.self.view_is c.self.invariant p c.requires.within size c.requires.past one empty is
-          c.args.chunk_size now.limits c.in_ok-begun.ensures.limit;
+          c.args.chunk_size (slice_range now.limits c.args.start c.len-end.result) c.in_ok-begun.ensures.limit;
       list = new-list g.C.Chunk.list g.C.Chunk.most cs now c.self.view_is c.self.invariant p c.requires.within size c.requires.past one empty is;
     }

@@ -1,5 +1,5 @@
 use Rattle.std.proofs.Common.{◌≡◌, length, map, sym, ◌∙◌, ap, subst, arith}
-use Rattle.std.specs.Prelude.{List, IfOk}
+use Rattle.std.specs.Prelude.{List, IfOk, slice_range}
 use Rattle.std.proofs.lemmas.List.{length-map}
 use Rattle.ts_spec.specs.Sample.{Point, IsAscending}
 use Rattle.ts_sample.specs.Chunk.{joined}
@@ -42,5 +42,5 @@ returns-clause-ready g c =
 pub returns-clause-limits : goal.returns-clause-limits
 returns-clause-limits g c =
     let one = c.args.chunk_size in
-    let before = c.args.self.now.limits in
+    let before = slice_range c.args.self.now.limits c.args.start c.args.end in
     among-all g.C.Chunk.most one one before c.in_ok-chunks.chunks.items (among-one one before) c.in_ok-chunks.ensures.limits
