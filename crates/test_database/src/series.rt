@@ -108,6 +108,32 @@ fn changes_of_chunks(rt: HostRuntime) {
     assert_eq!(rt; found, Some(ENDS));
 }
 
+// How nine samples in chunks of 88 bytes lie with two more past them, and then with one more at 15, once new chunks have 48
+// bytes. A chunk that there was keeps its size.
+fn altered<L: Ledger>(alloc: Global, blank: Blank) -> Option<[u64; 9]>
+    requires name { blank.name ≡ L.name }
+    requires parts { blank.parts ≡ L.parts }
+    requires some { 0 < blank.parts }
+{
+    let mut steps = Steps::<L>::new(blank);
+    let mut series = nine(alloc, 88, &mut steps);
+    let Ok(plan) = series.alter(None, Some(48), None, None, &mut steps) else {
+        return None;
+    };
+    series.commit(plan);
+    put(&mut series, 100, &mut steps);
+    put(&mut series, 110, &mut steps);
+    put(&mut series, 15, &mut steps);
+    Some(ends(&series))
+}
+
+#[test]
+fn a_new_size_of_chunks(rt: HostRuntime) {
+    const ENDS: [u64; 9] = [15, 30, 60, 90, 100, 110, 1000, 0, 0];
+    let found = altered::<Brand>(rt.alloc(), Blank::new(1));
+    assert_eq!(rt; found, Some(ENDS));
+}
+
 // Times up to which nine samples in chunks of three have so many of them, in an interval.
 fn times<L: Ledger>(alloc: Global, blank: Blank) -> [u64; 5]
     requires name { blank.name ≡ L.name }
