@@ -7,19 +7,15 @@ ghost use Rattle.ts_resp.specs.Next.{IfRequest, UnlessRequest, OnNotYet, IfBroke
 use crate::{Protocol, Word};
 use begin::first_begin;
 use bytes::BytesMut;
+use spare::{emptied, give_back_room};
 use std::alloc::{AllocError, Global};
 use std::marker::Model;
 use ts_spec::WireLimits;
 
 mod begin;
 mod line_steps;
+mod spare;
 mod steps;
-
-// The most words for which room is kept from one request to the next.
-const MOST_SPARE: usize = 1024;
-
-// The most bytes for which room is kept where none is unread.
-const MOST_ROOM: usize = 65_536;
 
 /// What a reader answers.
 #[derive(Debug, Drop)]
@@ -157,10 +153,8 @@ impl Reader {
     pub fn give_back(&mut self, words: Vec<Word>)
         ensures { self.new ≡ self.old }
     {
-        let mut words = words;
-        words.clear();
-        if words.capacity() <= MOST_SPARE {
-            self.spare = words;
+        if let Some(spare) = emptied(words) {
+            self.spare = spare;
         }
         if self.unread.is_empty() {
             give_back_room(&mut self.unread);
@@ -176,17 +170,5 @@ impl Reader {
             Some(_) => Some(self.begin),
             None => first_begin(self.unread.as_slice(), &self.limits, self.place, self.begin),
         }
-    }
-}
-
-// Gives back the room for very many bytes, where there are none.
-fn give_back_room(bytes: &mut BytesMut)
-    requires { bytes.old.items ≡ [] }
-    ensures items { bytes.new.items ≡ [] }
-    ensures room { bytes.new.spare ≤ 65536 }
-{
-    bytes.clear();
-    if bytes.capacity() > MOST_ROOM {
-        *bytes = BytesMut::new(*bytes.allocator());
     }
 }
