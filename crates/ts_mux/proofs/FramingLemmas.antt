@@ -1,0 +1,177 @@
+-- What one step of a reader of frames did.
+use Rattle.std.proofs.Common.{◌≡◌, ℕ, zero, suc, ◌+◌, ◌<◌, ◌≤◌, List, [], ◌∷◌, ◌++◌, length, take, drop, refl, sym, ap, ◌∙◌, subst, Some, None, length-drop, append-nil, arith}
+use Rattle.std.proofs.lemmas.List.{length-take-le}
+use Rattle.std.specs.Prelude.{slice_index}
+use Rattle.ts_mux.specs.declared.frame.Frame.{Frame}
+use Rattle.ts_mux.specs.declared.part.Part.{Part}
+use Rattle.ts_mux.specs.declared.part.Part.TheVariants as part
+use Rattle.ts_mux.specs.declared.frames.NextFrame.TheVariants as next
+use Rattle.ts_mux.specs.Capture.{Then, Mode, Link, Length, Body, Goto, Whole, Wrong, MOST_BYTES, move, start, at_end, read_on, capture_at}
+use Rattle.ts_mux.specs.Framing.{Framing, IsLink, IsOpen, IsBegun, mode_of, goto_of, capture_of, begun_at, begun_on, ended_at}
+use Rattle.ts_mux.specs.NextFrames.{GoesOn, Answers}
+use Rattle.ts_mux.proofs.CaptureLemmas.{read_on-nil, read_on-first, body_is_whole, body_is_open}
+
+-- a frame is at hand once a byte came
+begun_some : (mode : Mode) (begin : ℕ) (bytes : List ℕ) → 0 < length bytes → begun_on mode begin bytes ≡ Some begin
+begun_some mode begin [] h = absurd (omega arith)
+begun_some mode begin (byte ∷ bytes) h = refl
+
+begun_part : (p : Part) (begin : ℕ) (bytes : List ℕ) → IsBegun p → begun_on (mode_of p) begin bytes ≡ Some begin
+begun_part p begin (byte ∷ bytes) h = refl
+begun_part (part.Link None) begin [] h = absurd h
+begun_part (part.Link (Some number)) begin [] h = refl
+begun_part (part.Length link number) begin [] h = refl
+begun_part (part.Body link len) begin [] h = refl
+
+begun_body : (link len begin : ℕ) (bytes : List ℕ) → begun_on (Body link len []) begin bytes ≡ Some begin
+begun_body link len begin [] = refl
+begun_body link len begin (byte ∷ bytes) = refl
+
+-- where a capture ends, a frame is at hand if one has begun
+at_end-begun : (mode : Mode) (begin : ℕ) → at_end mode begin ≡ ended_at (begun_at mode begin)
+at_end-begun (Link None) begin = refl
+at_end-begun (Link (Some number)) begin = refl
+at_end-begun (Length link so_far) begin = refl
+at_end-begun (Body link later bytes) begin = refl
+
+ends : (place begin : ℕ) (mode : Mode) (bytes : List ℕ) → length bytes ≤ 0 → read_on place begin mode (bytes ++ []) ≡ ended_at (begun_on mode begin bytes)
+ends place begin mode [] h = read_on-nil place begin mode ∙ at_end-begun mode begin
+ends place begin mode (byte ∷ bytes) h = absurd (omega arith)
+
+-- no byte is left
+pub not_yet-none : (r : Framing) → length r.unread ≤ 0 → r.begin ≤ r.place → Answers r r next.NotYet
+not_yet-none r h b = record {
+  whole = tt;
+  link = tt;
+  length = tt;
+  progress = tt;
+  not_yet = ends r.place r.begin r.mode r.unread h;
+  broken = tt;
+  memory = tt;
+  same = λ more. refl;
+  place = refl;
+  fed_same = refl;
+  later = omega arith;
+  begin = omega (arith, b);
+}
+
+-- bytes of the frame are still to come
+pub not_yet-body : (r : Framing) (link len : ℕ) → r.mode ≡ Body link len [] → length r.unread < len → r.begin ≤ r.place → Answers r r next.NotYet
+not_yet-body r link len e h b = record {
+  whole = tt;
+  link = tt;
+  length = tt;
+  progress = tt;
+  not_yet =
+      ap (λ mode. read_on r.place r.begin mode (r.unread ++ [])) e
+      ∙ ap (read_on r.place r.begin (Body link len [])) (append-nil r.unread)
+      ∙ body_is_open link len r.unread r.place r.begin [] h
+      ∙ sym (ap ended_at (ap (λ mode. begun_on mode r.begin r.unread) e ∙ begun_body link len r.begin r.unread));
+  broken = tt;
+  memory = tt;
+  same = λ more. refl;
+  place = refl;
+  fed_same = refl;
+  later = omega arith;
+  begin = omega (arith, b);
+}
+
+-- the first byte can't go on with the frame
+pub broken : (r : Framing) → 0 < length r.unread → move r.mode (slice_index r.unread 0) ≡ Wrong → r.begin ≤ r.place → Answers r r (next.Broken r.place)
+broken r h e b = record {
+  whole = tt;
+  link = tt;
+  length = tt;
+  progress = tt;
+  not_yet = tt;
+  broken = read_on-first r.place r.begin r.mode r.unread Wrong h e;
+  memory = tt;
+  same = λ more. refl;
+  place = refl;
+  fed_same = refl;
+  later = omega arith;
+  begin = omega (arith, b);
+}
+
+-- a frame that was not taken
+pub memory : (r : Framing) (frame : Frame) (len : ℕ)
+    → ((more : List ℕ) → capture_of r more ≡ Then frame (capture_at (r.place + len) (drop len r.unread ++ more))) → r.begin ≤ r.place → Answers r r next.Memory
+memory r frame len e b = record {
+  whole = tt;
+  link = tt;
+  length = tt;
+  progress = tt;
+  not_yet = tt;
+  broken = tt;
+  memory = (frame, (λ more. capture_at (r.place + len) (drop len r.unread ++ more)), e);
+  same = λ more. refl;
+  place = refl;
+  fed_same = refl;
+  later = omega arith;
+  begin = omega (arith, b);
+}
+
+-- a reader that has taken the last so many bytes of a frame
+abbrev pub past : Framing → ℕ → Framing
+past r len = record { begin = r.place + len; place = r.place + len; mode = start; unread = drop len r.unread }
+
+pub whole : (r : Framing) (frame : Frame) (len : ℕ) → 0 < len → len ≤ length r.unread → r.begin ≤ r.place → IsLink frame.link → length frame.bytes ≤ MOST_BYTES
+    → ((more : List ℕ) → capture_of r more ≡ Then frame (capture_at (r.place + len) (drop len r.unread ++ more)))
+    → Answers r (past r len) (next.Whole frame)
+whole r frame len some fits b link size e = record {
+  whole = e;
+  link = link;
+  length = size;
+  progress = omega (arith, b, some);
+  not_yet = tt;
+  broken = tt;
+  memory = tt;
+  same = tt;
+  place = tt;
+  fed_same = omega (arith, length-drop len r.unread, fits);
+  later = omega (arith, b);
+  begin = omega arith;
+}
+
+-- the last byte of the header of a frame without bytes
+pub empty : (r new : Framing) (link : ℕ) (bytes : List ℕ) → 0 < length r.unread
+    → move r.mode (slice_index r.unread 0) ≡ Whole (record { link = link; bytes = [] }) → IsLink link → r.begin ≤ r.place → bytes ≡ [] → new ≡ past r 1
+    → Answers r new (next.Whole (record { link = link; bytes = bytes }))
+empty r new link bytes some e is b none n =
+    subst (λ bytes. Answers r new (next.Whole (record { link = link; bytes = bytes }))) (sym none)
+    (subst (λ new. Answers r new (next.Whole (record { link = link; bytes = [] }))) (sym n)
+    (whole r (record { link = link; bytes = [] }) 1 (omega arith) (omega (arith, some)) b is (omega arith)
+    (read_on-first r.place r.begin r.mode r.unread _ some e)))
+
+-- the frame whose bytes are all there
+pub frame_is_whole : (r : Framing) (link len : ℕ) → r.mode ≡ Body link len [] → 0 < len → len ≤ length r.unread → (more : List ℕ)
+    → capture_of r more ≡ Then (record { link = link; bytes = take len r.unread }) (capture_at (r.place + len) (drop len r.unread ++ more))
+frame_is_whole r link len e some fits more =
+    ap (λ mode. read_on r.place r.begin mode (r.unread ++ more)) e ∙ body_is_whole link len r.unread r.place r.begin some fits more
+
+pub frame_taken : (r new : Framing) (link len : ℕ) (bytes : List ℕ) → r.mode ≡ Body link len [] → 0 < len → len ≤ MOST_BYTES → len ≤ length r.unread → IsLink link
+    → r.begin ≤ r.place → bytes ≡ take len r.unread → new ≡ past r len → Answers r new (next.Whole (record { link = link; bytes = bytes }))
+frame_taken r new link len bytes e some most fits is b all n =
+    let size : length (take len r.unread) ≡ len = length-take-le len r.unread fits in
+    subst (λ bytes. Answers r new (next.Whole (record { link = link; bytes = bytes }))) (sym all)
+    (subst (λ new. Answers r new (next.Whole (record { link = link; bytes = take len r.unread }))) (sym n)
+    (whole r (record { link = link; bytes = take len r.unread }) len some fits b is (omega (arith, size, most))
+    (frame_is_whole r link len e some fits)))
+
+-- the first byte goes on with the header
+goes_of : (p : Part) → IsOpen p → goto_of p ≡ Goto (mode_of p)
+goes_of (part.Link number) h = refl
+goes_of (part.Length link number) h = refl
+goes_of (part.Body link zero) h = absurd (omega (arith, h))
+goes_of (part.Body link (suc len)) h = refl
+
+pub goes_on : (r new : Framing) (p : Part) → 0 < length r.unread → move r.mode (slice_index r.unread 0) ≡ goto_of p → IsBegun p → IsOpen p
+    → new ≡ record { begin = r.begin; place = r.place + 1; mode = mode_of p; unread = drop 1 r.unread } → GoesOn r new
+goes_on r new p some e begun open_ n =
+    subst (GoesOn r) (sym n) (record {
+      same = λ more. sym (read_on-first r.place r.begin r.mode r.unread _ some (e ∙ goes_of p open_) more);
+      shorter = omega (arith, length-drop 1 r.unread, some);
+      fed_same = omega (arith, length-drop 1 r.unread, some);
+      begin = refl;
+      place = begun_part p r.begin (drop 1 r.unread) begun ∙ sym (begun_some r.mode r.begin r.unread some);
+    })

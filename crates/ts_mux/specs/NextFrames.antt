@@ -1,0 +1,70 @@
+-- Which answer a reader of frames gave, and what one step of it did.
+use Rattle.std.specs.Prelude.{◌≡◌, ℕ, ◌<◌, ◌≤◌, List, [], length}
+use Rattle.ts_mux.specs.declared.frame.Frame.{Frame}
+use Rattle.ts_mux.specs.declared.frames.NextFrame.{NextFrame}
+use Rattle.ts_mux.specs.declared.frames.NextFrame.TheVariants.{Whole, NotYet, Broken, Memory}
+use Rattle.ts_mux.specs.Capture as capture
+use Rattle.ts_mux.specs.Capture.{Capture}
+use Rattle.ts_mux.specs.Framing.{Framing, IsLink, capture_of, fed, unfinished, ended_at}
+
+-- a fact of the frame, if it gave one
+abbrev pub IfWhole : NextFrame → (Frame → Type 0) → Type 0
+IfWhole (Whole frame) P = P frame
+IfWhole NotYet P = Unit {0}
+IfWhole (Broken place) P = Unit {0}
+IfWhole Memory P = Unit {0}
+
+-- a fact where it gave none
+abbrev pub UnlessWhole : NextFrame → Type 0 → Type 0
+UnlessWhole (Whole frame) P = Unit {0}
+UnlessWhole NotYet P = P
+UnlessWhole (Broken place) P = P
+UnlessWhole Memory P = P
+
+-- a fact where more bytes are wanted
+abbrev pub OnNotYet : NextFrame → Type 0 → Type 0
+OnNotYet (Whole frame) P = Unit {0}
+OnNotYet NotYet P = P
+OnNotYet (Broken place) P = Unit {0}
+OnNotYet Memory P = Unit {0}
+
+-- a fact of the place where the capture is broken, if it is
+abbrev pub IfBroken : NextFrame → (ℕ → Type 0) → Type 0
+IfBroken (Whole frame) P = Unit {0}
+IfBroken NotYet P = Unit {0}
+IfBroken (Broken place) P = P place
+IfBroken Memory P = Unit {0}
+
+-- a fact where memory was wanting
+abbrev pub OnMemory : NextFrame → Type 0 → Type 0
+OnMemory (Whole frame) P = Unit {0}
+OnMemory NotYet P = Unit {0}
+OnMemory (Broken place) P = Unit {0}
+OnMemory Memory P = P
+
+-- a whole frame comes next, whatever follows
+abbrev pub HasWhole : Framing → Type 0
+HasWhole r = (frame : Frame) × (rest : List ℕ → Capture) × ((more : List ℕ) → capture_of r more ≡ capture.Then frame (rest more))
+
+-- fewer bytes are unread, and the capture is the same
+pub record GoesOn (old new : Framing) : Type 0 where
+  pub same : (more : List ℕ) → capture_of new more ≡ capture_of old more
+  pub shorter : length new.unread < length old.unread
+  pub fed_same : fed new ≡ fed old
+  pub begin : new.begin ≡ old.begin
+  pub place : unfinished new ≡ unfinished old
+
+-- what is answered says how the capture goes on
+pub record Answers (old new : Framing) (next : NextFrame) : Type 0 where
+  pub whole : IfWhole next (λ frame. (more : List ℕ) → capture_of old more ≡ capture.Then frame (capture_of new more))
+  pub link : IfWhole next (λ frame. IsLink frame.link)
+  pub length : IfWhole next (λ frame. length frame.bytes ≤ capture.MOST_BYTES)
+  pub progress : IfWhole next (λ _. old.begin < new.begin)
+  pub not_yet : OnNotYet next (capture_of new [] ≡ ended_at (unfinished new))
+  pub broken : IfBroken next (λ place. (more : List ℕ) → capture_of old more ≡ capture.Broken place)
+  pub memory : OnMemory next (HasWhole old)
+  pub same : UnlessWhole next ((more : List ℕ) → capture_of new more ≡ capture_of old more)
+  pub place : UnlessWhole next (unfinished new ≡ unfinished old)
+  pub fed_same : fed new ≡ fed old
+  pub later : old.begin ≤ new.begin
+  pub begin : new.begin ≤ fed new

@@ -1,0 +1,125 @@
+// The frames of a capture that comes in pieces.
+ghost use Rattle.std.specs.Prelude.{◌≡◌, ℕ, ◌+◌, ◌^◌, ◌<◌, ◌≤◌, List, [], ◌++◌, length, None, OnOk, OnErr};
+ghost use Rattle.ts_mux.specs.Capture.{Then, Broken, capture, MOST_BYTES};
+ghost use Rattle.ts_mux.specs.Framing.{IsLink, capture_of, fed, unfinished, ended_at};
+ghost use Rattle.ts_mux.specs.NextFrames.{IfWhole, UnlessWhole, OnNotYet, IfBroken, OnMemory, HasWhole};
+
+use crate::Frame;
+use crate::part::Part;
+use bytes::BytesMut;
+use std::alloc::{AllocError, Global};
+use std::marker::Model;
+
+mod steps;
+
+/// What a reader of frames answers.
+#[derive(Debug, Drop)]
+pub enum NextFrame {
+    /// The next frame.
+    Whole(Frame),
+    /// The bytes fed so far hold no further whole frame.
+    NotYet,
+    /// The byte at this place can't continue a capture. Each later call answers the same.
+    Broken(u64),
+    /// There was no memory for a whole frame. A later call may have more.
+    Memory,
+}
+
+/// Reads frames from a capture that is fed in pieces, however it is cut.
+#[derive(Drop)]
+pub struct Frames {
+    alloc: Global,
+    // where the frame at hand begins, and the place of the first unread byte
+    begin: u64,
+    place: u64,
+    part: Part,
+    unread: BytesMut,
+}
+
+impl Model for Frames {
+    ghost use Rattle.std.specs.Prelude.{◌+◌, ◌^◌, ◌<◌, ◌≤◌, length};
+    ghost use Rattle.ts_mux.specs.Framing.{Framing, mode_of, IsPart, IsOpen};
+
+    ghost Value = { Framing };
+
+    ghost view = { λ f. record {
+      begin = f.begin;
+      place = f.place;
+      mode = mode_of f.part;
+      unread = f.unread.items;
+    } };
+
+    ghost invariant = { λ f. (f.begin ≤ f.place) × (f.place + length f.unread.items < 2 ^ 64)
+        × IsPart f.part × IsOpen f.part };
+}
+
+impl Frames {
+    /// A reader to which no byte was fed. Takes no memory.
+    pub fn new(alloc: Global) -> Frames
+        ensures capture { (more : List ℕ) → capture_of result more ≡ capture more }
+        ensures fed { fed result ≡ 0 }
+        ensures place { unfinished result ≡ None }
+    {
+        Frames {
+            alloc,
+            begin: 0,
+            place: 0,
+            part: Part::Link { number: None },
+            unread: BytesMut::new(alloc),
+        }
+    }
+
+    /// Adds a piece of the capture. After an Err the reader is as before.
+    pub fn feed(&mut self, piece: &[u8]) -> Result<(), AllocError>
+        requires { fed self.old + length piece.now < 2 ^ 64 }
+        ensures ok { OnOk result ((more : List ℕ)
+            → capture_of self.new more ≡ capture_of self.old (piece.now ++ more)) }
+        ensures fed { OnOk result (fed self.new ≡ fed self.old + length piece.now) }
+        ensures err { OnErr result (self.new ≡ self.old) }
+        ensures begin { self.new.begin ≡ self.old.begin }
+    {
+        self.unread.extend_from_slice(piece)?;
+        Ok(())
+    }
+
+    /// The next frame of the bytes fed so far. After `Memory` the frame can be asked for again.
+    pub fn next(&mut self) -> NextFrame
+        ensures whole { IfWhole result (λ frame. (more : List ℕ)
+            → capture_of self.old more ≡ Then frame (capture_of self.new more)) }
+        ensures link { IfWhole result (λ frame. IsLink frame.link) }
+        ensures length { IfWhole result (λ frame. length frame.bytes ≤ MOST_BYTES) }
+        ensures progress { IfWhole result (λ _. self.old.begin < self.new.begin) }
+        ensures not_yet { OnNotYet result
+            (capture_of self.new [] ≡ ended_at (unfinished self.new)) }
+        ensures broken { IfBroken result (λ place. (more : List ℕ)
+            → capture_of self.old more ≡ Broken place) }
+        ensures memory { OnMemory result (HasWhole self.old) }
+        ensures same { UnlessWhole result ((more : List ℕ)
+            → capture_of self.new more ≡ capture_of self.old more) }
+        ensures place { UnlessWhole result (unfinished self.new ≡ unfinished self.old) }
+        ensures fed { fed self.new ≡ fed self.old }
+        ensures onward { self.old.begin ≤ self.new.begin }
+        ensures begin { self.new.begin ≤ fed self.new }
+        ensures bound { fed self.new < 2 ^ 64 }
+    {
+        let _place = self.place;
+        loop {
+            if let Some(next) = self.step() {
+                return next;
+            }
+        }
+    }
+
+    /// Where an unfinished frame begins, or `None` between frames. Takes no memory.
+    pub fn place(&self) -> Option<u64>
+        ensures { result ≡ unfinished self.now }
+    {
+        if !self.unread.is_empty() {
+            return Some(self.begin);
+        }
+        match self.part {
+            Part::Link { number: None } => None,
+            Part::Link { .. } | Part::Length { .. } | Part::Body { .. } => Some(self.begin),
+        }
+    }
+}

@@ -1,0 +1,148 @@
+// One byte of a header, or the bytes of a frame.
+ghost use Rattle.std.specs.Prelude.{◌≡◌, ◌+◌, ◌<◌, ◌≤◌, [], length, drop, slice_index, IfSome, MatchOption};
+ghost use Rattle.ts_mux.specs.Capture.{Link, Length, Body, Whole, MOST_BYTES, move, start};
+ghost use Rattle.ts_mux.specs.Framing.{IsLink, IsLinkSoFar, IsLengthSoFar, IsPart, IsBegun, IsOpen, mode_of, goto_of, move_of};
+ghost use Rattle.ts_mux.specs.NextFrames.{GoesOn, Answers};
+
+use super::{Frames, NextFrame};
+use crate::Frame;
+use crate::part::{Part, after_length, after_link};
+use ts_resp::Word;
+
+impl Frames {
+    // Takes a byte of a header, or answers what `next` answers.
+    pub(super) fn step(&mut self) -> Option<NextFrame>
+        ensures { MatchOption result (GoesOn self.old self.new) (Answers self.old self.new) }
+    {
+        match self.part {
+            Part::Link { number } => self.read_link(number),
+            Part::Length { link, number } => self.read_length(link, number),
+            Part::Body { link, len } => Some(self.take_frame(link, len)),
+        }
+    }
+
+    // A byte of the number of the connection, or the space after it.
+    fn read_link(&mut self, number: Option<u32>) -> Option<NextFrame>
+        requires mode { self.old.mode ≡ Link number }
+        requires range { IsLinkSoFar number }
+        ensures { MatchOption result (GoesOn self.old self.new) (Answers self.old self.new) }
+    {
+        match self.first() {
+            None => Some(NextFrame::NotYet),
+            Some(byte) => self.take_byte(after_link(number, byte)),
+        }
+    }
+
+    // A byte of the length, or the feed after it.
+    fn read_length(&mut self, link: u32, number: Option<u32>) -> Option<NextFrame>
+        requires mode { self.old.mode ≡ Length link number }
+        requires link { IsLink link }
+        requires range { IsLengthSoFar number }
+        ensures { MatchOption result (GoesOn self.old self.new) (Answers self.old self.new) }
+    {
+        match self.first() {
+            None => Some(NextFrame::NotYet),
+            Some(byte) => self.take_byte(after_length(link, number, byte)),
+        }
+    }
+
+    // The first unread byte.
+    fn first(&self) -> Option<u8>
+        ensures byte { MatchOption result (length self.now.unread ≤ 0) (λ byte.
+            (0 < length self.now.unread) × (byte ≡ slice_index self.now.unread 0)) }
+        ensures begin { self.now.begin ≤ self.now.place }
+    {
+        self.unread.as_slice().first().copied()
+    }
+
+    // Takes the byte of a header that makes this of what has come.
+    fn take_byte(&mut self, part: Option<Part>) -> Option<NextFrame>
+        requires some { 0 < length self.old.unread }
+        requires part { move self.old.mode (slice_index self.old.unread 0) ≡ move_of part }
+        requires ranges { IfSome part IsPart }
+        requires begun { IfSome part IsBegun }
+        ensures { MatchOption result (GoesOn self.old self.new) (Answers self.old self.new) }
+    {
+        match part {
+            None => Some(NextFrame::Broken(self.place)),
+            Some(Part::Body { link, len: 0 }) => Some(self.take_empty(link)),
+            Some(part) => {
+                self.go(part);
+                None
+            }
+        }
+    }
+
+    // Takes the last byte of the header of a frame without bytes.
+    fn take_empty(&mut self, link: u32) -> NextFrame
+        requires some { 0 < length self.old.unread }
+        requires whole { move self.old.mode (slice_index self.old.unread 0) ≡ Whole (record { link = link; bytes = [] }) }
+        requires link { IsLink link }
+        ensures { Answers self.old self.new result }
+    {
+        let Ok(bytes) = Word::from_slice(self.alloc, &[]) else {
+            return NextFrame::Memory;
+        };
+        self.pass(1);
+        NextFrame::Whole(Frame { link, bytes })
+    }
+
+    // Takes the bytes of a frame, if all have come.
+    fn take_frame(&mut self, link: u32, len: u32) -> NextFrame
+        requires body { self.old.mode ≡ Body link len [] }
+        requires some { 0 < len }
+        requires most { len ≤ MOST_BYTES }
+        requires link { IsLink link }
+        ensures { Answers self.old self.new result }
+    {
+        let len = len as usize;
+        if self.unread.len() < len {
+            return NextFrame::NotYet;
+        }
+        let Ok(bytes) = Word::from_slice(self.alloc, &self.unread.as_slice()[..len]) else {
+            return NextFrame::Memory;
+        };
+        self.pass(len);
+        NextFrame::Whole(Frame { link, bytes })
+    }
+
+    // Passes over the first byte, which makes this of what has come.
+    fn go(&mut self, part: Part)
+        requires some { 0 < length self.old.unread }
+        requires part { move self.old.mode (slice_index self.old.unread 0) ≡ goto_of part }
+        requires ranges { IsPart part }
+        requires begun { IsBegun part }
+        requires open { IsOpen part }
+        ensures { GoesOn self.old self.new }
+    {
+        self.pass_byte(part);
+    }
+
+    fn pass_byte(&mut self, part: Part)
+        requires some { 0 < length self.old.unread }
+        requires ranges { IsPart part }
+        requires open { IsOpen part }
+        ensures { self.new ≡ record self.old
+            { place = self.old.place + 1; mode = mode_of part; unread = drop 1 self.old.unread } }
+    {
+        self.part = part;
+        self.unread.advance(1);
+        self.place += 1;
+    }
+
+    // Passes over the last bytes of a frame.
+    fn pass(&mut self, len: usize)
+        requires { len ≤ length self.old.unread }
+        ensures { self.new ≡ record {
+          begin = self.old.place + len;
+          place = self.old.place + len;
+          mode = start;
+          unread = drop len self.old.unread;
+        } }
+    {
+        self.part = Part::Link { number: None };
+        self.unread.advance(len);
+        self.place += len as u64;
+        self.begin = self.place;
+    }
+}

@@ -1,0 +1,9 @@
+//! Interleaved connections: the frames of a capture, and the requests of each connection in the order in which they come.
+#![tactic(auto)]
+
+mod frame;
+mod frames;
+mod part;
+
+pub use frame::Frame;
+pub use frames::{Frames, NextFrame};

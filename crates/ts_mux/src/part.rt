@@ -1,0 +1,83 @@
+// How far a frame has come whose bytes are still to come.
+ghost use Rattle.std.specs.Prelude.{◌≡◌, ◌+◌, ◌*◌, ◌<◌, ◌≤◌, true, false, IfSome};
+ghost use Rattle.ts_mux.specs.Capture.{Link, Length, move, after_length as length_ends, with_byte as byte_after, within as number_within};
+ghost use Rattle.ts_mux.specs.Framing.{IsLink, IsLinkSoFar, IsLengthSoFar, IsPart, IsBegun, move_of};
+
+// The greatest number of a connection.
+const MOST_LINKS: u32 = 4096;
+
+// The greatest length of a frame.
+const MOST_BYTES: u32 = 65_536;
+
+// What of a frame has come.
+#[derive(Clone, Copy)]
+pub(crate) enum Part {
+    // the first digits of the number of its connection
+    Link { number: Option<u32> },
+    // that number, and the first digits of its length
+    Length { link: u32, number: Option<u32> },
+    // all but its bytes
+    Body { link: u32, len: u32 },
+}
+
+// What has come with one more byte after the first digits of the number of the connection, if it can follow them.
+pub(crate) fn after_link(number: Option<u32>, byte: u8) -> Option<Part>
+    requires { IsLinkSoFar number }
+    ensures part { move (Link number) byte ≡ move_of result }
+    ensures ranges { IfSome result IsPart }
+    ensures begun { IfSome result IsBegun }
+{
+    if byte == b' ' {
+        let link = number?;
+        return Some(Part::Length { link, number: None });
+    }
+    let number = with_byte(1, MOST_LINKS, number, byte)?;
+    Some(Part::Link {
+        number: Some(number),
+    })
+}
+
+// The same after the first digits of the length.
+pub(crate) fn after_length(link: u32, number: Option<u32>, byte: u8) -> Option<Part>
+    requires link { IsLink link }
+    requires length { IsLengthSoFar number }
+    ensures part { move (Length link number) byte ≡ move_of result }
+    ensures ranges { IfSome result IsPart }
+    ensures begun { IfSome result IsBegun }
+{
+    if byte == b'\n' {
+        let len = number?;
+        return Some(Part::Body { link, len });
+    }
+    let number = with_byte(0, MOST_BYTES, number, byte)?;
+    Some(Part::Length {
+        link,
+        number: Some(number),
+    })
+}
+
+// A number with one more digit, if the byte is one and the number is at least and at most this.
+fn with_byte(least: u32, most: u32, so_far: Option<u32>, byte: u8) -> Option<u32>
+    ensures number { result ≡ byte_after least most so_far byte }
+    ensures range { IfSome result (λ number. (least ≤ number) × (number ≤ most)) }
+{
+    if byte < b'0' || byte > b'9' {
+        return None;
+    }
+    let digit = (byte - b'0') as u64;
+    match so_far {
+        None => within(least, most, digit),
+        Some(0) => None,
+        Some(number) => within(least, most, 10 * number as u64 + digit),
+    }
+}
+
+fn within(least: u32, most: u32, number: u64) -> Option<u32>
+    ensures number { result ≡ number_within least most number }
+    ensures range { IfSome result (λ number. (least ≤ number) × (number ≤ most)) }
+{
+    if number < least as u64 || number > most as u64 {
+        return None;
+    }
+    Some(number as u32)
+}
