@@ -1,2 +1,4 @@
 pub mod CaptureLemmas
+pub mod CapturesAtWork
 pub mod FramingLemmas
+pub mod FramesReadBack

@@ -1,5 +1,6 @@
 -- What a reader of frames holds, and the capture that it stands for.
 use Rattle.std.specs.Prelude.{ℕ, ◌+◌, ◌<◌, ◌≤◌, List, [], ◌∷◌, ◌++◌, length, Option, Some, None}
+use Rattle.ts_mux.specs.declared.frame.Frame.{Frame}
 use Rattle.ts_mux.specs.declared.part.Part.{Part}
 use Rattle.ts_mux.specs.declared.part.Part.TheVariants as part
 use Rattle.ts_mux.specs.Capture.{Capture, Ended, Inside, Mode, Link, Length, Body, Move, Goto, Wrong, after_bytes, MOST_LINKS, MOST_BYTES, read_on}
@@ -21,6 +22,11 @@ mode_of (part.Body link len) = Body link len []
 pub record IsLink (link : ℕ) : Type 0 where
   pub least : 1 ≤ link
   pub most : link ≤ MOST_LINKS
+
+-- a frame that a capture can hold
+pub record IsFrame (frame : Frame) : Type 0 where
+  pub link : IsLink frame.link
+  pub length : length frame.bytes ≤ MOST_BYTES
 
 abbrev pub IsLinkSoFar : Option ℕ → Type 0
 IsLinkSoFar None = Unit {0}

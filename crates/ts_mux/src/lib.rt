@@ -3,7 +3,11 @@
 
 mod frame;
 mod frames;
+mod header;
+mod laws;
 mod part;
 
 pub use frame::Frame;
 pub use frames::{Frames, NextFrame};
+pub use header::Header;
+pub use laws::written_frames_read_back;
