@@ -1,11 +1,37 @@
-// Laws of captures.
-ghost use Rattle.std.specs.Prelude.{◌≡◌, List, All};
+// Laws of captures, and of the order of what interleaved connections send.
+ghost use Rattle.std.specs.Prelude.{◌≡◌, ℕ, List, ◌++◌, All};
+ghost use Rattle.ts_spec.specs.Wire.{stream_at};
+ghost use Rattle.ts_spec.specs.Run.{is_quit};
 ghost use Rattle.ts_mux.specs.declared.frame.Frame.{Frame};
 ghost use Rattle.ts_mux.specs.Capture.{Ended, capture, frames_of, ending_of, all_framed};
 ghost use Rattle.ts_mux.specs.Framing.{IsFrame};
+ghost use Rattle.ts_mux.specs.Fronts.{IsFront};
+ghost use Rattle.ts_mux.specs.Order.{events_of, until_end, items_of, items_at, without, frames_without, stream, order};
+
+use ts_spec::WireLimits;
 
 /// A law: frames that are written one after another, each with its header, read back as these frames.
 pub fn written_frames_read_back()
     ensures frames { (frames : List Frame) → All IsFrame frames → frames_of (capture (all_framed frames)) ≡ frames }
     ensures ending { (frames : List Frame) → All IsFrame frames → ending_of (capture (all_framed frames)) ≡ Ended }
+{}
+
+/// A law: the requests of the first bytes of a stream are its first requests, and a stream that is broken stays so, whatever
+/// follows.
+pub fn a_front_of_a_stream_stays(limits: WireLimits)
+    ensures { (place : ℕ) (bytes more : List ℕ)
+        → IsFront (stream_at limits place bytes) (stream_at limits place (bytes ++ more)) }
+{}
+
+/// A law: what comes of a connection is what comes of its own stream: the requests up to and with its first QUIT, and its
+/// fault where it has one and no QUIT comes before.
+pub fn each_connection_has_its_own_requests(limits: WireLimits)
+    ensures { (link : ℕ) (frames : List Frame) → items_at link (order limits frames)
+        ≡ items_of link (until_end is_quit (events_of (stream_at limits 0 (stream link frames)))) }
+{}
+
+/// A law: what comes of the other connections is the same without a connection's frames.
+pub fn connections_stand_apart(limits: WireLimits)
+    ensures { (link : ℕ) (frames : List Frame)
+        → order limits (frames_without link frames) ≡ without link (order limits frames) }
 {}

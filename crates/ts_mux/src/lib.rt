@@ -10,4 +10,7 @@ mod part;
 pub use frame::Frame;
 pub use frames::{Frames, NextFrame};
 pub use header::Header;
-pub use laws::written_frames_read_back;
+pub use laws::{
+    a_front_of_a_stream_stays, connections_stand_apart, each_connection_has_its_own_requests,
+    written_frames_read_back,
+};

@@ -1,0 +1,2 @@
+// Interleaved connections: worked examples.
+mod captures;

@@ -1,0 +1,112 @@
+-- The order in which the requests of interleaved connections come. Each frame adds its bytes to the stream of its connection, and the
+-- requests that are whole with it come then.
+use Rattle.std.specs.Prelude.{ℕ, Bool, true, false, not, ◌||◌, ◌==◌, if◌then◌else◌, List, [], ◌∷◌, ◌++◌, length, drop, map, filter, Option, Some, None}
+use Rattle.ts_spec.specs.declared.wire.WireLimits.{WireLimits}
+use Rattle.ts_spec.specs.Wire.{Request, Stream, Then, Ended, Inside, Broken, stream_at}
+use Rattle.ts_spec.specs.Run.{is_quit}
+use Rattle.ts_resp.specs.declared.protocol.Protocol.{Protocol}
+use Rattle.ts_mux.specs.declared.frame.Frame.{Frame}
+
+-- what comes of a connection: a request, or the fault that breaks its stream
+pub data Event : Type 0 where
+  Asked : Request → Event
+  Failed : Protocol → Event
+
+-- the same with the number of the connection
+pub record Item : Type 0 where
+  pub link : ℕ
+  pub event : Event
+
+-- what comes of a stream
+abbrev pub events_of : Stream → List Event
+events_of (Then request place rest) = Asked request ∷ events_of rest
+events_of Ended = []
+events_of (Inside place) = []
+events_of (Broken kind place) = Failed (record { kind = kind; place = place }) ∷ []
+
+-- A connection: the stream that it has left, by the bytes that it still sends, or none once it is closed.
+abbrev pub Connection : Type 0
+Connection = Option (List ℕ → Stream)
+
+-- what comes of a connection with further bytes, past what came before them
+abbrev pub news : (List ℕ → Stream) → (before bytes : List ℕ) → List Event
+news stream before bytes = drop (length (events_of (stream before))) (events_of (stream (before ++ bytes)))
+
+abbrev pub news_of : Connection → (before bytes : List ℕ) → List Event
+news_of None before bytes = []
+news_of (Some stream) before bytes = news stream before bytes
+
+-- the connection after these bytes
+abbrev pub later : Connection → List ℕ → Connection
+later None bytes = None
+later (Some stream) bytes = Some (λ more. stream (bytes ++ more))
+
+-- Some requests close their connection, and each fault does.
+module _ (closes : Request → Bool) where
+  abbrev pub ends : Event → Bool
+  ends (Asked request) = closes request
+  ends (Failed fault) = true
+
+  -- the events up to and with the first one that closes
+  abbrev pub until_end : List Event → List Event
+  until_end [] = []
+  until_end (event ∷ events) = event ∷ (if ends event then [] else until_end events)
+
+  abbrev pub has_end : List Event → Bool
+  has_end [] = false
+  has_end (event ∷ events) = ends event || has_end events
+
+  -- A frame without bytes closes its connection.
+  abbrev pub after_bytes : Connection → List ℕ → Connection
+  after_bytes connection [] = None
+  after_bytes connection (byte ∷ bytes) = if has_end (news_of connection [] (byte ∷ bytes)) then None else later connection (byte ∷ bytes)
+
+-- the items of one connection
+abbrev pub items_of : ℕ → List Event → List Item
+items_of link events = map (λ event. record { link = link; event = event }) events
+
+-- the connections, with one of them so
+abbrev pub with_link : (ℕ → Connection) → ℕ → Connection → ℕ → Connection
+with_link connections link connection other = if other == link then connection else connections other
+
+-- what comes of the frames, one after another
+abbrev pub items_from : (Request → Bool) → (ℕ → Connection) → List Frame → List Item
+items_from closes connections [] = []
+items_from closes connections (frame ∷ frames) =
+    items_of frame.link (until_end closes (news_of (connections frame.link) [] frame.bytes))
+    ++ items_from closes (with_link connections frame.link (after_bytes closes (connections frame.link) frame.bytes)) frames
+
+-- no connection has sent a byte
+abbrev pub unsent : WireLimits → ℕ → Connection
+unsent limits link = Some (stream_at limits 0)
+
+-- The order of the items of some frames: a QUIT closes its connection.
+abbrev pub order : WireLimits → List Frame → List Item
+order limits frames = items_from is_quit (unsent limits) frames
+
+-- the same where no request closes anything
+abbrev pub closes_none : Request → Bool
+closes_none request = false
+
+abbrev pub open_order : WireLimits → List Frame → List Item
+open_order limits frames = items_from closes_none (unsent limits) frames
+
+-- the items of a connection, and those of all others
+abbrev pub items_at : ℕ → List Item → List Item
+items_at link items = filter (λ item. item.link == link) items
+
+abbrev pub without : ℕ → List Item → List Item
+without link items = filter (λ item. not (item.link == link)) items
+
+-- the frames of all other connections
+abbrev pub frames_without : ℕ → List Frame → List Frame
+frames_without link frames = filter (λ frame. not (frame.link == link)) frames
+
+-- the bytes of a connection before its frame of length 0
+abbrev pub joined : List ℕ → List ℕ → List ℕ
+joined [] rest = []
+joined (byte ∷ bytes) rest = byte ∷ bytes ++ rest
+
+abbrev pub stream : ℕ → List Frame → List ℕ
+stream link [] = []
+stream link (frame ∷ frames) = if frame.link == link then joined frame.bytes (stream link frames) else stream link frames
