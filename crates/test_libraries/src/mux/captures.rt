@@ -87,7 +87,10 @@ fn captures(rt: HostRuntime) -> Result<(), Fail> {
         (b"12 1\na 1", 6, Some(6), Some(6)),
     ];
     for (capture, whole, broken, place) in rows {
-        assert!(rt; ends_so(alloc, capture, whole, broken, place)?, "{capture:?}");
+        assert!(rt;
+            ends_so(alloc, capture, whole, broken, place)?,
+            "{capture:?}"
+        );
     }
     Ok(())
 }
@@ -97,7 +100,7 @@ fn a_frame_of_65536_bytes(rt: HostRuntime) -> Result<(), Fail> {
     let alloc = rt.alloc();
     let mut frames = Frames::new(alloc);
     frames.feed(b"4096 65536\n")?;
-    for _ in 0..65_536 {
+    for _ in 0..65_536_u32 {
         assert!(rt; matches!(frames.next(), NextFrame::NotYet));
         assert_eq!(rt; frames.place(), Some(0));
         frames.feed(b"x")?;
