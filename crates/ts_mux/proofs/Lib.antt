@@ -1,5 +1,6 @@
 pub mod CaptureLemmas
 pub mod CapturesAtWork
+pub mod Concatenation
 pub mod FramingLemmas
 pub mod FramesReadBack
 pub mod OneConnection

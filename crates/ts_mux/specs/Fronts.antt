@@ -8,3 +8,10 @@ IsFront (Then request place rest) other = (others : Stream) × (other ≡ Then r
 IsFront Ended other = Unit {0}
 IsFront (Inside place) other = Unit {0}
 IsFront (Broken kind place) other = other ≡ Broken kind place
+
+-- a stream that goes on with another, where it ends between two requests
+abbrev pub then_on : Stream → Stream → Stream
+then_on (Then request place rest) other = Then request place (then_on rest other)
+then_on Ended other = other
+then_on (Inside place) other = Inside place
+then_on (Broken kind place) other = Broken kind place

@@ -12,5 +12,5 @@ pub use frames::{Frames, NextFrame};
 pub use header::Header;
 pub use laws::{
     a_front_of_a_stream_stays, connections_stand_apart, each_connection_has_its_own_requests,
-    written_frames_read_back,
+    streams_concatenate_after_whole_requests, written_frames_read_back,
 };
