@@ -75,8 +75,10 @@ fn ends_so(
 fn captures(rt: HostRuntime) -> Result<(), Fail> {
     let alloc = rt.alloc();
     let interleaved: &[u8] = b"1 8\n*1\r\n$4\r\n2 14\n*1\r\n$4\r\nPING\r\n1 6\nPING\r\n";
-    let rows: [(&[u8], usize, Option<u64>, Option<u64>); 9] = [
+    let faulty: &[u8] = b"1 5\n*1\r\n:2 14\n*1\r\n$4\r\nPING\r\n1 14\n*1\r\n$4\r\nPING\r\n";
+    let rows: [(&[u8], usize, Option<u64>, Option<u64>); 10] = [
         (interleaved, 41, None, None),
+        (faulty, 47, None, None),
         (b"", 0, None, None),
         (b"0", 0, Some(0), Some(0)),
         (b"1 5\nab", 0, None, Some(0)),
