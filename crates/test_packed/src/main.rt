@@ -9,7 +9,7 @@
 //!   interval;
 //! - `long look-ups`, `long late` and `long order FACTOR`: whether it holds of a long chunk that look-ups see what its list
 //!   has, that a late sample comes to its place, and that samples which come in this order give the bytes of the format;
-//! - `small`: whether a chunk is at most 144 bytes beside its samples, so that marks take none where there are none.
+//! - `small`: whether a chunk is at most 160 bytes beside its samples, so that marks take none where there are none.
 //!
 //! The lines stand in a file because tests are proved as code is, and lines of a file are not.
 #![tactic(auto)]

@@ -36,7 +36,7 @@ impl Trial {
             "without" => self.without(rest, steps),
             "long" => long_text(self.alloc, rest, steps),
             "small" => {
-                let small = size_of::<PackedChunk>() <= 144;
+                let small = size_of::<PackedChunk>() <= 160;
                 Ok(Some(format!(in self.alloc; "{small}")?))
             }
             _ => match sample_of(rest) {
