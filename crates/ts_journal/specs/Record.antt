@@ -1,0 +1,174 @@
+-- The record of a change: a request that does the same whenever it is read, as it stands in a journal.
+use Rattle.std.specs.Prelude.{◌≡◌, ℕ, ℤ, Bool, true, false, List, [], ◌∷◌, ◌++◌, flat_map, codes, Option, None, Some, Result, Ok, if◌then◌else◌}
+use Rattle.std.specs.Fmt.{decimal}
+use Rattle.ts_spec.specs.declared.command.At.{At}
+use Rattle.ts_spec.specs.declared.series.Encoding.{Encoding}
+use Rattle.ts_spec.specs.declared.series.Encoding.TheVariants.{Compressed, Uncompressed}
+use Rattle.ts_spec.specs.declared.series.Ignore.{Ignore}
+use Rattle.ts_spec.specs.declared.series.Policy.{Policy}
+use Rattle.ts_spec.specs.declared.series.Policy.TheVariants as policy
+use Rattle.ts_spec.specs.Command.{Spec, Change, Triple, Command, Create, Alter, Add, Madd, Incr, DelRange, CreateRule, DeleteRule, Drop}
+use Rattle.ts_spec.specs.Encoded.{encoded_request}
+use Rattle.ts_spec.specs.Refusal.{Fault}
+use Rattle.ts_spec.specs.Outcome.{time_of}
+use Rattle.ts_spec.specs.Replies.{aggregator_name}
+use Rattle.ts_spec.specs.Settings.{Word}
+use Rattle.ts_spec.specs.State.{Label}
+use Rattle.ts_spec.specs.Text.{Reply, Error, Int, Array, Replies, Empty, Item, IsOneLine, text}
+use Rattle.ts_spec.specs.Value.{shown_value}
+use Rattle.ts_spec.specs.Wire.{Request}
+
+-- ---- options
+
+-- the words of an option, where it is given
+abbrev pub given : {X : Type 0} → (X → List Word) → Option X → List Word
+given words None = []
+given words (Some x) = words x
+
+-- the name of an encoding
+abbrev pub encoding_name : Encoding → Word
+encoding_name Compressed = codes "COMPRESSED"
+encoding_name Uncompressed = codes "UNCOMPRESSED"
+
+-- the name of a policy
+abbrev pub policy_name : Policy → Word
+policy_name policy.Block = codes "BLOCK"
+policy_name policy.First = codes "FIRST"
+policy_name policy.Last = codes "LAST"
+policy_name policy.Min = codes "MIN"
+policy_name policy.Max = codes "MAX"
+policy_name policy.Sum = codes "SUM"
+
+abbrev pub retention_words : ℕ → List Word
+retention_words n = codes "RETENTION" ∷ decimal n ∷ []
+
+abbrev pub encoding_words : Encoding → List Word
+encoding_words encoding = codes "ENCODING" ∷ encoding_name encoding ∷ []
+
+abbrev pub chunk_size_words : ℕ → List Word
+chunk_size_words n = codes "CHUNK_SIZE" ∷ decimal n ∷ []
+
+abbrev pub policy_words : Policy → List Word
+policy_words p = codes "DUPLICATE_POLICY" ∷ policy_name p ∷ []
+
+abbrev pub on_duplicate_words : Policy → List Word
+on_duplicate_words p = codes "ON_DUPLICATE" ∷ policy_name p ∷ []
+
+abbrev pub ignore_words : Ignore → List Word
+ignore_words ignore = codes "IGNORE" ∷ decimal ignore.time ∷ shown_value ignore.value ∷ []
+
+-- labels and their values, one after another
+abbrev pub label_pairs : List Label → List Word
+label_pairs [] = []
+label_pairs (label ∷ labels) = label.name ∷ label.value ∷ label_pairs labels
+
+abbrev pub labels_words : List Label → List Word
+labels_words labels = codes "LABELS" ∷ label_pairs labels
+
+-- all that a new series is made with
+abbrev pub spec_words : Spec → List Word
+spec_words s =
+    retention_words s.options.retention
+    ++ encoding_words s.options.encoding
+    ++ chunk_size_words s.options.chunk_size
+    ++ policy_words s.options.policy
+    ++ ignore_words s.options.ignore
+    ++ labels_words s.labels
+
+-- what a series gets anew
+abbrev pub change_words : Change → List Word
+change_words c =
+    given retention_words c.retention
+    ++ given chunk_size_words c.chunk_size
+    ++ given policy_words c.policy
+    ++ given ignore_words c.ignore
+    ++ given labels_words c.labels
+
+-- ---- commands
+
+-- a sample of TS.MADD, where it has a time and a value
+abbrev pub sample_words : (reading : ℕ) → Word → Result At Fault → Result ℤ Fault → List Word
+sample_words reading key (Ok at) (Ok v) = key ∷ decimal (time_of reading at) ∷ shown_value v ∷ []
+sample_words reading key _ _ = []
+
+abbrev pub triple_words : (reading : ℕ) → Triple → List Word
+triple_words reading t = sample_words reading t.key t.at t.value
+
+-- a name and the words after it, if there are any
+abbrev pub with_name : Word → List Word → Request
+with_name name [] = []
+with_name name (word ∷ words) = name ∷ word ∷ words
+
+-- The words of a change, with a reading of the clock in place of each time that is the clock's. None for a command that changes nothing.
+abbrev pub record_words : (reading : ℕ) → Command → Request
+record_words reading (Create key s) = codes "TS.CREATE" ∷ key ∷ spec_words s
+record_words reading (Alter key c) = codes "TS.ALTER" ∷ key ∷ change_words c
+record_words reading (Add key at v on s) = codes "TS.ADD" ∷ key ∷ decimal (time_of reading at) ∷ shown_value v ∷ (given on_duplicate_words on ++ spec_words s)
+record_words reading (Madd triples) = with_name (codes "TS.MADD") (flat_map (triple_words reading) triples)
+record_words reading (Incr key v at s) = codes "TS.INCRBY" ∷ key ∷ shown_value v ∷ codes "TIMESTAMP" ∷ decimal (time_of reading at) ∷ spec_words s
+record_words reading (DelRange key from to) = codes "TS.DEL" ∷ key ∷ decimal from ∷ decimal to ∷ []
+record_words reading (CreateRule source dest agg grid) =
+    codes "TS.CREATERULE" ∷ source ∷ dest ∷ codes "AGGREGATION" ∷ aggregator_name agg ∷ decimal grid.duration ∷ decimal grid.align ∷ []
+record_words reading (DeleteRule source dest) = codes "TS.DELETERULE" ∷ source ∷ dest ∷ []
+record_words reading (Drop keys) = codes "DEL" ∷ keys
+record_words reading _ = []
+
+-- whether a command is one of those that change the database
+abbrev pub is_change : Command → Bool
+is_change (Create key s) = true
+is_change (Alter key c) = true
+is_change (Add key at v on s) = true
+is_change (Madd triples) = true
+is_change (Incr key v at s) = true
+is_change (DelRange key from to) = true
+is_change (CreateRule source dest agg grid) = true
+is_change (DeleteRule source dest) = true
+is_change (Drop keys) = true
+is_change _ = false
+
+-- ---- what of them was accepted
+
+abbrev pub is_error : Reply → Bool
+is_error (Error words) = true
+is_error _ = false
+
+abbrev pub is_number : Reply → Bool
+is_number (Int n) = true
+is_number _ = false
+
+-- the replies of an array
+abbrev pub items_of : Reply → Replies
+items_of (Array items) = items
+items_of _ = Empty
+
+-- the triples whose item of the reply is a number
+abbrev pub taken : List Triple → Replies → List Triple
+taken [] replies = []
+taken (t ∷ ts) Empty = []
+taken (t ∷ ts) (Item reply replies) = if is_number reply then t ∷ taken ts replies else taken ts replies
+
+-- of TS.MADD the triples that were taken, and any other command whole
+abbrev pub accepted : Command → Reply → Command
+accepted (Madd triples) reply = Madd (taken triples (items_of reply))
+accepted c reply = c
+
+-- the bytes of a request, none where it has no words
+abbrev pub bytes_of : Request → List ℕ
+bytes_of [] = []
+bytes_of (word ∷ words) = encoded_request (word ∷ words)
+
+-- The record of a command that was executed with this reading of the clock and got this reply: none where nothing was accepted, nor
+-- for a command that changes nothing.
+abbrev pub record_of : Command → (reading : ℕ) → Reply → List ℕ
+record_of c reading reply = if is_error reply then [] else bytes_of (record_words reading (accepted c reply))
+
+-- what is told of each triple of TS.MADD: a number, or an error of one line
+abbrev pub AreTold : Replies → Type 0
+AreTold Empty = Unit {0}
+AreTold (Item (Int n) replies) = AreTold replies
+AreTold (Item (Error words) replies) = IsOneLine words × AreTold replies
+AreTold (Item reply replies) = ⊥
+
+-- for the text of each reply that the command may get, it is the record
+abbrev pub IsRecordOf : (reading : ℕ) → Command → (record_ : List ℕ → List ℕ) → Type 0
+IsRecordOf reading c record_ = (reply : Reply) → AreTold (items_of reply) → record_ (text reply) ≡ record_of c reading reply

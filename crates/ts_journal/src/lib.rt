@@ -1,0 +1,16 @@
+//! Records of changes, as a journal keeps them: each a request that does the same whenever it is read.
+#![tactic(auto)]
+
+mod changes;
+mod draft;
+mod fixed;
+mod gap;
+mod limits;
+mod options;
+mod record;
+mod reply;
+mod samples;
+mod triples;
+
+pub use limits::limits_of;
+pub use record::Record;

@@ -1,0 +1,146 @@
+// The options of series and of writes, as words of a record.
+ghost use Rattle.std.specs.Prelude.{◌≡◌, [], OnOk};
+ghost use Rattle.ts_spec.specs.Labels as labels;
+ghost use Rattle.ts_labels.specs.Spec.{spec_of, change_of};
+ghost use Rattle.ts_journal.specs.Draft.{Puts};
+ghost use Rattle.ts_journal.specs.Record.{given, retention_words, encoding_words, chunk_size_words, policy_words, on_duplicate_words, ignore_words, label_pairs, labels_words, spec_words, change_words};
+ghost use Rattle.ts_journal.specs.Record as record_;
+
+use crate::draft::Draft;
+use std::alloc::AllocError;
+use ts_labels::{Change, Labels, Spec};
+use ts_spec::{Encoding, Ignore, Policy};
+
+// All that a new series is made with.
+pub(crate) fn put_spec(draft: &mut Draft, spec: &Spec) -> Result<(), AllocError>
+    ensures { OnOk result (Puts draft.old draft.new (spec_words (spec_of spec.now))) }
+{
+    let options = &spec.options;
+    put_retention(draft, Some(options.retention))?;
+    put_encoding(draft, options.encoding)?;
+    put_chunk_size(draft, Some(options.chunk_size))?;
+    put_policy(draft, Some(options.policy))?;
+    put_ignore(draft, Some(options.ignore))?;
+    put_labels(draft, &spec.labels)
+}
+
+// What a series gets anew.
+pub(crate) fn put_change(draft: &mut Draft, change: &Change) -> Result<(), AllocError>
+    ensures { OnOk result (Puts draft.old draft.new (change_words (change_of change.now))) }
+{
+    put_retention(draft, change.retention)?;
+    put_chunk_size(draft, change.chunk_size)?;
+    put_policy(draft, change.policy)?;
+    put_ignore(draft, change.ignore)?;
+    put_labels_given(draft, &change.labels)
+}
+
+// The policy of one write, where it is given.
+pub(crate) fn put_on_duplicate(draft: &mut Draft, policy: Option<Policy>) -> Result<(), AllocError>
+    ensures { OnOk result (Puts draft.old draft.new (given on_duplicate_words policy)) }
+{
+    let Some(policy) = policy else {
+        return Ok(());
+    };
+    draft.put(b"ON_DUPLICATE")?;
+    draft.put(policy_name(policy))
+}
+
+fn put_retention(draft: &mut Draft, retention: Option<u64>) -> Result<(), AllocError>
+    ensures { OnOk result (Puts draft.old draft.new (given retention_words retention)) }
+{
+    let Some(retention) = retention else {
+        return Ok(());
+    };
+    draft.put(b"RETENTION")?;
+    draft.put_number(retention)
+}
+
+fn put_encoding(draft: &mut Draft, encoding: Encoding) -> Result<(), AllocError>
+    ensures { OnOk result (Puts draft.old draft.new (encoding_words encoding)) }
+{
+    draft.put(b"ENCODING")?;
+    draft.put(encoding_name(encoding))
+}
+
+fn put_chunk_size(draft: &mut Draft, bytes: Option<u32>) -> Result<(), AllocError>
+    ensures { OnOk result (Puts draft.old draft.new (given chunk_size_words bytes)) }
+{
+    let Some(bytes) = bytes else {
+        return Ok(());
+    };
+    draft.put(b"CHUNK_SIZE")?;
+    draft.put_number(u64::from(bytes))
+}
+
+fn put_policy(draft: &mut Draft, policy: Option<Policy>) -> Result<(), AllocError>
+    ensures { OnOk result (Puts draft.old draft.new (given policy_words policy)) }
+{
+    let Some(policy) = policy else {
+        return Ok(());
+    };
+    draft.put(b"DUPLICATE_POLICY")?;
+    draft.put(policy_name(policy))
+}
+
+fn put_ignore(draft: &mut Draft, ignore: Option<Ignore>) -> Result<(), AllocError>
+    ensures { OnOk result (Puts draft.old draft.new (given ignore_words ignore)) }
+{
+    let Some(ignore) = ignore else {
+        return Ok(());
+    };
+    draft.put(b"IGNORE")?;
+    draft.put_number(ignore.time)?;
+    draft.put_value(ignore.value)
+}
+
+fn put_labels_given(draft: &mut Draft, labels: &Option<Labels>) -> Result<(), AllocError>
+    ensures { OnOk result (Puts draft.old draft.new (given labels_words labels.now)) }
+{
+    match labels {
+        Some(labels) => put_labels(draft, labels),
+        None => Ok(()),
+    }
+}
+
+fn put_labels(draft: &mut Draft, labels: &Labels) -> Result<(), AllocError>
+    ensures { OnOk result (Puts draft.old draft.new (labels_words labels.now)) }
+{
+    draft.put(b"LABELS")?;
+    put_pairs(draft, labels)
+}
+
+// Labels and their values, one after another.
+fn put_pairs(draft: &mut Draft, labels: &Labels) -> Result<(), AllocError>
+    ensures { OnOk result (Puts draft.old draft.new (label_pairs labels.now)) }
+{
+    for i in 0..labels.len() {
+        draft.put_word(labels.label_at(i))?;
+        draft.put_word(labels.value_at(i))?;
+    }
+    Ok(())
+}
+
+// The name of an encoding.
+fn encoding_name(encoding: Encoding) -> &'static [u8]
+    ensures { result.now ≡ record_.encoding_name encoding }
+{
+    match encoding {
+        Encoding::Compressed => b"COMPRESSED",
+        Encoding::Uncompressed => b"UNCOMPRESSED",
+    }
+}
+
+// The name of a policy.
+fn policy_name(policy: Policy) -> &'static [u8]
+    ensures { result.now ≡ record_.policy_name policy }
+{
+    match policy {
+        Policy::Block => b"BLOCK",
+        Policy::First => b"FIRST",
+        Policy::Last => b"LAST",
+        Policy::Min => b"MIN",
+        Policy::Max => b"MAX",
+        Policy::Sum => b"SUM",
+    }
+}

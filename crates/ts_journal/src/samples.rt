@@ -1,0 +1,58 @@
+// The pieces of a row of bytes whose items of a reply are numbers.
+ghost use Rattle.std.specs.Prelude.{◌≡◌, ◌≤◌, ◌+◌, [], ◌++◌, min, length, sum, if◌then◌else◌};
+ghost use Rattle.ts_journal.specs.Lines.{begins_number, pieces, taken_by, joined, words_in};
+
+use crate::reply::after_line;
+use bytes::BytesMut;
+
+// Adds the pieces whose items are numbers, for which there is room, and tells how many words they have.
+pub(crate) fn add_taken(
+    mut bytes: &[u8],
+    lens: &[usize],
+    mut items: &[u8],
+    room: &mut BytesMut,
+) -> usize
+    requires lens { sum lens.now ≤ length bytes.now }
+    requires room { length bytes.now ≤ room.old.spare }
+    ensures bytes { room.new.items ≡ room.old.items ++ joined (taken_by items.entry.now (pieces lens.now bytes.entry.now)) }
+    ensures total { length room.new.items + room.new.spare ≡ length room.old.items + room.old.spare }
+    ensures few { result ≤ length room.new.items }
+    ensures words { result ≡ words_in (taken_by items.entry.now (pieces lens.now bytes.entry.now)) }
+{
+    let mut words = 0;
+    for len in lens {
+        let (piece, rest) = bytes.split_at(*len);
+        words += add_if(begins_number(items), piece, room);
+        items = after_line(items);
+        bytes = rest;
+    }
+    words
+}
+
+// Adds a piece, if it is to be added, and tells how many words it has. A piece without bytes is that of a triple
+// without a time or a value, and any other has three words.
+fn add_if(wanted: bool, piece: &[u8], room: &mut BytesMut) -> usize
+    requires { length piece.now ≤ room.old.spare }
+    ensures bytes { room.new.items ≡ room.old.items ++ (if wanted then piece.now else []) }
+    ensures words { result ≡ (if wanted then min 3 (length piece.now) else 0) }
+    ensures grows { length room.old.items + result ≤ length room.new.items }
+    ensures room { room.old.spare ≤ room.new.spare + length piece.now }
+    ensures total { length room.new.items + room.new.spare ≡ length room.old.items + room.old.spare }
+{
+    if wanted {
+        room.extend_reserved(piece);
+        piece.len().min(3)
+    } else {
+        0
+    }
+}
+
+// Whether a text begins with a number.
+fn begins_number(text: &[u8]) -> bool
+    ensures { result ≡ begins_number text.now }
+{
+    match text {
+        [first, ..] => *first == b':',
+        [] => false,
+    }
+}

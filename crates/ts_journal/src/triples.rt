@@ -1,0 +1,119 @@
+// The record of TS.MADD: the words of each triple are put ahead, and those that the reply says were taken are copied.
+ghost use Rattle.std.specs.Prelude.{◌≡◌, ◌≤◌, ◌+◌, [], length, drop, sum, map, flat_map, IfOk, OnOk};
+ghost use Rattle.ts_command.specs.Reading.{triple_of, triples_of};
+ghost use Rattle.ts_journal.specs.Draft.{Has, Puts};
+ghost use Rattle.ts_journal.specs.Record.{triple_words};
+ghost use Rattle.ts_journal.specs.Fixed.{triple_text};
+ghost use Rattle.ts_journal.specs.Lines.{items_text, taken_by, taken_text};
+
+use crate::changes::{put_sample, time_of};
+use crate::draft::Draft;
+use crate::gap::{GAP, put_head};
+use crate::reply::items;
+use crate::samples::add_taken;
+use bytes::BytesMut;
+use std::alloc::{AllocError, Global};
+use ts_command::Triple;
+use ts_resp::Out;
+
+// The name of the command, as a word of a request.
+const NAME: &[u8; 13] = b"$7\r\nTS.MADD\r\n";
+
+#[derive(Drop)]
+pub(crate) struct Triples {
+    // The words of all triples, behind a gap.
+    words: Out,
+    // How many bytes the words of each triple have.
+    lens: Vec<usize>,
+    // Where the record is put together, with room for all of it.
+    room: BytesMut,
+    ghost gap: { 24 ≤ length words.bytes },
+    ghost parts: { sum lens.items ≤ length (drop 24 words.bytes) },
+    ghost roomy: { 37 + length (drop 24 words.bytes) ≤ length room.items + room.spare },
+}
+
+impl Triples {
+    ghost use Rattle.ts_journal.specs.Held.{pieces_of};
+
+    pub(crate) fn take(
+        alloc: Global,
+        triples: &[Triple],
+        reading: u64,
+    ) -> Result<Triples, AllocError>
+        ensures { IfOk result (λ t. pieces_of t ≡ map (triple_text reading) (triples_of triples.now)) }
+    {
+        let mut draft = Draft::new(alloc)?;
+        let mut lens = Vec::with_capacity(alloc, triples.len())?;
+        put_triples(&mut draft, &mut lens, triples, reading)?;
+        let words = draft.out;
+        let room = BytesMut::with_capacity(alloc, NAME.len() + words.bytes().len())?;
+        Ok(Triples { words, lens, room })
+    }
+
+    // The record, where the reply has this text.
+    pub(crate) fn taken(&mut self, reply: &[u8]) -> &[u8]
+        ensures { result.now ≡ taken_text (taken_by (items_text reply.now) (pieces_of self.old)) }
+    {
+        let start = self.fill(reply);
+        &self.room.as_slice()[start..]
+    }
+
+    // Puts the record together, where the reply has this text, and gives where it starts in the room.
+    fn fill(&mut self, reply: &[u8]) -> usize
+        ensures bytes { drop result self.new.room.items ≡ taken_text (taken_by (items_text reply.now) (pieces_of self.old)) }
+        ensures start { result ≤ length self.new.room.items }
+    {
+        self.room.clear();
+        self.room.extend_reserved(&[0; GAP]);
+        self.room.extend_reserved(NAME);
+        let words = behind_gap(&self.words);
+        let count = add_taken(words, self.lens.as_slice(), items(reply), &mut self.room);
+        let len = self.room.len();
+        if count == 0 {
+            return len;
+        }
+        put_head(count + 1, self.room.as_mut_slice())
+    }
+}
+
+// What stands behind the gap.
+fn behind_gap(words: &Out) -> &[u8]
+    requires { 24 ≤ length words.now.bytes }
+    ensures { result.now ≡ drop 24 words.now.bytes }
+{
+    let (_gap, words) = words.bytes().split_at(GAP);
+    words
+}
+
+// The words of triples, and how many bytes those of each have.
+fn put_triples(
+    draft: &mut Draft,
+    lens: &mut Vec<usize>,
+    triples: &[Triple],
+    reading: u64,
+) -> Result<(), AllocError>
+    requires words { Has [] draft.old }
+    requires lens { lens.old.items ≡ [] }
+    ensures words { OnOk result (Has (flat_map (triple_words reading) (triples_of triples.now)) draft.new) }
+    ensures lens { OnOk result (lens.new.items ≡ map length (map (triple_text reading) (triples_of triples.now))) }
+{
+    for triple in triples {
+        let before = draft.out.bytes().len();
+        put_triple(draft, triple, reading)?;
+        lens.push(draft.out.bytes().len() - before)?;
+    }
+    Ok(())
+}
+
+// The words of a triple, and none where it has no time or no value.
+fn put_triple(draft: &mut Draft, triple: &Triple, reading: u64) -> Result<(), AllocError>
+    ensures { OnOk result (Puts draft.old draft.new (triple_words reading (triple_of triple.now))) }
+{
+    let Ok(at) = &triple.at else {
+        return Ok(());
+    };
+    let Ok(value) = &triple.value else {
+        return Ok(());
+    };
+    put_sample(draft, &triple.key, time_of(*at, reading), *value)
+}
