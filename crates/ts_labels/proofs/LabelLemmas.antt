@@ -50,7 +50,7 @@ not_first true v rest h = cc
 not_first false v rest h = (refl, h)
 
 -- a name that none of these labels has is not that of one of them
-apart : (name k : Key) (ls : List Label) (i : ℕ) → value_of name ls ≡ None → option_map (λ l. l.name) (slice_get ls i) ≡ Some k → same k name ≡ false
+pub apart : (name k : Key) (ls : List Label) (i : ℕ) → value_of name ls ≡ None → option_map (λ l. l.name) (slice_get ls i) ≡ Some k → same k name ≡ false
 apart name k [] i h e = cc
 apart name k (l ∷ ls) zero h e =
     let here : l.name ≡ k = cc in

@@ -1,5 +1,5 @@
 -- The labels of a series as the definitions have them.
-use Rattle.std.specs.Prelude.{◌≡◌, ⊤, ℕ, List, [], ◌∷◌, None, map}
+use Rattle.std.specs.Prelude.{◌≡◌, ⊤, ℕ, List, [], ◌∷◌, Option, None, Some, map}
 use Rattle.ts_spec.specs.State.{Label}
 use Rattle.ts_spec.specs.Filter.{value_of}
 
@@ -10,6 +10,11 @@ labelled name value = record { name = name; value = value }
 -- the labels that a map's entries are
 abbrev pub labels_in : List (List ℕ × List ℕ) → List Label
 labels_in entries = map (λ e. labelled e.0 e.1) entries
+
+-- those of the entries of a map, where there is one
+abbrev pub labels_there : Option (List (List ℕ × List ℕ)) → List Label
+labels_there None = []
+labels_there (Some entries) = labels_in entries
 
 -- no label has the name of one after it
 abbrev pub AreDistinct : List Label → Type 0

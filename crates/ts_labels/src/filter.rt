@@ -86,8 +86,8 @@ impl Filter {
         }
     }
 
-    // Whether it asks for a value.
-    fn is_positive(&self) -> bool
+    /// Whether it asks for a value of its label.
+    pub fn is_positive(&self) -> bool
         ensures { result ≡ is_positive self.now }
     {
         matches!(&self.asks, Asks::Among(_))

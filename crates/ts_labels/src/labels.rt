@@ -3,27 +3,30 @@ ghost use Rattle.std.specs.Prelude.{◌≡◌, ◌<◌, ◌^◌, ◌↔◌, [], 
 ghost use Rattle.std.specs.Option.{option_copied};
 ghost use Rattle.ts_spec.specs.Filter.{value_of};
 ghost use Rattle.ts_spec.specs.Labels.{with_label};
-ghost use Rattle.ts_labels.specs.Labels.{AreDistinct, labelled};
+ghost use Rattle.ts_labels.specs.Labels.{AreDistinct, labelled, labels_in};
 
 use indexmap::IndexMap;
 use std::alloc::{AllocError, Global};
 use std::marker::Model;
+use std::rc::Rc;
 use ts_resp::Word;
 
-/// Labels and their values, in the order in which the labels were first set. Each label is there once.
+/// Labels and their values, in the order in which the labels were first set. Each label is there once. Copies share
+/// them until one of the copies is changed.
 #[derive(Debug, Drop)]
 pub struct Labels {
-    map: IndexMap<Word, Word>,
+    alloc: Global,
+    map: Option<Rc<IndexMap<Word, Word>>>,
 }
 
 impl Model for Labels {
-    ghost use Rattle.std.specs.Prelude.{List};
+    ghost use Rattle.std.specs.Prelude.{List, option_map};
     ghost use Rattle.ts_spec.specs.State.{Label};
-    ghost use Rattle.ts_labels.specs.Labels.{labels_in};
+    ghost use Rattle.ts_labels.specs.Labels.{labels_there};
 
     ghost Value = { List Label };
 
-    ghost view = { λ l. labels_in l.map.entries };
+    ghost view = { λ l. labels_there (option_map (λ map. map.value.entries) l.map) };
 }
 
 impl Labels {
@@ -31,9 +34,7 @@ impl Labels {
     pub fn new(alloc: Global) -> Labels
         ensures { result ≡ [] }
     {
-        Labels {
-            map: IndexMap::new(alloc),
-        }
+        Labels { alloc, map: None }
     }
 
     /// Gives a label this value. A label that is there keeps its place.
@@ -42,29 +43,52 @@ impl Labels {
         ensures ok { OnOk result (self.new ≡ with_label (labelled label value) self.old) }
         ensures err { OnErr result (self.new ≡ self.old) }
     {
-        self.map.insert(label, value)?;
+        if let Some(shared) = &mut self.map
+            && let Some(map) = Rc::get_mut(shared)
+        {
+            map.insert(label, value)?;
+            return Ok(());
+        }
+        let mut map = self.copied()?;
+        map.insert(label, value)?;
+        self.map = Some(Rc::new(self.alloc, map)?);
         Ok(())
     }
 
-    /// The same labels.
+    // A copy of the map that no one else holds.
+    fn copied(&self) -> Result<IndexMap<Word, Word>, AllocError>
+        ensures { IfOk result (λ map. labels_in map.entries ≡ self.now) }
+    {
+        self.known();
+        let mut copied = IndexMap::with_capacity(self.alloc, self.len())?;
+        for i in 0..self.len() {
+            copied.insert(self.label_at(i).copy()?, self.value_at(i).copy()?)?;
+        }
+        Ok(copied)
+    }
+
+    /// The same labels. Takes no memory: both share them. An Err tells that too many share them already.
     pub fn copy(&self) -> Result<Labels, AllocError>
         ensures { IfOk result (λ labels. labels ≡ self.now) }
     {
-        self.known();
-        let mut copied = Labels {
-            map: IndexMap::with_capacity(*self.map.allocator(), self.len())?,
+        let map = match &self.map {
+            None => None,
+            Some(shared) => Some(shared.clone()?),
         };
-        for i in 0..self.len() {
-            copied.set(self.label_at(i).copy()?, self.value_at(i).copy()?)?;
-        }
-        Ok(copied)
+        Ok(Labels {
+            alloc: self.alloc,
+            map,
+        })
     }
 
     /// The value of a label, if it is there.
     pub fn get(&self, label: &Word) -> Option<&Word>
         ensures { option_copied result ≡ value_of label.now self.now }
     {
-        self.map.get(label)
+        match &self.map {
+            None => None,
+            Some(map) => map.get(label),
+        }
     }
 
     /// How many labels there are.
@@ -72,7 +96,10 @@ impl Labels {
         ensures len { result ≡ length self.now }
         ensures small { result < 2 ^ 63 }
     {
-        self.map.len()
+        match &self.map {
+            None => 0,
+            Some(map) => map.len(),
+        }
     }
 
     /// Whether there are none.
@@ -87,7 +114,7 @@ impl Labels {
         requires { i < length self.now }
         ensures { option_map (λ l. l.name) (slice_get self.now i) ≡ Some result.now }
     {
-        self.map.get_index(i).unwrap().0
+        self.pair_at(i).0
     }
 
     /// The value of the label at this place.
@@ -95,13 +122,26 @@ impl Labels {
         requires { i < length self.now }
         ensures { option_map (λ l. l.value) (slice_get self.now i) ≡ Some result.now }
     {
-        self.map.get_index(i).unwrap().1
+        self.pair_at(i).1
+    }
+
+    // The label at this place, with its value.
+    fn pair_at(&self, i: usize) -> (&Word, &Word)
+        requires { i < length self.now }
+        ensures { slice_get self.now i ≡ Some (labelled result.0.now result.1.now) }
+    {
+        match &self.map {
+            None => unreachable!(),
+            Some(map) => map.get_index(i).unwrap(),
+        }
     }
 
     /// Each label is there once.
     pub fn known(&self)
         ensures { AreDistinct self.now }
     {
-        let _len = self.map.len();
+        if let Some(map) = &self.map {
+            let _len = map.len();
+        }
     }
 }
