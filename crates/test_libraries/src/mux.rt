@@ -1,2 +1,3 @@
 // Interleaved connections: worked examples.
 mod captures;
+mod order;

@@ -1,0 +1,153 @@
+-- The numbers that have one of some values: which they are, that none is there twice, and how many there are at most.
+use Rattle.std.proofs.Common.{◌≡◌, ℕ, ◌≤◌, ◌==◌, ◌||◌, ◌&&◌, not, Bool, true, false, List, [], ◌∷◌, ◌++◌, length, Option, None, Some, refl, sym, ◌∙◌, ap, arith, if◌then◌else◌, eq-eqb, length-append}
+use Rattle.std.proofs.lemmas.Bool.{false≢true}
+use Rattle.std.proofs.lemmas.List.Folds.{list_any-append}
+use Rattle.std.proofs.lemmas.List.Sums.{sum_by-cons}
+use Rattle.std.specs.List.{sum_by}
+use Rattle.ts_spec.specs.Key.{Key, same}
+use Rattle.ts_spec.specs.State.{Label}
+use Rattle.ts_spec.specs.Filter.{value_of, is_among, has_one_of}
+use Rattle.ts_spec.proofs.Keys.{same-true}
+use Rattle.ts_sample.specs.declared.id.Id.{Id}
+use Rattle.ts_index.specs.Index.{Labelled, labels_of, numbers_where, has_pair}
+use Rattle.ts_index.specs.Numbers.{AreInOrder, AreAscending, has_number, pass}
+use Rattle.ts_index.specs.Candidates.{listed_by, AreApart}
+use Rattle.ts_index.proofs.NumberLemmas.{has_number-where, AreAscending-where}
+use Rattle.ts_index.proofs.MemberLemmas.{none_in}
+
+is_among-append : (xs ys : List Key) (w : Key) → is_among (xs ++ ys) w ≡ (is_among xs w || is_among ys w)
+is_among-append [] ys w = refl
+is_among-append (x ∷ xs) ys w = ap (λ b. same x w || b) (is_among-append xs ys w) ∙ or-assoc (same x w) (is_among xs w) (is_among ys w)
+  where
+    or-assoc : (a b c : Bool) → (a || (b || c)) ≡ ((a || b) || c)
+    or-assoc true b c = refl
+    or-assoc false b c = refl
+
+-- whether labels have one of some values, and none that was seen
+abbrev pub has_unseen : (label : List ℕ) (seen values : List Key) → List Label → Bool
+has_unseen label seen values labels = has_one_of values (value_of label labels) && not (has_one_of seen (value_of label labels))
+
+-- one value more, or one that was seen
+one_more : (a s sv m : Bool) → (a ≡ true → sv ≡ s) → ((if sv then false else (a || false)) || (m && not (s || (a || false)))) ≡ ((a || m) && not s)
+one_more true true sv m h = rw (h refl) (and-no m)
+  where
+    and-no : (m : Bool) → (m && false) ≡ false
+    and-no true = refl
+    and-no false = refl
+one_more true false sv m h = rw (h refl) refl
+one_more false s true m h = by s m
+  where
+    by : (s m : Bool) → (m && not (s || false)) ≡ (m && not s)
+    by true m = refl
+    by false m = refl
+one_more false s false m h = by s m
+  where
+    by : (s m : Bool) → (m && not (s || false)) ≡ (m && not s)
+    by true m = refl
+    by false m = refl
+
+first_list : (label v : List ℕ) (b : Bool) (es : Labelled) → AreInOrder es → (q : ℕ)
+    → has_number q (if b then [] else numbers_where (has_pair label v) es) ≡ (if b then false else pass (has_pair label v) (labels_of q es))
+first_list label v true es o q = refl
+first_list label v false es o q = has_number-where (has_pair label v) es o q
+
+pub has_number-listed_by : (label : List ℕ) (seen values : List Key) (es : Labelled) → AreInOrder es → (q : ℕ)
+    → has_number q (listed_by label seen values es) ≡ pass (has_unseen label seen values) (labels_of q es)
+has_number-listed_by label seen [] es o q = none (labels_of q es)
+  where
+    no-value : (value : Option Key) → false ≡ (has_one_of [] value && not (has_one_of seen value))
+    no-value None = refl
+    no-value (Some w) = refl
+
+    none : (labels : Option (List Label)) → false ≡ pass (has_unseen label seen []) labels
+    none None = refl
+    none (Some labels) = no-value (value_of label labels)
+has_number-listed_by label seen (v ∷ vs) es o q =
+    list_any-append (λ i. q == i.0) (if is_among seen v then [] else numbers_where (has_pair label v) es) (listed_by label (seen ++ v ∷ []) vs es)
+    ∙ ap (λ a. a || has_number q (listed_by label (seen ++ v ∷ []) vs es)) (first_list label v (is_among seen v) es o q)
+    ∙ ap (λ b. (if is_among seen v then false else pass (has_pair label v) (labels_of q es)) || b) (has_number-listed_by label (seen ++ v ∷ []) vs es o q)
+    ∙ at (labels_of q es)
+  where
+    nothing : (b : Bool) → (if b then false else false) ≡ false
+    nothing true = refl
+    nothing false = refl
+
+    value : (there : Option Key)
+        → ((if is_among seen v then false else has_one_of (v ∷ []) there) || (has_one_of vs there && not (has_one_of (seen ++ v ∷ []) there)))
+        ≡ (has_one_of (v ∷ vs) there && not (has_one_of seen there))
+    value None = ap (λ b. b || false) (nothing (is_among seen v))
+    value (Some w) =
+        rw (is_among-append seen (v ∷ []) w) (one_more (same v w) (is_among seen w) (is_among seen v) (is_among vs w) (λ e. ap (is_among seen) (same-true v w e)))
+
+    at : (labels : Option (List Label))
+        → ((if is_among seen v then false else pass (has_pair label v) labels) || pass (has_unseen label (seen ++ v ∷ []) vs) labels)
+        ≡ pass (has_unseen label seen (v ∷ vs)) labels
+    at None = ap (λ b. b || false) (nothing (is_among seen v))
+    at (Some labels) = value (value_of label labels)
+
+-- ---- none is there twice
+
+pub apart_ascending : (is : List Id) → AreAscending is → AreApart is
+apart_ascending [] h = tt
+apart_ascending (i ∷ is) h = (none_in i.0 is h.0, apart_ascending is h.1)
+
+apart_append : (xs ys : List Id) → AreApart xs → AreApart ys → ((q : ℕ) → has_number q xs ≡ true → has_number q ys ≡ false) → AreApart (xs ++ ys)
+apart_append [] ys a b h = b
+apart_append (x ∷ xs) ys a b h = (
+  list_any-append (λ i. x.0 == i.0) xs ys ∙ ap (λ c. c || has_number x.0 ys) a.0 ∙ h x.0 (here x.0 (has_number x.0 xs)),
+  apart_append xs ys a.1 b (λ q e. h q (later (q == x.0) (has_number q xs) e)),
+)
+  where
+    here : (n : ℕ) (b : Bool) → ((n == n) || b) ≡ true
+    here n b = rw (eq-eqb n n refl) refl
+
+    later : (a b : Bool) → b ≡ true → (a || b) ≡ true
+    later true b e = refl
+    later false b e = e
+
+-- a number that has a value is in no list of those after it
+parted : (label v : List ℕ) (seen vs : List Key) (labels : Option (List Label)) (b : Bool)
+    → (if b then false else pass (has_pair label v) labels) ≡ true → pass (has_unseen label (seen ++ v ∷ []) vs) labels ≡ false
+parted label v seen vs labels true h = absurd (false≢true h)
+parted label v seen vs None false h = refl
+parted label v seen vs (Some ls) false h = by (value_of label ls) h
+  where
+    none : (m s : Bool) → (m && not (s || true)) ≡ false
+    none true true = refl
+    none true false = refl
+    none false s = refl
+
+    by : (there : Option Key) → has_one_of (v ∷ []) there ≡ true → (has_one_of vs there && not (has_one_of (seen ++ v ∷ []) there)) ≡ false
+    by None h = refl
+    by (Some w) h = rw (is_among-append seen (v ∷ []) w, h) (none (is_among vs w) (is_among seen w))
+
+pub listed_by-apart : (label : List ℕ) (seen values : List Key) (es : Labelled) → AreInOrder es → AreApart (listed_by label seen values es)
+listed_by-apart label seen [] es o = tt
+listed_by-apart label seen (v ∷ vs) es o =
+    apart_append (if is_among seen v then [] else numbers_where (has_pair label v) es) (listed_by label (seen ++ v ∷ []) vs es) (own (is_among seen v))
+    (listed_by-apart label (seen ++ v ∷ []) vs es o) (others (is_among seen v))
+  where
+    own : (b : Bool) → AreApart (if b then [] else numbers_where (has_pair label v) es)
+    own true = tt
+    own false = apart_ascending (numbers_where (has_pair label v) es) (AreAscending-where (has_pair label v) es o)
+
+    others : (b : Bool) (q : ℕ) → has_number q (if b then [] else numbers_where (has_pair label v) es) ≡ true → has_number q (listed_by label (seen ++ v ∷ []) vs es) ≡ false
+    others b q h =
+        has_number-listed_by label (seen ++ v ∷ []) vs es o q
+        ∙ parted label v seen vs (labels_of q es) b (sym (first_list label v b es o q) ∙ h)
+
+-- ---- how many there are at most
+
+pub listed_by-few : (label : List ℕ) (seen values : List Key) (es : Labelled)
+    → length (listed_by label seen values es) ≤ sum_by (λ v. length (numbers_where (has_pair label v) es)) values
+listed_by-few label seen [] es = omega arith
+listed_by-few label seen (v ∷ vs) es =
+    let rest = listed_by-few label (seen ++ v ∷ []) vs es in
+    let both = length-append (if is_among seen v then [] else numbers_where (has_pair label v) es) (listed_by label (seen ++ v ∷ []) vs es) in
+    let first = by (is_among seen v) in
+    let added = sum_by-cons (λ v. length (numbers_where (has_pair label v) es)) v vs in
+    omega arith
+  where
+    by : (b : Bool) → length (if b then [] else numbers_where (has_pair label v) es) ≤ length (numbers_where (has_pair label v) es)
+    by true = omega arith
+    by false = omega arith

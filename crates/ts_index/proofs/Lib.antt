@@ -1,0 +1,13 @@
+pub mod NumberLemmas
+pub mod NarrowLemmas
+pub mod PlaceLemmas
+pub mod PostingLemmas
+pub mod MemberLemmas
+pub mod PairLemmas
+pub mod IndexLemmas
+pub mod CandidateLemmas
+pub mod ValueLemmas
+pub mod ApartLemmas
+pub mod ChoiceLemmas
+pub mod OrderLemmas
+pub mod SelectLemmas

@@ -1,0 +1,87 @@
+-- The numbers whose labels pass a test: which they are, and their order.
+use Rattle.std.proofs.Common.{◌≡◌, ℕ, suc, ◌<◌, ◌==◌, Bool, true, false, List, [], ◌∷◌, None, Some, refl, sym, ◌∙◌, ap, arith, if◌then◌else◌, ne_eqb, eqb-true}
+use Rattle.std.proofs.lemmas.Cmp.{ranked}
+use Rattle.std.specs.Cmp.{unsigned_tied, on_equiv, nat_eq_equiv}
+use Rattle.std.specs.List.Sorted.{IsStrictlySortedBy}
+use Rattle.std.proofs.lemmas.Map.Keys.{sorted_tail}
+use Rattle.std.specs.List.{AllByRecursion, All, Contains}
+use Rattle.std.specs.Ordering.{nat_cmp}
+use Rattle.std.specs.declared.cmp.Ordering.TheVariants.{Less}
+use Rattle.std.specs.BTreeMap.{is_at}
+use Rattle.std.specs.Map.{keys_of}
+use Rattle.std.proofs.lemmas.Map.Views.{Contains-from_any, list_any-from_Contains, All-after_first}
+use Rattle.ts_spec.specs.State.{Label}
+use Rattle.ts_sample.specs.declared.id.Id.{Id}
+use Rattle.ts_index.specs.Index.{Labelled, labels_of, numbers_where}
+use Rattle.ts_index.specs.Numbers.{AreInOrder, AreAscending, has_number, pass}
+
+-- the map finds equal numbers
+pub is_at-number : (q k : ℕ) → is_at (nat_cmp q) k ≡ (q == k)
+is_at-number q k = unsigned_tied q k
+
+pub less-number : (q k : ℕ) → nat_cmp q k ≡ Less → q < k
+less-number q k h = ranked q k Less (sym h)
+
+-- a number before all others is not found among them
+none_before : (q : ℕ) (es : Labelled) → AllByRecursion (λ f. q < f.0) es → labels_of q es ≡ None
+none_before q [] h = refl
+none_before q (e ∷ es) h =
+    let less : q < e.0 = h.0 in
+    rw (is_at-number q e.0, ne_eqb q e.0 (λ d. absurd (omega arith))) (none_before q es h.1)
+
+-- a number is among those whose labels pass, where it has labels that pass
+pub has_number-where : (test : List Label → Bool) (es : Labelled) → AreInOrder es → (q : ℕ) → has_number q (numbers_where test es) ≡ pass test (labels_of q es)
+has_number-where test [] o q = refl
+has_number-where test (e ∷ es) o q = rw (is_at-number q e.0) (by (q == e.0) (test e.1) refl refl (has_number-where test es o.1 q))
+  where
+    by : (b t : Bool) → (q == e.0) ≡ b → test e.1 ≡ t → has_number q (numbers_where test es) ≡ pass test (labels_of q es)
+        → has_number q (if t then record { 0 = e.0 } ∷ numbers_where test es else numbers_where test es) ≡ pass test (if b then Some e.1 else labels_of q es)
+    by true true p s ih = rw (p, s) refl
+    by true false p s ih =
+        let same : q ≡ e.0 = eqb-true q e.0 p in
+        let none : labels_of q es ≡ None = rw same (none_before e.0 es o.0) in
+        rw (s) (ih ∙ ap (pass test) none)
+    by false true p s ih = rw (p) ih
+    by false false p s ih = ih
+
+-- numbers after one stay after it
+all_after : (test : List Label → Bool) (i : ℕ) (es : Labelled) → AllByRecursion (λ f. i < f.0) es → AllByRecursion (λ j. i < j.0) (numbers_where test es)
+all_after test i [] h = tt
+all_after test i (e ∷ es) h = by (test e.1) (all_after test i es h.1)
+  where
+    by : (t : Bool) → AllByRecursion (λ j. i < j.0) (numbers_where test es)
+        → AllByRecursion (λ j. i < j.0) (if t then record { 0 = e.0 } ∷ numbers_where test es else numbers_where test es)
+    by true rest = (h.0, rest)
+    by false rest = rest
+
+-- and ascend
+pub AreAscending-where : (test : List Label → Bool) (es : Labelled) → AreInOrder es → AreAscending (numbers_where test es)
+AreAscending-where test [] o = tt
+AreAscending-where test (e ∷ es) o = by (test e.1) (AreAscending-where test es o.1)
+  where
+    by : (t : Bool) → AreAscending (numbers_where test es)
+        → AreAscending (if t then record { 0 = e.0 } ∷ numbers_where test es else numbers_where test es)
+    by true rest = (all_after test e.0 es o.0, rest)
+    by false rest = rest
+
+-- ---- as std's words have it
+
+lower : (i : ℕ) (es : Labelled) → All (λ q. nat_cmp i q ≡ Less) (keys_of es) → AllByRecursion (λ f. i < f.0) es
+lower i [] h = tt
+lower i (f ∷ es) h = (less-number i f.0 (h 0 0 (omega arith)), lower i es (λ k d l. h (suc k) d (omega arith)))
+
+-- the keys of a map ascend
+pub AreInOrder-by_keys : (es : Labelled) → IsStrictlySortedBy nat_cmp (keys_of es) → AreInOrder es
+AreInOrder-by_keys [] s = tt
+AreInOrder-by_keys (e ∷ es) s = (lower e.0 es (All-after_first nat_cmp e.0 (keys_of es) s), AreInOrder-by_keys es (sorted_tail nat_cmp e.0 (keys_of es) s))
+
+equal_ids : (x y : Id) → (x.0 == y.0) ≡ true → x ≡ y
+equal_ids x y h = ap (λ n. record { 0 = n }) (eqb-true x.0 y.0 h)
+
+-- a number that is one of these is found among them
+pub has_number-from_Contains : (is : List Id) (i : Id) → Contains is i → has_number i.0 is ≡ true
+has_number-from_Contains is i h = list_any-from_Contains (on_equiv (λ (x : Id). x.0) nat_eq_equiv) i is h
+
+-- and the other way round
+pub Contains-from_has_number : (is : List Id) (i : Id) → has_number i.0 is ≡ true → Contains is i
+Contains-from_has_number is i h = Contains-from_any equal_ids i is h

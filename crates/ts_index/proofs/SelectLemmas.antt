@@ -1,0 +1,86 @@
+-- Of the numbers that can pass filters, those that do.
+use Rattle.std.proofs.Common.{◌≡◌, ℕ, ◌+◌, ◌*◌, ◌≤◌, ◌==◌, ◌||◌, ◌&&◌, Bool, true, false, List, [], ◌∷◌, ◌++◌, length, Option, None, Some, refl, sym, ◌∙◌, ap, subst, arith, if◌then◌else◌, eqb-true, append-nil}
+use Rattle.std.proofs.Math.Nat.{mul-le-mul_left}
+use Rattle.std.proofs.lemmas.Bool.{false≢true}
+use Rattle.std.proofs.lemmas.List.Sorted.{list_any-IsPermutation}
+use Rattle.std.specs.List.Sorted.{IsPermutation}
+use Rattle.ts_spec.specs.State.{Label}
+use Rattle.ts_spec.specs.Filter.{Filter, all_hold}
+use Rattle.ts_sample.specs.declared.id.Id.{Id}
+use Rattle.ts_index.specs.Candidates.{AreApart, Covers}
+use Rattle.ts_index.specs.Index.{Labelled, labels_of, numbers_where}
+use Rattle.ts_index.specs.Numbers.{AreInOrder, has_number, pass}
+use Rattle.ts_index.proofs.ApartLemmas.{apart-permuted}
+use Rattle.ts_index.proofs.MemberLemmas.{same_numbers}
+use Rattle.ts_index.proofs.NumberLemmas.{has_number-where, AreAscending-where}
+use Rattle.ts_index.proofs.OrderLemmas.{AreSorted, ascending}
+
+-- those whose labels pass a test
+abbrev pub chosen : (List Label → Bool) → Labelled → List Id → List Id
+chosen test es [] = []
+chosen test es (i ∷ is) = if pass test (labels_of i.0 es) then i ∷ chosen test es is else chosen test es is
+
+-- These are the numbers whose labels pass a test, none of them twice, in some order.
+pub record AreSelected (test : List Label → Bool) (es : Labelled) (is : List Id) : Type 0 where
+  pub once : AreApart is
+  pub which : (q : ℕ) → has_number q is ≡ pass test (labels_of q es)
+
+has_number-chosen : (test : List Label → Bool) (es : Labelled) (is : List Id) (q : ℕ) → has_number q (chosen test es is) ≡ (has_number q is && pass test (labels_of q es))
+has_number-chosen test es [] q = refl
+has_number-chosen test es (i ∷ is) q = by (q == i.0) (pass test (labels_of i.0 es)) refl refl (has_number-chosen test es is q)
+  where
+    none : (b : Bool) → (b && false) ≡ false
+    none true = refl
+    none false = refl
+
+    by : (s t : Bool) → (q == i.0) ≡ s → pass test (labels_of i.0 es) ≡ t → has_number q (chosen test es is) ≡ (has_number q is && pass test (labels_of q es))
+        → has_number q (if t then i ∷ chosen test es is else chosen test es is) ≡ ((s || has_number q is) && pass test (labels_of q es))
+    by true true e p ih =
+        let same : pass test (labels_of q es) ≡ true = ap (λ n. pass test (labels_of n es)) (eqb-true q i.0 e) ∙ p in
+        rw (e) (sym same)
+    by true false e p ih =
+        let same : pass test (labels_of q es) ≡ false = ap (λ n. pass test (labels_of n es)) (eqb-true q i.0 e) ∙ p in
+        ih ∙ ap (λ b. has_number q is && b) same ∙ none (has_number q is) ∙ sym same
+    by false true e p ih = rw (e) ih
+    by false false e p ih = ih
+
+apart-chosen : (test : List Label → Bool) (es : Labelled) (is : List Id) → AreApart is → AreApart (chosen test es is)
+apart-chosen test es [] a = tt
+apart-chosen test es (i ∷ is) a = by (pass test (labels_of i.0 es)) (apart-chosen test es is a.1)
+  where
+    by : (t : Bool) → AreApart (chosen test es is) → AreApart (if t then i ∷ chosen test es is else chosen test es is)
+    by true rest = (has_number-chosen test es is i.0 ∙ ap (λ b. b && pass test (labels_of i.0 es)) a.0, rest)
+    by false rest = rest
+
+-- of numbers among which all are that pass
+pub selected-of : (fs : List Filter) (es : Labelled) (is : List Id) → AreApart is → Covers es fs is → AreSelected (all_hold fs) es (chosen (all_hold fs) es is)
+selected-of fs es is a covers = record {
+  once = apart-chosen (all_hold fs) es is a;
+  which = λ q. has_number-chosen (all_hold fs) es is q ∙ at q (labels_of q es) refl;
+}
+  where
+    by : (h t : Bool) → (t ≡ true → h ≡ true) → (h && t) ≡ t
+    by true t f = refl
+    by false true f = absurd (false≢true (f refl))
+    by false false f = refl
+
+    at : (q : ℕ) (labels : Option (List Label)) → labels_of q es ≡ labels → (has_number q is && pass (all_hold fs) labels) ≡ pass (all_hold fs) labels
+    at q None e = by (has_number q is) false (λ h. absurd (false≢true h))
+    at q (Some labels) e = by (has_number q is) (all_hold fs labels) (covers q labels e)
+
+-- nothing is left, and they are sorted
+pub selected-sorted : (test : List Label → Bool) (es : Labelled) (ids new rest : List Id) → AreInOrder es → rest ≡ []
+    → AreSelected test es (ids ++ chosen test es rest) → IsPermutation ids new → AreSorted new → new ≡ numbers_where test es
+selected-sorted test es ids new rest o e h p s =
+    let all : AreSelected test es ids = subst (AreSelected test es) (ap (λ r. ids ++ chosen test es r) e ∙ append-nil ids) h in
+    same_numbers new (numbers_where test es) (ascending new s (apart-permuted ids new p all.once)) (AreAscending-where test es o)
+    (λ q. sym (list_any-IsPermutation (λ i. q == i.0) ids new p) ∙ all.which q ∙ sym (has_number-where test es o q))
+
+-- there are steps for no more than the fewest
+pub steps-start : (each : ℕ) (is : List Id) (fewest now : ℕ) → length is ≤ fewest → now + each * length is ≤ now + each * fewest
+steps-start each is fewest now few = let more : each * length is ≤ each * fewest = mul-le-mul_left each few in omega (arith, more)
+
+-- before the first
+pub selected-start : (fs : List Filter) (es : Labelled) (ids is rest : List Id) → ids ≡ [] → rest ≡ is → AreApart is → Covers es fs is
+    → AreSelected (all_hold fs) es (ids ++ chosen (all_hold fs) es rest)
+selected-start fs es ids is rest e r a covers = rw (e, r) (selected-of fs es is a covers)

@@ -1,0 +1,14 @@
+use Rattle.std.proofs.Common.{◌≡◌, ◌≤◌, ◌+◌, min, drop, length}
+use Rattle.std.specs.Prelude.{sum_by}
+use Rattle.ts_labels.specs.Filter.{label_of}
+use Rattle.ts_index.specs.Index.{numbers_where, has_pair}
+use Rattle.ts_index.proofs.index.Index.weight.Given as goal
+
+-- with the numbers of the values that are left it comes to those of all
+abbrev pub invariant-loop-value : goal.invariant-loop-value
+invariant-loop-value l = record {
+  sum :
+      min (l.count + sum_by (λ value. length (numbers_where (has_pair (label_of l.filter) value) l.self)) (drop l.value-index l.values)) l.all
+      ≡ min (sum_by (λ value. length (numbers_where (has_pair (label_of l.filter) value) l.self)) l.values) l.all;
+  few : l.count ≤ l.all;
+}

@@ -1,0 +1,13 @@
+use Rattle.std.proofs.Common.{◌≡◌, ◌≤◌, ◌-◌, ◌++◌, length, take, drop}
+use Rattle.ts_index.specs.Candidates.{listed_by}
+use Rattle.ts_index.proofs.listed.next_list.Given as goal
+
+-- nothing that was left is lost
+abbrev pub invariant-loop-found : goal.invariant-loop-found
+invariant-loop-found l = record {
+  passed : l.passed ≤ length l.values;
+  left : l.found ++ listed_by l.label (take l.passed l.values) (drop l.passed l.values) l.index ≡ l.fn.list ++ listed_by l.label (take l.fn.passed l.values) (drop l.fn.passed l.values) l.index;
+}
+
+abbrev pub decreases-loop-found : goal.decreases-loop-found
+decreases-loop-found l = length l.values - l.passed

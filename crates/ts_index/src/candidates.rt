@@ -1,0 +1,94 @@
+// The numbers that can pass filters.
+ghost use Rattle.std.specs.Prelude.{◌≡◌, ◌≤◌, [], length, map};
+ghost use Rattle.std.specs.Iterator.{YieldsFirst, item_count};
+ghost use Rattle.std.specs.Map.{keys_of};
+ghost use Rattle.ts_labels.specs.Filter.{label_of, values_wanted};
+ghost use Rattle.ts_index.specs.Bounds.{fewest};
+ghost use Rattle.ts_index.specs.Candidates.{listed_by, AreApart, AreLive, Covers};
+ghost use Rattle.ts_index.specs.Source.{as_id};
+
+use crate::index::Index;
+use crate::listed::Listed;
+use std::collections::btree_map::Keys;
+use std::marker::Model;
+use ts_labels::{Filter, Labels};
+use ts_sample::Id;
+
+// Where the numbers are from.
+#[derive(Drop)]
+enum Source<'a> {
+    // All that there are.
+    All(Keys<'a, usize, Labels>),
+    // Those that have one of the values that a filter wants.
+    ByValue(Listed<'a>),
+}
+
+/// Numbers that can pass filters, one after another. Seen as the list of those that are left.
+#[derive(Drop)]
+pub struct Candidates<'a> {
+    source: Source<'a>,
+}
+
+impl<'a> Model for Candidates<'a> {
+    ghost use Rattle.std.specs.Prelude.{List};
+    ghost use Rattle.ts_sample.specs.declared.id.Id.{Id as Number};
+
+    ghost Value = { List Number };
+
+    ghost use Rattle.ts_index.specs.Source.{numbers_left};
+
+    ghost view = { λ c. numbers_left c.source };
+}
+
+impl<'a> Iterator for Candidates<'a> {
+    type Item = Id;
+
+    ghost next_gives = { YieldsFirst (λ numbers. numbers) };
+
+    ghost remaining = { item_count (λ numbers. numbers) };
+
+    fn next(&mut self) -> Option<Id> {
+        match &mut self.source {
+            Source::All(numbers) => {
+                let number = numbers.next()?;
+                Some(Id(*number))
+            }
+            Source::ByValue(numbers) => numbers.next(),
+        }
+    }
+}
+
+impl Index {
+    /// The numbers that can pass all filters: those that have a value that one of the filters wants, or all numbers,
+    /// where no filter asks for a value. Takes no memory.
+    pub fn candidates<'a>(&'a self, filters: &'a [Filter]) -> Candidates<'a>
+        ensures live { AreLive self.now result }
+        ensures once { AreApart result }
+        ensures covers { Covers self.now filters.now result }
+        ensures few { length result ≤ fewest self.now filters.now }
+    {
+        self.known();
+        match self.narrowest(filters) {
+            Some(filter) => by_value(self, filter),
+            None => all(self),
+        }
+    }
+}
+
+// The numbers that have one of the values that a filter wants.
+fn by_value<'a>(index: &'a Index, filter: &'a Filter) -> Candidates<'a>
+    ensures { result ≡ listed_by (label_of filter.now) [] (values_wanted filter.now) index.now }
+{
+    Candidates {
+        source: Source::ByValue(Listed::new(index, filter)),
+    }
+}
+
+// All numbers.
+fn all(index: &Index) -> Candidates<'_>
+    ensures { result ≡ map as_id (keys_of index.now) }
+{
+    Candidates {
+        source: Source::All(index.labels.keys()),
+    }
+}

@@ -1,0 +1,115 @@
+// The index, and how it changes.
+ghost use Rattle.std.specs.Prelude.{◌≡◌, [], None, Some, IsSome, OnOk, OnErr};
+ghost use Rattle.ts_index.specs.Index.{Gives, labels_of, numbers_where, has_pair};
+ghost use Rattle.ts_index.specs.Numbers.{AreInOrder};
+
+use crate::lists::{Lists, listed};
+use crate::pairs::{put_own, take_own};
+use std::alloc::{AllocError, Global};
+use std::collections::BTreeMap;
+use std::marker::Model;
+use ts_labels::Labels;
+use ts_resp::Word;
+use ts_sample::Id;
+
+/// The labels of series by the numbers of these.
+#[derive(Drop)]
+pub struct Index {
+    pub(crate) alloc: Global,
+    pub(crate) labels: BTreeMap<usize, Labels>,
+    pub(crate) lists: Lists,
+}
+
+impl Model for Index {
+    ghost use Rattle.ts_index.specs.Index.{Labelled};
+
+    ghost Value = { Labelled };
+
+    ghost view = { λ i. i.labels.entries };
+
+    ghost use Rattle.ts_index.specs.Postings.{ArePosted};
+
+    ghost invariant = { λ i. ArePosted i.labels.entries i.lists };
+}
+
+impl Index {
+    /// An index without numbers. Takes no memory.
+    pub fn new(alloc: Global) -> Index
+        ensures { result ≡ [] }
+    {
+        Index {
+            alloc,
+            labels: BTreeMap::new(alloc),
+            lists: BTreeMap::new(alloc),
+        }
+    }
+
+    /// The numbers are kept in ascending order.
+    pub fn known(&self)
+        ensures { AreInOrder self.now }
+    {
+        let _len = self.labels.len();
+    }
+
+    /// Takes up a number that is not there, with these labels.
+    pub fn insert(&mut self, id: Id, labels: &Labels) -> Result<(), AllocError>
+        requires absent { labels_of id.0 self.old ≡ None }
+        ensures ok { OnOk result (Gives id (Some labels.now) self.old self.new) }
+        ensures err { OnErr result (self.new ≡ self.old) }
+    {
+        self.known();
+        let shared = labels.copy()?;
+        let none = Labels::new(self.alloc);
+        put_own(self.alloc, &mut self.lists, id, labels, &none)?;
+        match self.labels.insert(id.0, shared) {
+            Ok(_) => Ok(()),
+            Err(_) => {
+                take_own(&mut self.lists, id, labels, labels.len(), &none);
+                Err(AllocError)
+            }
+        }
+    }
+
+    /// Takes a number away that has these labels. Takes no memory.
+    pub fn remove(&mut self, id: Id, labels: &Labels)
+        requires there { labels_of id.0 self.old ≡ Some labels.now }
+        ensures { Gives id None self.old self.new }
+    {
+        self.known();
+        let none = Labels::new(self.alloc);
+        take_own(&mut self.lists, id, labels, labels.len(), &none);
+        let _labels = self.labels.remove(&id.0);
+    }
+
+    /// Gives a number new labels in the place of those that it has.
+    pub fn replace(&mut self, id: Id, old: &Labels, new: &Labels) -> Result<(), AllocError>
+        requires there { labels_of id.0 self.old ≡ Some old.now }
+        ensures ok { OnOk result (Gives id (Some new.now) self.old self.new) }
+        ensures err { OnErr result (self.new ≡ self.old) }
+    {
+        self.known();
+        let shared = new.copy()?;
+        put_own(self.alloc, &mut self.lists, id, new, old)?;
+        take_own(&mut self.lists, id, old, old.len(), new);
+        swap(&mut self.labels, id, shared);
+        Ok(())
+    }
+
+    /// The numbers that have a label with this value, ascending. Takes no memory.
+    pub fn posting(&self, label: &Word, value: &Word) -> &[Id]
+        ensures { result.now ≡ numbers_where (has_pair label.now value.now) self.now }
+    {
+        listed(&self.lists, label, value)
+    }
+}
+
+// Puts labels in the place of those that a number has.
+fn swap(labels: &mut BTreeMap<usize, Labels>, id: Id, new: Labels)
+    requires there { IsSome (labels_of id.0 labels.old.entries) }
+    ensures gives { Gives id (Some new) labels.old.entries labels.new.entries }
+    ensures order { AreInOrder labels.new.entries }
+{
+    if let Some(kept) = labels.get_mut(&id.0) {
+        *kept = new;
+    }
+}

@@ -1,0 +1,116 @@
+// The numbers that have one of some values, one after another.
+ghost use Rattle.std.specs.Prelude.{◌≡◌, ◌<◌, ◌≤◌, [], ◌∷◌, ◌++◌, Some, List, ℕ, length, take, drop, slice_get, if◌then◌else◌};
+ghost use Rattle.std.specs.Iterator.{YieldsFirst};
+ghost use Rattle.ts_spec.specs.Filter.{is_among};
+ghost use Rattle.ts_labels.specs.Filter.{label_of, values_wanted};
+ghost use Rattle.ts_index.specs.Candidates.{listed_by};
+ghost use Rattle.ts_index.specs.Index.{numbers_where, has_pair};
+
+use crate::index::Index;
+use std::marker::Model;
+use ts_labels::Filter;
+use ts_resp::Word;
+use ts_sample::Id;
+
+// The numbers whose label has one of some values.
+#[derive(Drop)]
+pub(crate) struct Listed<'a> {
+    index: &'a Index,
+    label: &'a Word,
+    values: &'a [Word],
+    // How many values were passed.
+    passed: usize,
+    // What is left of the list of the last of them.
+    list: &'a [Id],
+}
+
+impl<'a> Model for Listed<'a> {
+    ghost use Rattle.std.specs.Prelude.{List, ◌++◌, ◌≤◌, length, take, drop};
+    ghost use Rattle.ts_sample.specs.declared.id.Id.{Id as Number};
+    ghost use Rattle.ts_index.specs.Candidates.{listed_by};
+
+    ghost Value = { List Number };
+
+    ghost view = { λ l. l.list.now ++ listed_by l.label.now (take l.passed l.values.now) (drop l.passed l.values.now) l.index.now };
+
+    ghost invariant = { λ l. l.passed ≤ length l.values.now };
+}
+
+impl<'a> Listed<'a> {
+    // The numbers that have one of the values that a filter wants.
+    pub(crate) fn new(index: &'a Index, filter: &'a Filter) -> Listed<'a>
+        ensures { result ≡ listed_by (label_of filter.now) [] (values_wanted filter.now) index.now }
+    {
+        Listed {
+            index,
+            label: filter.label(),
+            values: filter.wanted(),
+            passed: 0,
+            list: &[],
+        }
+    }
+
+    // The next of them.
+    pub(crate) fn next(&mut self) -> Option<Id>
+        ensures { YieldsFirst (λ l. l) self.old result self.new }
+    {
+        self.list = next_list(
+            self.list,
+            self.index,
+            self.label,
+            self.values,
+            &mut self.passed,
+        );
+        match self.list.split_first() {
+            Some((first, others)) => {
+                self.list = others;
+                Some(*first)
+            }
+            None => None,
+        }
+    }
+}
+
+// A list, or where it has nothing left, the next one that has.
+fn next_list<'a>(
+    list: &'a [Id],
+    index: &'a Index,
+    label: &Word,
+    values: &[Word],
+    passed: &mut usize,
+) -> &'a [Id]
+    requires passed { passed.old ≤ length values.now }
+    ensures passed { passed.new ≤ length values.now }
+    ensures left { result.now ++ listed_by label.now (take passed.new values.now) (drop passed.new values.now) index.now ≡ list.now ++ listed_by label.now (take passed.old values.now) (drop passed.old values.now) index.now }
+    ensures all { result.now ≡ [] → listed_by label.now (take passed.new values.now) (drop passed.new values.now) index.now ≡ [] }
+{
+    let mut found = list;
+    while found.is_empty() && *passed < values.len() {
+        found = fresh_list(index, label, values, *passed);
+        *passed += 1;
+    }
+    found
+}
+
+// The list of a value, unless that stood before.
+fn fresh_list<'a>(index: &'a Index, label: &Word, values: &[Word], at: usize) -> &'a [Id]
+    requires at { at < length values.now }
+    ensures { (v : List ℕ) → slice_get values.now at ≡ Some v → result.now ≡ (if is_among (take at values.now) v then [] else numbers_where (has_pair label.now v) index.now) }
+{
+    let value = &values[at];
+    let list = index.posting(label, value);
+    if list.is_empty() {
+        return list;
+    }
+    if stood(&values[..at], value) {
+        return &[];
+    }
+    list
+}
+
+// Whether a value is among these.
+fn stood(values: &[Word], value: &Word) -> bool
+    ensures { result ≡ is_among values.now value.now }
+{
+    values.contains(value)
+}

@@ -1,0 +1,99 @@
+// A number in the lists of all pairs of its labels.
+ghost use Rattle.std.specs.Prelude.{◌≡◌, ◌≤◌, ◌==◌, ◌&&◌, ◌||◌, not, true, false, ℕ, List, length, take, OnOk, OnErr};
+ghost use Rattle.ts_index.specs.Index.{has_pair};
+ghost use Rattle.ts_index.specs.Numbers.{AreAscending, has_number};
+ghost use Rattle.ts_index.specs.Pairs.{is_own};
+ghost use Rattle.ts_index.specs.Postings.{alike, posting_in};
+
+use crate::lists::{Lists, put_pair, take_pair};
+use std::alloc::{AllocError, Global};
+use ts_labels::Labels;
+use ts_resp::Word;
+use ts_sample::Id;
+
+// Puts a number into the lists of those pairs of labels that others have not. Where memory is wanting, it is in no
+// more lists than before.
+pub(crate) fn put_own(
+    alloc: Global,
+    lists: &mut Lists,
+    id: Id,
+    labels: &Labels,
+    others: &Labels,
+) -> Result<(), AllocError>
+    requires ascending { (l v : List ℕ) → AreAscending (posting_in l v lists.old) }
+    requires absent { (l v : List ℕ) → is_own l v labels.now others.now ≡ true → has_number id.0 (posting_in l v lists.old) ≡ false }
+    ensures ascending { (l v : List ℕ) → AreAscending (posting_in l v lists.new) }
+    ensures ok { OnOk result ((l v : List ℕ) (q : ℕ) → has_number q (posting_in l v lists.new) ≡ (((q == id.0) && is_own l v labels.now others.now) || has_number q (posting_in l v lists.old))) }
+    ensures err { OnErr result ((l v : List ℕ) (q : ℕ) → has_number q (posting_in l v lists.new) ≡ has_number q (posting_in l v lists.old)) }
+{
+    labels.known();
+    for i in 0..labels.len() {
+        if let Err(error) = put_other(
+            alloc,
+            lists,
+            id,
+            labels.label_at(i),
+            labels.value_at(i),
+            others,
+        ) {
+            take_own(lists, id, labels, i, others);
+            return Err(error);
+        }
+    }
+    Ok(())
+}
+
+// Puts a number into the list of a pair, unless others have it.
+fn put_other(
+    alloc: Global,
+    lists: &mut Lists,
+    id: Id,
+    label: &Word,
+    value: &Word,
+    others: &Labels,
+) -> Result<(), AllocError>
+    requires ascending { (l v : List ℕ) → AreAscending (posting_in l v lists.old) }
+    ensures ascending { (l v : List ℕ) → AreAscending (posting_in l v lists.new) }
+    ensures ok { OnOk result ((l v : List ℕ) (q : ℕ) → has_number q (posting_in l v lists.new) ≡ (((q == id.0) && ((alike label.now l && alike value.now v) && not (has_pair l v others.now))) || has_number q (posting_in l v lists.old))) }
+    ensures err { OnErr result ((l v : List ℕ) → posting_in l v lists.new ≡ posting_in l v lists.old) }
+{
+    if has_pair(others, label, value) {
+        return Ok(());
+    }
+    put_pair(alloc, lists, label, value, id)
+}
+
+// Takes a number out of the lists of those among the first pairs of labels that others have not.
+pub(crate) fn take_own(lists: &mut Lists, id: Id, labels: &Labels, count: usize, others: &Labels)
+    requires count { count ≤ length labels.now }
+    requires ascending { (l v : List ℕ) → AreAscending (posting_in l v lists.old) }
+    ensures ascending { (l v : List ℕ) → AreAscending (posting_in l v lists.new) }
+    ensures lists { (l v : List ℕ) (q : ℕ) → has_number q (posting_in l v lists.new) ≡ (has_number q (posting_in l v lists.old) && not ((q == id.0) && is_own l v (take count labels.now) others.now)) }
+{
+    labels.known();
+    for i in 0..count {
+        take_other(lists, id, labels.label_at(i), labels.value_at(i), others);
+    }
+}
+
+// Takes a number out of the list of a pair, unless others have it.
+fn take_other(lists: &mut Lists, id: Id, label: &Word, value: &Word, others: &Labels)
+    requires ascending { (l v : List ℕ) → AreAscending (posting_in l v lists.old) }
+    ensures ascending { (l v : List ℕ) → AreAscending (posting_in l v lists.new) }
+    ensures lists { (l v : List ℕ) (q : ℕ) → has_number q (posting_in l v lists.new) ≡ (has_number q (posting_in l v lists.old) && not ((q == id.0) && ((alike label.now l && alike value.now v) && not (has_pair l v others.now)))) }
+{
+    if has_pair(others, label, value) {
+        return;
+    }
+    take_pair(lists, label, value, id);
+}
+
+// Whether labels have this one with this value.
+fn has_pair(labels: &Labels, label: &Word, value: &Word) -> bool
+    ensures { result ≡ has_pair label.now value.now labels.now }
+{
+    match labels.get(label) {
+        Some(there) => there == value,
+        None => false,
+    }
+}
