@@ -1,12 +1,14 @@
--- The words of TS.ADD.
+-- The words of TS.ADD, and of TS.INCRBY and TS.DECRBY.
 use Rattle.std.proofs.Common.{◌≡◌, ◌≤◌, ◌-◌, ℤ, List, [], ◌∷◌, length, take, drop, get_or, refl, arith}
 use Rattle.std.proofs.Math.Seq.{take-length}
 use Rattle.std.specs.Prelude.{Ok}
+use Rattle.std.specs.Option.{unwrap_or}
 use Rattle.ts_spec.specs.declared.command.At.{At}
-use Rattle.ts_spec.specs.Command.{Spec, Add}
+use Rattle.ts_spec.specs.declared.command.At.TheVariants.{Clock}
+use Rattle.ts_spec.specs.Command.{Spec, Add, Incr}
 use Rattle.ts_spec.specs.Settings.{Word, Given, at_word, value_word, nothing, options}
-use Rattle.ts_spec.specs.SeriesOptions.{add_options, spec}
-use Rattle.ts_spec.specs.Grammar.{add}
+use Rattle.ts_spec.specs.SeriesOptions.{add_options, incr_options, spec}
+use Rattle.ts_spec.specs.Grammar.{add, incr}
 
 -- the command of words that were taken apart by their places, and read one by one
 pub add-read : (words : List Word) (key time amount : Word) (at : At) (v : ℤ) (given : Given) (made : Spec)
@@ -22,3 +24,17 @@ add-read (name ∷ one ∷ two ∷ []) key time amount at v given made some is_k
 add-read (name ∷ one ∷ two ∷ three ∷ words) key time amount at v given made some is_key is_time is_amount at_time at_amount said is_made =
     let rest : length (name ∷ one ∷ two ∷ three ∷ words) - 4 ≡ length words = omega arith in
     rw (← is_key, ← is_time, ← is_amount, at_time, at_amount, rw (rest, take-length words) at said, is_made) refl
+
+-- the same of a change
+pub incr-read : (signed : ℤ → ℤ) (words : List Word) (key amount : Word) (v change : ℤ) (given : Given) (at : At) (made : Spec)
+    → 3 ≤ length words → key ≡ get_or words 1 key → amount ≡ get_or words 2 amount
+    → value_word amount ≡ Ok v
+    → options incr_options nothing 0 (take (length words - 3) (drop 3 words)) ≡ Ok given
+    → change ≡ signed v → at ≡ unwrap_or given.at Clock → made ≡ spec given
+    → incr signed (drop 1 words) ≡ Ok (Incr key change at made)
+incr-read signed [] key amount v change given at made some is_key is_amount at_amount said is_change is_at is_made = absurd (omega arith)
+incr-read signed (name ∷ []) key amount v change given at made some is_key is_amount at_amount said is_change is_at is_made = absurd (omega arith)
+incr-read signed (name ∷ one ∷ []) key amount v change given at made some is_key is_amount at_amount said is_change is_at is_made = absurd (omega arith)
+incr-read signed (name ∷ one ∷ two ∷ words) key amount v change given at made some is_key is_amount at_amount said is_change is_at is_made =
+    let rest : length (name ∷ one ∷ two ∷ words) - 3 ≡ length words = omega arith in
+    rw (← is_key, ← is_amount, at_amount, rw (rest, take-length words) at said, is_change, is_at, is_made) refl

@@ -3,9 +3,12 @@
 ghost use Rattle.std.specs.Prelude.{drop, IfOk, IsTrue};
 ghost use Rattle.ts_spec.specs.Grammar.{create, alter, add, incr};
 ghost use Rattle.ts_spec.specs.SeriesOptions.{has_labels};
+ghost use Rattle.ts_spec.specs.Settings.{nothing, options};
 ghost use Rattle.ts_command.specs.Answers.{HasTime};
 ghost use Rattle.ts_command.specs.Faults.{SaysOr};
 ghost use Rattle.ts_command.specs.Forms.{signed_by};
+ghost use Rattle.ts_command.specs.Given.{given_of};
+ghost use Rattle.ts_command.specs.Options.{lister, may_list, table_of};
 ghost use Rattle.ts_command.specs.Reading.{command_of};
 
 use crate::command::Command;
@@ -15,6 +18,7 @@ use crate::option_word::OptionSet;
 use crate::options::read_options;
 use crate::word_fault::{ReadFault, WordFault};
 use crate::words::{at_word, value_word};
+use std::alloc::Global;
 use ts_resp::Word;
 use ts_spec::At;
 
@@ -62,8 +66,7 @@ pub(crate) fn add_with_options(mut words: Vec<Word>) -> Result<Command, ReadFaul
     };
     let at = at_word(time.bytes())?;
     let value = value_word(value.bytes())?;
-    let mut given = Given::nothing();
-    read_options(alloc, OptionSet::Add, options, &mut given)?;
+    let given = read_given(alloc, OptionSet::Add, options)?;
     Ok(Command::Add {
         key: words.swap_remove(1),
         at,
@@ -83,12 +86,22 @@ pub(crate) fn incr_with_options(sign: Sign, mut words: Vec<Word>) -> Result<Comm
         return Err(ReadFault::Word(WordFault::Arity));
     };
     let value = value_word(value.bytes())?;
-    let mut given = Given::nothing();
-    read_options(alloc, OptionSet::Incr, options, &mut given)?;
+    let given = read_given(alloc, OptionSet::Incr, options)?;
     Ok(Command::Incr {
         key: words.swap_remove(1),
         change: sign.of(value),
         at: given.at.unwrap_or(At::Clock),
         spec: given.spec(alloc),
     })
+}
+
+// What options say.
+fn read_given(alloc: Global, set: OptionSet, words: &[Word]) -> Result<Given, ReadFault>
+    ensures { SaysOr (IsTrue (may_list (lister set) words.now)) given_of result (options (table_of set) nothing 0 words.now) }
+{
+    let mut given = Given::nothing();
+    match read_options(alloc, set, words, &mut given) {
+        Ok(()) => Ok(given),
+        Err(fault) => Err(fault),
+    }
 }

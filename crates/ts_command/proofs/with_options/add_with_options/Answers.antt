@@ -7,7 +7,7 @@ pub returns-clause-command : goal.returns-clause-command
 returns-clause-command c =
     rw (← c.as_slice.ensures.value)
     (add-read c.as_slice.result.now c.swap_remove.result c.time-item.result c.value-item.result c.in_ok-at.at c.in_ok-value.value
-    (given_of c.read_options.new.given) (spec_of c.spec.result)
+    (given_of c.in_ok-given.given) (spec_of c.spec.result)
     c.in-len4-up.len_at_least (rw (← c.as_slice.ensures.value) at c.swap_remove.ensures.value) c.time-item.is c.value-item.is
     (rw c.bytes.ensures at c.in_ok-at.ensures.answer) (rw c.bytes-2.ensures at c.in_ok-value.ensures.answer)
-    (rw c.nothing-given.ensures at c.in_ok-read_options.ensures) c.spec.ensures)
+    c.in_ok-given.ensures c.spec.ensures)
