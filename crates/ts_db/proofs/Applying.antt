@@ -1,7 +1,8 @@
 -- What a change of one node is to the store.
 use Rattle.std.proofs.Common.{◌≡◌, ◌≤◌, cond, List, length, refl, sym, ◌∙◌, ap, subst, arith}
-use Rattle.std.specs.Prelude.{Vec, Option, None, Some, is_some, IsSome}
+use Rattle.std.specs.Prelude.{Vec, Option, None, Some, is_some, IsSome, Result, Ok, Err, IfOk, OnErr}
 use Rattle.std.specs.declared.alloc.Global.{Global}
+use Rattle.std.specs.declared.alloc.AllocError.{AllocError}
 use Rattle.std.specs.Option.{unwrap_or}
 use Rattle.std.proofs.lemmas.List.Sums.{sum_by-set}
 use Rattle.slab.specs.Slab as slab
@@ -9,16 +10,17 @@ use Rattle.slab.proofs.SlabLemmas.{ContainsKey-within, Updates-with_value}
 use Rattle.ts_spec.specs.Key.{Key}
 use Rattle.ts_spec.specs.Keyed.{get, with_key}
 use Rattle.ts_spec.specs.State.{Label}
-use Rattle.ts_spec.specs.Kept.{Kept}
+use Rattle.ts_spec.specs.Kept.{Kept, Keeping}
 use Rattle.ts_spec.proofs.Tidy.{some-same}
 use Rattle.ts_sample.specs.declared.id.Id.{Id}
 use Rattle.ts_series.specs.History.{History, list_of, IsKept}
-use Rattle.ts_series.specs.Plan.{Plan, after}
+use Rattle.ts_series.specs.Plan.{Plan, after, IsFor}
 use Rattle.ts_rules.specs.declared.rule.Rule.{Rule}
 use Rattle.ts_db.specs.declared.node.Node.{Node}
 use Rattle.ts_db.specs.declared.store.Store.{Store}
-use Rattle.ts_db.specs.Store.{key_in, kept_at, collected, stock_of, AreLive, HasLiveLinks, HaveGrids, IsNode, IsStore, IsInOrder, Holds}
-use Rattle.ts_db.specs.Answering.{node_after, IsReady, IsElsewhere}
+use Rattle.ts_db.specs.Store.{key_in, kept_at, collected, stock_of, contents_of, Nodes, AreLive, HasLiveLinks, HaveGrids, IsNode, IsStore, IsInOrder, Holds}
+use Rattle.ts_db.specs.Answering.{node_after, IsReady, IsApplied, IsElsewhere}
+use Rattle.ts_db.specs.Turned.{HasSuch, IsTurned, IsAfter}
 use Rattle.ts_db.proofs.Collecting.{same-names, collected-written}
 use Rattle.ts_db.proofs.Storing as storing
 use Rattle.ts_db.proofs.Storing.{names-written, store-written}
@@ -65,16 +67,36 @@ module _ (s : Store) (store : IsInOrder s) (key : Key) (id : Id) (n changed : No
     names = names-written s.nodes (slab.with_value s.nodes id.0 changed) id.0 n changed holds.node change name;
   }
 
+-- ---- a node that changed by a relation, and kept its key
+
+pub elsewhere-turned : (s : Store) (store : IsInOrder s) (id : Id) (new : Nodes) {by : (was now : Node) → Type 0} (t : IsTurned s.nodes new id by) → t.now.key ≡ t.was.key → IsElsewhere s (record s { nodes = new }) id
+elsewhere-turned s store id new t name =
+    subst (λ (nodes : Nodes). IsElsewhere s (record s { nodes = nodes }) id) (sym t.turned)
+    (elsewhere-changed s store t.was.key id t.was t.now (record { number = store.owned id.0 t.was t.there; node = t.there }) name)
+
 -- ---- a node after a plan of its series
 
-module _ (s : Store) (store : IsInOrder s) (id : Id) (plan : Plan) (labels : Option (List Label)) (rules : Option (Vec Rule Global)) (planned : IsReady s id plan labels rules) (n : Node) (got : slab.get s.nodes id.0 ≡ Some n)
-    (series : History) (kept : IsKept series) (done : series ≡ record (after plan n.series) { held = series.held }) where
-  -- the node after it
-  abbrev pub changed : Node
-  changed = record n { series = series; labels = unwrap_or labels n.labels; rules = unwrap_or rules n.rules }
+-- a plan was made for the node of its number
+pub has-such : (s : Store) (id : Id) (plan : Plan) (labels : Option (List Label)) (rules : Option (Vec Rule Global)) → IsReady s id plan labels rules → HasSuch s.nodes id (λ n. IsFor plan n.series)
+has-such s id plan labels rules planned = record { node = planned.node; there = planned.holds.node; holds = planned.ready }
+
+module _ (s : Store) (store : IsInOrder s) (id : Id) (plan : Plan) (labels : Option (List Label)) (rules : Option (Vec Rule Global)) (planned : IsReady s id plan labels rules)
+    (new : Nodes) (t : IsTurned s.nodes new id (IsAfter plan labels rules)) where
+  -- the node before, and after it
+  abbrev n : Node
+  n = t.was
+
+  abbrev changed : Node
+  changed = record n { series = t.now.series; labels = unwrap_or labels n.labels; rules = unwrap_or rules n.rules }
+
+  got : slab.get s.nodes id.0 ≡ Some n
+  got = t.there
+
+  turned : slab.with_value s.nodes id.0 changed ≡ new
+  turned = ap (slab.with_value s.nodes id.0) (sym t.so.rest) ∙ sym t.turned
 
   same : kept_at s.nodes changed ≡ kept_at s.nodes (node_after plan labels rules n)
-  same = ap (λ (h : History). kept_at s.nodes (record n { series = h; labels = unwrap_or labels n.labels; rules = unwrap_or rules n.rules })) done
+  same = ap (λ (h : History). kept_at s.nodes (record n { series = h; labels = unwrap_or labels n.labels; rules = unwrap_or rules n.rules })) t.so.done
 
   it : planned.node ≡ n
   it = some-same planned.node n (sym planned.holds.node ∙ got)
@@ -84,9 +106,9 @@ module _ (s : Store) (store : IsInOrder s) (id : Id) (plan : Plan) (labels : Opt
 
   in_order : IsNode s.limits changed
   in_order = record {
-    kept = kept;
-    within = subst (λ (h : History). length (list_of h) ≤ s.limits.samples) (sym done) (subst (λ (g : Node). length (list_of (after plan g.series)) ≤ s.limits.samples) it planned.within);
-    born = subst (λ (h : History). h.born ≤ s.limits.born) (sym done) (store.each id.0 n got).born;
+    kept = t.so.kept;
+    within = subst (λ (h : History). length (list_of h) ≤ s.limits.samples) (sym t.so.done) (subst (λ (g : Node). length (list_of (after plan g.series)) ≤ s.limits.samples) it planned.within);
+    born = subst (λ (h : History). h.born ≤ s.limits.born) (sym t.so.done) (store.each id.0 n got).born;
     labels = subst (λ (g : Node). length (unwrap_or labels g.labels) ≤ s.limits.labels) it planned.few;
     grids = subst (λ (g : Node). HaveGrids (unwrap_or rules g.rules).items) it planned.grids;
   }
@@ -95,16 +117,32 @@ module _ (s : Store) (store : IsInOrder s) (id : Id) (plan : Plan) (labels : Opt
   links = record { rules = subst (λ (g : Node). AreLive s.nodes (unwrap_or rules g.rules).items) it planned.live; source = (store.live id.0 n got).source }
 
   -- the store stays in order
-  pub store-applied : IsStore s.limits (slab.with_value s.nodes id.0 changed) s.keys.entries
-  store-applied = store-changed s store planned.key id n changed holds refl links in_order
+  pub store-applied : IsStore s.limits new s.keys.entries
+  store-applied = subst (λ (nodes : Nodes). IsStore s.limits nodes s.keys.entries) turned (store-changed s store planned.key id n changed holds refl links in_order)
 
   -- and of the key of the number that is kept
-  pub keys-applied : (key : Key) (g : Node) → Holds s key id g
-      → collected (slab.with_value s.nodes id.0 changed) s.keys.entries ≡ with_key key (kept_at s.nodes (node_after plan labels rules g)) (collected s.nodes s.keys.entries)
-  keys-applied key g held =
-      keys-changed s store key id n changed (record { number = held.number; node = got }) refl links
-      ∙ ap (λ (d : Kept). with_key key d (collected s.nodes s.keys.entries)) (same ∙ ap (λ (x : Node). kept_at s.nodes (node_after plan labels rules x)) (some-same n g (sym got ∙ held.node)))
+  pub applied : IsApplied s id plan labels rules (record s { nodes = new })
+  applied key g held =
+      ap (λ (nodes : Nodes). record (contents_of s) { keys = collected nodes s.keys.entries }) (sym turned)
+      ∙ ap (λ (m : Keeping). record (contents_of s) { keys = m })
+      (keys-changed s store key id n changed (record { number = held.number; node = got }) refl links
+      ∙ ap (λ (d : Kept). with_key key d (collected s.nodes s.keys.entries)) (same ∙ ap (λ (x : Node). kept_at s.nodes (node_after plan labels rules x)) (some-same n g (sym got ∙ held.node))))
 
   -- the other nodes stay
-  pub elsewhere : IsElsewhere s (record s { nodes = slab.with_value s.nodes id.0 changed }) id
-  elsewhere = elsewhere-changed s store planned.key id n changed holds refl
+  pub elsewhere : IsElsewhere s (record s { nodes = new }) id
+  elsewhere = elsewhere-turned s store id new t (ap (λ (x : Node). x.key) t.so.rest)
+
+-- where labels are given in their place, or there was no memory
+
+module _ (s : Store) (store : IsInOrder s) (id : Id) (plan : Plan) (labels : Option (List Label)) (planned : IsReady s id plan labels None) (new : Nodes) where
+  pub store-altered : (r : Result (Unit {0}) AllocError) → IfOk r (λ x. IsTurned s.nodes new id (IsAfter plan labels None)) → OnErr r (new ≡ s.nodes) → IsStore s.limits new s.keys.entries
+  store-altered (Ok x) t is = store-applied s store id plan labels None planned new t
+  store-altered (Err e) t is = subst (λ (nodes : Nodes). IsStore s.limits nodes s.keys.entries) (sym is) store
+
+  pub altered : (r : Result (Unit {0}) AllocError) → IfOk r (λ x. IsTurned s.nodes new id (IsAfter plan labels None)) → IfOk r (λ x. IsApplied s id plan labels None (record s { nodes = new }))
+  altered (Ok x) t = applied s store id plan labels None planned new t
+  altered (Err e) t = tt
+
+  pub unaltered : (r : Result (Unit {0}) AllocError) → OnErr r (new ≡ s.nodes) → OnErr r (record s { nodes = new } ≡ s)
+  unaltered (Ok x) is = tt
+  unaltered (Err e) is = ap (λ (nodes : Nodes). record s { nodes = nodes }) is

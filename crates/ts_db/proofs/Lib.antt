@@ -7,6 +7,7 @@ pub mod Lifting
 pub mod Laws
 pub mod PutBy
 pub mod Applying
+pub mod Indexing
 pub mod KeptLinks
 pub mod Fed
 pub mod Feeds
@@ -43,3 +44,10 @@ pub mod EasyWrites
 pub mod Selecting
 pub mod Totals
 pub mod ShownTotals
+pub mod Permuted
+pub mod Tagged
+pub mod ByKey
+pub mod Choosing
+pub mod Covering
+pub mod Lent
+pub mod SelectionsAtWork

@@ -19,41 +19,44 @@ use Rattle.ts_rules.specs.declared.rule.Rule.{Rule}
 use Rattle.ts_rules.specs.Rules.{kept_as}
 use Rattle.ts_db.specs.declared.node.Node.{Node}
 use Rattle.ts_db.specs.declared.store.Store.{Store}
-use Rattle.ts_db.specs.Store.{rules_by, key_at, key_in, kept_at, collected, reaches_of, pieces_of, number_of, stock_of, contents_of, Nodes, IsLive, AreLive, IsLiveSource, HasLiveLinks, HaveGrids, IsNode, IsStore, IsInOrder, Holds}
+use Rattle.ts_db.specs.Store.{rules_by, key_at, key_in, kept_at, collected, number_of, stock_of, contents_of, Nodes, IsLive, AreLive, IsLiveSource, HasLiveLinks, HaveGrids, IsNode, IsStore, IsInOrder, Holds}
 use Rattle.ts_db.specs.Linking.{IsKeptBy, IsUnspent, HasMore, HasRules}
+use Rattle.ts_db.specs.Turned.{IsTurned, TakesRule}
 use Rattle.ts_db.proofs.Applying.{there, store-changed, keys-changed}
 use Rattle.ts_db.proofs.OneKey.{changed-alone, unchanged}
-use Rattle.ts_db.proofs.Reaches.{reaches-turned, pieces-turned}
+use Rattle.ts_db.proofs.Reaches.{stock-turned}
 
 -- ---- a node that changes its links alone, under its number
 
-module _ (s : Store) (store : IsInOrder s) (id : Id) (n changed : Node) (got : slab.get s.nodes id.0 ≡ Some n) (name : changed.key ≡ n.key) where
-  holds : Holds s n.key id n
-  holds = record { number = store.owned id.0 n got; node = got }
+module _ (s : Store) (store : IsInOrder s) (id : Id) (new : Nodes) {by : (was now : Node) → Type 0} (t : IsTurned s.nodes new id by) (name : t.now.key ≡ t.was.key) where
+  holds : Holds s t.was.key id t.was
+  holds = record { number = store.owned id.0 t.was t.there; node = t.there }
 
   -- the store stays in order
-  pub store-turned : HasLiveLinks s.nodes changed → IsNode s.limits changed → IsStore s.limits (slab.with_value s.nodes id.0 changed) s.keys.entries
-  store-turned links sound = store-changed s store n.key id n changed holds name links sound
+  pub store-turned : HasLiveLinks s.nodes t.now → IsNode s.limits t.now → IsStore s.limits new s.keys.entries
+  store-turned links sound =
+      subst (λ (nodes : Nodes). IsStore s.limits nodes s.keys.entries) (sym t.turned) (store-changed s store t.was.key id t.was t.now holds name links sound)
+
+  kept-changed : HasLiveLinks s.nodes t.now → (stock_of (record s { nodes = new })).keys ≡ with_key t.was.key (kept_at s.nodes t.now) (stock_of s).keys
+  kept-changed links = ap (λ (nodes : Nodes). collected nodes s.keys.entries) t.turned ∙ keys-changed s store t.was.key id t.was t.now holds name links
 
   -- and of its key that is kept which f makes
-  pub kept-turned : (f : Kept → Kept) → HasLiveLinks s.nodes changed → kept_at s.nodes changed ≡ f (kept_at s.nodes n) → IsKeptBy s id f (record s { nodes = slab.with_value s.nodes id.0 changed })
+  pub kept-turned : (f : Kept → Kept) → HasLiveLinks s.nodes t.now → kept_at s.nodes t.now ≡ f (kept_at s.nodes t.was) → IsKeptBy s id f (record s { nodes = new })
   kept-turned f links is =
       ap (λ (m : Keeping). record (contents_of s) { keys = m })
-      (keys-changed s store n.key id n changed holds name links
-      ∙ ap (λ (d : Kept). with_key n.key d (stock_of s).keys) is
-      ∙ sym (changed-alone (stock_of s).keys n.key (kept_at s.nodes n) f (there s store n.key id n holds))
-      ∙ ap (λ (k : Key). keep_changed k f (stock_of s).keys) (sym (ap key_at got)))
+      (kept-changed links
+      ∙ ap (λ (d : Kept). with_key t.was.key d (stock_of s).keys) is
+      ∙ sym (changed-alone (stock_of s).keys t.was.key (kept_at s.nodes t.was) f (there s store t.was.key id t.was holds))
+      ∙ ap (λ (k : Key). keep_changed k f (stock_of s).keys) (sym (ap key_at t.there)))
 
   -- or nothing else, where that is what was kept
-  pub same-turned : HasLiveLinks s.nodes changed → changed.series ≡ n.series → kept_at s.nodes changed ≡ kept_at s.nodes n → stock_of (record s { nodes = slab.with_value s.nodes id.0 changed }) ≡ stock_of s
+  pub same-turned : HasLiveLinks s.nodes t.now → t.now.series ≡ t.was.series → kept_at s.nodes t.now ≡ kept_at s.nodes t.was → stock_of (record s { nodes = new }) ≡ stock_of s
   same-turned links series is =
-      let far : reaches_of (slab.with_value s.nodes id.0 changed) s.keys.entries ≡ reaches_of s.nodes s.keys.entries = reaches-turned s.nodes s.keys.entries id.0 n changed got series in
-      let kept : collected (slab.with_value s.nodes id.0 changed) s.keys.entries ≡ collected s.nodes s.keys.entries =
-      keys-changed s store n.key id n changed holds name links
-      ∙ ap (λ (d : Kept). with_key n.key d (stock_of s).keys) is
-      ∙ unchanged (stock_of s).keys n.key (kept_at s.nodes n) (there s store n.key id n holds) in
-      let parts : pieces_of (slab.with_value s.nodes id.0 changed) s.keys.entries ≡ pieces_of s.nodes s.keys.entries = pieces-turned s.nodes s.keys.entries id.0 n changed got series in
-      λ i. record (stock_of s) { keys = kept i; reaches = far i; pieces = parts i }
+      ap (λ (nodes : Nodes). stock_of (record s { nodes = nodes })) t.turned
+      ∙ stock-turned s id.0 t.was t.now t.there series
+      (keys-changed s store t.was.key id t.was t.now holds name links
+      ∙ ap (λ (d : Kept). with_key t.was.key d (stock_of s).keys) is
+      ∙ unchanged (stock_of s).keys t.was.key (kept_at s.nodes t.was) (there s store t.was.key id t.was holds))
 
 -- ---- a node with other rules
 
@@ -163,36 +166,34 @@ module _ (nodes : Nodes) (dest : Id) (agg : Aggregator) (grid : Grid) (old new :
       ∙ ap (λ (q : KeptRule). rules_by (key_in nodes) old.rules.items ++ q ∷ []) (ap (λ (i : Id). kept_as (key_in nodes i) h.rule) h.leads ∙ h.kept (key_in nodes dest)))
 
 -- a node that has one more rule, or the rules that it had where there was no memory
-module _ (s : Store) (store : IsInOrder s) (id : Id) (n changed : Node) (got : slab.get s.nodes id.0 ≡ Some n) (dest : Id) (agg : Aggregator) (grid : Grid)
-    (to : IsLive s.nodes dest) (r : Result (Unit {0}) AllocError) (more : IfOk r (λ x. HasMore dest agg grid n changed)) (same : IfErr r (λ x. HasRules n.rules.items n changed)) where
-  had-links : HasRules n.rules.items n changed → HasLiveLinks s.nodes changed
-  had-links h = live-rules s.nodes n.rules.items n changed h (store.live id.0 n got).rules (store.live id.0 n got).source
+module _ (s : Store) (store : IsInOrder s) (id : Id) (new : Nodes) (dest : Id) (agg : Aggregator) (grid : Grid) (to : IsLive s.nodes dest) where
+  abbrev Takes : Result (Unit {0}) AllocError → Type 0
+  Takes r = IsTurned s.nodes new id (TakesRule dest agg grid r)
 
-  pub store-more : IfOk r (λ x. IsKept changed.series) → IsUnspent s.limits n → IsGrid grid → IsStore s.limits (slab.with_value s.nodes id.0 changed) s.keys.entries
-  store-more kept room fits = go r more same kept
-    where
-      go : (r : Result (Unit {0}) AllocError) → IfOk r (λ x. HasMore dest agg grid n changed) → IfErr r (λ x. HasRules n.rules.items n changed) → IfOk r (λ x. IsKept changed.series)
-          → IsStore s.limits (slab.with_value s.nodes id.0 changed) s.keys.entries
-      go (Ok x) more same kept =
-          store-turned s store id n changed got (more-name s.nodes dest agg grid n changed more) (more-links s.nodes dest agg grid n changed more (store.live id.0 n got) to)
-          (more-node s.nodes dest agg grid n changed more s.limits (store.each id.0 n got) room.within fits kept)
-      go (Err e) more same kept =
-          store-turned s store id n changed got (ap (λ (x : Node). x.key) same.rest) (had-links same)
-          (node-rules s.limits n.rules.items n changed same (store.each id.0 n got).grids (store.each id.0 n got))
+  had-links : (was now : Node) → slab.get s.nodes id.0 ≡ Some was → HasRules was.rules.items was now → HasLiveLinks s.nodes now
+  had-links was now got h = live-rules s.nodes was.rules.items was now h (store.live id.0 was got).rules (store.live id.0 was got).source
 
-  pub kept-more : IfOk r (λ x. IsKeptBy s id (kept_with_rule (key_in s.nodes dest) agg grid) (record s { nodes = slab.with_value s.nodes id.0 changed }))
-  kept-more = go r more
-    where
-      go : (r : Result (Unit {0}) AllocError) → IfOk r (λ x. HasMore dest agg grid n changed)
-          → IfOk r (λ x. IsKeptBy s id (kept_with_rule (key_in s.nodes dest) agg grid) (record s { nodes = slab.with_value s.nodes id.0 changed }))
-      go (Ok x) more =
-          kept-turned s store id n changed got (more-name s.nodes dest agg grid n changed more) (kept_with_rule (key_in s.nodes dest) agg grid)
-          (more-links s.nodes dest agg grid n changed more (store.live id.0 n got) to) (more-kept s.nodes dest agg grid n changed more)
-      go (Err e) more = tt
+  -- the key stays
+  pub name-more : (r : Result (Unit {0}) AllocError) (t : Takes r) → t.now.key ≡ t.was.key
+  name-more (Ok x) t = more-name s.nodes dest agg grid t.was t.now t.so.added
+  name-more (Err e) t = ap (λ (y : Node). y.key) t.so.unchanged.rest
 
-  pub none-more : IfErr r (λ x. stock_of (record s { nodes = slab.with_value s.nodes id.0 changed }) ≡ stock_of s)
-  none-more = go r same
-    where
-      go : (r : Result (Unit {0}) AllocError) → IfErr r (λ x. HasRules n.rules.items n changed) → IfErr r (λ x. stock_of (record s { nodes = slab.with_value s.nodes id.0 changed }) ≡ stock_of s)
-      go (Ok x) same = tt
-      go (Err e) same = same-turned s store id n changed got (ap (λ (x : Node). x.key) same.rest) (had-links same) (ap (λ (x : Node). x.series) same.rest) (kept-rules s.nodes n.rules.items n changed same)
+  pub store-more : (r : Result (Unit {0}) AllocError) (t : Takes r) → IsUnspent s.limits t.was → IsGrid grid → IsStore s.limits new s.keys.entries
+  store-more (Ok x) t room fits =
+      store-turned s store id new t (name-more (Ok x) t) (more-links s.nodes dest agg grid t.was t.now t.so.added (store.live id.0 t.was t.there) to)
+      (more-node s.nodes dest agg grid t.was t.now t.so.added s.limits (store.each id.0 t.was t.there) room.within fits t.so.kept)
+  store-more (Err e) t room fits =
+      store-turned s store id new t (name-more (Err e) t) (had-links t.was t.now t.there t.so.unchanged)
+      (node-rules s.limits t.was.rules.items t.was t.now t.so.unchanged (store.each id.0 t.was t.there).grids (store.each id.0 t.was t.there))
+
+  pub kept-more : (r : Result (Unit {0}) AllocError) → Takes r → IfOk r (λ x. IsKeptBy s id (kept_with_rule (key_in s.nodes dest) agg grid) (record s { nodes = new }))
+  kept-more (Ok x) t =
+      kept-turned s store id new t (name-more (Ok x) t) (kept_with_rule (key_in s.nodes dest) agg grid)
+      (more-links s.nodes dest agg grid t.was t.now t.so.added (store.live id.0 t.was t.there) to) (more-kept s.nodes dest agg grid t.was t.now t.so.added)
+  kept-more (Err e) t = tt
+
+  pub none-more : (r : Result (Unit {0}) AllocError) → Takes r → IfErr r (λ x. stock_of (record s { nodes = new }) ≡ stock_of s)
+  none-more (Ok x) t = tt
+  none-more (Err e) t =
+      same-turned s store id new t (name-more (Err e) t) (had-links t.was t.now t.there t.so.unchanged) (ap (λ (y : Node). y.series) t.so.unchanged.rest)
+      (kept-rules s.nodes t.was.rules.items t.was t.now t.so.unchanged)

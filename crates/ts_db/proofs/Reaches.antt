@@ -14,65 +14,61 @@ use Rattle.ts_series.specs.History.{History, reach}
 use Rattle.ts_db.specs.declared.node.Node.{Node}
 use Rattle.ts_db.specs.declared.store.Store.{Store}
 use Rattle.ts_db.specs.Held.{reach_at, pieces_at}
-use Rattle.ts_db.specs.Store.{collected, ids_of, node_reach, reach_in, reaches_of, node_pieces, pieces_in, pieces_of, number_of, stock_of, Nodes, Numbers, Holds}
+use Rattle.ts_db.specs.Store.{collected, ids_of, told_of, node_reach, node_pieces, node_sizes, number_of, stock_of, Nodes, Numbers, Holds}
 use Rattle.ts_db.proofs.Collecting.{collected-slots, get-ids}
 
--- where each number keeps its reach
-reaches-same : (old new : Nodes) (es : Numbers) → ((j : ℕ) → node_reach (slab.get new j) ≡ node_reach (slab.get old j)) → reaches_of new es ≡ reaches_of old es
-reaches-same old new es same = λ i. each (λ (key : Key) (id : Id). same id.0 i) (ids_of es)
+-- what is told of the node of each number
+module _ {X : Type 0} (tell : Option Node → X) where
+  -- it stays where it stays of each number
+  told-same : (old new : Nodes) (es : Numbers) → ((j : ℕ) → tell (slab.get new j) ≡ tell (slab.get old j)) → told_of tell new es ≡ told_of tell old es
+  told-same old new es same = λ i. each (λ (key : Key) (id : Id). same id.0 i) (ids_of es)
 
--- room alone changes nothing
-reaches-slots : (old new : Nodes) (es : Numbers) → new.slots ≡ old.slots → reaches_of new es ≡ reaches_of old es
-reaches-slots old new es same = reaches-same old new es (λ j. ap (λ (slots : List (Option Node)). node_reach (slice_index_or slots j None)) same)
+  -- room alone changes nothing
+  told-slots : (old new : Nodes) (es : Numbers) → new.slots ≡ old.slots → told_of tell new es ≡ told_of tell old es
+  told-slots old new es same = told-same old new es (λ j. ap (λ (slots : List (Option Node)). tell (slice_index_or slots j None)) same)
 
--- where each number keeps its chunks
-pieces-same : (old new : Nodes) (es : Numbers) → ((j : ℕ) → node_pieces (slab.get new j) ≡ node_pieces (slab.get old j)) → pieces_of new es ≡ pieces_of old es
-pieces-same old new es same = λ i. each (λ (key : Key) (id : Id). same id.0 i) (ids_of es)
+  -- nor does a node of which the same is told
+  told-turned : (old : Nodes) (es : Numbers) (id : ℕ) (n changed : Node) → slab.get old id ≡ Some n → tell (Some changed) ≡ tell (Some n) → told_of tell (slab.with_value old id changed) es ≡ told_of tell old es
+  told-turned old es id n changed got same = told-same old (slab.with_value old id changed) es (λ j. pick j (eqb_tells j id))
+    where
+      change : slab.Updates old (slab.with_value old id changed) id (Some changed)
+      change = Updates-with_value old id changed (subst (λ (o : Option Node). IsSome o) (sym got) refl)
 
-pieces-slots : (old new : Nodes) (es : Numbers) → new.slots ≡ old.slots → pieces_of new es ≡ pieces_of old es
-pieces-slots old new es same = pieces-same old new es (λ j. ap (λ (slots : List (Option Node)). node_pieces (slice_index_or slots j None)) same)
+      pick : (j : ℕ) → (((j == id) ≡ true) × (j ≡ id)) ⊎ (((j == id) ≡ false) × (j ≢ id)) → tell (slab.get (slab.with_value old id changed) j) ≡ tell (slab.get old j)
+      pick j (inl e) =
+          ap (λ (i : ℕ). tell (slab.get (slab.with_value old id changed) i)) e.1
+          ∙ ap tell change.changed ∙ same
+          ∙ sym (ap tell got) ∙ sym (ap (λ (i : ℕ). tell (slab.get old i)) e.1)
+      pick j (inr e) = ap tell (change.others j e.1)
 
--- neither of the reach nor of what is kept
+-- room changes nothing that contracts see
 pub stock-slots : (s : Store) (new : Nodes) → new.slots ≡ s.nodes.slots → stock_of (record s { nodes = new }) ≡ stock_of s
 stock-slots s new same =
     let kept : collected new s.keys.entries ≡ collected s.nodes s.keys.entries = collected-slots s.nodes new s.keys.entries same in
-    let far : reaches_of new s.keys.entries ≡ reaches_of s.nodes s.keys.entries = reaches-slots s.nodes new s.keys.entries same in
-    let parts : pieces_of new s.keys.entries ≡ pieces_of s.nodes s.keys.entries = pieces-slots s.nodes new s.keys.entries same in
-    λ i. record (stock_of s) { keys = kept i; reaches = far i; pieces = parts i }
+    let far : told_of node_reach new s.keys.entries ≡ told_of node_reach s.nodes s.keys.entries = told-slots node_reach s.nodes new s.keys.entries same in
+    let parts : told_of node_pieces new s.keys.entries ≡ told_of node_pieces s.nodes s.keys.entries = told-slots node_pieces s.nodes new s.keys.entries same in
+    let bounds : told_of node_sizes new s.keys.entries ≡ told_of node_sizes s.nodes s.keys.entries = told-slots node_sizes s.nodes new s.keys.entries same in
+    λ i. record (stock_of s) { keys = kept i; reaches = far i; pieces = parts i; sizes = bounds i }
 
--- a node that keeps its series
-pub reaches-turned : (old : Nodes) (es : Numbers) (id : ℕ) (n changed : Node) → slab.get old id ≡ Some n → changed.series ≡ n.series → reaches_of (slab.with_value old id changed) es ≡ reaches_of old es
-reaches-turned old es id n changed got same = reaches-same old (slab.with_value old id changed) es (λ j. pick j (eqb_tells j id))
-  where
-    change : slab.Updates old (slab.with_value old id changed) id (Some changed)
-    change = Updates-with_value old id changed (subst (λ (o : Option Node). IsSome o) (sym got) refl)
-
-    pick : (j : ℕ) → (((j == id) ≡ true) × (j ≡ id)) ⊎ (((j == id) ≡ false) × (j ≢ id)) → node_reach (slab.get (slab.with_value old id changed) j) ≡ node_reach (slab.get old j)
-    pick j (inl e) =
-        ap (λ (i : ℕ). node_reach (slab.get (slab.with_value old id changed) i)) e.1
-        ∙ ap node_reach change.changed ∙ ap (λ (h : History). reach h) same
-        ∙ sym (ap node_reach got) ∙ sym (ap (λ (i : ℕ). node_reach (slab.get old i)) e.1)
-    pick j (inr e) = ap node_reach (change.others j e.1)
-
-pub pieces-turned : (old : Nodes) (es : Numbers) (id : ℕ) (n changed : Node) → slab.get old id ≡ Some n → changed.series ≡ n.series → pieces_of (slab.with_value old id changed) es ≡ pieces_of old es
-pieces-turned old es id n changed got same = pieces-same old (slab.with_value old id changed) es (λ j. pick j (eqb_tells j id))
-  where
-    change : slab.Updates old (slab.with_value old id changed) id (Some changed)
-    change = Updates-with_value old id changed (subst (λ (o : Option Node). IsSome o) (sym got) refl)
-
-    pick : (j : ℕ) → (((j == id) ≡ true) × (j ≡ id)) ⊎ (((j == id) ≡ false) × (j ≢ id)) → node_pieces (slab.get (slab.with_value old id changed) j) ≡ node_pieces (slab.get old j)
-    pick j (inl e) =
-        ap (λ (i : ℕ). node_pieces (slab.get (slab.with_value old id changed) i)) e.1
-        ∙ ap node_pieces change.changed ∙ ap (λ (h : History). h.held.pieces) same
-        ∙ sym (ap node_pieces got) ∙ sym (ap (λ (i : ℕ). node_pieces (slab.get old i)) e.1)
-    pick j (inr e) = ap node_pieces (change.others j e.1)
+-- nor does a node that keeps its series, where the same is kept
+pub stock-turned : (s : Store) (id : ℕ) (n changed : Node) → slab.get s.nodes id ≡ Some n → changed.series ≡ n.series
+    → collected (slab.with_value s.nodes id changed) s.keys.entries ≡ collected s.nodes s.keys.entries → stock_of (record s { nodes = slab.with_value s.nodes id changed }) ≡ stock_of s
+stock-turned s id n changed got same kept =
+    let new : Nodes = slab.with_value s.nodes id changed in
+    let far : told_of node_reach new s.keys.entries ≡ told_of node_reach s.nodes s.keys.entries =
+    told-turned node_reach s.nodes s.keys.entries id n changed got (ap (λ (h : History). reach h) same) in
+    let parts : told_of node_pieces new s.keys.entries ≡ told_of node_pieces s.nodes s.keys.entries =
+    told-turned node_pieces s.nodes s.keys.entries id n changed got (ap (λ (h : History). h.held.pieces) same) in
+    let bounds : told_of node_sizes new s.keys.entries ≡ told_of node_sizes s.nodes s.keys.entries =
+    told-turned node_sizes s.nodes s.keys.entries id n changed got (ap (λ (h : History). h.held.limits) same) in
+    λ i. record (stock_of s) { keys = kept i; reaches = far i; pieces = parts i; sizes = bounds i }
 
 -- the reach of a key is that of its number
-pub reach-number : (nodes : Nodes) (es : Numbers) (key : Key) (id : Id) → number_of key es ≡ Some id → unwrap_or (get key (reaches_of nodes es)) 0 ≡ reach_in nodes id
+pub reach-number : (nodes : Nodes) (es : Numbers) (key : Key) (id : Id) → number_of key es ≡ Some id → unwrap_or (get key (told_of node_reach nodes es)) 0 ≡ node_reach (slab.get nodes id.0)
 reach-number nodes es key id is =
     ap (λ (o : Option ℕ). unwrap_or o 0)
-    (get-each (λ (key : Key) (id : Id). reach_in nodes id) key (ids_of es)
-    ∙ ap (option_map (reach_in nodes)) (get-ids key es ∙ is))
+    (get-each (λ (key : Key) (id : Id). node_reach (slab.get nodes id.0)) key (ids_of es)
+    ∙ ap (option_map (λ (id : Id). node_reach (slab.get nodes id.0))) (get-ids key es ∙ is))
 
 -- and of its series
 pub reach-held : (s : Store) (key : Key) (id : Id) (n : Node) → Holds s key id n → reach_at (stock_of s) key ≡ reach n.series
@@ -82,6 +78,6 @@ reach-held s key id n holds = reach-number s.nodes s.keys.entries key id holds.n
 pub pieces-held : (s : Store) (key : Key) (id : Id) (n : Node) → Holds s key id n → pieces_at (stock_of s) key ≡ n.series.held.pieces
 pieces-held s key id n holds =
     ap (λ (o : Option (List (List Point))). unwrap_or o [])
-    (get-each (λ (key : Key) (id : Id). pieces_in s.nodes id) key (ids_of s.keys.entries)
-    ∙ ap (option_map (pieces_in s.nodes)) (get-ids key s.keys.entries ∙ holds.number))
+    (get-each (λ (key : Key) (id : Id). node_pieces (slab.get s.nodes id.0)) key (ids_of s.keys.entries)
+    ∙ ap (option_map (λ (id : Id). node_pieces (slab.get s.nodes id.0))) (get-ids key s.keys.entries ∙ holds.number))
     ∙ ap node_pieces holds.node

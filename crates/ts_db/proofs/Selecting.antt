@@ -20,7 +20,7 @@ use Rattle.ts_spec.specs.KeptQuestions.{kept_selected_in, kept_selection}
 use Rattle.ts_spec.proofs.Keys.{before-irrefl}
 use Rattle.ts_sample.specs.declared.id.Id.{Id}
 use Rattle.ts_db.specs.declared.node.Node.{Node}
-use Rattle.ts_db.specs.Held.{AreEntriesOf, AreNumbersOf}
+use Rattle.ts_db.specs.Held.{AreNumbersOf}
 use Rattle.ts_db.specs.Store.{Nodes, Numbers, kept_at, kept_in, with_found, collected, number_of}
 
 -- the order of a map's keys is that of the definitions
@@ -80,7 +80,7 @@ listing-entries nodes (e ∷ es) sorted there = go (kept_in nodes e.1) (ap (opti
     go (Some d) is rest = ap (put_in e.0 d) rest ∙ front e.0 d (listing nodes es) (below-listing nodes e.0 es sorted.0)
 
 -- whether what is kept passes filters
-abbrev passes : List Filter → Option Kept → Bool
+abbrev pub passes : List Filter → Option Kept → Bool
 passes fs None = false
 passes fs (Some d) = all_hold fs d.labels
 
@@ -114,12 +114,6 @@ pub chosen-selected : (nodes : Nodes) (ids : Keyed Id) (fs : List Filter) (es : 
 chosen-selected nodes ids fs es sorted there found =
     subst (λ (l : List (Entry Kept)). AreNumbersOf ids (kept_selected_in fs l) (chosen nodes fs es)) (sym (listing-entries nodes es sorted there)) (chosen-listing nodes ids fs es found)
 
--- one number more on the walk
-pub chosen-next : (nodes : Nodes) (fs : List Filter) (k : Key) (id : Id) (n : Node) (es : Numbers) → slab.get nodes id.0 ≡ Some n
-    → chosen nodes fs ((k, id) ∷ es) ≡ (if all_hold fs n.labels then id ∷ chosen nodes fs es else chosen nodes fs es)
-chosen-next nodes fs k id n es at =
-    ap (λ (o : Option Node). if passes fs (option_map (kept_at nodes) o) then id ∷ chosen nodes fs es else chosen nodes fs es) at
-
 -- of the numbers that a map tells each is found, and has a node
 pub all-found : (ids : Keyed Id) (all es : Numbers) → ((key : Key) → get key ids ≡ number_of key all) → All (λ e. number_of e.0 all ≡ Some e.1) es → AreFound ids es
 all-found ids all [] same each = tt
@@ -131,63 +125,3 @@ pub all-there : (nodes : Nodes) (all es : Numbers) → ((key : Key) (id : Id) �
 all-there nodes all [] stored each = tt
 all-there nodes all (e ∷ es) stored each =
     (stored e.0 e.1 (All-head (λ (d : Key × Id). number_of d.0 all ≡ Some d.1) e es each), all-there nodes all es stored (All-tail (λ (d : Key × Id). number_of d.0 all ≡ Some d.1) e es each))
-
--- The entries of a map are those of all that is kept, each with its number.
-entries-listed : (nodes : Nodes) (ids : Keyed Id) (es : Numbers) → HaveNodes nodes es → AreFound ids es → AreEntriesOf ids (listing nodes es) es
-entries-listed nodes ids [] there found = tt
-entries-listed nodes ids (e ∷ es) there found = go (kept_in nodes e.1) (ap (option_map (kept_at nodes)) there.0.1) (entries-listed nodes ids es there.1 found.1)
-  where
-    go : (o : Option Kept) → o ≡ Some (kept_at nodes there.0.0) → AreEntriesOf ids (listing nodes es) es → AreEntriesOf ids (onto e.0 o (listing nodes es)) (e ∷ es)
-    go None is rest = absurd (cc is)
-    go (Some d) is rest = ((refl, found.0), rest)
-
-pub entries-kept : (nodes : Nodes) (ids : Keyed Id) (es : Numbers) → IsStrictlySortedBy (slice_cmp nat_cmp) (keys_of es) → HaveNodes nodes es → AreFound ids es
-    → AreEntriesOf ids (collected nodes es).entries es
-entries-kept nodes ids es sorted there found = subst (λ (l : List (Entry Kept)). AreEntriesOf ids l es) (sym (listing-entries nodes es sorted there)) (entries-listed nodes ids es there found)
-
-module _ (nodes : Nodes) (fs : List Filter) (k : Key) (id : Id) (n : Node) (rest es : Numbers) (so_far next total : List Id) (split : rest ≡ (k, id) ∷ es)
-    (at : slab.get nodes id.0 ≡ Some n) (goes : so_far ++ chosen nodes fs rest ≡ total) where
-  -- a number whose labels pass is taken
-  pub walk-takes : all_hold fs n.labels ≡ true → next ≡ so_far ++ id ∷ [] → next ++ chosen nodes fs es ≡ total
-  walk-takes pass is =
-      ap (λ (l : List Id). l ++ chosen nodes fs es) is ∙ append_assoc so_far (id ∷ []) (chosen nodes fs es)
-      ∙ ap (λ (l : List Id). so_far ++ l) (sym (ap (chosen nodes fs) split ∙ chosen-next nodes fs k id n es at ∙ ap (λ b. if b then id ∷ chosen nodes fs es else chosen nodes fs es) pass))
-      ∙ goes
-
-  -- any other is not
-  pub walk-skips : all_hold fs n.labels ≡ false → next ≡ so_far → next ++ chosen nodes fs es ≡ total
-  walk-skips fail is =
-      ap (λ (l : List Id). l ++ chosen nodes fs es) is
-      ∙ ap (λ (l : List Id). so_far ++ l) (sym (ap (chosen nodes fs) split ∙ chosen-next nodes fs k id n es at ∙ ap (λ b. if b then id ∷ chosen nodes fs es else chosen nodes fs es) fail))
-      ∙ goes
-
-pub there-next : (nodes : Nodes) (rest es : Numbers) (k : Key) (id : Id) → rest ≡ (k, id) ∷ es → HaveNodes nodes rest → HaveNodes nodes ((k, id) ∷ es)
-there-next nodes rest es k id split there = subst (HaveNodes nodes) split there
-
--- at the end of the walk
-pub walk-ends : (nodes : Nodes) (fs : List Filter) (rest : Numbers) (so_far total : List Id) → rest ≡ [] → so_far ++ chosen nodes fs rest ≡ total → total ≡ so_far
-walk-ends nodes fs rest so_far total none goes = sym goes ∙ ap (λ (l : Numbers). so_far ++ chosen nodes fs l) none ∙ append-nil so_far
-
--- a key fewer is left, and each filter took a step at most
-pub fewer-left : (fs : ℕ) (rest es : Numbers) (e : Key × Id) (a b most : ℕ) → rest ≡ e ∷ es → a + fs * length rest ≤ most → b ≤ a + fs → b + fs * length es ≤ most
-fewer-left fs rest es e a b most split all one =
-    let more : fs * length rest ≡ fs * length es + fs = ap (λ (l : Numbers). fs * length l) split ∙ mul-suc fs (length es) in
-    omega (arith, more, all, one)
-
--- there is room for one more, and then for those that are left
-pub room-left : (rest es : Numbers) (e : Key × Id) (len capacity : ℕ) → rest ≡ e ∷ es → len + length rest ≤ capacity → (len < capacity) × (len + 1 + length es ≤ capacity)
-room-left rest es e len capacity split room = let more : length rest ≡ suc (length es) = ap length split in (omega (arith, more, room), omega (arith, more, room))
-
--- as many keys are kept as have numbers
-pub as-many : (nodes : Nodes) (es : Numbers) → HaveNodes nodes es → length (listing nodes es) ≡ length es
-as-many nodes [] there = refl
-as-many nodes (e ∷ es) there = go (kept_in nodes e.1) (ap (option_map (kept_at nodes)) there.0.1) (as-many nodes es there.1)
-  where
-    go : (o : Option Kept) → o ≡ Some (kept_at nodes there.0.0) → length (listing nodes es) ≡ length es → length (onto e.0 o (listing nodes es)) ≡ suc (length es)
-    go None is rest = absurd (cc is)
-    go (Some d) is rest = ap suc rest
-
--- so many steps are those of a selection
-pub selection-all : (nodes : Nodes) (es : Numbers) (fs : List Filter) → IsStrictlySortedBy (slice_cmp nat_cmp) (keys_of es) → HaveNodes nodes es
-    → length fs * length (collected nodes es).entries ≡ length fs * length es
-selection-all nodes es fs sorted there = ap (λ (n : ℕ). length fs * n) (ap length (listing-entries nodes es sorted there) ∙ as-many nodes es there)

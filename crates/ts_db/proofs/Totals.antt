@@ -8,7 +8,7 @@ use Rattle.ts_spec.specs.declared.limits.Limits.{Limits}
 use Rattle.ts_sample.specs.declared.id.Id.{Id}
 use Rattle.ts_series.specs.History.{list_of}
 use Rattle.ts_db.specs.declared.node.Node.{Node}
-use Rattle.ts_db.specs.Store.{Nodes, Numbers, kept_at, IsNode, node_reach, reach_in, reaches_of, number_of}
+use Rattle.ts_db.specs.Store.{Nodes, Numbers, kept_at, IsNode, told_of, node_reach, number_of}
 use Rattle.ts_db.specs.Totals.{samples_in}
 use Rattle.std.specs.List.{All}
 use Rattle.std.proofs.lemmas.List.Elements.{All-head, All-tail}
@@ -53,12 +53,12 @@ reaches nodes (e ∷ es) = node_reach (slab.get nodes e.1.0) + reaches nodes es
 
 -- they are those of the keys
 pub reaches-listing : (nodes : Nodes) (all es : Numbers) → HaveNodes nodes es → All (λ (e : Key × Id). number_of e.0 all ≡ Some e.1) es
-    → sum_by (λ (e : Entry Kept). unwrap_or (get e.key (reaches_of nodes all)) 0) (listing nodes es) ≡ reaches nodes es
+    → sum_by (λ (e : Entry Kept). unwrap_or (get e.key (told_of node_reach nodes all)) 0) (listing nodes es) ≡ reaches nodes es
 reaches-listing nodes all [] there each = refl
 reaches-listing nodes all (e ∷ es) there each =
-    let far : (Entry Kept) → ℕ = λ e. unwrap_or (get e.key (reaches_of nodes all)) 0 in
-    let own : ℕ = unwrap_or (get e.0 (reaches_of nodes all)) 0 in
-    let here : own ≡ reach_in nodes e.1 = reach-number nodes all e.0 e.1 (All-head (λ (d : Key × Id). number_of d.0 all ≡ Some d.1) e es each) in
+    let far : (Entry Kept) → ℕ = λ e. unwrap_or (get e.key (told_of node_reach nodes all)) 0 in
+    let own : ℕ = unwrap_or (get e.0 (told_of node_reach nodes all)) 0 in
+    let here : own ≡ node_reach (slab.get nodes e.1.0) = reach-number nodes all e.0 e.1 (All-head (λ (d : Key × Id). number_of d.0 all ≡ Some d.1) e es each) in
     let rest : sum_by far (listing nodes es) ≡ reaches nodes es = reaches-listing nodes all es there.1 (All-tail (λ (d : Key × Id). number_of d.0 all ≡ Some d.1) e es each) in
     ap (λ (o : Option Node). sum_by far (onto e.0 (option_map (kept_at nodes) o) (listing nodes es))) there.0.1
     ∙ sum_by-cons far (record { key = e.0; value = kept_at nodes there.0.0 }) (listing nodes es)

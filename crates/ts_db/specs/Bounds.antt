@@ -1,9 +1,10 @@
 -- How many samples a call may decode at most, by what contracts see of a database. Each sample that is decoded is a step.
-use Rattle.std.specs.Prelude.{ℕ, ℤ, IsSome, ◌+◌, ◌*◌, length, sum_by, ◌≡◌, ◌<◌, true, ⊤, List, [], ◌∷◌, Option, None, Some}
+use Rattle.std.specs.Prelude.{ℕ, suc, ℤ, IsSome, ◌+◌, ◌*◌, min, length, sum_by, ◌≡◌, ◌<◌, Bool, true, ⊤, if◌then◌else◌, List, [], ◌∷◌, Option, None, Some}
 use Rattle.ts_spec.specs.Sample.{between, last_of}
-use Rattle.ts_spec.specs.Filter.{Filter}
+use Rattle.ts_spec.specs.Filter.{Filter, is_positive}
 use Rattle.ts_spec.specs.Key.{Key}
-use Rattle.ts_spec.specs.Keyed.{get}
+use Rattle.ts_spec.specs.Keyed.{Entry, get}
+use Rattle.ts_spec.specs.State.{Label}
 use Rattle.ts_spec.specs.Step.{changed_value}
 use Rattle.ts_spec.specs.KeptStep.{list_at, kept_rules_at}
 use Rattle.ts_spec.specs.Ignoring.{kept_ignored}
@@ -11,6 +12,8 @@ use Rattle.ts_spec.specs.Bucket.{start, members}
 use Rattle.ts_spec.specs.Rules.{is_append}
 use Rattle.ts_spec.specs.Kept.{KeptRule, Kept}
 use Rattle.ts_sample.specs.Chunk.{IsPast}
+use Rattle.ts_labels.specs.Filter.{label_of, values_wanted}
+use Rattle.ts_index.specs.Index.{has_pair}
 use Rattle.ts_rules.specs.Shares.{in_buckets}
 use Rattle.ts_db.specs.Held.{Stock, reach_at}
 
@@ -22,9 +25,23 @@ reach_of_all stock = sum_by (λ e. reach_at stock e.key) stock.keys.entries
 abbrev pub walk_steps : Stock → Key → (from to : ℕ) → ℕ
 walk_steps stock key from to = length (between from to (list_at (get key stock.keys))) + 2 * reach_at stock key
 
--- on a selection: each filter once for each key
+-- how many keys have labels that pass a test
+abbrev pub count_where : (List Label → Bool) → List (Entry Kept) → ℕ
+count_where test [] = 0
+count_where test (e ∷ es) = if test e.value.labels then suc (count_where test es) else count_where test es
+
+-- how many keys have the label of a filter with one of the values that it wants, added up over these values
+abbrev pub candidates : Stock → Filter → ℕ
+candidates stock f = sum_by (λ value. count_where (has_pair (label_of f) value) stock.keys.entries) (values_wanted f)
+
+-- the least number of candidates of a filter that asks for a value; that of all keys, where it is less
+abbrev pub fewest : Stock → List Filter → ℕ
+fewest stock [] = length stock.keys.entries
+fewest stock (f ∷ fs) = if is_positive f then min (candidates stock f) (fewest stock fs) else fewest stock fs
+
+-- on a selection: each filter once for each of so many
 abbrev pub selection_steps : Stock → List Filter → ℕ
-selection_steps stock filters = length filters * length stock.keys.entries
+selection_steps stock filters = length filters * fewest stock filters
 
 -- ---- a write
 

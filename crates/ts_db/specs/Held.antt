@@ -4,7 +4,7 @@ use Rattle.std.specs.Option.{unwrap_or}
 use Rattle.ts_spec.specs.Sample.{Point, MAX_TIME, last_of, later_or}
 use Rattle.ts_spec.specs.declared.limits.Limits.{Limits}
 use Rattle.ts_spec.specs.Key.{Key}
-use Rattle.ts_spec.specs.Keyed.{Keyed, Entry, get}
+use Rattle.ts_spec.specs.Keyed.{Keyed, get}
 use Rattle.ts_spec.specs.Refusal.{Refusal}
 use Rattle.ts_spec.specs.State.{State}
 use Rattle.ts_spec.specs.Rules.{dropped}
@@ -22,14 +22,15 @@ pub record Held : Type 0 where
   pub limits : Limits
   pub state : State
 
--- what contracts see of a database: its limits, what it keeps of each key, the number of each key, the reach of its series, and the
--- samples of each of its chunks
+-- what contracts see of a database: its limits, what it keeps of each key, the number of each key, the reach of its series, and of each
+-- of its chunks the samples and the limit
 pub record Stock : Type 0 where
   pub limits : Limits
   pub keys : Keeping
   pub ids : Keyed Id
   pub reaches : Keyed ℕ
   pub pieces : Keyed (List (List Point))
+  pub sizes : Keyed (List ℕ)
 
 -- the reach of the series of a key, 0 where the key is missing
 abbrev pub reach_at : Stock → Key → ℕ
@@ -124,10 +125,3 @@ AreNumbersOf ids [] [] = ⊤
 AreNumbersOf ids [] (n ∷ ns) = ⊥
 AreNumbersOf ids (k ∷ ks) [] = ⊥
 AreNumbersOf ids (k ∷ ks) (n ∷ ns) = (get k ids ≡ Some n) × AreNumbersOf ids ks ns
-
--- these keys with their numbers are those of the entries, in their order
-abbrev pub AreEntriesOf : Keyed Id → List (Entry Kept) → List (Key × Id) → Type 0
-AreEntriesOf ids [] [] = ⊤
-AreEntriesOf ids [] (n ∷ ns) = ⊥
-AreEntriesOf ids (e ∷ es) [] = ⊥
-AreEntriesOf ids (e ∷ es) (n ∷ ns) = ((n.0 ≡ e.key) × (get e.key ids ≡ Some n.1)) × AreEntriesOf ids es ns

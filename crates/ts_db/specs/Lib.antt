@@ -1,10 +1,12 @@
 pub mod Answering
 pub mod Bounds
+pub mod Candidates
 pub mod FaultNames
 pub mod Faults
 pub mod Feeding
 pub mod Growing
 pub mod Held
+pub mod Indexed
 pub mod Information
 pub mod Latest
 pub mod Linking
@@ -14,4 +16,5 @@ pub mod PutBy
 pub mod RowAmong
 pub mod Store
 pub mod Totals
+pub mod Turned
 pub mod Writes

@@ -79,29 +79,24 @@ has_key k = is_at (slice_cmp nat_cmp k)
 abbrev pub number_of : Key → Numbers → Option Id
 number_of k es = lookup (has_key k) es
 
--- the reach of the series of a number, 0 where there is none
+-- what is told of the series of each key
+abbrev pub told_of : {X : Type 0} → (Option Node → X) → Nodes → Numbers → Keyed X
+told_of tell nodes es = each (λ key id. tell (slab.get nodes id.0)) (ids_of es)
+
+-- the reach of a series, 0 where there is none
 abbrev pub node_reach : Option Node → ℕ
 node_reach None = 0
 node_reach (Some n) = reach n.series
 
-abbrev pub reach_in : Nodes → Id → ℕ
-reach_in nodes id = node_reach (slab.get nodes id.0)
-
--- that of each key
-abbrev pub reaches_of : Nodes → Numbers → Keyed ℕ
-reaches_of nodes es = each (λ key id. reach_in nodes id) (ids_of es)
-
--- the samples of each chunk of the series of a number, none where there is none
+-- the samples of each of its chunks, none where there is none
 abbrev pub node_pieces : Option Node → List (List Point)
 node_pieces None = []
 node_pieces (Some n) = n.series.held.pieces
 
-abbrev pub pieces_in : Nodes → Id → List (List Point)
-pieces_in nodes id = node_pieces (slab.get nodes id.0)
-
--- those of each key
-abbrev pub pieces_of : Nodes → Numbers → Keyed (List (List Point))
-pieces_of nodes es = each (λ key id. pieces_in nodes id) (ids_of es)
+-- and the limits of these
+abbrev pub node_sizes : Option Node → List ℕ
+node_sizes None = []
+node_sizes (Some n) = n.series.held.limits
 
 -- what contracts see of a store
 abbrev pub stock_of : Store → Stock
@@ -109,8 +104,9 @@ stock_of s = record {
   limits = s.limits;
   keys = collected s.nodes s.keys.entries;
   ids = ids_of s.keys.entries;
-  reaches = reaches_of s.nodes s.keys.entries;
-  pieces = pieces_of s.nodes s.keys.entries;
+  reaches = told_of node_reach s.nodes s.keys.entries;
+  pieces = told_of node_pieces s.nodes s.keys.entries;
+  sizes = told_of node_sizes s.nodes s.keys.entries;
 }
 
 -- what a store holds, but for the reach and the chunks of its series

@@ -1,19 +1,21 @@
 // TS.ALTER on the store: new options and labels, and what a new retention comes to for rules and destinations.
-ghost use Rattle.std.specs.Prelude.{◌≡◌, ◌≤◌, IfErr, ◌+◌, ◌*◌};
+ghost use Rattle.std.specs.Prelude.{◌≡◌, ◌≤◌, None, IfOk, IfErr, OnErr, ◌+◌, ◌*◌};
 ghost use Rattle.ts_spec.specs.Keyed.{get};
 ghost use Rattle.ts_spec.specs.KeptStep.{kept_alter_at};
 ghost use Rattle.ts_labels.specs.Spec.{change_of};
 ghost use Rattle.ts_db.specs.Held.{IsOwn, reach_at};
 ghost use Rattle.ts_db.specs.Store.{stock_of, IsInOrder};
-ghost use Rattle.ts_db.specs.Answering.{KeptDone};
+ghost use Rattle.ts_db.specs.Answering.{IsReady, IsApplied, KeptDone};
 
 use crate::fault::DbFault;
 use crate::node::are_too_many;
 use crate::store::Store;
+use std::alloc::AllocError;
 use std::sync::ledger::Ledger;
-use ts_labels::Change;
+use ts_labels::{Change, Labels};
 use ts_resp::Word;
-use ts_sample::Steps;
+use ts_sample::{Id, Steps};
+use ts_series::SeriesPlan;
 
 impl Store {
     // Gives a series new options and labels, where they are given. Samples before its new edge are dropped.
@@ -46,11 +48,27 @@ impl Store {
             change.ignore,
             steps,
         ) {
-            Ok(plan) => {
-                self.apply(id, plan, change.labels, None);
-                Ok(())
-            }
+            Ok(plan) => match self.relabel(id, plan, change.labels) {
+                Ok(()) => Ok(()),
+                Err(fault) => Err(DbFault::Memory(fault)),
+            },
             Err(fault) => Err(DbFault::Memory(fault)),
         }
+    }
+
+    // Does what was planned for the series of a number, and puts these labels in place of its own, where they are given.
+    fn relabel(
+        &mut self,
+        id: Id,
+        plan: SeriesPlan,
+        labels: Option<Labels>,
+    ) -> Result<(), AllocError>
+        requires store { IsInOrder self.old }
+        requires ready { IsReady self.old id plan labels None }
+        ensures store { IsInOrder self.new }
+        ensures applied { IfOk result (λ _. IsApplied self.old id plan labels None self.new) }
+        ensures unchanged { OnErr result (self.new ≡ self.old) }
+    {
+        self.nodes.alter(id, plan, labels)
     }
 }

@@ -62,23 +62,17 @@ impl Store {
             Ok(name) => name,
             Err(fault) => return Err(DbFault::Memory(fault)),
         };
-        match self.nodes.reserve(1) {
-            Ok(()) => {}
-            Err(fault) => return Err(DbFault::Memory(fault)),
-        }
-        let id = Id(self.nodes.vacant_key());
-        match self.keys.insert(key, id) {
-            Ok(_) => {}
-            Err(_) => return Err(DbFault::Memory(AllocError)),
-        }
-        self.nodes.insert_reserved(Node {
+        let node = Node {
             key: name,
             series,
             labels,
             rules: Vec::new(self.alloc),
             source: None,
-        });
-        Ok(())
+        };
+        match self.nodes.insert(&mut self.keys, key, node) {
+            Ok(_) => Ok(()),
+            Err(fault) => Err(DbFault::Memory(fault)),
+        }
     }
 
     // Begins a series with one sample under a new key.

@@ -5,8 +5,8 @@ ghost use Rattle.ts_spec.specs.State.{empty};
 ghost use Rattle.ts_db.specs.Held.{Held, Stands, Leads};
 
 use crate::hints::Hints;
+use crate::nodes::Nodes;
 use crate::store::Store;
-use slab::Slab;
 use std::alloc::Global;
 use std::collections::BTreeMap;
 use std::marker::Model;
@@ -43,7 +43,7 @@ impl Db {
             store: Store {
                 alloc,
                 limits,
-                nodes: Slab::new(alloc),
+                nodes: Nodes::new(alloc),
                 keys: BTreeMap::new(alloc),
                 hints: Hints::new(alloc),
             },

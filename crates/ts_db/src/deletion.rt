@@ -88,7 +88,7 @@ impl Store {
             Ok(planned) => planned,
             Err(fault) => return Err(fault),
         };
-        self.apply(id, plan, None, Some(planned.rules));
+        self.apply(id, plan, Some(planned.rules));
         self.feed(planned.plans);
         Ok(removed)
     }

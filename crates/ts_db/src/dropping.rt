@@ -72,6 +72,6 @@ impl Store {
         let Some(id) = self.keys.remove(key) else {
             unreachable!();
         };
-        self.nodes.remove(id.0);
+        self.nodes.remove(id);
     }
 }

@@ -19,7 +19,7 @@ impl Store {
         for plan in plans {
             let RulePlan { rule, dest } = plan;
             match dest {
-                Some(series) => self.apply(rule.dest, series, None, None),
+                Some(series) => self.apply(rule.dest, series, None),
                 None => {}
             }
         }

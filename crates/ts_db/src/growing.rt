@@ -24,16 +24,12 @@ impl Store {
         ensures grown { (key : Key) (n : TheNode) → Holds self.old key id n → contents_of self.new ≡ record (contents_of self.old) { keys = with_key key (kept_grown self.old.nodes plan wrote.now n) (stock_of self.old).keys } }
         ensures elsewhere { IsElsewhere self.old self.new id }
     {
-        let Some(node) = self.nodes.get_mut(id.0) else {
-            unreachable!();
-        };
-        node.series.commit_append(plan);
-        count_in_all(&mut node.rules, wrote);
+        self.nodes.grow(id, plan, wrote);
     }
 }
 
 // Counts a sample in the open bucket of each of these rules.
-fn count_in_all(rules: &mut Vec<Rule>, wrote: &Sample)
+pub(crate) fn count_in_all(rules: &mut Vec<Rule>, wrote: &Sample)
     requires { HaveRoom rules.old.items }
     ensures { AreChanged (grown wrote.now) rules.old.items rules.new.items }
 {

@@ -4,12 +4,11 @@ ghost use Rattle.ts_spec.specs.Filter.{all_hold, selection};
 ghost use Rattle.ts_spec.specs.Keyed.{get};
 ghost use Rattle.ts_spec.specs.KeptQuestions.{kept_selection};
 ghost use Rattle.ts_spec.specs.Totals.{total_shown};
-ghost use Rattle.ts_db.specs.Held.{Held, Stands, AreEntriesOf, AreNumbersOf};
+ghost use Rattle.ts_db.specs.Held.{Held, Stands, AreNumbersOf};
 ghost use Rattle.ts_db.specs.Bounds.{reach_of_all, selection_steps};
 
 use crate::db::Db;
 use std::alloc::AllocError;
-use std::collections::btree_map::Iter;
 use std::sync::ledger::Ledger;
 use ts_labels::{Filter, Labels};
 use ts_resp::Word;
@@ -22,13 +21,6 @@ impl Db {
         ensures there { is_some result ≡ is_some (get key.now self.now.keys) }
     {
         self.store.keys.get(key).copied()
-    }
-
-    /// All keys in ascending order of their bytes, each with its number. Takes no memory.
-    pub fn entries(&self) -> Iter<'_, Word, Id>
-        ensures entries { AreEntriesOf self.now.ids self.now.keys.entries result }
-    {
-        self.store.keys.iter()
     }
 
     /// The numbers of the keys whose labels pass all filters, in ascending order of the bytes of the keys. An Err comes
@@ -44,15 +36,12 @@ impl Db {
         ensures unspent { OnErr result (steps.new ≡ steps.old) }
         ensures steps { steps.new ≤ steps.old + selection_steps self.now filters.now }
     {
-        let mut ids = Vec::with_capacity(self.store.alloc, self.store.keys.len())?;
-        for (_key, id) in self.store.keys.iter() {
-            let Some(node) = self.store.nodes.get(id.0) else {
-                unreachable!();
-            };
-            if pass(&node.labels, filters, steps) {
-                ids.push_reserved(*id);
-            }
-        }
+        // These two do nothing: they tell that keys and numbers are in order.
+        let _keys = self.store.keys.iter();
+        let index = self.store.nodes.index();
+        index.known();
+        let mut ids = index.select(filters, steps)?;
+        self.store.nodes.sort_by_key(&mut ids);
         Ok(ids)
     }
 

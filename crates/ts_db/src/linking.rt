@@ -33,10 +33,7 @@ impl Store {
         ensures elsewhere { IsElsewhere self.old self.new id }
     {
         grid.known();
-        let Some(node) = self.nodes.get_mut(id.0) else {
-            unreachable!();
-        };
-        node.add_rule(dest, agg, grid)
+        self.nodes.add_rule(id, dest, agg, grid)
     }
 
     // Ends the rule from one series to another.
@@ -48,10 +45,7 @@ impl Store {
         ensures removed { IsKeptBy self.old id (kept_unruled (key_in self.old.nodes dest)) self.new }
         ensures elsewhere { IsElsewhere self.old self.new id }
     {
-        let Some(node) = self.nodes.get_mut(id.0) else {
-            unreachable!();
-        };
-        node.remove_rule(dest);
+        self.nodes.remove_rule(id, dest);
     }
 
     // Takes its rules from a series.
@@ -63,11 +57,7 @@ impl Store {
         ensures taken { IsKeptBy self.old id kept_ruleless self.new }
         ensures elsewhere { IsElsewhere self.old self.new id }
     {
-        let alloc = self.alloc;
-        let Some(node) = self.nodes.get_mut(id.0) else {
-            unreachable!();
-        };
-        node.take_rules(alloc)
+        self.nodes.take_rules(id, self.alloc)
     }
 
     // Gives a series this source, or none.
@@ -79,10 +69,7 @@ impl Store {
         ensures set { IsKeptBy self.old id (kept_sourced (option_map (key_in self.old.nodes) source)) self.new }
         ensures elsewhere { IsElsewhere self.old self.new id }
     {
-        let Some(node) = self.nodes.get_mut(id.0) else {
-            unreachable!();
-        };
-        node.source = source;
+        self.nodes.set_source(id, source);
     }
 
     // Leaves the destination of each rule without a source.

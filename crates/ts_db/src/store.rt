@@ -1,12 +1,11 @@
 // Where series and keys are kept, and how a plan for one of them is done.
-ghost use Rattle.std.specs.Prelude.{◌≡◌, nat_lt, nat_le, length, is_some};
+ghost use Rattle.std.specs.Prelude.{◌≡◌, nat_lt, nat_le, length, is_some, None};
 ghost use Rattle.ts_spec.specs.Keyed.{get, count_keys};
 ghost use Rattle.ts_db.specs.Store.{stock_of, IsInOrder};
 ghost use Rattle.ts_db.specs.Answering.{IsReady, IsApplied, IsElsewhere};
 
 use crate::hints::Hints;
-use crate::node::Node;
-use slab::Slab;
+use crate::nodes::Nodes;
 use std::alloc::Global;
 use std::collections::BTreeMap;
 use ts_labels::Labels;
@@ -21,32 +20,22 @@ use ts_spec::Limits;
 pub(crate) struct Store {
     pub(crate) alloc: Global,
     pub(crate) limits: Limits,
-    pub(crate) nodes: Slab<Node>,
+    pub(crate) nodes: Nodes,
     pub(crate) keys: BTreeMap<Word, Id>,
     pub(crate) hints: Hints,
 }
 
 impl Store {
-    // Does what was planned for the series of a number, and puts these labels and these rules in place of its
-    // own, where they are given. It can't fail, and takes no memory.
-    pub(crate) fn apply(
-        &mut self,
-        id: Id,
-        plan: SeriesPlan,
-        labels: Option<Labels>,
-        rules: Option<Vec<Rule>>,
-    )
+    // Does what was planned for the series of a number, and puts these rules in place of its own, where they are
+    // given. It can't fail, and takes no memory.
+    pub(crate) fn apply(&mut self, id: Id, plan: SeriesPlan, rules: Option<Vec<Rule>>)
         requires store { IsInOrder self.old }
-        requires ready { IsReady self.old id plan labels rules }
+        requires ready { IsReady self.old id plan None rules }
         ensures store { IsInOrder self.new }
-        ensures applied { IsApplied self.old id plan labels rules self.new }
+        ensures applied { IsApplied self.old id plan None rules self.new }
         ensures elsewhere { IsElsewhere self.old self.new id }
     {
-        let Some(node) = self.nodes.get_mut(id.0) else {
-            unreachable!();
-        };
-        node.series.commit(plan);
-        node.change(labels, rules);
+        self.nodes.apply(id, plan, rules);
     }
 
     // Whether the key is there.

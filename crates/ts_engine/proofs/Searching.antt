@@ -1,65 +1,56 @@
--- The search for a key that passes filters, and of which there is nothing to tell, over all keys.
+-- The search for a key that passes filters, and of which there is nothing to tell, over the numbers that may be those of such keys.
 use Rattle.std.proofs.Common.{◌≡◌, ℕ, suc, ◌+◌, ◌*◌, ◌≤◌, Bool, true, false, List, [], ◌∷◌, length, refl, sym, ap, subst, ◌∙◌, arith}
 use Rattle.std.proofs.Math.Nat.{mul-suc}
-use Rattle.std.proofs.lemmas.Bool.{and_parts}
 use Rattle.std.proofs.lemmas.List.Sums.{sum_by-cons}
-use Rattle.std.specs.Prelude.{⊤, ◌&&◌, sum_by, if◌then◌else◌, is_none, Option, None, Some}
+use Rattle.std.proofs.lemmas.List.Sorted.{list_any-IsPermutation, sum_by-IsPermutation}
+use Rattle.std.specs.List.{All, AllByRecursion, list_any}
+use Rattle.std.proofs.lemmas.List.Elements.{recursion_from_All}
+use Rattle.std.specs.Prelude.{◌&&◌, ◌||◌, sum_by, if◌then◌else◌, is_none, Option, None, Some}
 use Rattle.ts_spec.specs.Filter.{Filter, all_hold}
-use Rattle.ts_spec.specs.Key.{Key, is_before, same}
-use Rattle.ts_spec.specs.Keyed.{Keyed, Entry, get, get_in, is_below, is_sorted}
-use Rattle.ts_spec.specs.Kept.{Kept, Keeping}
-use Rattle.ts_spec.specs.KeptQuestions.{kept_labels_at, kept_selected_in}
+use Rattle.ts_spec.specs.Key.{Key}
+use Rattle.ts_spec.specs.Keyed.{Keyed, get}
+use Rattle.ts_spec.specs.KeptQuestions.{kept_labels_at, kept_selection}
 use Rattle.ts_spec.specs.Text.{Reply}
-use Rattle.ts_spec.proofs.Keys.{same-refl, same-true, before-irrefl}
 use Rattle.ts_sample.specs.declared.id.Id.{Id}
-use Rattle.ts_db.specs.Held.{IsLive, AreEntriesOf}
+use Rattle.ts_db.specs.Bounds.{fewest, selection_steps}
+use Rattle.ts_db.specs.Candidates.{passing, Covers}
+use Rattle.ts_db.specs.Held.{Stock, IsLive, AreNumbersOf}
 use Rattle.ts_engine.specs.Members.{replies_then, replies_of}
 
--- each entry is found by its key
-abbrev pub AreKept : (all es : List (Entry Kept)) → Type 0
-AreKept all [] = ⊤
-AreKept all (e ∷ es) = (get_in e.key all ≡ Some e.value) × AreKept all es
+-- numbers of keys have keys
+keys-of : (ids : Keyed Id) (ns : List Id) → AllByRecursion (IsLive ids) ns → (keys : List Key) × AreNumbersOf ids keys ns
+keys-of ids [] live = ([], tt)
+keys-of ids (n ∷ ns) live = let rest = keys-of ids ns live.1 in (live.0.key ∷ rest.0, (live.0.is, rest.1))
 
--- a key before another one is not the same
-before-other : (j k : Key) → is_before j k ≡ true → same j k ≡ false
-before-other j k first = go (same j k) refl
-  where
-    go : (b : Bool) → same j k ≡ b → same j k ≡ false
-    go false is = is
-    go true is = absurd (cc (sym (subst (λ (i : Key). is_before j i ≡ true) (sym (same-true j k is)) first) ∙ before-irrefl j))
+as-many : (ids : Keyed Id) (keys : List Key) (ns : List Id) → AreNumbersOf ids keys ns → length keys ≡ length ns
+as-many ids [] [] are = refl
+as-many ids [] (n ∷ ns) are = absurd are
+as-many ids (k ∷ ks) [] are = absurd are
+as-many ids (k ∷ ks) (n ∷ ns) are = ap suc (as-many ids ks ns are.1)
 
--- an entry before them hides none
-kept-behind : (e : Entry Kept) (all es : List (Entry Kept)) → is_below e.key es ≡ true → AreKept all es → AreKept (e ∷ all) es
-kept-behind e all [] below kept = tt
-kept-behind e all (d ∷ ds) below kept =
-    let parts = and_parts (is_before e.key d.key) (is_below e.key ds) below in
-    (rw (before-other e.key d.key parts.0) kept.0, kept-behind e all ds parts.1 kept.1)
-
-all-kept : (es : List (Entry Kept)) → is_sorted es ≡ true → AreKept es es
-all-kept [] sorted = tt
-all-kept (e ∷ es) sorted =
-    let parts = and_parts (is_below e.key es) (is_sorted es) sorted in
-    (rw (same-refl e.key) refl, kept-behind e es es parts.0 (all-kept es parts.1))
+more-steps : (fs few most : ℕ) → few ≤ most → fs * few ≤ fs * most
+more-steps fs few most less = grind (arith)
 
 module _ (reply : Key → Option Reply) where
+  -- there is nothing to tell of one of them
+  none-any : (ks : List Key) → is_none (replies_of reply ks) ≡ list_any (λ k. is_none (reply k)) ks
+  none-any [] = refl
+  none-any (k ∷ ks) = go (reply k) (replies_of reply ks) ∙ ap (λ (b : Bool). is_none (reply k) || b) (none-any ks)
+    where
+      go : (o : Option Reply) (others : Option (List Reply)) → is_none (replies_then o others) ≡ (is_none o || is_none others)
+      go None others = refl
+      go (Some r) None = refl
+      go (Some r) (Some rs) = refl
+
   -- a key that is not selected, or of which there is something to tell
   skip : (b : Bool) (k : Key) (ks : List Key) → (b && is_none (reply k)) ≡ false → is_none (replies_of reply (if b then k ∷ ks else ks)) ≡ is_none (replies_of reply ks)
   skip false k ks told = refl
-  skip true k ks told = go (reply k) (replies_of reply ks) told
-    where
-      go : (o : Option Reply) (others : Option (List Reply)) → is_none o ≡ false → is_none (replies_then o others) ≡ is_none others
-      go None others told = absurd (cc told)
-      go (Some r) None told = refl
-      go (Some r) (Some rs) told = refl
+  skip true k ks told = none-any (k ∷ ks) ∙ ap (λ (b : Bool). b || list_any (λ k. is_none (reply k)) ks) told ∙ sym (none-any ks)
 
   -- any other key
   stop : (b : Bool) (k : Key) (ks : List Key) → (b && is_none (reply k)) ≡ true → is_none (replies_of reply (if b then k ∷ ks else ks)) ≡ true
   stop false k ks refused = absurd (cc refused)
-  stop true k ks refused = go (reply k) (replies_of reply ks) refused
-    where
-      go : (o : Option Reply) (others : Option (List Reply)) → is_none o ≡ true → is_none (replies_then o others) ≡ true
-      go None others refused = refl
-      go (Some r) others refused = absurd (cc refused)
+  stop true k ks refused = none-any (k ∷ ks) ∙ ap (λ (b : Bool). b || list_any (λ k. is_none (reply k)) ks) refused
 
 -- a key takes a step for each filter, and what it takes itself only where it is selected
 spend : (most : Key → ℕ) (b : Bool) (k : Key) (ks : List Key) (filters left now new all : ℕ) → now + (filters * suc left + sum_by most (if b then k ∷ ks else ks)) ≤ all
@@ -67,90 +58,96 @@ spend : (most : Key → ℕ) (b : Bool) (k : Key) (ks : List Key) (filters left 
 spend most false k ks filters left now new all few one = omega (arith, mul-suc filters left, few, one)
 spend most true k ks filters left now new all few one = omega (arith, mul-suc filters left, sum_by-cons most k ks, few, one)
 
-module _ (reply : Key → Option Reply) (most : Key → ℕ) (m : Keeping) (ids : Keyed Id) (fs : List Filter) where
-  -- what the search over these entries takes at most
-  abbrev search_steps : List (Entry Kept) → ℕ
-  search_steps es = length fs * length es + sum_by most (kept_selected_in fs es)
+module _ (reply : Key → Option Reply) (most : Key → ℕ) (stock : Stock) (fs : List Filter) where
+  -- what the search over these keys takes at most
+  abbrev search_steps : List Key → ℕ
+  search_steps ks = length fs * length ks + sum_by most (passing stock.keys fs ks)
 
-  -- whether there is nothing to tell of one of them
-  abbrev is_one_refused : List (Entry Kept) → Bool
-  is_one_refused es = is_none (replies_of reply (kept_selected_in fs es))
+  abbrev all_steps : ℕ
+  all_steps = selection_steps stock fs + sum_by most (kept_selection stock.keys fs)
+
+  -- whether there is nothing to tell of one of those that pass
+  abbrev is_one_refused : List Key → Bool
+  is_one_refused ks = is_none (replies_of reply (passing stock.keys fs ks))
 
   -- of the keys that are done there is something to tell
-  pub record Searching (rest : List (Key × Id)) (old now : ℕ) : Type 0 where
-    pub left : List (Entry Kept)
-    pub numbers : AreEntriesOf ids left rest
-    pub kept : AreKept m.entries left
-    pub alike : is_one_refused left ≡ is_one_refused m.entries
-    pub few : now + search_steps left ≤ old + search_steps m.entries
+  pub record Searching (rest : List Id) (old now : ℕ) : Type 0 where
+    pub left : List Key
+    pub numbers : AreNumbersOf stock.ids left rest
+    pub alike : is_one_refused left ≡ is_none (replies_of reply (kept_selection stock.keys fs))
+    pub few : now + search_steps left ≤ old + all_steps
 
-  pub search-begun : (ns : List (Key × Id)) (now : ℕ) → AreEntriesOf ids m.entries ns → Searching ns now now
-  search-begun ns now are = record { left = m.entries; numbers = are; kept = all-kept m.entries m.sorted; alike = refl; few = omega arith }
+  begun : (ns : List Id) (now : ℕ) → All (IsLive stock.ids) ns → Covers stock fs ns → length ns ≤ fewest stock fs → Searching ns now now
+  begun ns now live covers few =
+      let of = keys-of stock.ids ns (recursion_from_All (IsLive stock.ids) ns live) in
+      let moved = covers of.0 of.1 in
+      let sums : sum_by most (passing stock.keys fs of.0) ≡ sum_by most (kept_selection stock.keys fs) = sum_by-IsPermutation most (kept_selection stock.keys fs) (passing stock.keys fs of.0) moved in
+      let many : length of.0 ≡ length ns = as-many stock.ids of.0 ns of.1 in
+      let steps : length fs * length of.0 ≤ length fs * fewest stock fs = more-steps (length fs) (length of.0) (fewest stock fs) (omega (arith, many, few)) in
+      record {
+        left = of.0;
+        numbers = of.1;
+        alike = none-any reply (passing stock.keys fs of.0) ∙ sym (list_any-IsPermutation (λ k. is_none (reply k)) (kept_selection stock.keys fs) (passing stock.keys fs of.0) moved)
+            ∙ sym (none-any reply (kept_selection stock.keys fs));
+        few = omega (arith, sums, steps);
+      }
+
+  pub search-begun : (lent ns : List Id) (now : ℕ) → ns ≡ lent → All (IsLive stock.ids) lent → Covers stock fs lent → length lent ≤ fewest stock fs → Searching ns now now
+  search-begun lent ns now same live covers few = subst (λ (l : List Id). Searching l now now) (sym same) (begun lent now live covers few)
 
   -- what was found out of a key, by its number
   pub record Tried (id : Id) (now new : ℕ) (refused : Bool) : Type 0 where
-    pub is : (key : Key) → get key ids ≡ Some id → refused ≡ (all_hold fs (kept_labels_at (get key m)) && is_none (reply key))
-    pub steps : (key : Key) → get key ids ≡ Some id → new ≤ now + (length fs + (if all_hold fs (kept_labels_at (get key m)) then most key else 0))
+    pub is : (key : Key) → get key stock.ids ≡ Some id → refused ≡ (all_hold fs (kept_labels_at (get key stock.keys)) && is_none (reply key))
+    pub steps : (key : Key) → get key stock.ids ≡ Some id → new ≤ now + (length fs + (if all_hold fs (kept_labels_at (get key stock.keys)) then most key else 0))
 
-  module _ (n : Key × Id) (rest more : List (Key × Id)) (old now : ℕ) (split : rest ≡ n ∷ more) (so_far : Searching rest old now) where
-    pub search-live : IsLive ids n.1
-    search-live = pick so_far.left (subst (AreEntriesOf ids so_far.left) split so_far.numbers)
+  module _ (n : Id) (rest more : List Id) (old now : ℕ) (split : rest ≡ n ∷ more) (so_far : Searching rest old now) where
+    pub search-live : IsLive stock.ids n
+    search-live = pick so_far.left (subst (AreNumbersOf stock.ids so_far.left) split so_far.numbers)
       where
-        pick : (left : List (Entry Kept)) → AreEntriesOf ids left (n ∷ more) → IsLive ids n.1
+        pick : (left : List Key) → AreNumbersOf stock.ids left (n ∷ more) → IsLive stock.ids n
         pick [] are = absurd are
-        pick (e ∷ es) are = record { key = e.key; is = are.0.1 }
+        pick (k ∷ ks) are = record { key = k; is = are.0 }
 
-    module _ (new : ℕ) (refused : Bool) (tried : Tried n.1 now new refused) where
-      -- it passes by its own labels
-      passes-as : (e : Entry Kept) → get_in e.key m.entries ≡ Some e.value → all_hold fs (kept_labels_at (get e.key m)) ≡ all_hold fs e.value.labels
-      passes-as e found = ap (λ (o : Option Kept). all_hold fs (kept_labels_at o)) found
-
-      here : (e : Entry Kept) → get e.key ids ≡ Some n.1 → get_in e.key m.entries ≡ Some e.value → refused ≡ (all_hold fs e.value.labels && is_none (reply e.key))
-      here e at found = tried.is e.key at ∙ ap (λ (b : Bool). b && is_none (reply e.key)) (passes-as e found)
-
-      spent : (e : Entry Kept) (es : List (Entry Kept)) → get e.key ids ≡ Some n.1 → get_in e.key m.entries ≡ Some e.value → now + search_steps (e ∷ es) ≤ old + search_steps m.entries
-          → new + search_steps es ≤ old + search_steps m.entries
-      spent e es at found few =
-          spend most (all_hold fs e.value.labels) e.key (kept_selected_in fs es) (length fs) (length es) now new (old + search_steps m.entries) few
-          (subst (λ (b : Bool). new ≤ now + (length fs + (if b then most e.key else 0))) (passes-as e found) (tried.steps e.key at))
+    module _ (new : ℕ) (refused : Bool) (tried : Tried n now new refused) where
+      spent : (k : Key) (ks : List Key) → get k stock.ids ≡ Some n → now + search_steps (k ∷ ks) ≤ old + all_steps → new + search_steps ks ≤ old + all_steps
+      spent k ks at few = spend most (all_hold fs (kept_labels_at (get k stock.keys))) k (passing stock.keys fs ks) (length fs) (length ks) now new (old + all_steps) few (tried.steps k at)
 
       -- there is something to tell of it, or it is not selected
       pub search-more : refused ≡ false → Searching more old new
-      search-more told = pick so_far.left (subst (AreEntriesOf ids so_far.left) split so_far.numbers) so_far.kept so_far.alike so_far.few
+      search-more told = pick so_far.left (subst (AreNumbersOf stock.ids so_far.left) split so_far.numbers) so_far.alike so_far.few
         where
-          pick : (left : List (Entry Kept)) → AreEntriesOf ids left (n ∷ more) → AreKept m.entries left → is_one_refused left ≡ is_one_refused m.entries
-              → now + search_steps left ≤ old + search_steps m.entries → Searching more old new
-          pick [] are kept like few = absurd are
-          pick (e ∷ es) are kept like few = record {
-            left = es;
+          pick : (left : List Key) → AreNumbersOf stock.ids left (n ∷ more) → is_one_refused left ≡ is_none (replies_of reply (kept_selection stock.keys fs))
+              → now + search_steps left ≤ old + all_steps → Searching more old new
+          pick [] are like few = absurd are
+          pick (k ∷ ks) are like few = record {
+            left = ks;
             numbers = are.1;
-            kept = kept.1;
-            alike = sym (skip reply (all_hold fs e.value.labels) e.key (kept_selected_in fs es) (sym (here e are.0.1 kept.0) ∙ told)) ∙ like;
-            few = spent e es are.0.1 kept.0 few;
+            alike = sym (skip reply (all_hold fs (kept_labels_at (get k stock.keys))) k (passing stock.keys fs ks) (sym (tried.is k are.0) ∙ told)) ∙ like;
+            few = spent k ks are.0 few;
           }
 
       -- there is nothing to tell of it
-      pub search-found : refused ≡ true → is_one_refused m.entries ≡ true
-      search-found none = pick so_far.left (subst (AreEntriesOf ids so_far.left) split so_far.numbers) so_far.kept so_far.alike
+      pub search-found : refused ≡ true → is_none (replies_of reply (kept_selection stock.keys fs)) ≡ true
+      search-found none = pick so_far.left (subst (AreNumbersOf stock.ids so_far.left) split so_far.numbers) so_far.alike
         where
-          pick : (left : List (Entry Kept)) → AreEntriesOf ids left (n ∷ more) → AreKept m.entries left → is_one_refused left ≡ is_one_refused m.entries → is_one_refused m.entries ≡ true
-          pick [] are kept like = absurd are
-          pick (e ∷ es) are kept like = sym like ∙ stop reply (all_hold fs e.value.labels) e.key (kept_selected_in fs es) (sym (here e are.0.1 kept.0) ∙ none)
+          pick : (left : List Key) → AreNumbersOf stock.ids left (n ∷ more) → is_one_refused left ≡ is_none (replies_of reply (kept_selection stock.keys fs)) → is_none (replies_of reply (kept_selection stock.keys fs)) ≡ true
+          pick [] are like = absurd are
+          pick (k ∷ ks) are like = sym like ∙ stop reply (all_hold fs (kept_labels_at (get k stock.keys))) k (passing stock.keys fs ks) (sym (tried.is k are.0) ∙ none)
 
-      pub search-few : new ≤ old + search_steps m.entries
-      search-few = pick so_far.left (subst (AreEntriesOf ids so_far.left) split so_far.numbers) so_far.kept so_far.few
+      pub search-few : new ≤ old + all_steps
+      search-few = pick so_far.left (subst (AreNumbersOf stock.ids so_far.left) split so_far.numbers) so_far.few
         where
-          pick : (left : List (Entry Kept)) → AreEntriesOf ids left (n ∷ more) → AreKept m.entries left → now + search_steps left ≤ old + search_steps m.entries → new ≤ old + search_steps m.entries
-          pick [] are kept few = absurd are
-          pick (e ∷ es) are kept few = let all = spent e es are.0.1 kept.0 few in omega (arith, all)
+          pick : (left : List Key) → AreNumbersOf stock.ids left (n ∷ more) → now + search_steps left ≤ old + all_steps → new ≤ old + all_steps
+          pick [] are few = absurd are
+          pick (k ∷ ks) are few = let all = spent k ks are.0 few in omega (arith, all)
 
   -- at the end of the search
-  pub search-none : (rest : List (Key × Id)) (old now : ℕ) → rest ≡ [] → Searching rest old now → is_one_refused m.entries ≡ false
-  search-none rest old now none so_far = pick so_far.left (subst (AreEntriesOf ids so_far.left) none so_far.numbers) so_far.alike
+  pub search-none : (rest : List Id) (old now : ℕ) → rest ≡ [] → Searching rest old now → is_none (replies_of reply (kept_selection stock.keys fs)) ≡ false
+  search-none rest old now none so_far = pick so_far.left (subst (AreNumbersOf stock.ids so_far.left) none so_far.numbers) so_far.alike
     where
-      pick : (left : List (Entry Kept)) → AreEntriesOf ids left [] → is_one_refused left ≡ is_one_refused m.entries → is_one_refused m.entries ≡ false
+      pick : (left : List Key) → AreNumbersOf stock.ids left [] → is_one_refused left ≡ is_none (replies_of reply (kept_selection stock.keys fs)) → is_none (replies_of reply (kept_selection stock.keys fs)) ≡ false
       pick [] are like = sym like
-      pick (e ∷ es) are like = absurd are
+      pick (k ∷ ks) are like = absurd are
 
-  pub search-ended : (rest : List (Key × Id)) (old now : ℕ) → Searching rest old now → now ≤ old + search_steps m.entries
+  pub search-ended : (rest : List Id) (old now : ℕ) → Searching rest old now → now ≤ old + all_steps
   search-ended rest old now so_far = omega (arith, so_far.few)

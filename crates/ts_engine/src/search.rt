@@ -53,8 +53,8 @@ fn is_one_refused<L: Ledger>(
     if !wanted.can_be_refused() {
         return false;
     }
-    for (_key, id) in db.entries() {
-        if is_refused_of(db, *id, filters, wanted, steps) {
+    for id in db.candidates(filters) {
+        if is_refused_of(db, id, filters, wanted, steps) {
             return true;
         }
     }

@@ -3,7 +3,7 @@ use std::alloc::{AllocError, Global};
 use std::sync::ledger::Ledger;
 use ts_bucket::Grid;
 use ts_db::{Db, DbFault};
-use ts_labels::{Labels, Spec};
+use ts_labels::{Change, Labels, Spec};
 use ts_resp::Word;
 use ts_sample::{Steps, Units};
 use ts_spec::{Aggregator, Encoding, Ignore, Options, Policy};
@@ -15,9 +15,14 @@ pub(crate) enum Call {
     Add(u8, u64),
     Incr(u8, u64),
     Delete(u8, u64, u64),
-    // A rule from one key to another, of the last value of each ten milliseconds, is made, or ends.
+    // A sample of so many millionths, in the place of one at its time.
+    Set(u8, u64, i128),
+    // A rule from one key to another, of the last value of each ten milliseconds or of their sum, is made, or ends.
     Make(u8, u8),
+    Sum(u8, u8),
     End(u8, u8),
+    // A key gets chunks of 48 bytes, and one label, with a value of one byte.
+    Alter(u8, u8),
 }
 
 // What a call came to.
@@ -27,12 +32,14 @@ pub(crate) enum Came {
     Number(u64),
     // The number of the series that has as many samples as it may, and whether it is the written one.
     Full(usize, bool),
+    NoMemory,
     OtherFault,
 }
 
 fn fault(fault: DbFault) -> Came {
     match fault {
         DbFault::SamplesFull { id, written } => Came::Full(id.0, written),
+        DbFault::Memory(_) => Came::NoMemory,
         _ => Came::OtherFault,
     }
 }
@@ -64,7 +71,8 @@ fn spec(alloc: Global) -> Spec {
     }
 }
 
-fn word(alloc: Global, key: u8) -> Result<Word, AllocError> {
+// The key of one byte, which takes no memory.
+pub(crate) fn word(alloc: Global, key: u8) -> Result<Word, AllocError> {
     Word::from_slice(alloc, &[key])
 }
 
@@ -90,18 +98,52 @@ pub(crate) fn run<L: Ledger>(
         Call::Delete(key, from, to) if from <= 1000 => {
             Ok(number(db.delete_range(&word(alloc, key)?, from, to, steps)))
         }
-        Call::Make(source, dest) => make_rule(alloc, db, source, dest),
+        Call::Set(key, at, millionths) if at <= 1000 => {
+            let (key, value) = (word(alloc, key)?, Units::new(millionths).unwrap_or(unit));
+            let on = Some(Policy::Last);
+            Ok(number(db.add(key, at, value, on, spec(alloc), steps)))
+        }
+        Call::Make(source, dest) => make_rule(alloc, db, source, dest, Aggregator::Last),
+        Call::Sum(source, dest) => make_rule(alloc, db, source, dest, Aggregator::Sum),
         Call::End(source, dest) => {
             Ok(done(db.delete_rule(&word(alloc, source)?, &word(alloc, dest)?)))
         }
+        Call::Alter(key, value) => alter(alloc, db, key, value, steps),
         _ => Ok(Came::OtherFault),
     }
 }
 
-fn make_rule(alloc: Global, db: &mut Db, source: u8, dest: u8) -> Result<Came, AllocError> {
+fn alter<L: Ledger>(
+    alloc: Global,
+    db: &mut Db,
+    key: u8,
+    value: u8,
+    steps: &mut Steps<L>,
+) -> Result<Came, AllocError> {
+    let mut labels = Labels::new(alloc);
+    if labels.set(word(alloc, b'l')?, word(alloc, value)?).is_err() {
+        return Ok(Came::NoMemory);
+    }
+    let change = Change {
+        retention: None,
+        chunk_size: Some(48),
+        policy: None,
+        ignore: None,
+        labels: Some(labels),
+    };
+    Ok(done(db.alter(&word(alloc, key)?, change, steps)))
+}
+
+fn make_rule(
+    alloc: Global,
+    db: &mut Db,
+    source: u8,
+    dest: u8,
+    agg: Aggregator,
+) -> Result<Came, AllocError> {
     let (source, dest) = (word(alloc, source)?, word(alloc, dest)?);
     let Some(grid) = Grid::new(0, 10) else {
         return Ok(Came::OtherFault);
     };
-    Ok(done(db.create_rule(&source, &dest, Aggregator::Last, grid)))
+    Ok(done(db.create_rule(&source, &dest, agg, grid)))
 }

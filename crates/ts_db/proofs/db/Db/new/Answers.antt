@@ -15,6 +15,6 @@ returns-clause-stands c = record {
 
 pub invariant_of-result : goal.invariant_of-result
 invariant_of-result c = record {
-  store = store-empty c.args.limits c.new.result c.new-2.result.entries c.new.ensures.empty c.new-2.ensures.empty c.requires (omega arith);
+  store = store-empty c.args.limits c.new.result c.new-2.result.entries c.new.ensures c.new-2.ensures.empty c.requires (omega arith);
   stands = record { to = record { limits = c.args.limits; state = empty }; done = tt; stands = returns-clause-stands c };
 }

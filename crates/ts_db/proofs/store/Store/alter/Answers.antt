@@ -19,8 +19,8 @@ returns-then-are_too_many-clause-altered g c =
     let holds : Holds c.args.self.now c.args.key.now c.in-Some.id c.in-Some-get.node.now = record { number = sym (c.in-Some.ensures ∙ c.get.ensures.value); node = sym c.in-Some-get.ensures } in
     (alter-longer c.args.self.now c.requires c.args.key.now c.in-Some.id c.in-Some-get.node.now holds (change_of c.args.change) (sym c.are_too_many.ensures ∙ c.if-are_too_many.true), refl)
 
-pub apply-requires-clause-ready : goal.apply-requires-clause-ready
-apply-requires-clause-ready g c =
+pub relabel-requires-clause-ready : goal.relabel-requires-clause-ready
+relabel-requires-clause-ready g c =
     let fits : IsNode c.args.self.now.limits c.in-Some-get.node.now = c.requires.each c.in-Some.id.0 c.in-Some-get.node.now (sym c.in-Some-get.ensures) in
     record {
       key = c.args.key.now;
@@ -33,12 +33,12 @@ apply-requires-clause-ready g c =
       grids = fits.grids;
     }
 
-pub returns-in-Ok-clause-altered : goal.returns-in-Ok-clause-altered
-returns-in-Ok-clause-altered g c =
+pub returns-in-Ok-relabel-clause-altered : goal.returns-in-Ok-relabel-clause-altered
+returns-in-Ok-relabel-clause-altered g c =
     let holds : Holds c.args.self.now c.args.key.now c.in-Some.id c.in-Some-get.node.now = record { number = sym (c.in-Some.ensures ∙ c.get.ensures.value); node = sym c.in-Some-get.ensures } in (
-      alter-answers c.args.self.now c.requires c.args.key.now c.in-Some.id c.in-Some-get.node.now holds (change_of c.args.change) c.in-Ok.plan (contents_of c.apply.new.self)
-          (sym c.are_too_many.ensures ∙ c.if-are_too_many.false) (alters-is _ c.in-Ok.plan c.in-Ok.ensures.options) (c.apply.ensures.applied c.args.key.now c.in-Some-get.node.now holds),
-      ap (λ (x : Contents). x.limits) (c.apply.ensures.applied c.args.key.now c.in-Some-get.node.now holds),
+      alter-answers c.args.self.now c.requires c.args.key.now c.in-Some.id c.in-Some-get.node.now holds (change_of c.args.change) c.in-Ok.plan (contents_of c.relabel.new.self)
+          (sym c.are_too_many.ensures ∙ c.if-are_too_many.false) (alters-is _ c.in-Ok.plan c.in-Ok.ensures.options) (c.in-Ok-relabel.ensures.applied c.args.key.now c.in-Some-get.node.now holds),
+      ap (λ (x : Contents). x.limits) (c.in-Ok-relabel.ensures.applied c.args.key.now c.in-Some-get.node.now holds),
     )
 
 pub returns-in-Err-clause-altered : goal.returns-in-Err-clause-altered
@@ -46,12 +46,24 @@ returns-in-Err-clause-altered g c =
     let holds : Holds c.args.self.now c.args.key.now c.in-Some.id c.in-Some-get.node.now = record { number = sym (c.in-Some.ensures ∙ c.get.ensures.value); node = sym c.in-Some-get.ensures } in
     (alter-yields c.args.self.now c.requires c.args.key.now c.in-Some.id c.in-Some-get.node.now holds (change_of c.args.change) (sym c.are_too_many.ensures ∙ c.if-are_too_many.false), refl)
 
-pub returns-in-Ok-clause-steps : goal.returns-in-Ok-clause-steps
-returns-in-Ok-clause-steps g c =
+pub returns-in-Ok-relabel-clause-steps : goal.returns-in-Ok-relabel-clause-steps
+returns-in-Ok-relabel-clause-steps g c =
     let holds : Holds c.args.self.now c.args.key.now c.in-Some.id c.in-Some-get.node.now = record { number = sym (c.in-Some.ensures ∙ c.get.ensures.value); node = sym c.in-Some-get.ensures } in
     omega (arith, c.alter.ensures.bounded, reach-held c.args.self.now c.args.key.now c.in-Some.id c.in-Some-get.node.now holds)
 
 pub returns-in-Err-clause-steps : goal.returns-in-Err-clause-steps
 returns-in-Err-clause-steps g c =
+    let holds : Holds c.args.self.now c.args.key.now c.in-Some.id c.in-Some-get.node.now = record { number = sym (c.in-Some.ensures ∙ c.get.ensures.value); node = sym c.in-Some-get.ensures } in
+    omega (arith, c.alter.ensures.bounded, reach-held c.args.self.now c.args.key.now c.in-Some.id c.in-Some-get.node.now holds)
+
+pub returns-in-Err-relabel-clause-altered : goal.returns-in-Err-relabel-clause-altered
+returns-in-Err-relabel-clause-altered g c =
+    let holds : Holds c.args.self.now c.args.key.now c.in-Some.id c.in-Some-get.node.now = record { number = sym (c.in-Some.ensures ∙ c.get.ensures.value); node = sym c.in-Some-get.ensures } in (
+      alter-yields c.args.self.now c.requires c.args.key.now c.in-Some.id c.in-Some-get.node.now holds (change_of c.args.change) (sym c.are_too_many.ensures ∙ c.if-are_too_many.false),
+      ap stock_of c.in-Err-relabel.ensures.unchanged,
+    )
+
+pub returns-in-Err-relabel-clause-steps : goal.returns-in-Err-relabel-clause-steps
+returns-in-Err-relabel-clause-steps g c =
     let holds : Holds c.args.self.now c.args.key.now c.in-Some.id c.in-Some-get.node.now = record { number = sym (c.in-Some.ensures ∙ c.get.ensures.value); node = sym c.in-Some-get.ensures } in
     omega (arith, c.alter.ensures.bounded, reach-held c.args.self.now c.args.key.now c.in-Some.id c.in-Some-get.node.now holds)

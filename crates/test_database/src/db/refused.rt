@@ -1,0 +1,127 @@
+// What stands after a refusal, also one for want of memory: a script for each way in which series are linked.
+use crate::db::again::{Script, Turn, wrong};
+use crate::db::call::{Call, Came};
+use std::marker::Brand;
+use std::sync::ledger::Blank;
+use std::test::Fail;
+
+// A late sample, another value, a deletion of a whole bucket, and a sample in it.
+const MENDED: Script = Script {
+    samples: 100,
+    source: b's',
+    dests: b"d",
+    turns: &[
+        Turn::Makes(Call::Set(b's', 1, 5), Came::Number(1)),
+        Turn::Makes(Call::Set(b's', 2, 6), Came::Number(2)),
+        Turn::Makes(Call::Set(b's', 11, 1), Came::Number(11)),
+        Turn::Shows(b'd', &[(0, 11)]),
+        Turn::Makes(Call::Set(b's', 3, 4), Came::Number(3)),
+        Turn::Shows(b'd', &[(0, 15)]),
+        Turn::Makes(Call::Set(b's', 2, 1), Came::Number(2)),
+        Turn::Shows(b'd', &[(0, 10)]),
+        Turn::Makes(Call::Delete(b's', 1, 3), Came::Number(3)),
+        Turn::Shows(b'd', &[]),
+        Turn::Makes(Call::Set(b's', 9, 7), Came::Number(9)),
+        Turn::Shows(b'd', &[(0, 7)]),
+    ],
+};
+
+// A series is full, and then a destination.
+const FULL: Script = Script {
+    samples: 3,
+    source: b's',
+    dests: b"d",
+    turns: &[
+        Turn::Makes(Call::Set(b'a', 1, 1), Came::Number(1)),
+        Turn::Makes(Call::Set(b'a', 2, 1), Came::Number(2)),
+        Turn::Makes(Call::Set(b'a', 3, 1), Came::Number(3)),
+        Turn::Makes(Call::Set(b'a', 4, 1), Came::Full(2, true)),
+        Turn::Makes(Call::Set(b'a', 3, 9), Came::Number(3)),
+        Turn::Makes(Call::Set(b'd', 100, 1), Came::Number(100)),
+        Turn::Makes(Call::Set(b'd', 200, 1), Came::Number(200)),
+        Turn::Makes(Call::Set(b'd', 300, 1), Came::Number(300)),
+        Turn::Makes(Call::Set(b's', 1, 1), Came::Number(1)),
+        Turn::Makes(Call::Set(b's', 11, 1), Came::Full(1, false)),
+        Turn::Shows(b's', &[(1, 1)]),
+    ],
+};
+
+// Of sixteen destinations the last one is full.
+const SIXTEEN: Script = Script {
+    samples: 3,
+    source: b's',
+    dests: b"abcdefghijklmnop",
+    turns: &[
+        Turn::Makes(Call::Set(b'p', 100, 1), Came::Number(100)),
+        Turn::Makes(Call::Set(b'p', 200, 1), Came::Number(200)),
+        Turn::Makes(Call::Set(b'p', 300, 1), Came::Number(300)),
+        Turn::Makes(Call::Set(b's', 1, 1), Came::Number(1)),
+        Turn::Makes(Call::Set(b's', 11, 1), Came::Full(16, false)),
+        Turn::Shows(b'a', &[]),
+        Turn::Shows(b's', &[(1, 1)]),
+        Turn::Makes(Call::Delete(b'p', 300, 300), Came::Number(1)),
+        Turn::Makes(Call::Set(b's', 11, 1), Came::Number(11)),
+        Turn::Shows(b'a', &[(0, 1)]),
+        Turn::Shows(b'b', &[(0, 1)]),
+        Turn::Shows(b'c', &[(0, 1)]),
+        Turn::Shows(b'd', &[(0, 1)]),
+        Turn::Shows(b'e', &[(0, 1)]),
+        Turn::Shows(b'f', &[(0, 1)]),
+        Turn::Shows(b'g', &[(0, 1)]),
+        Turn::Shows(b'h', &[(0, 1)]),
+        Turn::Shows(b'i', &[(0, 1)]),
+        Turn::Shows(b'j', &[(0, 1)]),
+        Turn::Shows(b'k', &[(0, 1)]),
+        Turn::Shows(b'l', &[(0, 1)]),
+        Turn::Shows(b'm', &[(0, 1)]),
+        Turn::Shows(b'n', &[(0, 1)]),
+        Turn::Shows(b'o', &[(0, 1)]),
+        Turn::Shows(b'p', &[(0, 1), (100, 1), (200, 1)]),
+    ],
+};
+
+// The other calls that change something, one after another.
+const OTHERS: Script = Script {
+    samples: 100,
+    source: b's',
+    dests: b"de",
+    turns: &[
+        Turn::Makes(Call::Alter(b's', b'x'), Came::Done),
+        Turn::Makes(Call::Incr(b's', 1), Came::Number(1)),
+        Turn::Makes(Call::Incr(b's', 5), Came::Number(5)),
+        Turn::Makes(Call::Incr(b's', 12), Came::Number(12)),
+        Turn::Makes(Call::Alter(b's', b'y'), Came::Done),
+        Turn::Makes(Call::Incr(b'n', 7), Came::Number(7)),
+        Turn::Makes(Call::Put(b's', 3), Came::Number(3)),
+        Turn::Makes(Call::End(b's', b'd'), Came::Done),
+        Turn::Makes(Call::Delete(b's', 3, 12), Came::Number(3)),
+        Turn::Shows(b's', &[(1, 1)]),
+        Turn::Shows(b'd', &[(0, 4)]),
+        Turn::Shows(b'e', &[(0, 1)]),
+        Turn::Shows(b'n', &[(7, 1)]),
+    ],
+};
+
+#[test]
+fn a_late_sample_and_a_deletion(rt: HostRuntime) -> Result<(), Fail> {
+    assert_eq!(rt; wrong::<Brand>(rt.alloc(), Blank::new(1), &MENDED)?, None);
+    Ok(())
+}
+
+#[test]
+fn a_series_is_full_and_then_a_destination(rt: HostRuntime) -> Result<(), Fail> {
+    assert_eq!(rt; wrong::<Brand>(rt.alloc(), Blank::new(1), &FULL)?, None);
+    Ok(())
+}
+
+#[test]
+fn all_destinations_or_none(rt: HostRuntime) -> Result<(), Fail> {
+    assert_eq!(rt; wrong::<Brand>(rt.alloc(), Blank::new(1), &SIXTEEN)?, None);
+    Ok(())
+}
+
+#[test]
+fn the_other_calls(rt: HostRuntime) -> Result<(), Fail> {
+    assert_eq!(rt; wrong::<Brand>(rt.alloc(), Blank::new(1), &OTHERS)?, None);
+    Ok(())
+}

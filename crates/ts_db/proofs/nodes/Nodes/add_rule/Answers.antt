@@ -1,0 +1,7 @@
+use Rattle.ts_db.proofs.Indexing.{turned}
+use Rattle.ts_db.proofs.nodes.Nodes.add_rule.Goals as goal
+
+pub returns : goal.returns
+returns c =
+    turned c.self.inside.slab c.args.self.now c.args.id c.in-Some.node.now c.add_rule.new.self c.self.view_is c.in-Some.ensures.value
+    (record { added = c.add_rule.ensures.added; kept = c.add_rule.ensures.kept; unchanged = c.add_rule.ensures.unchanged })

@@ -1,0 +1,22 @@
+use Rattle.std.proofs.Common.{◌≡◌, List, sym, ◌∙◌, ap, subst}
+use Rattle.std.specs.Prelude.{None, Some}
+use Rattle.std.specs.Option.{unwrap_or}
+use Rattle.ts_spec.specs.State.{Label}
+use Rattle.ts_spec.proofs.Tidy.{some-same}
+use Rattle.ts_index.specs.Index.{Gives}
+use Rattle.ts_db.specs.declared.node.Node.{Node}
+use Rattle.ts_db.proofs.Indexing.{turned, is-after, indexed-altered}
+use Rattle.ts_db.proofs.nodes.Nodes.alter.Goals as goal
+
+pub invariant_of-self-2 : goal.invariant_of-self-2
+invariant_of-self-2 c =
+    let one : c.in-Some.node.now ≡ c.in-Some-get_mut.node.now = some-same c.in-Some.node.now c.in-Some-get_mut.node.now (c.in-Some.ensures ∙ sym c.in-Some-get_mut.ensures.value) in
+    let labels : unwrap_or c.args.labels c.in-Some.node.now.labels ≡ c.change.new.self.labels =
+    ap (λ (n : Node). unwrap_or c.args.labels n.labels) one ∙ sym (ap (λ (n : Node). n.labels) c.change.ensures) in
+    indexed-altered c.self.inside.slab c.self.inside.index c.take_up.new.index c.args.id c.in-Some-get_mut.node.now c.change.new.self (sym c.in-Some-get_mut.ensures.value)
+    (subst (λ (ls : List Label). Gives c.args.id (Some ls) c.self.inside.index c.take_up.new.index) labels c.in_ok-take_up.ensures.ok) c.self.invariant
+
+pub returns-clause-altered : goal.returns-clause-altered
+returns-clause-altered c =
+    turned c.self.inside.slab c.args.self.now c.args.id c.in-Some-get_mut.node.now c.change.new.self c.self.view_is c.in-Some-get_mut.ensures.value
+    (is-after c.args.plan c.args.labels None c.in-Some-get_mut.node.now c.change.new.self c.commit.new.self c.commit.ensures.kept c.commit.ensures.done c.change.ensures)

@@ -1,0 +1,134 @@
+// Changes of the node of one number. None but `alter` touches its labels.
+ghost use Rattle.std.specs.Prelude.{◌≡◌, ◌<◌, ◌-◌, ◌^◌, ◌==◌, [], not, filter, None, Some, IfOk, OnOk, OnErr};
+ghost use Rattle.std.specs.Option.{unwrap_or};
+ghost use Rattle.slab.specs.Slab as slab;
+ghost use Rattle.ts_index.specs.Index.{Gives, labels_of};
+ghost use Rattle.ts_series.specs.Plan.{IsFor};
+ghost use Rattle.ts_db.specs.declared.node.Node.{Node as TheNode};
+ghost use Rattle.ts_db.specs.Growing.{HaveRoom};
+ghost use Rattle.ts_db.specs.Linking.{HasRules};
+ghost use Rattle.ts_db.specs.Turned.{HasSuch, IsTurned, IsAfter, IsGrown, TakesRule};
+
+use crate::growing::count_in_all;
+use crate::nodes::Nodes;
+use std::alloc::{AllocError, Global};
+use ts_bucket::Grid;
+use ts_index::Index;
+use ts_labels::Labels;
+use ts_rules::Rule;
+use ts_sample::{Id, Sample};
+use ts_series::{Append, SeriesPlan};
+use ts_spec::Aggregator;
+
+impl Nodes {
+    // Does what was planned for a series, and puts these rules in place of its own, where they are given.
+    pub(crate) fn apply(&mut self, id: Id, plan: SeriesPlan, rules: Option<Vec<Rule>>)
+        requires { HasSuch self.old id (λ n. IsFor plan n.series) }
+        ensures { IsTurned self.old self.new id (IsAfter plan None rules) }
+    {
+        let Some(node) = self.slab.get_mut(id.0) else {
+            unreachable!();
+        };
+        node.series.commit(plan);
+        node.change(None, rules);
+    }
+
+    // Puts these labels in place of those of a series, where they are given, and does what was planned for it.
+    // Where there is no memory nothing has changed.
+    pub(crate) fn alter(
+        &mut self,
+        id: Id,
+        plan: SeriesPlan,
+        labels: Option<Labels>,
+    ) -> Result<(), AllocError>
+        requires { HasSuch self.old id (λ n. IsFor plan n.series) }
+        ensures altered { IfOk result (λ _. IsTurned self.old self.new id (IsAfter plan labels None)) }
+        ensures unchanged { OnErr result (self.new ≡ self.old) }
+    {
+        let Some(node) = self.slab.get(id.0) else {
+            unreachable!();
+        };
+        take_up(&mut self.index, id, &node.labels, &labels)?;
+        let Some(node) = self.slab.get_mut(id.0) else {
+            unreachable!();
+        };
+        node.series.commit(plan);
+        node.change(labels, None);
+        Ok(())
+    }
+
+    // Appends to a series what was planned, and counts the sample in the open bucket of each of its rules.
+    pub(crate) fn grow(&mut self, id: Id, plan: Append, wrote: &Sample)
+        requires ready { HasSuch self.old id (λ n. IsFor plan n.series) }
+        requires room { (n : TheNode) → slab.get self.old id.0 ≡ Some n → HaveRoom n.rules.items }
+        ensures { IsTurned self.old self.new id (IsGrown plan wrote.now) }
+    {
+        let Some(node) = self.slab.get_mut(id.0) else {
+            unreachable!();
+        };
+        node.series.commit_append(plan);
+        count_in_all(&mut node.rules, wrote);
+    }
+
+    // Adds a rule to those of a series. It alone takes memory.
+    pub(crate) fn add_rule(
+        &mut self,
+        id: Id,
+        dest: Id,
+        agg: Aggregator,
+        grid: Grid,
+    ) -> Result<(), AllocError>
+        requires { HasSuch self.old id (λ n. n.series.born < 2 ^ 32 - 1) }
+        ensures { IsTurned self.old self.new id (TakesRule dest agg grid result) }
+    {
+        let Some(node) = self.slab.get_mut(id.0) else {
+            unreachable!();
+        };
+        node.add_rule(dest, agg, grid)
+    }
+
+    // Ends the rule from a series to another.
+    pub(crate) fn remove_rule(&mut self, id: Id, dest: Id)
+        requires { slab.ContainsKey self.old id.0 }
+        ensures { IsTurned self.old self.new id (λ n m. HasRules (filter (λ r. not (r.dest.0 == dest.0)) n.rules.items) n m) }
+    {
+        let Some(node) = self.slab.get_mut(id.0) else {
+            unreachable!();
+        };
+        node.remove_rule(dest);
+    }
+
+    // Takes its rules from a series.
+    pub(crate) fn take_rules(&mut self, id: Id, alloc: Global) -> Vec<Rule>
+        requires { slab.ContainsKey self.old id.0 }
+        ensures { IsTurned self.old self.new id (λ n m. (result.items ≡ n.rules.items) × HasRules [] n m) }
+    {
+        let Some(node) = self.slab.get_mut(id.0) else {
+            unreachable!();
+        };
+        node.take_rules(alloc)
+    }
+
+    // Gives a series this source, or none.
+    pub(crate) fn set_source(&mut self, id: Id, source: Option<Id>)
+        requires { slab.ContainsKey self.old id.0 }
+        ensures { IsTurned self.old self.new id (λ n m. m ≡ record n { source = source }) }
+    {
+        let Some(node) = self.slab.get_mut(id.0) else {
+            unreachable!();
+        };
+        node.source = source;
+    }
+}
+
+// Gives a number these labels in the place of those that it has, where they are given.
+fn take_up(index: &mut Index, id: Id, old: &Labels, new: &Option<Labels>) -> Result<(), AllocError>
+    requires { labels_of id.0 index.old ≡ Some old.now }
+    ensures ok { OnOk result (Gives id (Some (unwrap_or new.now old.now)) index.old index.new) }
+    ensures err { OnErr result (index.new ≡ index.old) }
+{
+    match new {
+        Some(new) => index.replace(id, old, new),
+        None => Ok(()),
+    }
+}
