@@ -1,9 +1,16 @@
+pub mod Apart
 pub mod CaptureLemmas
 pub mod CapturesAtWork
+pub mod Closing
+pub mod Closings
 pub mod Concatenation
+pub mod Delivery
 pub mod FramingLemmas
 pub mod FramesReadBack
+pub mod MuxLemmas
 pub mod OneConnection
 pub mod OrderAtWork
 pub mod OrderLemmas
+pub mod Readers
 pub mod Streams
+pub mod Unsent

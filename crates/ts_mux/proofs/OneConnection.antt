@@ -73,7 +73,7 @@ until_end-append closes (event ∷ front) back = ap (λ events. event ∷ events
     go true h = refl
     go false h = h
 
-none_new : (connection : Connection) → news_of connection [] [] ≡ []
+pub none_new : (connection : Connection) → news_of connection [] [] ≡ []
 none_new None = refl
 none_new (Some stream) = ap (drop (length (events_of (stream [])))) (sym (append-nil (events_of (stream [])))) ∙ drop_front (events_of (stream [])) []
 

@@ -1,5 +1,8 @@
 pub mod Capture
 pub mod Framing
 pub mod Fronts
+pub mod Links
+pub mod Muxing
 pub mod NextFrames
 pub mod Order
+pub mod Turns

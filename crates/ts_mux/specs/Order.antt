@@ -110,3 +110,8 @@ joined (byte ∷ bytes) rest = byte ∷ bytes ++ rest
 abbrev pub stream : ℕ → List Frame → List ℕ
 stream link [] = []
 stream link (frame ∷ frames) = if frame.link == link then joined frame.bytes (stream link frames) else stream link frames
+
+-- items of which each that closes its connection takes away what comes of that connection later
+abbrev pub closing : (Request → Bool) → List Item → List Item
+closing closes [] = []
+closing closes (item ∷ items) = item ∷ (if ends closes item.event then without item.link (closing closes items) else closing closes items)

@@ -7,7 +7,7 @@ ghost use Rattle.ts_mux.specs.declared.frame.Frame.{Frame};
 ghost use Rattle.ts_mux.specs.Capture.{Ended, capture, frames_of, ending_of, all_framed};
 ghost use Rattle.ts_mux.specs.Framing.{IsFrame};
 ghost use Rattle.ts_mux.specs.Fronts.{IsFront, then_on};
-ghost use Rattle.ts_mux.specs.Order.{events_of, until_end, items_of, items_at, without, frames_without, stream, order};
+ghost use Rattle.ts_mux.specs.Order.{Item, events_of, until_end, items_of, items_at, without, frames_without, stream, order, open_order, closing};
 
 use ts_spec::WireLimits;
 
@@ -42,4 +42,12 @@ pub fn each_connection_has_its_own_requests(limits: WireLimits)
 pub fn connections_stand_apart(limits: WireLimits)
     ensures { (link : ℕ) (frames : List Frame)
         → order limits (frames_without link frames) ≡ without link (order limits frames) }
+{}
+
+/// A law: where a QUIT closes nothing, the items of some frames become their order once each QUIT and each fault takes away
+/// what comes of its connection later. To take away all of another connection first changes nothing of it.
+pub fn closings_make_the_order(limits: WireLimits)
+    ensures order { (frames : List Frame) → closing is_quit (open_order limits frames) ≡ order limits frames }
+    ensures close { (link : ℕ) (items : List Item)
+        → closing is_quit (without link items) ≡ without link (closing is_quit items) }
 {}

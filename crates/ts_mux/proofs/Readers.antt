@@ -1,0 +1,90 @@
+-- The readers of a Mux, where one is put back to the others, or taken out of them.
+use Rattle.std.proofs.Common.{◌≡◌, ℕ, Bool, true, false, ◌≤◌, ◌==◌, if◌then◌else◌, List, [], ◌∷◌, ◌++◌, length, drop, get_or, Option, Some, None, refl, sym, ap, ◌∙◌, subst, append-nil}
+use Rattle.std.proofs.lemmas.Bool.{eqb-true}
+use Rattle.std.specs.Ordering.{nat_cmp}
+use Rattle.std.specs.BTreeMap.{BTreeMap, get, Updates}
+use Rattle.ts_spec.specs.declared.wire.WireLimits.{WireLimits}
+use Rattle.ts_spec.specs.Wire.{Start, stream_at}
+use Rattle.ts_spec.proofs.Streams.{read_on-nil}
+use Rattle.ts_resp.specs.Reading.{Reading, stream_of, fed}
+use Rattle.ts_mux.specs.declared.frame.Frame.{Frame}
+use Rattle.ts_mux.specs.declared.hand.Hand.{Hand}
+use Rattle.ts_mux.specs.Order.{Event, Item, events_of, news, news_of, items_of, items_from, closes_none}
+use Rattle.ts_mux.specs.Links.{stream_or, reader_or, connections, left_of, ahead_of, events_in, fed_in, AreAsked, AreWithin}
+use Rattle.ts_mux.proofs.Apart.{apart-sym, other_key}
+use Rattle.ts_mux.proofs.OrderLemmas.{Alike, items-alike}
+
+abbrev IsCons : List Item → Type 0
+IsCons [] = ⊥
+IsCons (item ∷ items) = Unit {0}
+
+no_events : (link : ℕ) (events : List Event) → items_of link events ≡ [] → events ≡ []
+no_events link [] e = refl
+no_events link (event ∷ events) e = absurd (subst IsCons e tt)
+
+-- where nothing is ahead, nothing is left of the reader at hand
+pub nothing_left : (hand : Option Hand) (held : Hand) → hand ≡ Some held → left_of hand ++ [] ≡ [] → events_of (stream_of held.reader []) ≡ []
+nothing_left hand held e none =
+    no_events held.link (events_of (stream_of held.reader [])) (ap left_of (sym e) ∙ sym (append-nil (left_of hand)) ∙ none)
+
+-- ---- a reader that is put back
+
+module _ (readers rest : BTreeMap ℕ Reading) (held : Hand) (updates : Updates nat_cmp readers rest held.link (Some held.reader)) where
+  pub put_asked : events_of (stream_of held.reader []) ≡ [] → AreAsked readers → AreAsked rest
+  put_asked none all = λ at. go at (at == held.link) refl
+    where
+      go : (at : ℕ) (test : Bool) → (at == held.link) ≡ test → events_in (get nat_cmp rest at) ≡ []
+      go at true same = ap (λ to. events_in (get nat_cmp rest to)) (eqb-true at held.link same) ∙ ap events_in updates.1 ∙ none
+      go at false apart = ap events_in (updates.2 at (other_key held.link at apart)) ∙ all at
+
+  pub put_within : (most : ℕ) → fed held.reader ≤ most → AreWithin most readers → AreWithin most rest
+  put_within most within all = λ at. go at (at == held.link) refl
+    where
+      go : (at : ℕ) (test : Bool) → (at == held.link) ≡ test → fed_in (get nat_cmp rest at) ≤ most
+      go at true same = subst (λ reader. fed_in reader ≤ most) (sym (ap (λ to. get nat_cmp rest to) (eqb-true at held.link same) ∙ updates.1)) within
+      go at false apart = subst (λ reader. fed_in reader ≤ most) (sym (updates.2 at (other_key held.link at apart))) (all at)
+
+  pub ahead_put : (limits : WireLimits) (closed : List Bool) → events_of (stream_of held.reader []) ≡ [] → (frames : List Frame)
+      → ahead_of limits closed rest None frames ≡ ahead_of limits closed readers (Some held) frames
+  ahead_put limits closed none frames =
+      items-alike closes_none (connections limits closed rest None) (connections limits closed readers (Some held)) frames
+      (λ at before bytes. ap (λ reader. news_of (if get_or closed at true then None else Some (stream_or limits reader)) before bytes) (go at (held.link == at) refl))
+      ∙ ap (λ events. items_of held.link events ++ items_from closes_none (connections limits closed readers (Some held)) frames) (sym none)
+    where
+      go : (at : ℕ) (test : Bool) → (held.link == at) ≡ test → get nat_cmp rest at ≡ reader_or (if test then Some held.reader else None) (get nat_cmp readers at)
+      go at true same = ap (λ to. get nat_cmp rest to) (sym (eqb-true held.link at same)) ∙ updates.1
+      go at false apart = updates.2 at (other_key held.link at (apart-sym held.link at apart))
+
+-- ---- a reader that is taken out
+
+module _ (readers rest : BTreeMap ℕ Reading) (link : ℕ) (updates : Updates nat_cmp readers rest link None) (limits : WireLimits) (closed : List Bool) where
+  pub ahead_taken : (reader : Reading) → get nat_cmp readers link ≡ Some reader → AreAsked readers → (frames : List Frame)
+      → ahead_of limits closed rest (Some (record { link = link; reader = reader })) frames ≡ ahead_of limits closed readers None frames
+  ahead_taken reader there all frames =
+      ap (λ events. items_of link events ++ items_from closes_none (connections limits closed rest (Some (record { link = link; reader = reader }))) frames) (ap events_in (sym there) ∙ all link)
+      ∙ items-alike closes_none (connections limits closed rest (Some (record { link = link; reader = reader }))) (connections limits closed readers None) frames
+      (λ at before bytes. ap (λ reader. news_of (if get_or closed at true then None else Some (stream_or limits reader)) before bytes) (go at (link == at) refl))
+    where
+      go : (at : ℕ) (test : Bool) → (link == at) ≡ test → reader_or (if test then Some reader else None) (get nat_cmp rest at) ≡ get nat_cmp readers at
+      go at true same = sym there ∙ ap (λ to. get nat_cmp readers to) (eqb-true link at same)
+      go at false apart = updates.2 at (other_key link at (apart-sym link at apart))
+
+  pub ahead_made : (reader : Reading) → get nat_cmp readers link ≡ None → ((more : List ℕ) → stream_of reader more ≡ stream_at limits 0 more) → (frames : List Frame)
+      → ahead_of limits closed rest (Some (record { link = link; reader = reader })) frames ≡ ahead_of limits closed readers None frames
+  ahead_made reader there fresh frames =
+      ap (λ stream. items_of link (events_of stream) ++ items_from closes_none (connections limits closed rest (Some (record { link = link; reader = reader }))) frames)
+      (fresh [] ∙ read_on-nil limits 0 0 Start)
+      ∙ items-alike closes_none (connections limits closed rest (Some (record { link = link; reader = reader }))) (connections limits closed readers None) frames
+      (λ at. go at (get_or closed at true) (link == at) refl)
+    where
+      same : (before bytes : List ℕ) → news (stream_of reader) before bytes ≡ news (stream_at limits 0) before bytes
+      same before bytes =
+          ap (λ stream. drop (length (events_of stream)) (events_of (stream_of reader (before ++ bytes)))) (fresh before)
+          ∙ ap (λ stream. drop (length (events_of (stream_at limits 0 before))) (events_of stream)) (fresh (before ++ bytes))
+
+      go : (at : ℕ) (gone test : Bool) → (link == at) ≡ test
+          → Alike (if gone then None else Some (stream_or limits (reader_or (if test then Some reader else None) (get nat_cmp rest at))))
+          (if gone then None else Some (stream_or limits (get nat_cmp readers at)))
+      go at true test e = λ before bytes. refl
+      go at false true e = λ before bytes. same before bytes ∙ ap (λ reader. news (stream_or limits reader) before bytes) (sym there ∙ ap (λ to. get nat_cmp readers to) (eqb-true link at e))
+      go at false false e = λ before bytes. ap (λ reader. news (stream_or limits reader) before bytes) (updates.2 at (other_key link at (apart-sym link at e)))

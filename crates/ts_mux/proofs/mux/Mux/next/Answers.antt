@@ -1,0 +1,9 @@
+use Rattle.std.proofs.Common.{[], refl}
+use Rattle.ts_mux.proofs.MuxLemmas.{shorter}
+use Rattle.ts_mux.proofs.mux.Mux.next.Goals as goal
+
+pub returns-in-Request-clause-progress : goal.returns-in-Request-clause-progress
+returns-in-Request-clause-progress c = shorter _ _ _ _ (c.in-Request.ensures.gives []) refl
+
+pub returns-in-Fault-clause-progress : goal.returns-in-Fault-clause-progress
+returns-in-Fault-clause-progress c = shorter _ _ _ _ (c.in-Fault.ensures.gives []) (c.close.ensures.others [])

@@ -1,0 +1,31 @@
+// The connection whose frame was delivered last.
+ghost use Rattle.std.specs.Prelude.{◌≡◌, ◌≢◌, []};
+ghost use Rattle.ts_resp.specs.Reading.{fed};
+ghost use Rattle.ts_mux.specs.Turns.{IfRequest, SaysOf};
+
+use crate::Turn;
+use ts_resp::{Next, Reader};
+
+// The connection at hand.
+#[derive(Drop)]
+pub(crate) struct Hand {
+    pub(crate) link: u32,
+    pub(crate) reader: Reader,
+}
+
+impl Hand {
+    // The next request or fault of its reader.
+    pub(crate) fn next(&mut self) -> Turn
+        ensures says { SaysOf result self.old.link self.old.reader self.new.reader }
+        ensures words { IfRequest result (λ words. words ≢ []) }
+        ensures link { self.new.link ≡ self.old.link }
+        ensures fed { fed self.new.reader ≡ fed self.old.reader }
+    {
+        match self.reader.next() {
+            Next::Request(words) => Turn::Request(self.link, words),
+            Next::NotYet => Turn::NotYet,
+            Next::Broken(protocol) => Turn::Fault(self.link, protocol),
+            Next::Memory => Turn::Memory,
+        }
+    }
+}

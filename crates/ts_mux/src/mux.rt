@@ -1,0 +1,156 @@
+// The requests of interleaved connections, in the order in which they come.
+ghost use Rattle.std.specs.Prelude.{◌≡◌, ◌≢◌, ℕ, ◌+◌, ◌^◌, ◌<◌, ◌≤◌, true, false, List, [], ◌∷◌, get_or, length, All, OnOk, OnErr};
+ghost use Rattle.ts_mux.specs.declared.frame.Frame.{Frame};
+ghost use Rattle.ts_mux.specs.Capture.{MOST_LINKS};
+ghost use Rattle.ts_mux.specs.Links.{AreAsked, AreWithin, Marks, hand_fed, hand_without};
+
+use crate::hand::Hand;
+use crate::{Frame, Turn};
+use std::alloc::{AllocError, Global};
+use std::collections::BTreeMap;
+use ts_resp::Reader;
+use ts_spec::WireLimits;
+
+mod delivery;
+
+// The numbers of connections, and 0.
+const LINKS: usize = 4097;
+
+/// Gives the requests of interleaved connections in the order in which they come.
+#[derive(Drop)]
+pub struct Mux {
+    alloc: Global,
+    limits: WireLimits,
+    // which connections are closed, by their numbers
+    closed: [bool; LINKS],
+    // the open connections that have sent bytes, but for the one at hand
+    readers: BTreeMap<u32, Reader>,
+    hand: Option<Hand>,
+    // how many bytes were delivered
+    delivered: u64,
+    ghost words: { 1 ≤ limits.words },
+    ghost word_bytes: { 1 ≤ limits.word_bytes },
+    ghost request_bytes: { 1 ≤ limits.request_bytes },
+    ghost line_bytes: { 1 ≤ limits.line_bytes },
+    ghost asked: { AreAsked readers },
+    ghost within: { AreWithin delivered readers },
+    ghost hand_within: { hand_fed hand ≤ delivered },
+}
+
+impl Mux {
+    ghost use Rattle.ts_mux.specs.Framing.{IsFrame};
+    ghost use Rattle.ts_mux.specs.Order.{open_order, without};
+    ghost use Rattle.ts_mux.specs.Muxing.{ahead, delivered_to};
+    ghost use Rattle.ts_mux.specs.Turns.{IfItem, IfRequest, UnlessItem, OnNotYet, Gives};
+
+    /// A Mux to which no frame was delivered. Takes no memory.
+    pub fn new(alloc: Global, limits: WireLimits) -> Mux
+        requires words { 1 ≤ limits.words }
+        requires word_bytes { 1 ≤ limits.word_bytes }
+        requires request_bytes { 1 ≤ limits.request_bytes }
+        requires line_bytes { 1 ≤ limits.line_bytes }
+        ensures order { (frames : List Frame) → All IsFrame frames → ahead result frames ≡ open_order limits frames }
+        ensures delivered { delivered_to result ≡ 0 }
+    {
+        Mux {
+            alloc,
+            limits,
+            closed: all_open(),
+            readers: BTreeMap::new(alloc),
+            hand: None,
+            delivered: 0,
+        }
+    }
+
+    /// Delivers a frame. A frame without bytes closes its connection, and one of a closed connection is passed over.
+    pub fn deliver(&mut self, frame: Frame) -> Result<(), AllocError>
+        requires asked { ahead self.old [] ≡ [] }
+        requires bound { delivered_to self.old + length frame.bytes < 2 ^ 64 }
+        ensures ok { OnOk result ((frames : List Frame) → ahead self.new frames ≡ ahead self.old (frame ∷ frames)) }
+        ensures delivered { OnOk result (delivered_to self.new ≡ delivered_to self.old + length frame.bytes) }
+        ensures err { OnErr result ((frames : List Frame) → ahead self.new frames ≡ ahead self.old frames) }
+        ensures err_delivered { OnErr result (delivered_to self.new ≡ delivered_to self.old) }
+    {
+        let bytes = frame.bytes.bytes();
+        if bytes.is_empty() {
+            self.close(frame.link);
+            return Ok(());
+        }
+        if self.is_closed(frame.link) {
+            self.delivered += bytes.len() as u64;
+            return Ok(());
+        }
+        self.feed(frame.link, bytes)
+    }
+
+    /// The next request or fault of the frames delivered so far. A fault closes its connection, a request closes none.
+    pub fn next(&mut self) -> Turn
+        ensures item { IfItem result (λ item. (frames : List Frame) → ahead self.old frames ≡ item ∷ ahead self.new frames) }
+        ensures words { IfRequest result (λ words. words ≢ []) }
+        ensures progress { IfItem result (λ _. length (ahead self.new []) < length (ahead self.old [])) }
+        ensures same { UnlessItem result ((frames : List Frame) → ahead self.new frames ≡ ahead self.old frames) }
+        ensures not_yet { OnNotYet result (ahead self.new [] ≡ []) }
+        ensures delivered { delivered_to self.new ≡ delivered_to self.old }
+    {
+        match self.ask() {
+            Turn::Request(link, words) => Turn::Request(link, words),
+            Turn::Fault(link, protocol) => {
+                self.close(link);
+                Turn::Fault(link, protocol)
+            }
+            Turn::NotYet => Turn::NotYet,
+            Turn::Memory => Turn::Memory,
+        }
+    }
+
+    // The same, but that a fault closes nothing.
+    fn ask(&mut self) -> Turn
+        ensures words { IfRequest result (λ words. words ≢ []) }
+        ensures gives { Gives result (ahead self.old) (ahead self.new) }
+        ensures delivered { delivered_to self.new ≡ delivered_to self.old }
+    {
+        match &mut self.hand {
+            None => Turn::NotYet,
+            Some(hand) => hand.next(),
+        }
+    }
+
+    /// Closes a connection, with what is left of it. Takes no memory.
+    pub fn close(&mut self, link: u32)
+        ensures others { (frames : List Frame) → ahead self.new frames ≡ without link (ahead self.old frames) }
+        ensures delivered { delivered_to self.new ≡ delivered_to self.old }
+    {
+        mark(&mut self.closed, link);
+        self.readers.remove(&link);
+        let_go(&mut self.hand, link);
+    }
+}
+
+// Each connection is open.
+fn all_open() -> [bool; LINKS]
+    ensures { (link : ℕ) → link ≤ MOST_LINKS → get_or result link true ≡ false }
+{
+    [false; LINKS]
+}
+
+// Marks a connection as closed.
+fn mark(closed: &mut [bool; LINKS], link: u32)
+    ensures { Marks link closed.old closed.new }
+{
+    let link = link as usize;
+    if link >= LINKS {
+        return;
+    }
+    closed[link] = true;
+}
+
+// Drops the connection at hand, if it is this one.
+fn let_go(hand: &mut Option<Hand>, link: u32)
+    ensures { hand.new ≡ hand_without link hand.old }
+{
+    if let Some(at) = hand
+        && at.link == link
+    {
+        *hand = None;
+    }
+}

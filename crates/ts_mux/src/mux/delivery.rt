@@ -1,0 +1,79 @@
+// Bytes for an open connection, whose reader is then at hand.
+ghost use Rattle.std.specs.Prelude.{◌≡◌, ◌+◌, ◌^◌, ◌<◌, ◌≤◌, true, false, List, [], ◌∷◌, get_or, length, Some, None, OnOk, OnErr};
+ghost use Rattle.ts_resp.specs.Reading.{fed};
+ghost use Rattle.ts_mux.specs.declared.frame.Frame.{Frame};
+ghost use Rattle.ts_mux.specs.Links.{ahead_of};
+ghost use Rattle.ts_mux.specs.Muxing.{ahead, delivered_to};
+
+use super::{LINKS, Mux};
+use crate::hand::Hand;
+use std::alloc::AllocError;
+use ts_resp::Reader;
+
+impl Mux {
+    // Whether the connection is closed.
+    pub(super) fn is_closed(&self, link: u32) -> bool
+        ensures { result ≡ get_or self.now.closed link true }
+    {
+        let link = link as usize;
+        link >= LINKS || self.closed[link]
+    }
+
+    // Delivers bytes to an open connection, which is then at hand.
+    pub(super) fn feed(&mut self, link: u32, bytes: &[u8]) -> Result<(), AllocError>
+        requires asked { ahead self.old [] ≡ [] }
+        requires some { 0 < length bytes.now }
+        requires open { get_or self.old.closed link true ≡ false }
+        requires bound { delivered_to self.old + length bytes.now < 2 ^ 64 }
+        ensures ok { OnOk result ((frames : List Frame)
+            → ahead self.new frames ≡ ahead self.old (record { link = link; bytes = bytes.now } ∷ frames)) }
+        ensures delivered { OnOk result (delivered_to self.new ≡ delivered_to self.old + length bytes.now) }
+        ensures err { OnErr result ((frames : List Frame) → ahead self.new frames ≡ ahead self.old frames) }
+        ensures err_delivered { OnErr result (delivered_to self.new ≡ delivered_to self.old) }
+    {
+        self.put_back()?;
+        let mut reader = self.take_out(link);
+        let fed = reader.feed(bytes);
+        self.hand = Some(Hand { link, reader });
+        fed?;
+        self.delivered += bytes.len() as u64;
+        Ok(())
+    }
+
+    // Puts the reader at hand back to the others. After an Err it is still at hand.
+    fn put_back(&mut self) -> Result<(), AllocError>
+        requires asked { ahead self.old [] ≡ [] }
+        ensures same { (frames : List Frame) → ahead self.new frames ≡ ahead self.old frames }
+        ensures hand { OnOk result (self.new.hand ≡ None) }
+        ensures closed { self.new.closed ≡ self.old.closed }
+        ensures delivered { delivered_to self.new ≡ delivered_to self.old }
+    {
+        let Some(hand) = self.hand.take() else {
+            return Ok(());
+        };
+        match self.readers.insert(hand.link, hand.reader) {
+            Ok(_) => Ok(()),
+            Err(failed) => {
+                let (link, reader) = failed.value;
+                self.hand = Some(Hand { link, reader });
+                Err(AllocError)
+            }
+        }
+    }
+
+    // Takes the reader of a connection out of the others, or makes one.
+    fn take_out(&mut self, link: u32) -> Reader
+        requires hand { self.old.hand ≡ None }
+        ensures same { (frames : List Frame) → ahead_of self.new.limits self.new.closed self.new.readers
+            (Some (record { link = link; reader = result })) frames ≡ ahead self.old frames }
+        ensures fed { fed result ≤ delivered_to self.new }
+        ensures hand { self.new.hand ≡ None }
+        ensures closed { self.new.closed ≡ self.old.closed }
+        ensures delivered { delivered_to self.new ≡ delivered_to self.old }
+    {
+        match self.readers.remove(&link) {
+            Some(reader) => reader,
+            None => Reader::new(self.alloc, self.limits),
+        }
+    }
+}
