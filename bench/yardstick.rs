@@ -2,8 +2,8 @@
 //
 // It reads requests from standard input, at most 4096 bytes a read, checks them as the server does, and makes one write
 // for each reply. Series stand in a vector, and a BTreeMap has their numbers by their keys: their samples in an ascending
-// vector, with values in millionths, or else in packed chunks, and their labels in a vector. A question over many series
-// walks all of them. A rule keeps a summary of its open bucket, and tells a bucket anew from the samples that stand in it.
+// vector, with values in millionths, or else in packed chunks, and their labels in a vector. An index has the numbers of the
+// series with each value of each label; a question over many series looks at those of the filter with the fewest. A rule keeps a summary of its open bucket, and tells a bucket anew from the samples that stand in it.
 // It knows
 //   TS.CREATE key
 //   TS.CREATE key LABELS label value ..
@@ -16,6 +16,7 @@
 //   TS.RANGE key from to [question]
 //   TS.REVRANGE key from to [question]
 //   TS.MRANGE from to [question] FILTER label=value .., where a value may be (value,..)
+//   TS.MGET FILTER label=value ..
 //   TS.QUERYINDEX label=value ..
 // with the words of a question
 //   FILTER_BY_TS time ..
@@ -339,7 +340,10 @@ enum Policy {
 #[derive(Default)]
 struct Database<S> {
     numbers: BTreeMap<Vec<u8>, usize>,
+    keys: Vec<Vec<u8>>,
     series: Vec<Series<S>>,
+    /// The numbers of the series with each value of each label, in ascending order.
+    index: BTreeMap<Vec<u8>, BTreeMap<Vec<u8>, Vec<usize>>>,
 }
 
 impl<S: Store> Database<S> {
@@ -348,9 +352,22 @@ impl<S: Store> Database<S> {
     }
 
     fn make(&mut self, key: &[u8], series: Series<S>) -> usize {
-        self.numbers.insert(key.to_vec(), self.series.len());
+        let number = self.series.len();
+        for (label, value) in &series.labels {
+            match self.index.get_mut(label).and_then(|values| values.get_mut(value)) {
+                Some(numbers) => numbers.push(number),
+                None => _ = self.index.entry(label.clone()).or_default().insert(value.clone(), vec![number]),
+            }
+        }
+        self.numbers.insert(key.to_vec(), number);
+        self.keys.push(key.to_vec());
         self.series.push(series);
-        self.series.len() - 1
+        number
+    }
+
+    /// The numbers of the series with the label of a filter and one of its values.
+    fn candidates<'a>(&'a self, filter: &'a Filter<'a>) -> impl Iterator<Item = &'a Vec<usize>> {
+        filter.values.iter().filter_map(|value| self.index.get(filter.label)?.get(*value))
     }
 
     /// Writes a sample, unless its time has one that stays, and what it changes in the destinations of the series' rules.
@@ -797,9 +814,14 @@ fn filters<W: AsRef<[u8]>>(words: &[W]) -> Result<Vec<Filter<'_>>, &'static [u8]
 }
 
 /// The series whose labels meet all filters, in the order of their keys.
-fn select<'a, S>(database: &'a Database<S>, filters: &[Filter]) -> Vec<(&'a Vec<u8>, &'a Series<S>)> {
-    let all = database.numbers.iter().map(|(key, &number)| (key, &database.series[number]));
-    all.filter(|(_, series)| series.has(filters)).collect()
+fn select<'a, S: Store>(database: &'a Database<S>, filters: &[Filter]) -> Vec<(&'a Vec<u8>, &'a Series<S>)> {
+    let count = |filter: &&Filter| database.candidates(filter).map(Vec::len).sum::<usize>();
+    let narrowest = filters.iter().min_by_key(count);
+    let candidates = narrowest.into_iter().flat_map(|filter| database.candidates(filter)).flatten();
+    let mut found: Vec<usize> = candidates.copied().filter(|&number| database.series[number].has(filters)).collect();
+    found.sort_unstable_by_key(|&number| &database.keys[number]);
+    found.dedup();
+    found.into_iter().map(|number| (&database.keys[number], &database.series[number])).collect()
 }
 
 /// The labels of a new series. One that is told twice keeps its first place and takes its last value.
@@ -973,6 +995,25 @@ fn many_range<S: Store>(words: &[impl AsRef<[u8]>], database: &Database<S>, room
     Ok(())
 }
 
+/// TS.MGET, after its name.
+fn many_last<S: Store>(words: &[impl AsRef<[u8]>], database: &Database<S>, room: &mut Vec<u8>) -> Outcome {
+    let members = match words {
+        [name, words @ ..] if !words.is_empty() && name.as_ref().eq_ignore_ascii_case(b"FILTER") => select(database, &filters(words)?),
+        _ => return Err(OPTION),
+    };
+    put_line(b'*', members.len() as u64, room);
+    for (key, series) in members {
+        room.extend_from_slice(b"*3\r\n");
+        put_bulk(key, room);
+        room.extend_from_slice(b"*0\r\n");
+        match series.samples.backwards(0, MAX_TIME).next() {
+            Some(last) => put_row(last.into(), room),
+            None => room.extend_from_slice(b"*0\r\n"),
+        }
+    }
+    Ok(())
+}
+
 /// TS.QUERYINDEX, after its name.
 fn query_index<S: Store>(words: &[impl AsRef<[u8]>], database: &Database<S>, room: &mut Vec<u8>) -> Outcome {
     if words.is_empty() {
@@ -1008,6 +1049,7 @@ fn answer<W: AsRef<[u8]>, S: Store>(words: &[W], database: &mut Database<S>, roo
         [name, rest @ ..] if is(name, b"TS.RANGE") => range(rest, database, false, room),
         [name, rest @ ..] if is(name, b"TS.REVRANGE") => range(rest, database, true, room),
         [name, rest @ ..] if is(name, b"TS.MRANGE") => many_range(rest, database, room),
+        [name, rest @ ..] if is(name, b"TS.MGET") => many_last(rest, database, room),
         [name, rest @ ..] if is(name, b"TS.QUERYINDEX") => query_index(rest, database, room),
         [name, rest @ ..] if is(name, b"BYTES") => bytes(rest, database, room),
         _ => Err(b"-ERR unknown command\r\n"),
