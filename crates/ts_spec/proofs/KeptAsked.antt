@@ -12,13 +12,14 @@ use Rattle.ts_spec.specs.State.{Rule, Record, State, Link, link_to, rule_into, e
 use Rattle.ts_spec.specs.Shown.{open_of, has_any, has_members, bucket_sample, shown_by, opened, latest_by, latest_at}
 use Rattle.ts_spec.specs.Rules.{shown, latest}
 use Rattle.ts_spec.specs.Filter.{Filter, all_hold, selected_in, keys_of, selection}
-use Rattle.ts_spec.specs.Command.{Query, Show}
+use Rattle.ts_spec.specs.Command.{Query, Show, GroupBy}
 use Rattle.ts_spec.specs.Answer.{Row, answer}
 use Rattle.ts_spec.specs.Response.{Member, LastRow, Told}
-use Rattle.ts_spec.specs.Questions.{asked, range_response, rows_response, labels_shown, labels_at, member, member_then, members_of, last_row, row_list, last_response, last_member, rule_info, time_or_0, info_of, info_response}
+use Rattle.ts_spec.specs.Questions.{asked, range_response, rows_response, labels_shown, labels_at, member, member_then, members_of, members_response, last_row, row_list, last_response, last_member, rule_info, time_or_0, info_of, info_response}
+use Rattle.ts_spec.specs.Groups.{uncounted, grouped_response, ranges_response}
 use Rattle.ts_spec.specs.Kept.{KeptRule, summary_at, kept_rule, kept_record, kept}
 use Rattle.ts_spec.specs.Mending.{bucket_row}
-use Rattle.ts_spec.specs.KeptQuestions.{open_row, with_open, latest_list_at, kept_asked, kept_range_response, kept_labels_at, kept_member, kept_member_then, kept_members_of, kept_last_response, kept_last_member, kept_selected_in, kept_selection, kept_rule_info, kept_info_response}
+use Rattle.ts_spec.specs.KeptQuestions.{open_row, with_open, latest_list_at, kept_asked, kept_range_response, kept_labels_at, kept_member, kept_member_then, kept_members_of, kept_ranges_response, kept_last_response, kept_last_member, kept_selected_in, kept_selection, kept_rule_info, kept_info_response}
 use Rattle.ts_spec.proofs.Aggregates.{summary-count}
 use Rattle.ts_spec.proofs.Keeps.{shown-there}
 use Rattle.ts_spec.proofs.KeptMaps.{read-kept, list-kept, rule_from-kept}
@@ -101,12 +102,17 @@ member_then-kept m show k None others = refl
 member_then-kept m show k (Some rows) None = refl
 member_then-kept m show k (Some rows) (Some others) = ap (λ (x : Member). Some (x ∷ others)) (member-kept m show k rows)
 
-pub members-kept : (limits : Limits) (m : State) (and_open : Bool) (show : Show) (q : Query) (ks : List Key) → kept_members_of limits (kept m) and_open show q ks ≡ members_of limits m and_open show q ks
+members-kept : (limits : Limits) (m : State) (and_open : Bool) (show : Show) (q : Query) (ks : List Key) → kept_members_of limits (kept m) and_open show q ks ≡ members_of limits m and_open show q ks
 members-kept limits m and_open show q [] = refl
 members-kept limits m and_open show q (k ∷ ks) =
     ap (λ (ps : List Point). kept_member_then (kept m) show k (answer limits.empty_rows q ps) (kept_members_of limits (kept m) and_open show q ks)) (asked-kept m and_open k)
     ∙ ap (kept_member_then (kept m) show k (answer limits.empty_rows q (asked m and_open k))) (members-kept limits m and_open show q ks)
     ∙ member_then-kept m show k (answer limits.empty_rows q (asked m and_open k)) (members_of limits m and_open show q ks)
+
+pub ranges-kept : (limits : Limits) (m : State) (and_open : Bool) (show : Show) (q : Query) (group : Option GroupBy) (ks : List Key) → kept_ranges_response limits (kept m) and_open show q group ks ≡ ranges_response limits m and_open show q group ks
+ranges-kept limits m and_open show q None ks = ap members_response (members-kept limits m and_open show q ks)
+ranges-kept limits m and_open show q (Some by) ks =
+    λ i. grouped_response by show q (λ k. labels-kept m k i) (λ k. answer limits.empty_rows (uncounted q) (asked-kept m and_open k i)) ks
 
 last_member-kept : (m : State) (and_open : Bool) (show : Show) (k : Key) → kept_last_member (kept m) and_open show k ≡ last_member m and_open show k
 last_member-kept m and_open show k =

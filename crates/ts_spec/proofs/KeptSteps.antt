@@ -12,15 +12,15 @@ use Rattle.ts_spec.specs.Filter.{selection}
 use Rattle.ts_spec.specs.Refusal.{Fault}
 use Rattle.ts_spec.specs.Command.{Triple, Command, Create, Alter, Add, Madd, Incr, DelRange, CreateRule, DeleteRule, Range, MRange, Get, MGet, QueryIndex, InfoOf, Ping, Echo, Quit, Drop, Exists}
 use Rattle.ts_spec.specs.Response.{Item, IsWrong, Done, Count, Items, LastRows, Keys, Word}
-use Rattle.ts_spec.specs.Step.{step, Outcome, time_of, triple_step, item_of, madd, members_response, ping_response}
+use Rattle.ts_spec.specs.Step.{step, Outcome, time_of, triple_step, item_of, madd, ping_response}
 use Rattle.ts_spec.specs.CountsAll.{CountsAll, JoinsForEver, StillCountsAll, names, changes}
 use Rattle.ts_spec.specs.Valid.{IsValid}
 use Rattle.ts_spec.specs.Kept.{Keeping, kept}
 use Rattle.ts_spec.specs.KeptStep.{KeptOutcome, kept_triple, kept_madd}
-use Rattle.ts_spec.specs.KeptQuestions.{kept_members_of, kept_last_member, kept_step}
+use Rattle.ts_spec.specs.KeptQuestions.{kept_ranges_response, kept_last_member, kept_step}
 use Rattle.ts_spec.specs.Stands.{StandsFor, IsStepOf}
 use Rattle.ts_spec.proofs.KeptMaps.{kept-same}
-use Rattle.ts_spec.proofs.KeptAsked.{range-kept, members-kept, last-kept, last_members-kept, selection-kept, info-kept}
+use Rattle.ts_spec.proofs.KeptAsked.{range-kept, ranges-kept, last-kept, last_members-kept, selection-kept, info-kept}
 use Rattle.ts_spec.proofs.CountsAfter.{counts-now}
 use Rattle.ts_spec.proofs.Allowed.{empty-valid}
 use Rattle.ts_spec.proofs.Led.{IsKnown, IsLed, led-told}
@@ -71,8 +71,8 @@ led-step limits m v reading (DelRange key from to) = led-deleted limits m v key 
 led-step limits m v reading (CreateRule source dest agg grid) = led-create_rule limits m v source dest agg grid
 led-step limits m v reading (DeleteRule source dest) = led-without_rule limits m v source dest
 led-step limits m v reading (Range key latest q) = led-told limits m v _ _ (range-kept limits m key latest q)
-led-step limits m v reading (MRange latest show filters q) =
-    led-told limits m v _ _ (ap (λ (ks : List Key). members_response (kept_members_of limits (kept m) latest show q ks)) (selection-kept m filters) ∙ ap members_response (members-kept limits m latest show q (selection m filters)))
+led-step limits m v reading (MRange latest show filters q group) =
+    led-told limits m v _ _ (ap (λ (ks : List Key). kept_ranges_response limits (kept m) latest show q group ks) (selection-kept m filters) ∙ ranges-kept limits m latest show q group (selection m filters))
 led-step limits m v reading (Get key latest) = led-told limits m v _ _ (last-kept m key latest)
 led-step limits m v reading (MGet latest show filters) =
     led-told limits m v _ _ (ap (λ (ks : List Key). LastRows (map (kept_last_member (kept m) latest show) ks)) (selection-kept m filters) ∙ ap (λ ms. LastRows ms) (last_members-kept m latest show (selection m filters)))

@@ -15,6 +15,7 @@ pub mod EndingRules
 pub mod Exact
 pub mod Examples
 pub mod FiltersAtWork
+pub mod GroupsAtWork
 pub mod IgnoringAtWork
 pub mod Keeps
 pub mod Keys
@@ -40,6 +41,7 @@ pub mod Sound
 pub mod Allowed
 pub mod Led
 pub mod Tidy
+pub mod WordsOfGroups
 pub mod WordsOfIgnore
 pub mod WordsOfLabels
 pub mod WordsOfQuestions

@@ -39,7 +39,7 @@ an_empty_value = refl
 
 pub ranges : command (codes "TS.MREVRANGE" ∷ codes "-" ∷ codes "9" ∷ codes "FILTER" ∷ codes "a=x" ∷ codes "b!=y" ∷ codes "SELECTED_LABELS" ∷ codes "a" ∷ codes "zone" ∷ codes "COUNT" ∷ codes "3" ∷ [])
     ≡ Ok (MRange false (Selected (codes "a" ∷ codes "zone" ∷ [])) (Among (codes "a") (codes "x" ∷ []) ∷ NotAmong (codes "b") (codes "y" ∷ []) ∷ [])
-    (record (question 0 9 None) { count = Some 3; reverse = true }))
+    (record (question 0 9 None) { count = Some 3; reverse = true }) None)
 unfolding commands end_word time_word many_options shown_options range_options filter_word filter_of count_word
 ranges = refl
 

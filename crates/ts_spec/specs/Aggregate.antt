@@ -2,6 +2,8 @@
 use Rattle.std.specs.Prelude.{ℕ, zero, suc, ◌+◌, ◌*◌, ℤ, pos, ◌+ℤ◌, ◌-ℤ◌, int_lt, if◌then◌else◌, List, fold}
 use Rattle.ts_spec.specs.declared.bucket.Aggregator.{Aggregator}
 use Rattle.ts_spec.specs.declared.bucket.Aggregator.TheVariants.{Avg, Sum, Min, Max, Range, Count, First, Last}
+use Rattle.ts_spec.specs.declared.bucket.Reducer.{Reducer}
+use Rattle.ts_spec.specs.declared.bucket.Reducer.TheVariants as reducer
 use Rattle.ts_spec.specs.Sample.{Point}
 use Rattle.ts_spec.specs.Value.{div_round, clamp}
 
@@ -52,3 +54,12 @@ result_of Last s = s.last
 -- the aggregate of a list that is not empty
 abbrev pub aggregate : Aggregator → List Point → ℤ
 aggregate a ps = result_of a (summary ps)
+
+-- the aggregator that a reducer goes by
+abbrev pub aggregator_of : Reducer → Aggregator
+aggregator_of reducer.Avg = Avg
+aggregator_of reducer.Sum = Sum
+aggregator_of reducer.Min = Min
+aggregator_of reducer.Max = Max
+aggregator_of reducer.Range = Range
+aggregator_of reducer.Count = Count

@@ -5,6 +5,7 @@ use Rattle.ts_spec.specs.declared.series.Ignore.{Ignore}
 use Rattle.ts_spec.specs.declared.series.Options.{Options}
 use Rattle.ts_spec.specs.declared.command.At.{At}
 use Rattle.ts_spec.specs.declared.bucket.Aggregator.{Aggregator}
+use Rattle.ts_spec.specs.declared.bucket.Reducer.{Reducer}
 use Rattle.ts_spec.specs.declared.bucket.Stamp.{Stamp}
 use Rattle.ts_spec.specs.Bucket.{Grid}
 use Rattle.ts_spec.specs.Key.{Key}
@@ -59,6 +60,11 @@ pub data Show : Type 0 where
   All : Show
   Selected : List (List ℕ) → Show
 
+-- one answer for each value of a label: what is told of the values that its series have at one time
+pub record GroupBy : Type 0 where
+  pub label : List ℕ
+  pub reducer : Reducer
+
 -- A command, one for each kind of request.
 pub data Command : Type 0 where
   Create : Key → Spec → Command
@@ -70,7 +76,7 @@ pub data Command : Type 0 where
   CreateRule : (source : Key) → (dest : Key) → Aggregator → Grid → Command
   DeleteRule : (source : Key) → (dest : Key) → Command
   Range : Key → (latest : Bool) → Query → Command
-  MRange : (latest : Bool) → Show → List Filter → Query → Command
+  MRange : (latest : Bool) → Show → List Filter → Query → (group : Option GroupBy) → Command
   Get : Key → (latest : Bool) → Command
   MGet : (latest : Bool) → Show → List Filter → Command
   QueryIndex : List Filter → Command

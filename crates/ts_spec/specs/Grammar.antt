@@ -66,7 +66,7 @@ many_ranges reverse (from ∷ to ∷ words) =
     and_then (options many_options nothing 0 words) (λ given.
     and_then (wanted given) (λ filters.
     and_then (query reverse from to first last given) (λ q.
-    and_then (selecting filters) (λ chosen. Ok (MRange given.latest (labels_asked given) chosen q)))))))
+    and_then (selecting filters) (λ chosen. Ok (MRange given.latest (labels_asked given) chosen q given.group)))))))
 many_ranges reverse _ = Err Arity
 
 -- options, filters among them

@@ -7,11 +7,12 @@ use Rattle.ts_spec.specs.Keyed.{Entry, get}
 use Rattle.ts_spec.specs.State.{Label}
 use Rattle.ts_spec.specs.Filter.{Filter, all_hold}
 use Rattle.ts_spec.specs.Refusal.{NoKey}
-use Rattle.ts_spec.specs.Command.{Query, Show, Command, Create, Alter, Add, Madd, Incr, DelRange, CreateRule, DeleteRule, Range, MRange, Get, MGet, QueryIndex, InfoOf, Ping, Echo, Quit, Drop, Exists}
+use Rattle.ts_spec.specs.Command.{Query, Show, GroupBy, Command, Create, Alter, Add, Madd, Incr, DelRange, CreateRule, DeleteRule, Range, MRange, Get, MGet, QueryIndex, InfoOf, Ping, Echo, Quit, Drop, Exists}
 use Rattle.ts_spec.specs.Answer.{Row, answer}
 use Rattle.ts_spec.specs.Response.{Member, RuleInfo, Info, Response, Done, Count, Refused, LastRow, LastRows, Keys, Told, Word}
 use Rattle.ts_spec.specs.Outcome.{time_of}
 use Rattle.ts_spec.specs.Questions.{rows_response, labels_shown, members_response, last_row, row_list, time_or_0, ping_response}
+use Rattle.ts_spec.specs.Groups.{uncounted, grouped_response}
 use Rattle.ts_spec.specs.Kept.{KeptRule, Kept, Keeping}
 use Rattle.ts_spec.specs.Mending.{bucket_row, kept_rule_to}
 use Rattle.ts_spec.specs.KeptStep.{KeptOutcome, unchanged_with, kept_edge, list_at, kept_rules_at, kept_create, kept_alter_at, kept_add_at, kept_madd, kept_incr_at, kept_delete_at, kept_create_rule, kept_delete_rule_at, kept_drop_keys, kept_count_there}
@@ -62,6 +63,12 @@ kept_members_of limits m latest show q [] = Some []
 kept_members_of limits m latest show q (k ∷ ks) =
     kept_member_then m show k (answer limits.empty_rows q (kept_asked m latest k)) (kept_members_of limits m latest show q ks)
 
+-- TS.MRANGE and TS.MREVRANGE over these keys, one by one or in groups
+abbrev pub kept_ranges_response : Limits → Keeping → (latest : Bool) → Show → Query → Option GroupBy → List Key → Response
+kept_ranges_response limits m latest show q None ks = members_response (kept_members_of limits m latest show q ks)
+kept_ranges_response limits m latest show q (Some by) ks =
+    grouped_response by show q (λ k. kept_labels_at (get k m)) (λ k. answer limits.empty_rows (uncounted q) (kept_asked m latest k)) ks
+
 abbrev pub kept_last_response : Keeping → Key → Bool → Option Kept → Response
 kept_last_response m key latest None = Refused NoKey
 kept_last_response m key latest (Some d) = LastRow (last_row (kept_asked m latest key))
@@ -106,7 +113,7 @@ kept_step limits m reading (DelRange key from to) = kept_delete_at limits m key 
 kept_step limits m reading (CreateRule source dest agg grid) = kept_create_rule limits m source dest agg grid
 kept_step limits m reading (DeleteRule source dest) = kept_delete_rule_at m source dest (get source m)
 kept_step limits m reading (Range key latest q) = unchanged_with m (kept_range_response limits m key latest q (get key m))
-kept_step limits m reading (MRange latest show filters q) = unchanged_with m (members_response (kept_members_of limits m latest show q (kept_selection m filters)))
+kept_step limits m reading (MRange latest show filters q group) = unchanged_with m (kept_ranges_response limits m latest show q group (kept_selection m filters))
 kept_step limits m reading (Get key latest) = unchanged_with m (kept_last_response m key latest (get key m))
 kept_step limits m reading (MGet latest show filters) = unchanged_with m (LastRows (map (kept_last_member m latest show) (kept_selection m filters)))
 kept_step limits m reading (QueryIndex filters) = unchanged_with m (Keys (kept_selection m filters))

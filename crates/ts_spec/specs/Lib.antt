@@ -9,6 +9,7 @@ pub mod FaultNames
 pub mod Filter
 pub mod FilterText
 pub mod Grammar
+pub mod Groups
 pub mod Ignoring
 pub mod Keeping
 pub mod Kept

@@ -1,11 +1,13 @@
 -- The options of questions over many series: which series, and which of their labels are shown.
-use Rattle.std.specs.Prelude.{if◌then◌else◌, List, [], ◌∷◌, ◌++◌, codes, Some, is_some, ok_or, unwrap_or, Result, Ok, Err}
-use Rattle.ts_spec.specs.Names.{Table}
+use Rattle.std.specs.Prelude.{Bool, if◌then◌else◌, List, [], ◌∷◌, ◌++◌, codes, Some, is_some, ok_or, unwrap_or, Result, Ok, Err}
+use Rattle.std.specs.Str.{str_eq_ignore_ascii_case}
+use Rattle.ts_spec.specs.declared.bucket.Reducer.{Reducer}
+use Rattle.ts_spec.specs.Names.{Table, named, reducers, named_or}
 use Rattle.ts_spec.specs.Filter.{Filter, has_positive}
 use Rattle.ts_spec.specs.FilterText.{FilterFault, filter_of}
 use Rattle.ts_spec.specs.Command.{Show, Nothing, All, Selected}
-use Rattle.ts_spec.specs.Refusal.{Fault, BadOption, BadLabels, BadFilter, NoPositiveFilter}
-use Rattle.ts_spec.specs.Settings.{Word, and_then, Given, Setting, no_words, some_words}
+use Rattle.ts_spec.specs.Refusal.{Fault, BadOption, BadLabels, BadFilter, NoPositiveFilter, UnknownAggregator, AggregatorNotInProfile}
+use Rattle.ts_spec.specs.Settings.{Word, and_then, Given, Setting, no_words, three_words, some_words}
 use Rattle.ts_spec.specs.SeriesOptions.{is_empty}
 use Rattle.ts_spec.specs.Ranges.{latest, range_options}
 
@@ -29,6 +31,18 @@ abbrev pub names_of : List Word → Result (List Word) Fault
 names_of [] = Ok []
 names_of (word ∷ words) = if is_empty word then Err BadLabels else and_then (names_of words) (λ names. Ok (word ∷ names))
 
+-- a label to group by
+unfoldable pub label_word : Word → Result Word Fault
+label_word word = if is_empty word then Err BadLabels else Ok word
+
+-- whether a word is this name, with its letters in either case
+abbrev pub is_reduce : Word → Bool
+is_reduce word = str_eq_ignore_ascii_case (codes "REDUCE") word
+
+-- what is told of a group at one time
+unfoldable pub reducer_word : Word → Result Reducer Fault
+reducer_word word = named_or UnknownAggregator AggregatorNotInProfile (named reducers word)
+
 -- ---- options
 
 -- all labels are shown, or those of a list; only one of the two is said, once
@@ -40,6 +54,13 @@ selected_labels = some_words (λ given. is_some given.show) (λ words given. and
 
 abbrev pub filter : Setting
 filter = some_words (λ given. is_some given.filters) (λ words given. and_then (filters_of words) (λ fs. Ok (record given { filters = Some fs })))
+
+-- `label REDUCE reducer`
+abbrev pub group_by : Setting
+group_by = three_words (λ given. is_some given.group) (λ name reduce told given.
+    and_then (label_word name) (λ label.
+    if is_reduce reduce then and_then (reducer_word told) (λ reducer. Ok (record given { group = Some (record { label = label; reducer = reducer }) }))
+    else Err BadOption))
 
 -- the options that say which series, and which labels
 unfoldable pub shown_options : Table Setting
@@ -55,7 +76,7 @@ last_options = (codes "LATEST", latest) ∷ shown_options
 
 -- those of a question over the intervals of many series
 unfoldable pub many_options : Table Setting
-many_options = shown_options ++ range_options
+many_options = (codes "GROUPBY", group_by) ∷ shown_options ++ range_options
 
 -- ---- what is asked
 

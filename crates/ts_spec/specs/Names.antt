@@ -7,6 +7,8 @@ use Rattle.ts_spec.specs.declared.series.Encoding.{Encoding}
 use Rattle.ts_spec.specs.declared.series.Encoding.TheVariants as encoding
 use Rattle.ts_spec.specs.declared.bucket.Aggregator.{Aggregator}
 use Rattle.ts_spec.specs.declared.bucket.Aggregator.TheVariants.{Avg, Sum, Min, Max, Range, Count, First, Last}
+use Rattle.ts_spec.specs.declared.bucket.Reducer.{Reducer}
+use Rattle.ts_spec.specs.declared.bucket.Reducer.TheVariants as reducer
 use Rattle.ts_spec.specs.declared.bucket.Align.{Align}
 use Rattle.ts_spec.specs.declared.bucket.Align.TheVariants.{From, To}
 use Rattle.ts_spec.specs.declared.bucket.Stamp.{Stamp}
@@ -55,11 +57,27 @@ aggregators =
     ∷ (codes "var.s", None)
     ∷ []
 
--- the aggregator that a word was found to name; what is said where it names none, and where it names one that is left out
-abbrev pub aggregator_or : {F : Type 0} → (unknown left_out : F) → Option (Option Aggregator) → Result Aggregator F
-aggregator_or unknown left_out None = Err unknown
-aggregator_or unknown left_out (Some None) = Err left_out
-aggregator_or unknown left_out (Some (Some agg)) = Ok agg
+-- the reducers of groups, and the names of aggregators that are left out
+unfoldable pub reducers : Table (Option Reducer)
+reducers =
+    (codes "avg", Some reducer.Avg)
+    ∷ (codes "sum", Some reducer.Sum)
+    ∷ (codes "min", Some reducer.Min)
+    ∷ (codes "max", Some reducer.Max)
+    ∷ (codes "range", Some reducer.Range)
+    ∷ (codes "count", Some reducer.Count)
+    ∷ (codes "twa", None)
+    ∷ (codes "std.p", None)
+    ∷ (codes "std.s", None)
+    ∷ (codes "var.p", None)
+    ∷ (codes "var.s", None)
+    ∷ []
+
+-- the aggregator or the reducer that a word was found to name; what is said where it names none, and where it names one that is left out
+abbrev pub named_or : {X F : Type 0} → (unknown left_out : F) → Option (Option X) → Result X F
+named_or unknown left_out None = Err unknown
+named_or unknown left_out (Some None) = Err left_out
+named_or unknown left_out (Some (Some x)) = Ok x
 
 -- the ends of the interval that buckets may begin at
 unfoldable pub aligns : Table Align

@@ -6,7 +6,7 @@ use Rattle.ts_spec.specs.declared.bucket.Align.{Align}
 use Rattle.ts_spec.specs.declared.bucket.Align.TheVariants.{From, To, Time}
 use Rattle.ts_spec.specs.declared.bucket.Stamp.{Stamp}
 use Rattle.ts_spec.specs.declared.bucket.Stamp.TheVariants.{Low}
-use Rattle.ts_spec.specs.Names.{Table, named, aggregators, aggregator_or, aligns, stamps}
+use Rattle.ts_spec.specs.Names.{Table, named, aggregators, named_or, aligns, stamps}
 use Rattle.ts_spec.specs.Number.{number}
 use Rattle.ts_spec.specs.Sample.{MAX_TIME}
 use Rattle.ts_spec.specs.Command.{Buckets, Query}
@@ -21,7 +21,7 @@ count_word word = ok_or (number word) BadOption
 
 -- what is told of a bucket
 unfoldable pub aggregator_word : Word → Result Aggregator Fault
-aggregator_word word = aggregator_or UnknownAggregator AggregatorNotInProfile (named aggregators word)
+aggregator_word word = named_or UnknownAggregator AggregatorNotInProfile (named aggregators word)
 
 -- a bucket may last so many milliseconds
 abbrev pub IsDuration : ℕ → Type 0

@@ -16,7 +16,7 @@ use Rattle.ts_spec.specs.Value.{value}
 use Rattle.std.specs.Str.{bytes_eq, str_eq_ignore_ascii_case}
 use Rattle.ts_spec.specs.State.{Label}
 use Rattle.ts_spec.specs.Filter.{Filter}
-use Rattle.ts_spec.specs.Command.{Span, Show}
+use Rattle.ts_spec.specs.Command.{Span, Show, GroupBy}
 use Rattle.ts_spec.specs.Refusal.{Fault, BadTimestamp, BadValue, BadOption, RepeatedOption}
 
 -- a word is a list of bytes
@@ -80,9 +80,10 @@ pub record Given : Type 0 where
   pub empty : Bool
   -- whether open buckets are asked too
   pub latest : Bool
-  -- of an answer over many series, the labels that it shows, and which series it tells
+  -- of an answer over many series, the labels that it shows, which series it tells, and by which label they are grouped
   pub show : Option Show
   pub filters : Option (List Filter)
+  pub group : Option GroupBy
 
 abbrev pub nothing : Given
 nothing = record {
@@ -104,6 +105,7 @@ nothing = record {
   latest = false;
   show = None;
   filters = None;
+  group = None;
 }
 
 -- An option: whether it stood before, how many of the words after it are its own, by which words are options themselves, and what
@@ -132,6 +134,14 @@ says_two read words given = Err BadOption
 
 abbrev pub two_words : (Given → Bool) → (Word → Word → Given → Result Given Fault) → Setting
 two_words stood read = record { stood = stood; size = λ is_option words. 2; says = says_two read }
+
+-- an option with three words of its own
+abbrev pub says_three : (Word → Word → Word → Given → Result Given Fault) → List Word → Given → Result Given Fault
+says_three read (one ∷ two ∷ three ∷ words) given = read one two three given
+says_three read words given = Err BadOption
+
+abbrev pub three_words : (Given → Bool) → (Word → Word → Word → Given → Result Given Fault) → Setting
+three_words stood read = record { stood = stood; size = λ is_option words. 3; says = says_three read }
 
 -- how many words come before the first one that is an option
 abbrev pub count_own : (is_option : Word → Bool) → List Word → ℕ

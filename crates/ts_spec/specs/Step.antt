@@ -11,6 +11,7 @@ use Rattle.ts_spec.specs.Response.{Done, Count, LastRows, Keys, Word}
 pub use Rattle.ts_spec.specs.Making.{fresh, created, create, altered, is_longer, alter_at, with_rule, has_rules, ruled, create_rule_at, create_rule, delete_rule_at, drop_keys, count_there}
 pub use Rattle.ts_spec.specs.Outcome.{refused, answer_only, time_of, Outcome}
 pub use Rattle.ts_spec.specs.Questions.{asked, rows_response, range_response, shown_label, picked_label, labels_shown, labels_at, member, member_then, members_of, members_response, last_row, row_list, last_response, last_member, rule_info, time_or_0, info_of, info_response, ping_response}
+pub use Rattle.ts_spec.specs.Groups.{ranges_response}
 pub use Rattle.ts_spec.specs.Writing.{shows_more, first_full, rules_at, unless_full, within_destinations, within_samples, write_merged, value_at, unless_ignored, write, create_with, add_at, put_at, triple_step, item_of, madd, is_before_last, changed_value, increased, incr_by, incr_at, meets_expired, delete_at}
 
 -- the step of a command, with a reading of the clock
@@ -24,7 +25,7 @@ step limits m reading (DelRange key from to) = delete_at limits m key from to (g
 step limits m reading (CreateRule source dest agg grid) = create_rule limits m source dest agg grid
 step limits m reading (DeleteRule source dest) = delete_rule_at m source dest (get source m)
 step limits m reading (Range key with_open q) = answer_only m (range_response limits m key with_open q (get key m))
-step limits m reading (MRange with_open show filters q) = answer_only m (members_response (members_of limits m with_open show q (selection m filters)))
+step limits m reading (MRange with_open show filters q group) = answer_only m (ranges_response limits m with_open show q group (selection m filters))
 step limits m reading (Get key with_open) = answer_only m (last_response m key with_open (get key m))
 step limits m reading (MGet with_open show filters) = answer_only m (LastRows (map (last_member m with_open show) (selection m filters)))
 step limits m reading (QueryIndex filters) = answer_only m (Keys (selection m filters))

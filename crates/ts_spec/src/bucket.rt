@@ -30,6 +30,23 @@ pub enum Aggregator {
     Last,
 }
 
+/// What is told of the values that the series of a group have at one time.
+#[derive(Clone, Copy, Debug, PartialEq, Eq)]
+pub enum Reducer {
+    /// Their mean, rounded half away from zero.
+    Avg,
+    /// Their sum.
+    Sum,
+    /// The least value.
+    Min,
+    /// The greatest value.
+    Max,
+    /// The greatest value less the least.
+    Range,
+    /// How many there are.
+    Count,
+}
+
 /// What is told of the samples of each bucket, and how long each one is.
 #[derive(Clone, Copy, Debug, PartialEq, Eq)]
 pub struct Aggregation {

@@ -15,7 +15,7 @@ mod units;
 mod value;
 mod wire;
 
-pub use bucket::{Aggregation, Aggregator, Align, Stamp};
+pub use bucket::{Aggregation, Aggregator, Align, Reducer, Stamp};
 pub use command::At;
 pub use counting_laws::a_new_rule_counts_all_that_its_source_has;
 pub use kept_laws::{each_step_keeps_a_state_valid, what_is_kept_is_enough};
