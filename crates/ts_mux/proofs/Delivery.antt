@@ -8,11 +8,11 @@ use Rattle.ts_spec.specs.Wire.{Stream, Then, Ended, Inside, Broken, read_on}
 use Rattle.ts_resp.specs.Reading.{Reading, stream_of, mode_of}
 use Rattle.ts_mux.specs.declared.frame.Frame.{Frame}
 use Rattle.ts_mux.specs.declared.hand.Hand.{Hand}
-use Rattle.ts_mux.specs.Fronts.{IsFront}
+use Rattle.ts_spec.specs.Fronts.{IsFront}
 use Rattle.ts_mux.specs.Order.{Event, Connection, Asked, events_of, news_of, later, until_end, has_end, after_bytes, items_of, with_link, items_from, without, closes_none}
 use Rattle.ts_mux.specs.Links.{at_hand, stream_or, reader_or, connections, left_of, ahead_of}
 use Rattle.ts_mux.proofs.Apart.{apart-sym}
-use Rattle.ts_mux.proofs.Streams.{read_on-front}
+use Rattle.ts_spec.proofs.Fronts.{read_on-front}
 use Rattle.ts_mux.proofs.OneConnection.{none_new}
 use Rattle.ts_mux.proofs.OrderLemmas.{Alike, AreAlike, AreAlikeBut, IsDone, items-alike, without-done}
 

@@ -1,5 +1,6 @@
 -- What one step of a reader of frames did.
 use Rattle.std.proofs.Common.{◌≡◌, ℕ, zero, suc, ◌+◌, ◌<◌, ◌≤◌, List, [], ◌∷◌, ◌++◌, length, take, drop, refl, sym, ap, ◌∙◌, subst, Some, None, length-drop, append-nil, arith}
+use Rattle.std.proofs.lemmas.Bool.{false≢true}
 use Rattle.std.proofs.lemmas.List.{length-take-le}
 use Rattle.std.specs.Prelude.{slice_index}
 use Rattle.ts_mux.specs.declared.frame.Frame.{Frame}
@@ -18,7 +19,7 @@ begun_some mode begin (byte ∷ bytes) h = refl
 
 begun_part : (p : Part) (begin : ℕ) (bytes : List ℕ) → IsBegun p → begun_on (mode_of p) begin bytes ≡ Some begin
 begun_part p begin (byte ∷ bytes) h = refl
-begun_part (part.Link None) begin [] h = absurd h
+begun_part (part.Link None) begin [] h = absurd (false≢true h)
 begun_part (part.Link (Some number)) begin [] h = refl
 begun_part (part.Length link number) begin [] h = refl
 begun_part (part.Body link len) begin [] h = refl

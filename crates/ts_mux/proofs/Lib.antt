@@ -3,7 +3,6 @@ pub mod CaptureLemmas
 pub mod CapturesAtWork
 pub mod Closing
 pub mod Closings
-pub mod Concatenation
 pub mod Delivery
 pub mod FramingLemmas
 pub mod FramesReadBack
@@ -12,5 +11,4 @@ pub mod OneConnection
 pub mod OrderAtWork
 pub mod OrderLemmas
 pub mod Readers
-pub mod Streams
 pub mod Unsent

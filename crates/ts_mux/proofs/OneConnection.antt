@@ -6,9 +6,9 @@ use Rattle.ts_spec.specs.Wire.{Request, Stream, Then, Ended, Inside, Broken, Sta
 use Rattle.ts_spec.specs.Run.{is_quit}
 use Rattle.ts_spec.proofs.Streams.{read_on-nil}
 use Rattle.ts_mux.specs.declared.frame.Frame.{Frame}
-use Rattle.ts_mux.specs.Fronts.{IsFront}
+use Rattle.ts_spec.specs.Fronts.{IsFront}
 use Rattle.ts_mux.specs.Order.{Event, Asked, Item, events_of, Connection, news, news_of, later, ends, until_end, has_end, after_bytes, items_of, with_link, items_from, items_at, joined, stream, unsent, order}
-use Rattle.ts_mux.proofs.Streams.{read_on-front}
+use Rattle.ts_spec.proofs.Fronts.{read_on-front}
 use Rattle.ts_mux.proofs.OrderLemmas.{news-later}
 
 -- a front's events come first

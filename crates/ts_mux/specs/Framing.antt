@@ -1,5 +1,5 @@
 -- What a reader of frames holds, and the capture that it stands for.
-use Rattle.std.specs.Prelude.{ℕ, ◌+◌, ◌<◌, ◌≤◌, List, [], ◌∷◌, ◌++◌, length, Option, Some, None}
+use Rattle.std.specs.Prelude.{ℕ, ◌+◌, ◌<◌, ◌≤◌, List, [], ◌∷◌, ◌++◌, length, Option, Some, None, IsSome}
 use Rattle.ts_mux.specs.declared.frame.Frame.{Frame}
 use Rattle.ts_mux.specs.declared.part.Part.{Part}
 use Rattle.ts_mux.specs.declared.part.Part.TheVariants as part
@@ -49,10 +49,6 @@ IsOpen (part.Length link number) = Unit {0}
 IsOpen (part.Body link len) = 0 < len
 
 -- something of it has come
-abbrev pub IsSome : Option ℕ → Type 0
-IsSome None = ⊥
-IsSome (Some number) = Unit {0}
-
 abbrev pub IsBegun : Part → Type 0
 IsBegun (part.Link number) = IsSome number
 IsBegun (part.Length link number) = Unit {0}

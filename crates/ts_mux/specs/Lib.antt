@@ -1,6 +1,5 @@
 pub mod Capture
 pub mod Framing
-pub mod Fronts
 pub mod Links
 pub mod Muxing
 pub mod NextFrames

@@ -1,12 +1,10 @@
 // Laws of captures, and of the order of what interleaved connections send.
-ghost use Rattle.std.specs.Prelude.{◌≡◌, ℕ, ◌+◌, List, ◌++◌, length, All};
-ghost use Rattle.ts_spec.specs.Wire as requests;
+ghost use Rattle.std.specs.Prelude.{◌≡◌, ℕ, List, All};
 ghost use Rattle.ts_spec.specs.Wire.{stream_at};
 ghost use Rattle.ts_spec.specs.Run.{is_quit};
 ghost use Rattle.ts_mux.specs.declared.frame.Frame.{Frame};
 ghost use Rattle.ts_mux.specs.Capture.{Ended, capture, frames_of, ending_of, all_framed};
 ghost use Rattle.ts_mux.specs.Framing.{IsFrame};
-ghost use Rattle.ts_mux.specs.Fronts.{IsFront, then_on};
 ghost use Rattle.ts_mux.specs.Order.{Item, events_of, until_end, items_of, items_at, without, frames_without, stream, order, open_order, closing};
 
 use ts_spec::WireLimits;
@@ -15,20 +13,6 @@ use ts_spec::WireLimits;
 pub fn written_frames_read_back()
     ensures frames { (frames : List Frame) → All IsFrame frames → frames_of (capture (all_framed frames)) ≡ frames }
     ensures ending { (frames : List Frame) → All IsFrame frames → ending_of (capture (all_framed frames)) ≡ Ended }
-{}
-
-/// A law: the requests of the first bytes of a stream are its first requests, and a stream that is broken stays so, whatever
-/// follows.
-pub fn a_front_of_a_stream_stays(limits: WireLimits)
-    ensures { (place : ℕ) (bytes more : List ℕ)
-        → IsFront (stream_at limits place bytes) (stream_at limits place (bytes ++ more)) }
-{}
-
-/// A law: where a stream ends between two requests, what follows it is read as a stream of its own.
-pub fn streams_concatenate_after_whole_requests(limits: WireLimits)
-    ensures { (place : ℕ) (bytes more : List ℕ) → requests.ending_of (stream_at limits place bytes) ≡ requests.Ended
-        → stream_at limits place (bytes ++ more)
-        ≡ then_on (stream_at limits place bytes) (stream_at limits (place + length bytes) more) }
 {}
 
 /// A law: what comes of a connection is what comes of its own stream: the requests up to and with its first QUIT, and its

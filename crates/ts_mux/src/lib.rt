@@ -14,8 +14,7 @@ pub use frame::Frame;
 pub use frames::{Frames, NextFrame};
 pub use header::Header;
 pub use laws::{
-    a_front_of_a_stream_stays, closings_make_the_order, connections_stand_apart,
-    each_connection_has_its_own_requests, streams_concatenate_after_whole_requests,
+    closings_make_the_order, connections_stand_apart, each_connection_has_its_own_requests,
     written_frames_read_back,
 };
 pub use mux::Mux;

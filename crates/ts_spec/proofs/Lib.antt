@@ -4,6 +4,9 @@ pub mod LinesAtWork
 pub mod OneLine
 pub mod ReadBack
 pub mod Streams
+pub mod Fronts
+pub mod Concatenation
+pub mod Within
 pub mod Aggregates
 pub mod Altering
 pub mod Bodies

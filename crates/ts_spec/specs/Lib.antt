@@ -8,6 +8,7 @@ pub mod Encoded
 pub mod FaultNames
 pub mod Filter
 pub mod FilterText
+pub mod Fronts
 pub mod Grammar
 pub mod Groups
 pub mod Ignoring

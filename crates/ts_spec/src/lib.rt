@@ -26,4 +26,7 @@ pub use series::{Encoding, Ignore, Merge, Options, Policy};
 pub use text::reply_texts_show_their_ends;
 pub use units::Units;
 pub use value::ValueFault;
-pub use wire::{Kind, WireLimits, encoded_requests_read_back};
+pub use wire::{
+    Kind, WireLimits, a_front_of_a_stream_stays, encoded_requests_read_back,
+    requests_of_a_stream_are_within_its_limits, streams_concatenate_after_whole_requests,
+};

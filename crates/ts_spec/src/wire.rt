@@ -1,7 +1,8 @@
 // How large a request may be, and how a stream of requests can be broken.
-ghost use Rattle.std.specs.Prelude.{◌≡◌, List, All};
+ghost use Rattle.std.specs.Prelude.{◌≡◌, ℕ, ◌+◌, List, ◌++◌, length, All};
 ghost use Rattle.ts_spec.specs.Wire.{Request, Ended, stream_at, requests_of, ending_of};
 ghost use Rattle.ts_spec.specs.Encoded.{encoded, Fits};
+ghost use Rattle.ts_spec.specs.Fronts.{IsFront, IsWithin, then_on};
 
 /// Why a stream of requests is broken.
 #[derive(Clone, Copy, Debug, PartialEq, Eq)]
@@ -38,4 +39,24 @@ pub fn encoded_requests_read_back(limits: WireLimits)
         → requests_of (stream_at limits 0 (encoded requests)) ≡ requests }
     ensures ending { (requests : List Request) → All (Fits limits) requests
         → ending_of (stream_at limits 0 (encoded requests)) ≡ Ended }
+{}
+
+/// A law: the requests of a stream are within its limits. The words of an array are no more and no longer than these, nor
+/// longer together, and a line is no longer than a line may be.
+pub fn requests_of_a_stream_are_within_its_limits(limits: WireLimits)
+    ensures { (place : ℕ) (bytes : List ℕ) → All (IsWithin limits) (requests_of (stream_at limits place bytes)) }
+{}
+
+/// A law: the requests of the first bytes of a stream are its first requests, and a stream that is broken stays so, whatever
+/// follows.
+pub fn a_front_of_a_stream_stays(limits: WireLimits)
+    ensures { (place : ℕ) (bytes more : List ℕ)
+        → IsFront (stream_at limits place bytes) (stream_at limits place (bytes ++ more)) }
+{}
+
+/// A law: where a stream ends between two requests, what follows it is read as a stream of its own.
+pub fn streams_concatenate_after_whole_requests(limits: WireLimits)
+    ensures { (place : ℕ) (bytes more : List ℕ) → ending_of (stream_at limits place bytes) ≡ Ended
+        → stream_at limits place (bytes ++ more)
+        ≡ then_on (stream_at limits place bytes) (stream_at limits (place + length bytes) more) }
 {}

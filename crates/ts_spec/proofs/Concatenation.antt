@@ -3,7 +3,7 @@ use Rattle.std.proofs.Common.{◌≡◌, ℕ, zero, suc, ◌+◌, ◌-◌, Bool,
 use Rattle.ts_spec.specs.declared.wire.Kind.TheVariants.{Crlf, Dollar, TooLarge}
 use Rattle.ts_spec.specs.declared.wire.WireLimits.{WireLimits}
 use Rattle.ts_spec.specs.Wire.{Request, Stream, Then, Ended, Inside, Broken, Partial, Mode, Start, Text, Count, CountFeed, Mark, Length, LengthFeed, Body, WordReturn, WordFeed, Move, Goto, Whole, Fault, LineMove, Goes, Returns, Wrong, STAR, DOLLAR, RETURN, FEED, want, on_text, on_count, on_length, on_body, after_count, after_length, after_word, line_step, words_of_line, move, at_end, after_move, then_request, read_on, ending_of}
-use Rattle.ts_mux.specs.Fronts.{then_on}
+use Rattle.ts_spec.specs.Fronts.{then_on}
 
 -- no byte leads back before a request but one that makes it whole
 abbrev IsMid : Mode → Type 0

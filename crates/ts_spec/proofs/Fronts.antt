@@ -2,7 +2,7 @@
 use Rattle.std.proofs.Common.{ℕ, ◌+◌, List, [], ◌∷◌, ◌++◌, refl}
 use Rattle.ts_spec.specs.declared.wire.WireLimits.{WireLimits}
 use Rattle.ts_spec.specs.Wire.{Request, Stream, Mode, Start, Move, Goto, Whole, Fault, move, at_end, after_move, then_request, read_on}
-use Rattle.ts_mux.specs.Fronts.{IsFront}
+use Rattle.ts_spec.specs.Fronts.{IsFront}
 
 -- one request before both
 front_then : (request : Request) (place : ℕ) (stream other : Stream) → IsFront stream other → IsFront (then_request request place stream) (then_request request place other)
