@@ -16,6 +16,8 @@
 //   TS.RANGE key from to [question]
 //   TS.REVRANGE key from to [question]
 //   TS.MRANGE from to [question] FILTER label=value .., where a value may be (value,..)
+//   TS.MRANGE from to [question] FILTER label=value .. GROUPBY label REDUCE avg, or max, of a question without EMPTY and
+//   FILTER_BY_TS
 //   TS.MGET FILTER label=value ..
 //   TS.QUERYINDEX label=value ..
 // with the words of a question
@@ -436,6 +438,15 @@ impl Summary {
         self.count += 1;
         self.greatest = self.greatest.max(value);
     }
+
+    /// What it comes to, where it has a value.
+    fn told(&self, aggregator: Aggregator) -> Option<i128> {
+        match aggregator {
+            _ if self.count == 0 => None,
+            Aggregator::Avg => Some(rounded(self.sum, self.count)),
+            Aggregator::Max => Some(self.greatest),
+        }
+    }
 }
 
 struct Rule {
@@ -464,11 +475,7 @@ impl Rule {
 
     /// What a bucket that has samples shows.
     fn row(&self, start: u64, summary: Summary) -> Option<Sample> {
-        let value = match self.aggregator {
-            _ if summary.count == 0 => return None,
-            Aggregator::Avg => rounded(summary.sum, summary.count),
-            Aggregator::Max => summary.greatest,
-        };
+        let value = summary.told(self.aggregator)?;
         Some(Sample { time: start, value, made: 0 })
     }
 
@@ -770,6 +777,15 @@ impl Asked {
         }
     }
 
+    /// Hands each row to `take`, however many there are.
+    fn each_row(&self, samples: &impl Store, from: u64, to: u64, take: impl FnMut(Row)) {
+        let samples = samples.between(from, to).filter(|s| self.values.as_ref().is_none_or(|values| values.contains(&s.value)));
+        match self.duration {
+            None => samples.map(Row::from).for_each(take),
+            Some(duration) => Means::new(samples, duration).for_each(take),
+        }
+    }
+
     fn put_each(&self, samples: impl Iterator<Item = Sample>, room: &mut Vec<u8>) {
         match self.duration {
             None => put_rows(samples.map(Row::from).take(self.most), room),
@@ -813,8 +829,11 @@ fn filters<W: AsRef<[u8]>>(words: &[W]) -> Result<Vec<Filter<'_>>, &'static [u8]
     words.iter().map(|word| filter(word.as_ref())).collect()
 }
 
+/// A key, and its series.
+type Member<'a, S> = (&'a Vec<u8>, &'a Series<S>);
+
 /// The series whose labels meet all filters, in the order of their keys.
-fn select<'a, S: Store>(database: &'a Database<S>, filters: &[Filter]) -> Vec<(&'a Vec<u8>, &'a Series<S>)> {
+fn select<'a, S: Store>(database: &'a Database<S>, filters: &[Filter]) -> Vec<Member<'a, S>> {
     let count = |filter: &&Filter| database.candidates(filter).map(Vec::len).sum::<usize>();
     let narrowest = filters.iter().min_by_key(count);
     let candidates = narrowest.into_iter().flat_map(|filter| database.candidates(filter)).flatten();
@@ -970,7 +989,58 @@ fn range<S: Store>(words: &[impl AsRef<[u8]>], database: &Database<S>, is_backwa
     Ok(())
 }
 
-/// TS.MRANGE, after its name. FILTER is the last of its options.
+/// Series that have a value of a label, one answer for each value: their rows, reduced time by time.
+struct Group<'a> {
+    label: &'a [u8],
+    reducer: Aggregator,
+}
+
+impl<'a> Group<'a> {
+    /// The words after GROUPBY.
+    fn read<W: AsRef<[u8]>>(words: &'a [W]) -> Result<Group<'a>, &'static [u8]> {
+        match words {
+            [label, reduce, reducer] if reduce.as_ref().eq_ignore_ascii_case(b"REDUCE") => {
+                Ok(Group { label: label.as_ref(), reducer: aggregator(reducer.as_ref())? })
+            }
+            _ => Err(OPTION),
+        }
+    }
+
+    /// Puts the answers in the room.
+    fn put<S: Store>(&self, members: &[Member<S>], asked: &Asked, from: u64, to: u64, room: &mut Vec<u8>) -> Outcome {
+        if asked.times.is_some() || asked.empty {
+            return Err(OPTION);
+        }
+        let mut groups: BTreeMap<&[u8], Vec<&Series<S>>> = BTreeMap::new();
+        for &(_, series) in members {
+            if let Some((_, value)) = series.labels.iter().find(|(name, _)| name == self.label) {
+                groups.entry(value).or_default().push(series);
+            }
+        }
+        put_line(b'*', groups.len() as u64, room);
+        for (value, series) in groups {
+            room.extend_from_slice(b"*3\r\n");
+            put_bulk(&[self.label, b"=", value].concat(), room);
+            room.extend_from_slice(b"*0\r\n");
+            put_rows(self.reduced(&series, asked, from, to).into_iter().take(asked.most), room);
+        }
+        Ok(())
+    }
+
+    /// What the rows of these series come to at each time.
+    fn reduced<S: Store>(&self, series: &[&Series<S>], asked: &Asked, from: u64, to: u64) -> Vec<Row> {
+        let mut cells: BTreeMap<u64, Summary> = BTreeMap::new();
+        for it in series {
+            asked.each_row(&it.samples, from, to, |row| {
+                let cell = cells.entry(row.time).or_insert(Summary::EMPTY);
+                row.value.into_iter().for_each(|value| cell.push(value));
+            });
+        }
+        cells.into_iter().map(|(time, cell)| Row { time, value: cell.told(self.reducer) }).collect()
+    }
+}
+
+/// TS.MRANGE, after its name. FILTER is the last of its options but for GROUPBY.
 fn many_range<S: Store>(words: &[impl AsRef<[u8]>], database: &Database<S>, room: &mut Vec<u8>) -> Outcome {
     let [from, to, options @ ..] = words else {
         return Err(ARITY);
@@ -981,10 +1051,15 @@ fn many_range<S: Store>(words: &[impl AsRef<[u8]>], database: &Database<S>, room
     let (from, to) = (bound(from.as_ref())?, bound(to.as_ref())?);
     let place = options.iter().position(|word| word.as_ref().eq_ignore_ascii_case(b"FILTER")).unwrap_or(options.len());
     let asked = Asked::read(&options[..place])?;
-    let members = match options.get(place + 1..) {
-        None | Some([]) => return Err(OPTION),
-        Some(words) => select(database, &filters(words)?),
+    let rest = options.get(place + 1..).unwrap_or(&[]);
+    let end = rest.iter().position(|word| word.as_ref().eq_ignore_ascii_case(b"GROUPBY"));
+    let members = match &rest[..end.unwrap_or(rest.len())] {
+        [] => return Err(OPTION),
+        words => select(database, &filters(words)?),
     };
+    if let Some(end) = end {
+        return Group::read(&rest[end + 1..])?.put(&members, &asked, from, to, room);
+    }
     put_line(b'*', members.len() as u64, room);
     for (key, series) in members {
         room.extend_from_slice(b"*3\r\n");

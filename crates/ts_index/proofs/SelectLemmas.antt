@@ -1,16 +1,22 @@
 -- Of the numbers that can pass filters, those that do.
-use Rattle.std.proofs.Common.{◌≡◌, ℕ, ◌+◌, ◌*◌, ◌≤◌, ◌==◌, ◌||◌, ◌&&◌, Bool, true, false, List, [], ◌∷◌, ◌++◌, length, Option, None, Some, refl, sym, ◌∙◌, ap, subst, arith, if◌then◌else◌, eqb-true, append-nil}
+use Rattle.std.proofs.Common.{◌≡◌, ℕ, ◌+◌, ◌*◌, ◌≤◌, ◌==◌, ◌||◌, ◌&&◌, not, Bool, true, false, List, [], ◌∷◌, ◌++◌, length, Option, None, Some, refl, sym, ◌∙◌, ap, subst, arith, if◌then◌else◌, eqb-true, append-nil}
 use Rattle.std.proofs.Math.Nat.{mul-le-mul_left}
 use Rattle.std.proofs.lemmas.Bool.{false≢true}
 use Rattle.std.proofs.lemmas.List.Sorted.{list_any-IsPermutation}
 use Rattle.std.specs.List.Sorted.{IsPermutation}
 use Rattle.ts_spec.specs.State.{Label}
-use Rattle.ts_spec.specs.Filter.{Filter, all_hold}
+use Rattle.ts_spec.specs.Filter.{Filter, Among, NotAmong, Absent, Present, value_of, has_one_of, holds, all_hold, is_positive}
+use Rattle.ts_labels.specs.Filter.{label_of, values_wanted}
 use Rattle.ts_sample.specs.declared.id.Id.{Id}
-use Rattle.ts_index.specs.Candidates.{AreApart, Covers}
+use Rattle.ts_index.specs.Bounds.{fewest}
+use Rattle.ts_index.specs.Candidates.{listed_by, AreApart, Covers}
 use Rattle.ts_index.specs.Index.{Labelled, labels_of, numbers_where}
+use Rattle.ts_index.specs.Narrowest.{IsNarrowest}
 use Rattle.ts_index.specs.Numbers.{AreInOrder, has_number, pass}
+use Rattle.ts_index.specs.Selecting.{AreSelected}
 use Rattle.ts_index.proofs.ApartLemmas.{apart-permuted}
+use Rattle.ts_index.proofs.CandidateLemmas.{has_unseen, has_number-listed_by, listed_by-apart}
+use Rattle.ts_index.proofs.ChoiceLemmas.{by_narrowest}
 use Rattle.ts_index.proofs.MemberLemmas.{same_numbers}
 use Rattle.ts_index.proofs.NumberLemmas.{has_number-where, AreAscending-where}
 use Rattle.ts_index.proofs.OrderLemmas.{AreSorted, ascending}
@@ -19,11 +25,6 @@ use Rattle.ts_index.proofs.OrderLemmas.{AreSorted, ascending}
 abbrev pub chosen : (List Label → Bool) → Labelled → List Id → List Id
 chosen test es [] = []
 chosen test es (i ∷ is) = if pass test (labels_of i.0 es) then i ∷ chosen test es is else chosen test es is
-
--- These are the numbers whose labels pass a test, none of them twice, in some order.
-pub record AreSelected (test : List Label → Bool) (es : Labelled) (is : List Id) : Type 0 where
-  pub once : AreApart is
-  pub which : (q : ℕ) → has_number q is ≡ pass test (labels_of q es)
 
 has_number-chosen : (test : List Label → Bool) (es : Labelled) (is : List Id) (q : ℕ) → has_number q (chosen test es is) ≡ (has_number q is && pass test (labels_of q es))
 has_number-chosen test es [] q = refl
@@ -68,13 +69,16 @@ selected-of fs es is a covers = record {
     at q None e = by (has_number q is) false (λ h. absurd (false≢true h))
     at q (Some labels) e = by (has_number q is) (all_hold fs labels) (covers q labels e)
 
--- nothing is left, and they are sorted
-pub selected-sorted : (test : List Label → Bool) (es : Labelled) (ids new rest : List Id) → AreInOrder es → rest ≡ []
-    → AreSelected test es (ids ++ chosen test es rest) → IsPermutation ids new → AreSorted new → new ≡ numbers_where test es
-selected-sorted test es ids new rest o e h p s =
-    let all : AreSelected test es ids = subst (AreSelected test es) (ap (λ r. ids ++ chosen test es r) e ∙ append-nil ids) h in
+-- they are sorted
+pub selected-sorted : (test : List Label → Bool) (es : Labelled) (ids new : List Id) → AreInOrder es
+    → AreSelected test es ids → IsPermutation ids new → AreSorted new → new ≡ numbers_where test es
+selected-sorted test es ids new o all p s =
     same_numbers new (numbers_where test es) (ascending new s (apart-permuted ids new p all.once)) (AreAscending-where test es o)
     (λ q. sym (list_any-IsPermutation (λ i. q == i.0) ids new p) ∙ all.which q ∙ sym (has_number-where test es o q))
+
+-- nothing is left
+pub selected-all : (test : List Label → Bool) (es : Labelled) (ids rest : List Id) → rest ≡ [] → AreSelected test es (ids ++ rest) → AreSelected test es ids
+selected-all test es ids rest e h = subst (AreSelected test es) (ap (λ r. ids ++ r) e ∙ append-nil ids) h
 
 -- there are steps for no more than the fewest
 pub steps-start : (each : ℕ) (is : List Id) (fewest now : ℕ) → length is ≤ fewest → now + each * length is ≤ now + each * fewest
@@ -84,3 +88,48 @@ steps-start each is fewest now few = let more : each * length is ≤ each * fewe
 pub selected-start : (fs : List Filter) (es : Labelled) (ids is rest : List Id) → ids ≡ [] → rest ≡ is → AreApart is → Covers es fs is
     → AreSelected (all_hold fs) es (ids ++ chosen (all_hold fs) es rest)
 selected-start fs es ids is rest e r a covers = rw (e, r) (selected-of fs es is a covers)
+
+-- there is room for no more than the fewest
+pub room-start : (held : ℕ) (is : List Id) (fewest room : ℕ) → held ≡ 0 → length is ≤ fewest → fewest ≤ room → held + length is ≤ room
+room-start held is fewest room e few enough = omega (arith, e, few, enough)
+
+-- ---- by a filter that asks for a value
+
+-- labels pass it exactly where they have one of the values that it wants
+pass-wanted : (f : Filter) (labels : List Label) → is_positive f ≡ true → has_unseen (label_of f) [] (values_wanted f) labels ≡ all_hold (f ∷ []) labels
+pass-wanted (Among label values) labels p = by (value_of label labels)
+  where
+    by : (there : Option (List ℕ)) → (has_one_of values there && not (has_one_of [] there)) ≡ (has_one_of values there && true)
+    by None = refl
+    by (Some w) = refl
+pass-wanted (NotAmong label values) labels p = absurd (false≢true p)
+pass-wanted (Absent label) labels p = absurd (false≢true p)
+pass-wanted (Present label) labels p = absurd (false≢true p)
+
+-- those that have one of its values are those that pass it
+pub selected-wanted : (f : Filter) (es : Labelled) → AreInOrder es → is_positive f ≡ true → AreSelected (all_hold (f ∷ [])) es (listed_by (label_of f) [] (values_wanted f) es)
+selected-wanted f es o p = record {
+  once = listed_by-apart (label_of f) [] (values_wanted f) es o;
+  which = λ q. has_number-listed_by (label_of f) [] (values_wanted f) es o q ∙ at (labels_of q es);
+}
+  where
+    at : (labels : Option (List Label)) → pass (has_unseen (label_of f) [] (values_wanted f)) labels ≡ pass (all_hold (f ∷ [])) labels
+    at None = refl
+    at (Some labels) = pass-wanted f labels p
+
+-- it is the narrowest one
+only-narrowest : (f : Filter) (es : Labelled) → is_positive f ≡ true → IsNarrowest es (f ∷ []) f
+only-narrowest f es p = record { positive = p; among = λ labels h. first (holds f labels) h; few = rw (p) refl }
+  where
+    first : (b : Bool) → (b && true) ≡ true → b ≡ true
+    first true h = refl
+    first false h = h
+
+-- there are no more of them than candidates
+pub few-wanted : (f : Filter) (es : Labelled) (is : List Id) → AreInOrder es → is_positive f ≡ true → is ≡ listed_by (label_of f) [] (values_wanted f) es → length is ≤ fewest es (f ∷ [])
+few-wanted f es is o p e = (by_narrowest es (f ∷ []) f is o (only-narrowest f es p) e).few
+
+-- before the first of them
+pub wanted-start : (f : Filter) (es : Labelled) (ids is : List Id) → AreInOrder es → is_positive f ≡ true → ids ≡ [] → is ≡ listed_by (label_of f) [] (values_wanted f) es
+    → AreSelected (all_hold (f ∷ [])) es (ids ++ is)
+wanted-start f es ids is o p e same = rw (e, same) (selected-wanted f es o p)

@@ -6,3 +6,4 @@ pub mod Pairs
 pub mod Candidates
 pub mod Source
 pub mod Narrowest
+pub mod Selecting

@@ -76,7 +76,7 @@ impl Index {
 }
 
 // The numbers that have one of the values that a filter wants.
-fn by_value<'a>(index: &'a Index, filter: &'a Filter) -> Candidates<'a>
+pub(crate) fn by_value<'a>(index: &'a Index, filter: &'a Filter) -> Candidates<'a>
     ensures { result ≡ listed_by (label_of filter.now) [] (values_wanted filter.now) index.now }
 {
     Candidates {

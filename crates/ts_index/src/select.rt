@@ -1,10 +1,12 @@
 // Selections by filters.
-ghost use Rattle.std.specs.Prelude.{◌≡◌, ◌+◌, ◌≤◌, length, IfOk, OnErr};
-ghost use Rattle.ts_spec.specs.Filter.{all_hold};
+ghost use Rattle.std.specs.Prelude.{◌≡◌, ◌+◌, ◌*◌, ◌≤◌, true, [], ◌∷◌, length, vec_len, vec_capacity, IfOk, IfSome, OnErr};
+ghost use Rattle.ts_spec.specs.Filter.{all_hold, is_positive};
 ghost use Rattle.ts_index.specs.Bounds.{fewest, selection_steps};
 ghost use Rattle.ts_index.specs.Index.{labels_of, numbers_where};
 ghost use Rattle.ts_index.specs.Numbers.{pass};
+ghost use Rattle.ts_index.specs.Selecting.{AreSelected};
 
+use crate::candidates::by_value;
 use crate::index::Index;
 use std::alloc::AllocError;
 use std::sync::ledger::Ledger;
@@ -24,13 +26,52 @@ impl Index {
     {
         self.known();
         let mut ids = Vec::with_capacity(self.alloc, self.fewest(filters))?;
+        self.take(filters, &mut ids, steps);
+        ids.sort_unstable();
+        Ok(ids)
+    }
+
+    // Takes the numbers whose labels pass all filters.
+    fn take<L: Ledger>(&self, filters: &[Filter], ids: &mut Vec<Id>, steps: &mut Steps<L>)
+        requires none { ids.old.items ≡ [] }
+        requires len { vec_len ids.old ≡ 0 }
+        requires room { fewest self.now filters.now ≤ vec_capacity ids.old }
+        ensures selected { AreSelected (all_hold filters.now) self.now ids.new.items }
+        ensures steps { steps.new ≤ steps.old + selection_steps self.now filters.now }
+    {
+        match only(filters) {
+            Some(filter) => self.take_wanted(filter, ids),
+            None => self.take_passing(filters, ids, steps),
+        }
+    }
+
+    // Takes the numbers that have a value that a filter wants: they pass it.
+    fn take_wanted(&self, filter: &Filter, ids: &mut Vec<Id>)
+        requires positive { is_positive filter.now ≡ true }
+        requires none { ids.old.items ≡ [] }
+        requires len { vec_len ids.old ≡ 0 }
+        requires room { fewest self.now (filter.now ∷ []) ≤ vec_capacity ids.old }
+        ensures selected { AreSelected (all_hold (filter.now ∷ [])) self.now ids.new.items }
+    {
+        self.known();
+        for id in by_value(self, filter) {
+            ids.push_reserved(id);
+        }
+    }
+
+    // Takes the candidates that pass all filters.
+    fn take_passing<L: Ledger>(&self, filters: &[Filter], ids: &mut Vec<Id>, steps: &mut Steps<L>)
+        requires none { ids.old.items ≡ [] }
+        requires len { vec_len ids.old ≡ 0 }
+        requires room { fewest self.now filters.now ≤ vec_capacity ids.old }
+        ensures selected { AreSelected (all_hold filters.now) self.now ids.new.items }
+        ensures steps { steps.new ≤ steps.old + selection_steps self.now filters.now }
+    {
         for id in self.candidates(filters) {
             if self.passes(id, filters, steps) {
                 ids.push_reserved(id);
             }
         }
-        ids.sort_unstable();
-        Ok(ids)
     }
 
     // Whether a number has labels that pass all filters.
@@ -42,6 +83,17 @@ impl Index {
             Some(labels) => pass(labels, filters, steps),
             None => false,
         }
+    }
+}
+
+// The only filter, if it asks for a value.
+fn only(filters: &[Filter]) -> Option<&Filter>
+    ensures alone { IfSome result (λ filter. filters.now ≡ filter.now ∷ []) }
+    ensures positive { IfSome result (λ filter. is_positive filter.now ≡ true) }
+{
+    match filters {
+        [filter] if filter.is_positive() => Some(filter),
+        _ => None,
     }
 }
 

@@ -1,8 +1,9 @@
 use Rattle.std.proofs.Common.{◌≤◌, ◌+◌, ◌*◌, ◌++◌, length, vec_len, vec_capacity}
 use Rattle.ts_spec.specs.Filter.{all_hold}
 use Rattle.ts_index.specs.Bounds.{selection_steps}
-use Rattle.ts_index.proofs.SelectLemmas.{chosen, AreSelected}
-use Rattle.ts_index.proofs.index.Index.select.Given as goal
+use Rattle.ts_index.specs.Selecting.{AreSelected}
+use Rattle.ts_index.proofs.SelectLemmas.{chosen}
+use Rattle.ts_index.proofs.index.Index.take_passing.Given as goal
 
 -- The numbers so far, with those that pass of what is left, are all that pass. There is room for all that are left, and there are steps for them.
 abbrev pub invariant-loop-id : goal.invariant-loop-id
