@@ -58,6 +58,8 @@ pub mod KeptSteps
 pub mod OwnWords
 pub mod PlainReplies
 pub mod WantOfMemory
+pub mod ResolvedTimes
+pub mod Untaken
 pub mod Touching
 pub mod KeptBodies
 pub mod DeletedRules

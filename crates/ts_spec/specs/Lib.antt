@@ -32,6 +32,7 @@ pub mod Questions
 pub mod Ranges
 pub mod Refusal
 pub mod Replies
+pub mod Resolved
 pub mod Response
 pub mod Rules
 pub mod Run
