@@ -4,4 +4,20 @@ pub mod Putting
 pub mod Taking
 pub mod TripleLemmas
 mod RecordsAtWork
+mod Numbers
+mod LabelWords
+mod Readable
+mod ReadableOptions
+mod ReadableCommands
+mod Among
+mod Costs
+mod Lengths
+mod OptionCosts
+mod CommandCosts
+mod Fitting
+mod OptionWords
+mod OptionsRead
 pub mod ReadBack
+mod ShortAnswers
+mod TakenTriples
+mod Replays

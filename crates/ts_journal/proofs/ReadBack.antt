@@ -1,109 +1,35 @@
--- Words of records read back as what they were put for.
-use Rattle.std.proofs.Common.{◌≡◌, ℕ, zero, suc, ◌+◌, ◌*◌, ◌/◌, ◌%◌, ◌^◌, ◌<◌, ◌≤◌, ◌==◌, ◌&&◌, nat_le, Bool, true, false, if◌then◌else◌, List, [], ◌∷◌, length, Some, refl, ◌∙◌, ap, arith}
-use Rattle.std.proofs.lemmas.Bool.{le-leb, leb-true, lt-ltb, eqb-true, ne_eqb, and_parts}
-use Rattle.std.proofs.lemmas.Fmt.{length-decimal-le, decimal_nonempty}
-use Rattle.std.specs.Prelude.{fold, Ok}
-use Rattle.std.specs.List.{list_all}
-use Rattle.std.specs.Fmt.{decimal, digits, digits_onto, digit_glyph}
-use Rattle.ts_spec.specs.Number.{digits_number, number}
-use Rattle.std.specs.Str.{bytes_eq}
+-- The words of records read back as their commands, with times resolved.
+use Rattle.std.proofs.Common.{◌≡◌, ◌≢◌, ℕ, suc, ◌*◌, ◌%◌, ◌^◌, ◌≤◌, ◌==◌, ◌&&◌, nat_le, true, if◌then◌else◌, List, [], ◌∷◌, ◌++◌, length, map, codes, refl, ◌∙◌, ap, length-append, arith}
+use Rattle.std.proofs.lemmas.Bool.{le-leb, eq-eqb}
+use Rattle.std.specs.Prelude.{ℤ, Option, None, unwrap_or, flat_map, Result, Ok, Err, IfOk}
+use Rattle.std.specs.Fmt.{decimal}
 use Rattle.ts_spec.specs.declared.bucket.Aggregator.{Aggregator}
-use Rattle.ts_spec.specs.declared.bucket.Aggregator.TheVariants.{Avg, Sum, Min, Max, Range, Count, First, Last}
-use Rattle.ts_spec.specs.declared.command.At.TheVariants.{Time}
+use Rattle.ts_spec.specs.declared.bucket.Aggregator.TheVariants as agg
+use Rattle.ts_spec.specs.declared.command.At.{At}
+use Rattle.ts_spec.specs.declared.command.At.TheVariants.{Clock}
+use Rattle.ts_spec.specs.declared.series.Policy.{Policy}
 use Rattle.ts_spec.specs.Bucket.{Grid}
-use Rattle.ts_spec.specs.Command.{DelRange, CreateRule, DeleteRule, Drop}
-use Rattle.ts_spec.specs.Grammar.{commands, command}
+use Rattle.ts_spec.specs.Command.{Spec, Change, Triple, Command, Create, Alter, Add, Madd, Incr, DelRange, CreateRule, DeleteRule, Range, MRange, Get, MGet, QueryIndex, InfoOf, Ping, Echo, Quit, Drop, Exists}
+use Rattle.ts_spec.specs.Grammar.{create, alter, add, triples, by_threes, incr, commands, command}
 use Rattle.ts_spec.specs.Key.{Key}
 use Rattle.ts_spec.specs.Names.{aggregators}
+use Rattle.ts_spec.specs.Outcome.{time_of}
 use Rattle.ts_spec.specs.Ranges.{aggregator_word, duration_word, IsDuration}
+use Rattle.ts_spec.specs.Refusal.{Fault, Arity}
 use Rattle.ts_spec.specs.Replies.{aggregator_name}
+use Rattle.ts_spec.specs.Resolved.{resolved_at, resolved_triple, resolved}
 use Rattle.ts_spec.specs.Sample.{MAX_TIME}
-use Rattle.ts_spec.specs.Settings.{time_word, end_word, at_word}
-use Rattle.ts_spec.specs.Wire.{is_digit, digit_of}
-use Rattle.ts_journal.specs.Record.{record_words}
-
--- a number goes on by a digit
-abbrev next : ℕ → ℕ → ℕ
-next n byte = 10 * n + digit_of byte
-
-glyph-of : (d : ℕ) → d < 10 → digit_glyph false d ≡ 48 + d
-glyph-of d h = ap (λ b. if b then 48 + d else 87 + d) (lt-ltb d 10 h)
-
-last-digit : (n : ℕ) → n % 10 < 10
-last-digit n = omega arith
-
-is-digit : (d : ℕ) → d < 10 → is_digit (48 + d) ≡ true
-is-digit d h = ap (λ b. b && nat_le (48 + d) 57) (le-leb 48 (48 + d) (omega arith)) ∙ ap (λ b. true && b) (le-leb (48 + d) 57 (omega arith))
-
--- the digits that are put before others spell the number, with which those others go on
-onto-number : (k n : ℕ) (rest : List ℕ) → n < 10 ^ k → fold next 0 (digits_onto k 10 false n rest) ≡ fold next n rest
-onto-number zero n rest h = ap (λ m. fold next m rest) (omega arith)
-onto-number (suc k) n rest h =
-    go (n / 10 == 0) refl (digit_glyph false (n % 10)) (glyph-of (n % 10) (last-digit n)) (λ small. onto-number k (n / 10) (digit_glyph false (n % 10) ∷ rest) small)
-  where
-    go : (b : Bool) → (n / 10 == 0) ≡ b → (g : ℕ) → g ≡ 48 + n % 10
-        → (n / 10 < 10 ^ k → fold next 0 (digits_onto k 10 false (n / 10) (g ∷ rest)) ≡ fold next (n / 10) (g ∷ rest))
-        → fold next 0 (if b then g ∷ rest else digits_onto k 10 false (n / 10) (g ∷ rest)) ≡ fold next n rest
-    go true e g is before =
-        let none : n / 10 ≡ 0 = eqb-true (n / 10) 0 e in
-        let all : 10 * 0 + digit_of g ≡ n = omega arith in
-        ap (λ m. fold next m rest) all
-    go false e g is before =
-        let all : 10 * (n / 10) + digit_of g ≡ n = omega arith in
-        before (omega arith) ∙ ap (λ m. fold next m rest) all
-
-onto-digits : (k n : ℕ) (rest : List ℕ) → list_all is_digit rest ≡ true → list_all is_digit (digits_onto k 10 false n rest) ≡ true
-onto-digits zero n rest h = h
-onto-digits (suc k) n rest h = go (n / 10 == 0) more (onto-digits k (n / 10) (digit_glyph false (n % 10) ∷ rest) more)
-  where
-    more : list_all is_digit (digit_glyph false (n % 10) ∷ rest) ≡ true
-    more =
-        ap (λ g. list_all is_digit (g ∷ rest)) (glyph-of (n % 10) (last-digit n)) ∙ ap (λ b. b && list_all is_digit rest) (is-digit (n % 10) (last-digit n)) ∙ h
-
-    go : (b : Bool) → list_all is_digit (digit_glyph false (n % 10) ∷ rest) ≡ true
-        → list_all is_digit (digits_onto k 10 false (n / 10) (digit_glyph false (n % 10) ∷ rest)) ≡ true
-        → list_all is_digit (if b then digit_glyph false (n % 10) ∷ rest else digits_onto k 10 false (n / 10) (digit_glyph false (n % 10) ∷ rest)) ≡ true
-    go true one others = one
-    go false one others = others
-
-number-of : (n : ℕ) → n < 10 ^ 64 → digits_number (decimal n) ≡ n
-unfolding digits
-number-of n h = onto-number 64 n [] h
-
-all-digits : (n : ℕ) → list_all is_digit (decimal n) ≡ true
-unfolding digits
-all-digits n = onto-digits 64 n [] refl
-
--- a number up to the greatest time reads back from its decimal
-pub number-decimal : (n : ℕ) → n ≤ MAX_TIME → number (decimal n) ≡ Some n
-number-decimal n h =
-    let value = number-of n (omega arith) in
-    let some : nat_le 1 (length (decimal n)) ≡ true = le-leb 1 (length (decimal n)) (omega (arith, decimal_nonempty n (omega arith))) in
-    let few : nat_le (length (decimal n)) 19 ≡ true = le-leb (length (decimal n)) 19 (length-decimal-le 19 n (omega arith) (omega arith) (omega arith)) in
-    let small : nat_le n MAX_TIME ≡ true = le-leb n MAX_TIME h in
-    rw (some, few, all-digits n, value, small) refl
-
--- a word of digits is none of one byte that is no digit
-no-digit : (word : List ℕ) (byte : ℕ) → byte < 48 → list_all is_digit word ≡ true → bytes_eq word (byte ∷ []) ≡ false
-no-digit [] byte small h = refl
-no-digit (b ∷ word) byte small h =
-    let digit = and_parts (is_digit b) (list_all is_digit word) h in
-    let from : 48 ≤ b = leb-true 48 b (and_parts (nat_le 48 b) (nat_le b 57) digit.0).0 in
-    ap (λ c. c && bytes_eq word []) (ne_eqb b byte (λ e. omega arith))
-
-time-decimal : (n : ℕ) → n ≤ MAX_TIME → time_word (decimal n) ≡ Ok n
-unfolding time_word
-time-decimal n h = rw (number-decimal n h) refl
-
--- a time that is an end of an interval
-pub end-decimal : (n : ℕ) → n ≤ MAX_TIME → end_word (decimal n) ≡ Ok n
-unfolding end_word
-end-decimal n h = rw (no-digit (decimal n) 45 (omega arith) (all-digits n), no-digit (decimal n) 43 (omega arith) (all-digits n)) (time-decimal n h)
-
--- a time of a sample
-pub at-decimal : (n : ℕ) → n ≤ MAX_TIME → at_word (decimal n) ≡ Ok (Time n)
-unfolding at_word
-at-decimal n h = rw (no-digit (decimal n) 42 (omega arith) (all-digits n), time-decimal n h) refl
+use Rattle.ts_spec.specs.SeriesOptions.{series_options, alter_options, add_options, incr_options, spec, change}
+use Rattle.ts_spec.specs.Settings.{Word, IsTime, and_then, value_word, nothing, options}
+use Rattle.ts_spec.specs.Value.{shown_value}
+use Rattle.ts_journal.specs.Record as record_
+use Rattle.ts_journal.specs.Record.{on_duplicate_words, spec_words, change_words, triple_words, sample_words, with_name, record_words}
+use Rattle.ts_journal.proofs.Numbers.{number-decimal, time-decimal, end-decimal, at-decimal}
+use Rattle.ts_journal.proofs.OptionWords.{value-shown, series-knows}
+use Rattle.ts_journal.proofs.OptionsRead.{spec-read, change-read, add-options-read, incr-options-read}
+use Rattle.ts_journal.proofs.Readable.{IsBounded, time-resolved}
+use Rattle.ts_journal.proofs.ReadableOptions.{IsReadableSpec, IsReadableChange}
+use Rattle.ts_journal.proofs.ReadableCommands.{AreReadableTriples, IsReadable}
 
 duration-decimal : (n : ℕ) → IsDuration n → duration_word (decimal n) ≡ Ok n
 unfolding duration_word
@@ -112,32 +38,153 @@ duration-decimal n h =
     let to : nat_le n (10 ^ 14) ≡ true = le-leb n (10 ^ 14) h.1 in
     rw (number-decimal n (omega arith), from, to) refl
 
-aggregator-name : (agg : Aggregator) → aggregator_word (aggregator_name agg) ≡ Ok agg
+aggregator-name : (a : Aggregator) → aggregator_word (aggregator_name a) ≡ Ok a
 unfolding aggregator_word aggregators
-aggregator-name Avg = refl
-aggregator-name Sum = refl
-aggregator-name Min = refl
-aggregator-name Max = refl
-aggregator-name Range = refl
-aggregator-name Count = refl
-aggregator-name First = refl
-aggregator-name Last = refl
+aggregator-name agg.Avg = refl
+aggregator-name agg.Sum = refl
+aggregator-name agg.Min = refl
+aggregator-name agg.Max = refl
+aggregator-name agg.Range = refl
+aggregator-name agg.Count = refl
+aggregator-name agg.First = refl
+aggregator-name agg.Last = refl
 
 -- ---- the words of a record are the command
 
-pub delete_rule-reads : (reading : ℕ) (source dest : Key) → command (record_words reading (DeleteRule source dest)) ≡ Ok (DeleteRule source dest)
+delete_rule-reads : (reading : ℕ) (source dest : Key) → command (record_words reading (DeleteRule source dest)) ≡ Ok (DeleteRule source dest)
 unfolding commands
 delete_rule-reads reading source dest = refl
 
-pub drop-reads : (reading : ℕ) (key : Key) (keys : List Key) → command (record_words reading (Drop (key ∷ keys))) ≡ Ok (Drop (key ∷ keys))
+drop-reads : (reading : ℕ) (key : Key) (keys : List Key) → command (record_words reading (Drop (key ∷ keys))) ≡ Ok (Drop (key ∷ keys))
 unfolding commands
 drop-reads reading key keys = rw (le-leb 2 (suc (suc (length keys))) (omega arith)) refl
 
-pub del_range-reads : (reading : ℕ) (key : Key) (from to : ℕ) → from ≤ MAX_TIME → to ≤ MAX_TIME → command (record_words reading (DelRange key from to)) ≡ Ok (DelRange key from to)
+del_range-reads : (reading : ℕ) (key : Key) (from to : ℕ) → from ≤ MAX_TIME → to ≤ MAX_TIME → command (record_words reading (DelRange key from to)) ≡ Ok (DelRange key from to)
 unfolding commands
 del_range-reads reading key from to first last = rw (end-decimal from first, end-decimal to last) refl
 
-pub create_rule-reads : (reading : ℕ) (source dest : Key) (agg : Aggregator) (grid : Grid) → grid.align ≤ MAX_TIME → IsDuration grid.duration
-    → command (record_words reading (CreateRule source dest agg grid)) ≡ Ok (CreateRule source dest agg grid)
+create_rule-reads : (reading : ℕ) (source dest : Key) (a : Aggregator) (grid : Grid) → grid.align ≤ MAX_TIME → IsDuration grid.duration
+    → command (record_words reading (CreateRule source dest a grid)) ≡ Ok (CreateRule source dest a grid)
 unfolding commands
-create_rule-reads reading source dest agg grid early short = rw (aggregator-name agg, duration-decimal grid.duration short, time-decimal grid.align early) refl
+create_rule-reads reading source dest a grid early short = rw (aggregator-name a, duration-decimal grid.duration short, time-decimal grid.align early) refl
+
+-- ---- commands with options
+
+create-reads : (reading : ℕ) (key : Key) (s : Spec) → IsReadableSpec series_options s → command (record_words reading (Create key s)) ≡ Ok (Create key s)
+unfolding commands
+create-reads reading key s h =
+    ap (λ b. if b then create (key ∷ spec_words s) else Err Arity) (le-leb 2 (suc (length (key ∷ spec_words s))) (omega arith))
+    ∙ ap (λ r. and_then r (λ given. Ok (Create key (spec given)))) (spec-read series_options series-knows None None s h)
+
+alter-reads : (reading : ℕ) (key : Key) (c : Change) → IsReadableChange alter_options c → command (record_words reading (Alter key c)) ≡ Ok (Alter key c)
+unfolding commands
+alter-reads reading key c h =
+    ap (λ b. if b then alter (key ∷ change_words c) else Err Arity) (le-leb 2 (suc (length (key ∷ change_words c))) (omega arith))
+    ∙ ap (λ r. and_then r (λ given. Ok (Alter key (change given)))) (change-read c h)
+
+add-reads : (reading : ℕ) (key : Key) (at : At) (v : ℤ) (on : Option Policy) (s : Spec) → time_of reading at ≤ MAX_TIME → IsBounded v → IsReadableSpec add_options s
+    → command (record_words reading (Add key at v on s)) ≡ Ok (Add key (resolved_at reading at) v on s)
+unfolding commands
+add-reads reading key at v on s early small h =
+    let words : List Word = record_.given on_duplicate_words on ++ spec_words s in
+    ap (λ b. if b then add (key ∷ decimal (time_of reading at) ∷ shown_value v ∷ words) else Err Arity)
+    (le-leb 4 (suc (length (key ∷ decimal (time_of reading at) ∷ shown_value v ∷ words))) (omega arith))
+    ∙ ap (λ r. and_then r (λ t. and_then (value_word (shown_value v)) (λ x. and_then (options add_options nothing 0 words) (λ given. Ok (Add key t x given.on (spec given))))))
+    (at-decimal (time_of reading at) early)
+    ∙ ap (λ r. and_then r (λ x. and_then (options add_options nothing 0 words) (λ given. Ok (Add key (resolved_at reading at) x given.on (spec given))))) (value-shown v small)
+    ∙ ap (λ r. and_then r (λ given. Ok (Add key (resolved_at reading at) v given.on (spec given)))) (add-options-read on s h)
+
+incr-reads : (reading : ℕ) (key : Key) (v : ℤ) (at : At) (s : Spec) → time_of reading at ≤ MAX_TIME → IsBounded v → IsReadableSpec incr_options s
+    → command (record_words reading (Incr key v at s)) ≡ Ok (Incr key v (resolved_at reading at) s)
+unfolding commands
+incr-reads reading key v at s early small h =
+    let words : List Word = codes "TIMESTAMP" ∷ decimal (time_of reading at) ∷ spec_words s in
+    ap (λ b. if b then incr (λ x. x) (key ∷ shown_value v ∷ words) else Err Arity) (le-leb 3 (suc (length (key ∷ shown_value v ∷ words))) (omega arith))
+    ∙ ap (λ r. and_then r (λ x. and_then (options incr_options nothing 0 words) (λ given. Ok (Incr key x (unwrap_or given.at Clock) (spec given)))))
+    (value-shown v small)
+    ∙ ap (λ r. and_then r (λ given. Ok (Incr key v (unwrap_or given.at Clock) (spec given)))) (incr-options-read (time_of reading at) s early h)
+
+-- ---- TS.MADD
+
+-- a sample that has a time and a value
+abbrev pub IsSample : Result At Fault → Result ℤ Fault → Type 0
+IsSample (Ok at) (Ok v) = Unit {0}
+IsSample _ _ = ⊥
+
+abbrev pub AreSamples : List Triple → Type 0
+AreSamples [] = Unit {0}
+AreSamples (t ∷ ts) = IsSample t.at t.value × AreSamples ts
+
+sample-reads : (reading : ℕ) (key : Key) (at : Result At Fault) (v : Result ℤ Fault) (more : List Word) → IsSample at v → IfOk at IsTime → IfOk v IsBounded
+    → triples (sample_words reading key at v ++ more) ≡ resolved_triple reading (record { key = key; at = at; value = v }) ∷ triples more
+sample-reads reading key (Ok at) (Ok v) more s early small = rw (at-decimal (time_of reading at) (time-resolved reading at early), value-shown v small) refl
+sample-reads reading key (Ok at) (Err fault) more s early small = absurd s
+sample-reads reading key (Err fault) v more s early small = absurd s
+
+triples-read : (reading : ℕ) (ts : List Triple) → AreSamples ts → AreReadableTriples ts → triples (flat_map (triple_words reading) ts) ≡ map (resolved_triple reading) ts
+triples-read reading [] s h = refl
+triples-read reading (t ∷ ts) s h =
+    sample-reads reading t.key t.at t.value (flat_map (triple_words reading) ts) s.0 h.0.at h.0.value ∙ ap (λ us. resolved_triple reading t ∷ us) (triples-read reading ts s.1 h.1)
+
+-- three words for each
+sample-count : (reading : ℕ) (key : Key) (at : Result At Fault) (v : Result ℤ Fault) → IsSample at v → length (sample_words reading key at v) ≡ 3
+sample-count reading key (Ok at) (Ok v) s = refl
+sample-count reading key (Ok at) (Err fault) s = absurd s
+sample-count reading key (Err fault) v s = absurd s
+
+samples-count : (reading : ℕ) (ts : List Triple) → AreSamples ts → length (flat_map (triple_words reading) ts) ≡ 3 * length ts
+samples-count reading [] s = refl
+samples-count reading (t ∷ ts) s =
+    let all = length-append (triple_words reading t) (flat_map (triple_words reading) ts) in
+    omega (arith, all, sample-count reading t.key t.at t.value s.0, samples-count reading ts s.1)
+
+threes : (n k : ℕ) → n ≡ 3 * k → 1 ≤ k → by_threes (suc n) ≡ true
+threes n k e some =
+    ap (λ b. b && (suc n % 3 == 1)) (le-leb 4 (suc n) (omega (arith, e, some))) ∙ eq-eqb (suc n % 3) 1 (omega (arith, e))
+
+named-some : (name : Word) (words : List Word) → with_name name words ≢ [] → with_name name words ≡ name ∷ words
+named-some name [] some = absurd (some refl)
+named-some name (word ∷ words) some = refl
+
+samples-some : (reading : ℕ) (name : Word) (ts : List Triple) → with_name name (flat_map (triple_words reading) ts) ≢ [] → 1 ≤ length ts
+samples-some reading name [] some = absurd (some refl)
+samples-some reading name (t ∷ ts) some = omega arith
+
+madd-reads : (reading : ℕ) (ts : List Triple) → AreSamples ts → AreReadableTriples ts → record_words reading (Madd ts) ≢ []
+    → command (record_words reading (Madd ts)) ≡ Ok (Madd (map (resolved_triple reading) ts))
+unfolding commands
+madd-reads reading ts s h some =
+    let words : List Word = flat_map (triple_words reading) ts in
+    ap command (named-some (codes "TS.MADD") words some)
+    ∙ ap (λ b. if b then Ok (Madd (triples words)) else Err Arity)
+    (threes (length words) (length ts) (samples-count reading ts s) (samples-some reading (codes "TS.MADD") ts some))
+    ∙ ap (λ us. Ok (Madd us)) (triples-read reading ts s h)
+
+-- ---- all of them
+
+-- of TS.MADD, all triples are samples
+abbrev pub IsWhole : Command → Type 0
+IsWhole (Madd ts) = AreSamples ts
+IsWhole c = Unit {0}
+
+pub reads-back : (reading : ℕ) (c : Command) → IsReadable c → IsWhole c → record_words reading c ≢ [] → command (record_words reading c) ≡ Ok (resolved reading c)
+reads-back reading (Create key s) h w some = create-reads reading key s h
+reads-back reading (Alter key c) h w some = alter-reads reading key c h
+reads-back reading (Add key at v on s) h w some = add-reads reading key at v on s (time-resolved reading at h.0) h.1 h.2
+reads-back reading (Madd ts) h w some = madd-reads reading ts w h some
+reads-back reading (Incr key v at s) h w some = incr-reads reading key v at s (time-resolved reading at h.0) h.1 h.2
+reads-back reading (DelRange key from to) h w some = del_range-reads reading key from to h.0 h.1
+reads-back reading (CreateRule source dest a grid) h w some = create_rule-reads reading source dest a grid h.0 h.1
+reads-back reading (DeleteRule source dest) h w some = delete_rule-reads reading source dest
+reads-back reading (Range key latest q) h w some = absurd (some refl)
+reads-back reading (MRange latest show filters q) h w some = absurd (some refl)
+reads-back reading (Get key latest) h w some = absurd (some refl)
+reads-back reading (MGet latest show filters) h w some = absurd (some refl)
+reads-back reading (QueryIndex filters) h w some = absurd (some refl)
+reads-back reading (InfoOf key) h w some = absurd (some refl)
+reads-back reading (Ping word) h w some = absurd (some refl)
+reads-back reading (Echo word) h w some = absurd (some refl)
+reads-back reading Quit h w some = absurd (some refl)
+reads-back reading (Drop []) h w some = absurd (h refl)
+reads-back reading (Drop (key ∷ keys)) h w some = drop-reads reading key keys
+reads-back reading (Exists keys) h w some = absurd (some refl)

@@ -4,3 +4,4 @@ pub mod Held
 pub mod Limits
 pub mod Lines
 pub mod Record
+pub mod Replay

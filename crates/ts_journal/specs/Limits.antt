@@ -1,6 +1,12 @@
 -- The limits under which a journal is read.
-use Rattle.std.specs.Prelude.{◌+◌, ◌*◌, ◌≤◌}
+use Rattle.std.specs.Prelude.{◌≡◌, ◌≢◌, ℕ, ◌+◌, ◌*◌, ◌≤◌, [], Ok}
 use Rattle.ts_spec.specs.declared.wire.WireLimits.{WireLimits}
+use Rattle.ts_spec.specs.Command.{Command}
+use Rattle.ts_spec.specs.Fronts.{IsWithin}
+use Rattle.ts_spec.specs.Grammar.{command}
+use Rattle.ts_spec.specs.Text.{Reply}
+use Rattle.ts_spec.specs.Wire.{Request}
+use Rattle.ts_journal.specs.Record.{accepted, record_words}
 
 -- so many words, and as many bytes, that there are limits for the records of such requests
 pub record IsBounded (limits : WireLimits) : Type 0 where
@@ -17,3 +23,14 @@ journal_limits limits = record {
   request_bytes = 24 * (limits.request_bytes + limits.line_bytes) + 512;
   line_bytes = limits.line_bytes;
 }
+
+-- the words of the record of a command, which was read of a request within the limits
+pub record IsRecordWithin (limits : WireLimits) (request : Request) : Type 0 where
+  pub words : Request
+  pub within : IsWithin limits words
+  pub c : Command
+  pub says : command words ≡ Ok c
+  pub reading : ℕ
+  pub reply : Reply
+  pub its : request ≡ record_words reading (accepted c reply)
+  pub some : request ≢ []

@@ -5,6 +5,7 @@ mod changes;
 mod draft;
 mod fixed;
 mod gap;
+mod laws;
 mod limits;
 mod options;
 mod record;
@@ -12,5 +13,6 @@ mod reply;
 mod samples;
 mod triples;
 
+pub use laws::{records_read_back, steps_are_executed};
 pub use limits::limits_of;
 pub use record::Record;

@@ -1,14 +1,22 @@
 // How large the requests of a journal may be.
-ghost use Rattle.std.specs.Prelude.{◌≡◌};
-ghost use Rattle.ts_journal.specs.Limits.{IsBounded, journal_limits};
+ghost use Rattle.std.specs.Prelude.{◌≡◌, List, All};
+ghost use Rattle.ts_spec.specs.Encoded.{Fits, encoded};
+ghost use Rattle.ts_spec.specs.Wire.{Request, Ended, stream_at, requests_of, ending_of};
+ghost use Rattle.ts_journal.specs.Limits.{IsBounded, IsRecordWithin, journal_limits};
 
 use ts_spec::WireLimits;
 
-/// The limits for a journal of a server with these: the record of each request that fits them, an array or a line, fits
-/// the limits of the journal. Takes no memory.
+/// The limits for a journal of a server with these: the record of each command that is read of a request within them, an
+/// array or a line, fits the limits of the journal, and records that are written one after another read back as these
+/// under them. Takes no memory.
 pub fn limits_of(limits: WireLimits) -> WireLimits
     requires { IsBounded limits }
-    ensures { result ≡ journal_limits limits }
+    ensures exact { result ≡ journal_limits limits }
+    ensures fits { (request : Request) → IsRecordWithin limits request → Fits result request }
+    ensures requests { (records : List Request) → All (IsRecordWithin limits) records
+        → requests_of (stream_at result 0 (encoded records)) ≡ records }
+    ensures ending { (records : List Request) → All (IsRecordWithin limits) records
+        → ending_of (stream_at result 0 (encoded records)) ≡ Ended }
 {
     WireLimits {
         words: limits.words + limits.line_bytes + 32,

@@ -1,0 +1,56 @@
+-- What a record does when it is read: what its command did, as its reply told.
+use Rattle.std.specs.Prelude.{◌≡◌, ◌≢◌, ℕ, Bool, true, false, ◌||◌, List, [], ◌∷◌, Ok}
+use Rattle.ts_spec.specs.declared.limits.Limits.{Limits}
+use Rattle.ts_spec.specs.Command.{Triple, Command, Madd}
+use Rattle.ts_spec.specs.Grammar.{command}
+use Rattle.ts_spec.specs.Replies.{reply_to}
+use Rattle.ts_spec.specs.Response.{Wrote}
+use Rattle.ts_spec.specs.State.{State}
+use Rattle.ts_spec.specs.Step.{Outcome, step, triple_step, item_of}
+use Rattle.ts_spec.specs.Text.{Reply, Replies, Empty, Item}
+use Rattle.ts_spec.specs.Wire.{Request}
+use Rattle.ts_journal.specs.Record.{is_error, is_number, items_of, record_of}
+
+-- the sample of a triple was written, which leaves the new state
+pub record IsTaken (limits : Limits) (reading : ℕ) (t : Triple) (old new : State) : Type 0 where
+  pub time : ℕ
+  pub told : item_of (triple_step limits old reading t.key t.at t.value).response ≡ Wrote time ∷ []
+  pub state : new ≡ (triple_step limits old reading t.key t.at t.value).state
+
+-- what a triple does whose item is a number, or is none: refused, no sample, or without memory
+abbrev pub DoesOne : Bool → Limits → (reading : ℕ) → Triple → (old new : State) → Type 0
+DoesOne true limits reading t old new = IsTaken limits reading t old new
+DoesOne false limits reading t old new = new ≡ old
+
+-- the triples one after another, with the same reading, each with its item
+abbrev pub DoAll : Limits → (reading : ℕ) → List Triple → (old : State) → Replies → (new : State) → Type 0
+DoAll limits reading [] old Empty new = new ≡ old
+DoAll limits reading [] old (Item reply replies) new = ⊥
+DoAll limits reading (t ∷ ts) old Empty new = ⊥
+DoAll limits reading (t ∷ ts) old (Item reply replies) new = (mid : State) × DoesOne (is_number reply) limits reading t old mid × DoAll limits reading ts mid replies new
+
+-- a step is answered, and leaves the new state
+pub record IsStep (done : Outcome) (reply : Reply) (new : State) : Type 0 where
+  pub says : reply ≡ reply_to done.response
+  pub state : new ≡ done.state
+
+-- a command was executed with this reading: it got this reply, and left the new state. Of TS.MADD some triples may have found no memory.
+abbrev pub IsDone : Limits → (reading : ℕ) → Command → (old : State) → Reply → (new : State) → Type 0
+IsDone limits reading (Madd triples) old reply new = DoAll limits reading triples old (items_of reply) new
+IsDone limits reading c old reply new = IsStep (step limits old reading c) reply new
+
+-- a command of some words was executed, and has a record
+pub record IsRecorded (limits : Limits) (reading : ℕ) (c : Command) (old : State) (reply : Reply) (new : State) : Type 0 where
+  pub words : Request
+  pub says : command words ≡ Ok c
+  pub done : IsDone limits reading c old reply new
+  pub some : record_of c reading reply ≢ []
+
+-- whether one of the replies is an error
+abbrev pub has_error : Replies → Bool
+has_error Empty = false
+has_error (Item reply replies) = is_error reply || has_error replies
+
+-- a reply is no error, nor has it one among its items
+abbrev pub IsAccepted : Reply → Type 0
+IsAccepted reply = (is_error reply ≡ false) × (has_error (items_of reply) ≡ false)
