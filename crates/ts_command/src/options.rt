@@ -7,6 +7,7 @@ ghost use Rattle.ts_command.specs.Given.{given_of};
 ghost use Rattle.ts_command.specs.Options.{setting_of, table_of, is_list, lister, is_lister, may_list};
 
 use crate::given::Given;
+use crate::group_by::add_group;
 use crate::ignore_option::add_ignore;
 use crate::labels_option::{count_pairs, read_labels};
 use crate::lists::{read_filters, read_names, read_times};
@@ -45,6 +46,7 @@ impl OptionWord {
             OptionWord::Empty => given.range.empty,
             OptionWord::WithLabels | OptionWord::SelectedLabels => given.show.is_some(),
             OptionWord::Filter => given.filters.is_some(),
+            OptionWord::GroupBy => given.group.is_some(),
         }
     }
 
@@ -59,6 +61,7 @@ impl OptionWord {
             }
             OptionWord::Ignore | OptionWord::FilterByValue | OptionWord::Aggregation => 2,
             OptionWord::Latest | OptionWord::Empty | OptionWord::WithLabels => 0,
+            OptionWord::GroupBy => 3,
             _ => 1,
         }
     }
@@ -119,6 +122,7 @@ fn add_own(
             given.show = Some(Show::Selected(read_names(alloc, own_words(own)?)?));
         }
         OptionWord::Filter => given.filters = Some(read_filters(alloc, own_words(own)?)?),
+        OptionWord::GroupBy => add_group(own, given)?,
     }
     Ok(())
 }
