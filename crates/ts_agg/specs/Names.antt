@@ -1,10 +1,15 @@
--- The names of aggregators.
+-- The names of aggregators and reducers.
 use Rattle.std.specs.Prelude.{ℕ, List, Result}
 use Rattle.ts_spec.specs.declared.bucket.Aggregator.{Aggregator}
-use Rattle.ts_spec.specs.Names.{named, aggregators, aggregator_or}
+use Rattle.ts_spec.specs.declared.bucket.Reducer.{Reducer}
+use Rattle.ts_spec.specs.Names.{named, aggregators, reducers, named_or}
 use Rattle.ts_agg.specs.declared.fault.AggFault.{AggFault}
 use Rattle.ts_agg.specs.declared.fault.AggFault.TheVariants.{NotInProfile, Unknown}
 
 -- the aggregator that a name stands for
 abbrev pub aggregator_read : List ℕ → Result Aggregator AggFault
-aggregator_read name = aggregator_or Unknown NotInProfile (named aggregators name)
+aggregator_read name = named_or Unknown NotInProfile (named aggregators name)
+
+-- the reducer that a name stands for
+abbrev pub reducer_read : List ℕ → Result Reducer AggFault
+reducer_read name = named_or Unknown NotInProfile (named reducers name)

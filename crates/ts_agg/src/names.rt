@@ -1,12 +1,13 @@
-// The names of aggregators, and how a word is looked up in a table of names.
+// The names of aggregators and reducers, and how a word is looked up in a table of names.
 ghost use Rattle.std.specs.Prelude.{◌≡◌, map, Ok};
 ghost use Rattle.std.specs.Str.{str_eq_ignore_ascii_case};
+ghost use Rattle.ts_spec.specs.Aggregate.{aggregator_of};
 ghost use Rattle.ts_spec.specs.Names.{named};
 ghost use Rattle.ts_spec.specs.Replies.{aggregator_name};
-ghost use Rattle.ts_agg.specs.Names.{aggregator_read};
+ghost use Rattle.ts_agg.specs.Names.{aggregator_read, reducer_read};
 
 use crate::fault::AggFault;
-use ts_spec::Aggregator;
+use ts_spec::{Aggregator, Reducer};
 
 // The names of those that are left out stand for none.
 const NAMES: [(&[u8], Option<Aggregator>); 13] = [
@@ -18,6 +19,20 @@ const NAMES: [(&[u8], Option<Aggregator>); 13] = [
     (b"count", Some(Aggregator::Count)),
     (b"first", Some(Aggregator::First)),
     (b"last", Some(Aggregator::Last)),
+    (b"twa", None),
+    (b"std.p", None),
+    (b"std.s", None),
+    (b"var.p", None),
+    (b"var.s", None),
+];
+
+const REDUCERS: [(&[u8], Option<Reducer>); 11] = [
+    (b"avg", Some(Reducer::Avg)),
+    (b"sum", Some(Reducer::Sum)),
+    (b"min", Some(Reducer::Min)),
+    (b"max", Some(Reducer::Max)),
+    (b"range", Some(Reducer::Range)),
+    (b"count", Some(Reducer::Count)),
     (b"twa", None),
     (b"std.p", None),
     (b"std.s", None),
@@ -55,6 +70,32 @@ pub fn read_aggregator(name: &[u8]) -> Result<Aggregator, AggFault>
         None => Err(AggFault::Unknown),
         Some(None) => Err(AggFault::NotInProfile),
         Some(Some(agg)) => Ok(agg),
+    }
+}
+
+/// The reducer of a name, with letters in either case.
+#[tactic(auto, unfolding(ts_spec::specs::Names::reducers))]
+pub fn read_reducer(name: &[u8]) -> Result<Reducer, AggFault>
+    ensures { result ≡ reducer_read name.now }
+{
+    match named(&REDUCERS, name) {
+        None => Err(AggFault::Unknown),
+        Some(None) => Err(AggFault::NotInProfile),
+        Some(Some(reducer)) => Ok(reducer),
+    }
+}
+
+/// The aggregator that tells what a reducer does.
+pub fn aggregator_of(reducer: Reducer) -> Aggregator
+    ensures { result ≡ aggregator_of reducer }
+{
+    match reducer {
+        Reducer::Avg => Aggregator::Avg,
+        Reducer::Sum => Aggregator::Sum,
+        Reducer::Min => Aggregator::Min,
+        Reducer::Max => Aggregator::Max,
+        Reducer::Range => Aggregator::Range,
+        Reducer::Count => Aggregator::Count,
     }
 }
 

@@ -3,6 +3,7 @@ use Rattle.std.specs.Prelude.{false, None, option_map}
 use Rattle.ts_spec.specs.Settings as spec
 use Rattle.ts_labels.specs.Show.{show_of}
 use Rattle.ts_range.specs.Query.{span_of}
+use Rattle.ts_command.specs.GroupBy.{group_of}
 use Rattle.ts_command.specs.declared.given.Given.{Given}
 use Rattle.ts_command.specs.declared.range_given.RangeGiven.{RangeGiven}
 
@@ -26,6 +27,7 @@ given_of g = record {
   latest = g.latest;
   show = option_map show_of g.show;
   filters = option_map (λ filters. filters.items) g.filters;
+  group = option_map group_of g.group;
 }
 
 -- the same of what is said of an interval alone
@@ -49,4 +51,5 @@ range_given_of g = record {
   latest = false;
   show = None;
   filters = None;
+  group = None;
 }

@@ -4,6 +4,7 @@ pub mod FaultNames
 pub mod Faults
 pub mod Forms
 pub mod Given
+pub mod GroupBy
 pub mod OnDuplicate
 pub mod Options
 pub mod Reading

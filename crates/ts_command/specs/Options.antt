@@ -35,13 +35,15 @@ setting_of code.Empty = ranges.empty
 setting_of code.WithLabels = many.with_labels
 setting_of code.SelectedLabels = many.selected_labels
 setting_of code.Filter = many.filter
+setting_of code.GroupBy = many.group_by
 
--- whether it is one with a list
+-- whether it is one with a list, or with a label that is copied
 abbrev pub is_list : OptionWord → Bool
 is_list code.Labels = true
 is_list code.FilterByTs = true
 is_list code.SelectedLabels = true
 is_list code.Filter = true
+is_list code.GroupBy = true
 is_list _ = false
 
 -- the table of a set of options

@@ -1,5 +1,5 @@
 -- A command as the definitions have it.
-use Rattle.std.specs.Prelude.{List, map}
+use Rattle.std.specs.Prelude.{List, map, option_map}
 use Rattle.ts_spec.specs.Command as spec
 use Rattle.ts_labels.specs.Spec.{spec_of, change_of}
 use Rattle.ts_labels.specs.Show.{show_of}
@@ -8,6 +8,7 @@ use Rattle.ts_command.specs.declared.command.Command.{Command}
 use Rattle.ts_command.specs.declared.command.Command.TheVariants.{Create, Alter, Add, Madd, Incr, DelRange, CreateRule, DeleteRule, Range, MRange, Get, MGet, QueryIndex, InfoOf, Ping, Echo, Quit, Drop, Exists}
 use Rattle.ts_command.specs.declared.command.Triple.{Triple}
 use Rattle.ts_command.specs.Faults.{said_same}
+use Rattle.ts_command.specs.GroupBy.{group_of}
 
 abbrev pub triple_of : Triple → spec.Triple
 triple_of t = record { key = t.key; at = said_same t.at; value = said_same t.value }
@@ -25,7 +26,7 @@ command_of (DelRange key from to) = spec.DelRange key from to
 command_of (CreateRule source dest agg grid) = spec.CreateRule source dest agg grid
 command_of (DeleteRule source dest) = spec.DeleteRule source dest
 command_of (Range key latest query) = spec.Range key latest (query_of query)
-command_of (MRange latest show filters query) = spec.MRange latest (show_of show) filters.items (query_of query)
+command_of (MRange latest show filters query group) = spec.MRange latest (show_of show) filters.items (query_of query) (option_map group_of group)
 command_of (Get key latest) = spec.Get key latest
 command_of (MGet latest show filters) = spec.MGet latest (show_of show) filters.items
 command_of (QueryIndex filters) = spec.QueryIndex filters.items

@@ -4,6 +4,7 @@ ghost use Rattle.ts_spec.specs.Settings.{IsTime};
 ghost use Rattle.ts_command.specs.Faults.{IsNoMemory};
 
 use crate::fault::CommandFault;
+use crate::group_by::GroupBy;
 use ts_bucket::Grid;
 use ts_labels::{Change, Filter, Show, Spec};
 use ts_range::Query;
@@ -72,13 +73,14 @@ pub enum Command {
         latest: bool,
         query: Query,
     },
-    /// The rows that a question asks for of each series that passes filters.
+    /// The rows that a question asks for of each series that passes filters, or of each group of these.
     MRange {
         /// Whether the bucket that is still open counts too.
         latest: bool,
         show: Show,
         filters: Vec<Filter>,
         query: Query,
+        group: Option<GroupBy>,
     },
     /// The last sample of a series.
     Get {

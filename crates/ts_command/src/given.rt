@@ -5,6 +5,7 @@ ghost use Rattle.ts_spec.specs.Sample.{MAX_TIME};
 ghost use Rattle.ts_spec.specs.Settings.{IsTime};
 ghost use Rattle.ts_spec.specs.SeriesOptions.{IsChunkSize};
 
+use crate::group_by::GroupBy;
 use crate::range_given::RangeGiven;
 use std::alloc::Global;
 use ts_labels::{Change, Filter, Labels, Show, Spec};
@@ -29,6 +30,7 @@ pub(crate) struct Given {
     pub(crate) latest: bool,
     pub(crate) show: Option<Show>,
     pub(crate) filters: Option<Vec<Filter>>,
+    pub(crate) group: Option<GroupBy>,
     ghost retention_fits: { ForSome retention (λ n. n ≤ MAX_TIME) },
     ghost chunk_size_fits: { ForSome chunk_size IsChunkSize },
     ghost ignore_fits: { ForSome ignore (λ i. i.time ≤ MAX_TIME) },
@@ -57,6 +59,7 @@ impl Given {
             latest: false,
             show: None,
             filters: None,
+            group: None,
         }
     }
 

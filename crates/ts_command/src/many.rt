@@ -51,6 +51,7 @@ fn read_asked(
         show: given.show.unwrap_or(Show::Nothing),
         filters: selection(filters)?,
         query,
+        group: given.group,
     })
 }
 

@@ -27,6 +27,7 @@ pub(crate) enum OptionWord {
     WithLabels,
     SelectedLabels,
     Filter,
+    GroupBy,
 }
 
 // The options that a command takes.
@@ -96,7 +97,8 @@ const MANY_LAST: [(&[u8], OptionWord); 4] = [
     (b"FILTER", OptionWord::Filter),
 ];
 
-const MANY_RANGES: [(&[u8], OptionWord); 11] = [
+const MANY_RANGES: [(&[u8], OptionWord); 12] = [
+    (b"GROUPBY", OptionWord::GroupBy),
     (b"WITHLABELS", OptionWord::WithLabels),
     (b"SELECTED_LABELS", OptionWord::SelectedLabels),
     (b"FILTER", OptionWord::Filter),

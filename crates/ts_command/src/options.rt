@@ -1,12 +1,13 @@
 // The options of a command, in any order.
 ghost use Rattle.std.specs.Prelude.{◌≡◌, IfOk, IsTrue};
 ghost use Rattle.ts_spec.specs.Names.{named};
-ghost use Rattle.ts_spec.specs.Settings.{new_setting, options, count_own, is_known};
+ghost use Rattle.ts_spec.specs.Settings.{nothing, new_setting, options, count_own, is_known};
 ghost use Rattle.ts_command.specs.Faults.{Says, SaysOr};
 ghost use Rattle.ts_command.specs.Given.{given_of};
 ghost use Rattle.ts_command.specs.Options.{setting_of, table_of, is_list, lister, is_lister, may_list};
 
 use crate::given::Given;
+use crate::group_by::add_group;
 use crate::ignore_option::add_ignore;
 use crate::labels_option::{count_pairs, read_labels};
 use crate::lists::{read_filters, read_names, read_times};
@@ -45,6 +46,7 @@ impl OptionWord {
             OptionWord::Empty => given.range.empty,
             OptionWord::WithLabels | OptionWord::SelectedLabels => given.show.is_some(),
             OptionWord::Filter => given.filters.is_some(),
+            OptionWord::GroupBy => given.group.is_some(),
         }
     }
 
@@ -59,6 +61,7 @@ impl OptionWord {
             }
             OptionWord::Ignore | OptionWord::FilterByValue | OptionWord::Aggregation => 2,
             OptionWord::Latest | OptionWord::Empty | OptionWord::WithLabels => 0,
+            OptionWord::GroupBy => 3,
             _ => 1,
         }
     }
@@ -119,6 +122,7 @@ fn add_own(
             given.show = Some(Show::Selected(read_names(alloc, own_words(own)?)?));
         }
         OptionWord::Filter => given.filters = Some(read_filters(alloc, own_words(own)?)?),
+        OptionWord::GroupBy => add_group(own, given)?,
     }
     Ok(())
 }
@@ -140,4 +144,15 @@ pub(crate) fn read_options(
         rest = next;
     }
     Ok(())
+}
+
+// What the options say, which these words are and no more.
+pub(crate) fn read_given(alloc: Global, set: OptionSet, words: &[Word]) -> Result<Given, ReadFault>
+    ensures { SaysOr (IsTrue (may_list (lister set) words.now)) given_of result (options (table_of set) nothing 0 words.now) }
+{
+    let mut given = Given::nothing();
+    match read_options(alloc, set, words, &mut given) {
+        Ok(()) => Ok(given),
+        Err(fault) => Err(fault),
+    }
 }

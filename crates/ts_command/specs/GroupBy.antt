@@ -1,0 +1,6 @@
+-- Groups as the definitions have them.
+use Rattle.ts_spec.specs.Command as spec
+use Rattle.ts_command.specs.declared.group_by.GroupBy.{GroupBy}
+
+abbrev pub group_of : GroupBy → spec.GroupBy
+group_of g = record { label = g.label; reducer = g.reducer }
