@@ -69,7 +69,7 @@ replays limits reading other (CreateRule source dest agg grid) m n reply done so
 replays limits reading other (DeleteRule source dest) m n reply done some =
     step-replays limits reading other (DeleteRule source dest) m n reply refl done (not-refused (DeleteRule source dest) reading reply some)
 replays limits reading other (Range key latest q) m n reply done some = absurd (some-words (Range key latest q) reading reply some refl)
-replays limits reading other (MRange latest show filters q) m n reply done some = absurd (some-words (MRange latest show filters q) reading reply some refl)
+replays limits reading other (MRange latest show filters q group) m n reply done some = absurd (some-words (MRange latest show filters q group) reading reply some refl)
 replays limits reading other (Get key latest) m n reply done some = absurd (some-words (Get key latest) reading reply some refl)
 replays limits reading other (MGet latest show filters) m n reply done some = absurd (some-words (MGet latest show filters) reading reply some refl)
 replays limits reading other (QueryIndex filters) m n reply done some = absurd (some-words (QueryIndex filters) reading reply some refl)
@@ -92,7 +92,7 @@ accepted-readable (DelRange key from to) reply h = h
 accepted-readable (CreateRule source dest agg grid) reply h = h
 accepted-readable (DeleteRule source dest) reply h = h
 accepted-readable (Range key latest q) reply h = h
-accepted-readable (MRange latest show filters q) reply h = h
+accepted-readable (MRange latest show filters q group) reply h = h
 accepted-readable (Get key latest) reply h = h
 accepted-readable (MGet latest show filters) reply h = h
 accepted-readable (QueryIndex filters) reply h = h
@@ -113,7 +113,7 @@ accepted-whole limits reading (DelRange key from to) m n reply done = tt
 accepted-whole limits reading (CreateRule source dest agg grid) m n reply done = tt
 accepted-whole limits reading (DeleteRule source dest) m n reply done = tt
 accepted-whole limits reading (Range key latest q) m n reply done = tt
-accepted-whole limits reading (MRange latest show filters q) m n reply done = tt
+accepted-whole limits reading (MRange latest show filters q group) m n reply done = tt
 accepted-whole limits reading (Get key latest) m n reply done = tt
 accepted-whole limits reading (MGet latest show filters) m n reply done = tt
 accepted-whole limits reading (QueryIndex filters) m n reply done = tt
@@ -168,7 +168,7 @@ step-done limits reading (DelRange key from to) m = record { says = refl; state 
 step-done limits reading (CreateRule source dest agg grid) m = record { says = refl; state = refl }
 step-done limits reading (DeleteRule source dest) m = record { says = refl; state = refl }
 step-done limits reading (Range key latest q) m = record { says = refl; state = refl }
-step-done limits reading (MRange latest show filters q) m = record { says = refl; state = refl }
+step-done limits reading (MRange latest show filters q group) m = record { says = refl; state = refl }
 step-done limits reading (Get key latest) m = record { says = refl; state = refl }
 step-done limits reading (MGet latest show filters) m = record { says = refl; state = refl }
 step-done limits reading (QueryIndex filters) m = record { says = refl; state = refl }
