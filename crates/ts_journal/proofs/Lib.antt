@@ -8,11 +8,13 @@ mod Numbers
 mod LabelWords
 mod Readable
 mod ReadableOptions
+mod ReadableChanges
 mod ReadableCommands
 mod Among
 mod Costs
 mod Lengths
 mod OptionCosts
+mod ChangeCosts
 mod CommandCosts
 mod Fitting
 mod OptionWords

@@ -29,7 +29,7 @@ use Rattle.ts_journal.proofs.OptionWords.{value-shown, series-knows}
 use Rattle.ts_journal.proofs.OptionsRead.{spec-read, change-read, add-options-read, incr-options-read}
 use Rattle.ts_journal.proofs.Readable.{IsBounded, time-resolved}
 use Rattle.ts_journal.proofs.ReadableOptions.{IsReadableSpec, IsReadableChange}
-use Rattle.ts_journal.proofs.ReadableCommands.{AreReadableTriples, IsReadable}
+use Rattle.ts_journal.proofs.ReadableChanges.{AreReadableTriples, IsReadable}
 
 duration-decimal : (n : ℕ) → IsDuration n → duration_word (decimal n) ≡ Ok n
 unfolding duration_word

@@ -16,7 +16,8 @@ use Rattle.ts_spec.proofs.Untaken.{triple-told}
 use Rattle.ts_journal.specs.Fixed.{is_fixed}
 use Rattle.ts_journal.specs.Record.{is_error, is_number, items_of, accepted, bytes_of, record_words, record_of}
 use Rattle.ts_journal.specs.Replay.{DoesOne, DoAll, IsStep, IsDone, IsRecorded, IsAccepted}
-use Rattle.ts_journal.proofs.ReadableCommands.{IsReadable, command-readable}
+use Rattle.ts_journal.proofs.ReadableChanges.{IsReadable}
+use Rattle.ts_journal.proofs.ReadableCommands.{command-readable}
 use Rattle.ts_journal.proofs.ReadBack.{IsWhole, reads-back}
 use Rattle.ts_journal.proofs.ShortAnswers.{no-items}
 use Rattle.ts_journal.proofs.TakenTriples.{samples-taken, readable-taken, do-taken, times-accepted}

@@ -16,7 +16,7 @@ use Rattle.ts_spec.specs.Text as text
 use Rattle.ts_spec.proofs.ResolvedTimes.{triple-resolved}
 use Rattle.ts_journal.specs.Record.{is_number, taken}
 use Rattle.ts_journal.specs.Replay.{DoesOne, DoAll, has_error}
-use Rattle.ts_journal.proofs.ReadableCommands.{AreReadableTriples}
+use Rattle.ts_journal.proofs.ReadableChanges.{AreReadableTriples}
 use Rattle.ts_journal.proofs.ReadBack.{IsSample, AreSamples}
 
 -- ---- the triples that were taken

@@ -28,9 +28,9 @@ journal_limits limits = record {
 pub record IsRecordWithin (limits : WireLimits) (request : Request) : Type 0 where
   pub words : Request
   pub within : IsWithin limits words
-  pub c : Command
-  pub says : command words ≡ Ok c
+  pub change : Command
+  pub says : command words ≡ Ok change
   pub reading : ℕ
   pub reply : Reply
-  pub its : request ≡ record_words reading (accepted c reply)
+  pub its : request ≡ record_words reading (accepted change reply)
   pub some : request ≢ []
