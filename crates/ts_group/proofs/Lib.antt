@@ -1,0 +1,3 @@
+pub mod Tallied
+pub mod Times
+pub mod Told

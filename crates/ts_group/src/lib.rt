@@ -1,0 +1,12 @@
+//! The answers over series in groups: what a group tells, reduced time by time.
+#![tactic(auto)]
+
+mod reduction;
+mod row_texts;
+mod rows;
+mod tallies;
+
+pub use reduction::Reduction;
+pub use row_texts::encode_group_rows;
+pub use rows::GroupRows;
+pub use ts_agg::Reducer;
