@@ -1,3 +1,4 @@
+pub mod Parts
 pub mod Tallied
 pub mod Times
 pub mod Told
