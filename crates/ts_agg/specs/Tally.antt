@@ -1,9 +1,8 @@
 -- What a single aggregator keeps of a list, and the lists of which it tells.
-use Rattle.std.specs.Prelude.{◌≡◌, ℕ, ◌<◌, ◌*◌, ℤ, pos, ◌-ℤ◌, List, length}
+use Rattle.std.specs.Prelude.{◌≡◌, ℕ, ◌<◌, List, length}
 use Rattle.ts_spec.specs.declared.bucket.Aggregator.{Aggregator}
 use Rattle.ts_spec.specs.declared.bucket.Aggregator.TheVariants as agg
 use Rattle.ts_spec.specs.Sample.{Point}
-use Rattle.ts_spec.specs.Value.{div_round, clamp}
 use Rattle.ts_spec.specs.Aggregate.{Summary, summary}
 use Rattle.ts_agg.specs.declared.tally.Tally.{Tally}
 use Rattle.ts_agg.specs.declared.tally.Tally.TheVariants.{Avg, Sum, Min, Max, Range, Count, First, Last}
@@ -18,17 +17,6 @@ kept_of agg.Range s = Range s.least s.greatest
 kept_of agg.Count s = Count s.count
 kept_of agg.First s = First s.first
 kept_of agg.Last s = Last s.last
-
--- what its aggregator tells
-abbrev pub told : Tally → ℤ
-told (Avg total) = div_round total.sum total.count
-told (Sum total) = clamp total.sum
-told (Min least) = least
-told (Max greatest) = greatest
-told (Range least greatest) = clamp (greatest -ℤ least)
-told (Count amount) = pos (amount * 1000000)
-told (First first) = first
-told (Last last) = last
 
 -- it is what an aggregator keeps of the list, which is not empty
 pub record Tells (a : Aggregator) (t : Tally) (ps : List Point) : Type 0 where

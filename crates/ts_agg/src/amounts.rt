@@ -1,13 +1,10 @@
 // How many samples there are, and what they sum up to: the numbers that grow with each sample.
-ghost use Rattle.std.specs.Prelude.{◌≡◌, ◌+◌, ◌*◌, ◌<◌, ◌^◌, ℕ, nat_lt, pos, ◌+ℤ◌};
+ghost use Rattle.std.specs.Prelude.{◌≡◌, ◌+◌, ◌*◌, ◌<◌, ◌^◌, ℕ, pos, ◌+ℤ◌};
 ghost use Rattle.ts_spec.specs.Value.{clamp, div_round};
 
 use std::marker::Model;
 use ts_decimal::{clamp, div_round};
 use ts_sample::Units;
-
-// No more samples are counted.
-const MOST: u64 = 100_000_000_000_000;
 
 /// How many samples there are: 10^14 at most.
 #[derive(Clone, Copy, Debug, PartialEq, Eq)]
@@ -34,14 +31,6 @@ impl Amount {
         ensures { result ≡ 1 }
     {
         Amount { count: 1 }
-    }
-
-    /// Whether one sample more can be counted.
-    #[inline]
-    pub fn has_room(&self) -> bool
-        ensures { result ≡ nat_lt self.now (10 ^ 14) }
-    {
-        self.count < MOST
     }
 
     /// One sample more.
@@ -92,14 +81,6 @@ impl Total {
             sum: value.get(),
             count: 1,
         }
-    }
-
-    /// Whether one value more can be counted.
-    #[inline]
-    pub fn has_room(&self) -> bool
-        ensures { result ≡ nat_lt self.now.count (10 ^ 14) }
-    {
-        self.count < MOST
     }
 
     /// One value more.

@@ -1,8 +1,8 @@
 // What a single aggregator keeps of the samples of a bucket, one sample after another.
-ghost use Rattle.std.specs.Prelude.{◌≡◌, ◌<◌, ◌≤◌, ◌+◌, ◌^◌, nat_lt, List, [], ◌∷◌, ◌++◌};
+ghost use Rattle.std.specs.Prelude.{◌≡◌, ◌<◌, ◌≤◌, ◌+◌, ◌^◌, List, [], ◌∷◌, ◌++◌};
 ghost use Rattle.ts_spec.specs.Sample.{Point};
 ghost use Rattle.ts_spec.specs.Aggregate.{aggregate};
-ghost use Rattle.ts_agg.specs.Tally.{Tells, counted, told};
+ghost use Rattle.ts_agg.specs.Tally.{Tells, counted};
 
 use crate::amounts::{Amount, Total};
 use crate::running::{greater, lesser};
@@ -45,23 +45,6 @@ impl Tally {
         }
     }
 
-    /// Whether it takes one sample more. Where none are counted, it always does.
-    #[inline]
-    pub fn has_room(&self) -> bool
-        ensures { result ≡ nat_lt (counted self.now) (10 ^ 14) }
-    {
-        match self {
-            Tally::Avg(total) => total.has_room(),
-            Tally::Sum(total) => total.has_room(),
-            Tally::Min(_) => true,
-            Tally::Max(_) => true,
-            Tally::Range(_, _) => true,
-            Tally::Count(amount) => amount.has_room(),
-            Tally::First(_) => true,
-            Tally::Last(_) => true,
-        }
-    }
-
     /// Adds a sample at the end. Where samples are counted, it takes 10^14 at most.
     #[inline]
     pub fn push(&mut self, s: &Sample)
@@ -87,9 +70,8 @@ impl Tally {
 
     /// What its aggregator tells of the samples.
     pub fn value(&self) -> Units
-        ensures of_list { (agg : Aggregator) (ps : List Point) → Tells agg self.now ps
+        ensures { (agg : Aggregator) (ps : List Point) → Tells agg self.now ps
             → result ≡ aggregate agg ps }
-        ensures told { result ≡ told self.now }
     {
         match self {
             Tally::Avg(total) => total.mean(),

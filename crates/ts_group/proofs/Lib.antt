@@ -1,4 +1,5 @@
+pub mod Ordered
 pub mod Parts
-pub mod Tallied
+pub mod Summed
 pub mod Times
 pub mod Told

@@ -1,3 +1,3 @@
 pub mod Labels
 pub mod Rows
-pub mod Tallies
+pub mod Summaries

@@ -6,7 +6,7 @@ mod labels;
 mod reduction;
 mod row_texts;
 mod rows;
-mod tallies;
+mod summaries;
 
 pub use group_texts::encode_group;
 pub use labels::GroupLabels;

@@ -2,44 +2,42 @@
 ghost use Rattle.std.specs.Prelude.{◌≡◌, false, List, []};
 ghost use Rattle.ts_spec.specs.Answer.{Row as TheRow};
 ghost use Rattle.ts_group.specs.Rows.{group_rows};
-ghost use Rattle.ts_group.specs.Tallies.{HasTaken};
+ghost use Rattle.ts_group.specs.Summaries.{HasTaken};
 
 use crate::rows::GroupRows;
-use crate::tallies::{Tallies, add};
+use crate::summaries::{Summaries, add};
 use std::alloc::Global;
 use std::collections::BTreeMap;
 use std::marker::Model;
-use ts_agg::{Reducer, aggregator_of};
+use ts_agg::Reducer;
 use ts_range::{Keep, Row, Take};
 
 /// Takes the rows of the series of a group, one series after another, and keeps of each time what its numbers come to.
 /// So it grows with the times that differ, and not with the rows. Rows may come in any order of time.
 #[derive(Drop)]
 pub struct Reduction {
-    reducer: Reducer,
-    kept: Tallies,
+    kept: Summaries,
     // Whether there was no memory for some row.
     lost: bool,
 }
 
 impl Model for Reduction {
-    ghost use Rattle.ts_group.specs.Tallies.{Kept, AreTimely};
+    ghost use Rattle.ts_group.specs.Summaries.{Kept, AreTimely};
 
     ghost Value = { Kept };
 
-    ghost view = { λ r. record { reducer = r.reducer; tallies = r.kept.entries; lost = r.lost } };
+    ghost view = { λ r. record { summaries = r.kept.entries; lost = r.lost } };
 
     ghost invariant = { λ r. AreTimely r.kept.entries };
 }
 
 impl Reduction {
     /// No row yet. Takes no memory.
-    pub fn new(alloc: Global, reducer: Reducer) -> Reduction
-        ensures reducer { result.reducer ≡ reducer }
+    pub fn new(alloc: Global) -> Reduction
         ensures taken { HasTaken result [] }
+        ensures kept { result.lost ≡ false }
     {
         Reduction {
-            reducer,
             kept: BTreeMap::new(alloc),
             lost: false,
         }
@@ -52,12 +50,13 @@ impl Reduction {
         self.lost
     }
 
-    /// The rows of the group, in ascending time or the last one first, and so many of them at most. Takes no memory.
-    pub fn rows(&self, count: Option<u64>, reverse: bool) -> GroupRows<'_>
+    /// The rows of the group by a reducer, in ascending time or the last one first, and so many of them at most. Takes
+    /// no memory.
+    pub fn rows(&self, reducer: Reducer, count: Option<u64>, reverse: bool) -> GroupRows<'_>
         ensures { (rows : List TheRow) → HasTaken self.now rows → self.now.lost ≡ false
-            → result ≡ group_rows self.now.reducer count reverse rows }
+            → result ≡ group_rows reducer count reverse rows }
     {
-        GroupRows::new(&self.kept, count, reverse)
+        GroupRows::new(&self.kept, reducer, count, reverse)
     }
 }
 
@@ -72,7 +71,7 @@ impl Take for Reduction {
         if self.lost {
             return;
         }
-        match add(&mut self.kept, aggregator_of(self.reducer), row) {
+        match add(&mut self.kept, row) {
             Ok(()) => {}
             Err(_) => self.lost = true,
         }

@@ -5,23 +5,24 @@ ghost use Rattle.ts_spec.specs.Sample.{MAX_TIME};
 ghost use Rattle.ts_range.specs.Query.{cell_of, row_of};
 ghost use Rattle.ts_range.specs.Walk.{most_of};
 ghost use Rattle.ts_group.specs.Rows.{cell_told, rows_told};
-ghost use Rattle.ts_group.specs.Tallies.{AreTimely};
+ghost use Rattle.ts_group.specs.Summaries.{AreTimely};
 
-use crate::tallies::Tallies;
+use crate::summaries::Summaries;
 use std::alloc::{AllocError, Global};
 use std::collections::btree_map::Iter;
 use std::marker::Model;
-use ts_agg::Tally;
+use ts_agg::{Reducer, Running, aggregator_of};
 use ts_range::{Row, RowList, Take};
 use ts_sample::Cell;
 
 /// The rows of a group that are left to be told, the next one first.
 #[derive(Drop)]
 pub struct GroupRows<'a> {
-    times: Iter<'a, u64, Option<Tally>>,
+    times: Iter<'a, u64, Running>,
     // How many of them are told, and whether from their end.
     left: usize,
     reverse: bool,
+    reducer: Reducer,
 }
 
 impl<'a> Model for GroupRows<'a> {
@@ -31,7 +32,7 @@ impl<'a> Model for GroupRows<'a> {
 
     ghost Value = { List TheRow };
 
-    ghost view = { λ g. take g.left (rows_told g.reverse g.times) };
+    ghost view = { λ g. take g.left (rows_told g.reducer g.reverse g.times) };
 
     ghost use Rattle.ts_group.specs.Rows.{AreInPart};
 
@@ -40,14 +41,20 @@ impl<'a> Model for GroupRows<'a> {
 
 impl<'a> GroupRows<'a> {
     // The rows of these times, and so many of them at most.
-    pub(crate) fn new(kept: &'a Tallies, count: Option<u64>, reverse: bool) -> GroupRows<'a>
+    pub(crate) fn new(
+        kept: &'a Summaries,
+        reducer: Reducer,
+        count: Option<u64>,
+        reverse: bool,
+    ) -> GroupRows<'a>
         requires { AreTimely kept.now.entries }
-        ensures { result ≡ first_ones count (rows_told reverse kept.now.entries) }
+        ensures { result ≡ first_ones count (rows_told reducer reverse kept.now.entries) }
     {
         GroupRows {
             times: kept.iter(),
             left: at_most(count, kept.len()),
             reverse,
+            reducer,
         }
     }
 
@@ -63,7 +70,7 @@ impl<'a> GroupRows<'a> {
         ensures { MatchOption result ((self.old ≡ []) × (self.new ≡ [])) (λ row. self.old ≡ row_of row ∷ self.new) }
     {
         let left = self.left.checked_sub(1)?;
-        let row = next_row(&mut self.times, self.reverse)?;
+        let row = next_row(&mut self.times, self.reducer, self.reverse)?;
         self.left = left;
         Some(row)
     }
@@ -99,28 +106,37 @@ fn at_most(count: Option<u64>, rows: usize) -> usize
 }
 
 // The row of the next time, from one end or the other.
-fn next_row(times: &mut Iter<'_, u64, Option<Tally>>, reverse: bool) -> Option<Row>
+fn next_row(times: &mut Iter<'_, u64, Running>, reducer: Reducer, reverse: bool) -> Option<Row>
     requires { AreTimely times.old }
-    ensures row { MatchOption result (times.old ≡ []) (λ row. rows_told reverse times.old ≡ row_of row ∷ rows_told reverse times.new) }
+    ensures row { MatchOption result (times.old ≡ []) (λ row. rows_told reducer reverse times.old ≡ row_of row ∷ rows_told reducer reverse times.new) }
     ensures timely { AreTimely times.new }
 {
     if reverse {
-        let (time, tally) = times.next_back()?;
-        return Some(row_at(*time, tally));
+        let (time, running) = times.next_back()?;
+        return Some(row_at(*time, reducer, running));
     }
-    let (time, tally) = times.next()?;
-    Some(row_at(*time, tally))
+    let (time, running) = times.next()?;
+    Some(row_at(*time, reducer, running))
 }
 
 // The row of a time.
-fn row_at(time: u64, tally: &Option<Tally>) -> Row
+fn row_at(time: u64, reducer: Reducer, running: &Running) -> Row
     requires { time ≤ MAX_TIME }
     ensures time { result.time ≡ time }
-    ensures value { cell_of result.value ≡ cell_told tally.now }
+    ensures value { cell_of result.value ≡ cell_told reducer running.now }
 {
-    let value = match tally {
+    Row {
+        time,
+        value: cell_at(reducer, running),
+    }
+}
+
+// What a reducer tells of the numbers of a time.
+fn cell_at(reducer: Reducer, running: &Running) -> Cell
+    ensures { cell_of result ≡ cell_told reducer running.now }
+{
+    match running.result(aggregator_of(reducer)) {
         None => Cell::Nan,
-        Some(tally) => Cell::Number(tally.value()),
-    };
-    Row { time, value }
+        Some(value) => Cell::Number(value),
+    }
 }
