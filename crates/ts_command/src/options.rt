@@ -1,7 +1,7 @@
 // The options of a command, in any order.
 ghost use Rattle.std.specs.Prelude.{◌≡◌, IfOk, IsTrue};
 ghost use Rattle.ts_spec.specs.Names.{named};
-ghost use Rattle.ts_spec.specs.Settings.{new_setting, options, count_own, is_known};
+ghost use Rattle.ts_spec.specs.Settings.{nothing, new_setting, options, count_own, is_known};
 ghost use Rattle.ts_command.specs.Faults.{Says, SaysOr};
 ghost use Rattle.ts_command.specs.Given.{given_of};
 ghost use Rattle.ts_command.specs.Options.{setting_of, table_of, is_list, lister, is_lister, may_list};
@@ -144,4 +144,15 @@ pub(crate) fn read_options(
         rest = next;
     }
     Ok(())
+}
+
+// What the options say, which these words are and no more.
+pub(crate) fn read_given(alloc: Global, set: OptionSet, words: &[Word]) -> Result<Given, ReadFault>
+    ensures { SaysOr (IsTrue (may_list (lister set) words.now)) given_of result (options (table_of set) nothing 0 words.now) }
+{
+    let mut given = Given::nothing();
+    match read_options(alloc, set, words, &mut given) {
+        Ok(()) => Ok(given),
+        Err(fault) => Err(fault),
+    }
 }

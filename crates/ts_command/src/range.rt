@@ -7,9 +7,8 @@ ghost use Rattle.ts_command.specs.Faults.{SaysOr};
 ghost use Rattle.ts_command.specs.Reading.{command_of};
 
 use crate::command::Command;
-use crate::given::Given;
 use crate::option_word::OptionSet;
-use crate::options::read_options;
+use crate::options::read_given;
 use crate::word_fault::{ReadFault, WordFault};
 use crate::words::end_word;
 use ts_resp::Word;
@@ -25,8 +24,7 @@ pub(crate) fn read_range(reverse: bool, mut words: Vec<Word>) -> Result<Command,
     };
     let first = end_word(from.bytes())?;
     let last = end_word(to.bytes())?;
-    let mut given = Given::nothing();
-    read_options(alloc, OptionSet::Range, options, &mut given)?;
+    let given = read_given(alloc, OptionSet::Range, options)?;
     let latest = given.latest;
     let query = given
         .range

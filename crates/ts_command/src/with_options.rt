@@ -3,22 +3,17 @@
 ghost use Rattle.std.specs.Prelude.{drop, IfOk, IsTrue};
 ghost use Rattle.ts_spec.specs.Grammar.{create, alter, add, incr};
 ghost use Rattle.ts_spec.specs.SeriesOptions.{has_labels};
-ghost use Rattle.ts_spec.specs.Settings.{nothing, options};
 ghost use Rattle.ts_command.specs.Answers.{HasTime};
 ghost use Rattle.ts_command.specs.Faults.{SaysOr};
 ghost use Rattle.ts_command.specs.Forms.{signed_by};
-ghost use Rattle.ts_command.specs.Given.{given_of};
-ghost use Rattle.ts_command.specs.Options.{lister, may_list, table_of};
 ghost use Rattle.ts_command.specs.Reading.{command_of};
 
 use crate::command::Command;
 use crate::forms::Sign;
-use crate::given::Given;
 use crate::option_word::OptionSet;
-use crate::options::read_options;
+use crate::options::read_given;
 use crate::word_fault::{ReadFault, WordFault};
 use crate::words::{at_word, value_word};
-use std::alloc::Global;
 use ts_resp::Word;
 use ts_spec::At;
 
@@ -31,8 +26,7 @@ pub(crate) fn create_with_options(mut words: Vec<Word>) -> Result<Command, ReadF
     let [_, _, options @ ..] = words.as_slice() else {
         return Err(ReadFault::Word(WordFault::Arity));
     };
-    let mut given = Given::nothing();
-    read_options(alloc, OptionSet::Create, options, &mut given)?;
+    let given = read_given(alloc, OptionSet::Create, options)?;
     Ok(Command::Create {
         key: words.swap_remove(1),
         spec: given.spec(alloc),
@@ -47,8 +41,7 @@ pub(crate) fn read_alter(mut words: Vec<Word>) -> Result<Command, ReadFault>
     let [_, _, options @ ..] = words.as_slice() else {
         return Err(ReadFault::Word(WordFault::Arity));
     };
-    let mut given = Given::nothing();
-    read_options(alloc, OptionSet::Alter, options, &mut given)?;
+    let given = read_given(alloc, OptionSet::Alter, options)?;
     Ok(Command::Alter {
         key: words.swap_remove(1),
         change: given.change(),
@@ -93,15 +86,4 @@ pub(crate) fn incr_with_options(sign: Sign, mut words: Vec<Word>) -> Result<Comm
         at: given.at.unwrap_or(At::Clock),
         spec: given.spec(alloc),
     })
-}
-
-// What options say.
-fn read_given(alloc: Global, set: OptionSet, words: &[Word]) -> Result<Given, ReadFault>
-    ensures { SaysOr (IsTrue (may_list (lister set) words.now)) given_of result (options (table_of set) nothing 0 words.now) }
-{
-    let mut given = Given::nothing();
-    match read_options(alloc, set, words, &mut given) {
-        Ok(()) => Ok(given),
-        Err(fault) => Err(fault),
-    }
 }

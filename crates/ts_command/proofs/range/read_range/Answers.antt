@@ -15,10 +15,10 @@ pub returns-clause-command : goal.returns-clause-command
 returns-clause-command c =
     rw (← c.as_slice.ensures.value)
     (range-read c.args.reverse c.as_slice.result.now c.swap_remove.result c.from-item.result c.to-item.result c.in_ok-first.first c.in_ok-last.last
-    (given_of c.read_options.new.given) (query_of c.in_ok-query.query)
+    (given_of c.in_ok-given.given) (query_of c.in_ok-query.query)
     c.in-len4-up.len_at_least (rw (← c.as_slice.ensures.value) at c.swap_remove.ensures.value) c.from-item.is c.to-item.is
     (rw c.bytes.ensures at c.in_ok-first.ensures.answer) (rw c.bytes-2.ensures at c.in_ok-last.ensures.answer)
-    (rw c.nothing-given.ensures at c.in_ok-read_options.ensures) (rw (c.bytes-3.ensures, c.bytes-4.ensures) at c.in_ok-query.ensures))
+    c.in_ok-given.ensures (rw (c.bytes-3.ensures, c.bytes-4.ensures) at c.in_ok-query.ensures))
 
 -- what is asked can't be met
 pub returns-in_err-query-clause-command : goal.returns-in_err-query-clause-command
@@ -27,6 +27,6 @@ returns-in_err-query-clause-command c =
     word-fault-says (IsTrue (has_list (drop 3 (drop 1 c.args.words.items)))) command_of c.from_residual-in_err-query.result fault (range c.args.reverse (drop 1 c.args.words.items))
     c.from_residual-in_err-query.ensures.1
     (rw (← c.as_slice.ensures.value)
-    (range-refused c.args.reverse c.as_slice.result.now c.from-item.result c.to-item.result c.in_ok-first.first c.in_ok-last.last (given_of c.read_options.new.given) (fault_of_word fault)
+    (range-refused c.args.reverse c.as_slice.result.now c.from-item.result c.to-item.result c.in_ok-first.first c.in_ok-last.last (given_of c.in_ok-given.given) (fault_of_word fault)
     c.in-len4-up.len_at_least c.from-item.is c.to-item.is (rw c.bytes.ensures at c.in_ok-first.ensures.answer) (rw c.bytes-2.ensures at c.in_ok-last.ensures.answer)
-    (rw c.nothing-given.ensures at c.in_ok-read_options.ensures) (rw (c.bytes-3.ensures, c.bytes-4.ensures) at c.in_err-query.ensures)))
+    c.in_ok-given.ensures (rw (c.bytes-3.ensures, c.bytes-4.ensures) at c.in_err-query.ensures)))
