@@ -1,5 +1,5 @@
 // What is kept of samples that come one after another, so that each aggregator can be told at any time.
-ghost use Rattle.std.specs.Prelude.{◌≡◌, ◌<◌, ◌^◌, ◌↔◌, List, [], ◌∷◌, ◌++◌, length, int_lt, if◌then◌else◌, Some, IsNone};
+ghost use Rattle.std.specs.Prelude.{◌≡◌, ◌<◌, ◌^◌, ◌↔◌, List, [], ◌∷◌, ◌++◌, length, nat_lt, int_lt, if◌then◌else◌, Some, IsNone};
 ghost use Rattle.ts_spec.specs.Sample.{Point};
 ghost use Rattle.ts_spec.specs.Aggregate.{aggregate, push, result_of};
 ghost use Rattle.ts_agg.specs.Running.{StandsFor};
@@ -8,6 +8,9 @@ use std::marker::Model;
 use ts_decimal::{clamp, div_round};
 use ts_sample::{Sample, Units};
 use ts_spec::Aggregator;
+
+// It takes no more samples.
+const MOST: u64 = 100_000_000_000_000;
 
 /// What is told of the values of a list: how many there are, their sum, the least, the greatest, the first and
 /// the last. It stands for each list that has these.
@@ -61,6 +64,13 @@ impl Running {
             last: Units::ZERO,
             count: 0,
         }
+    }
+
+    /// Whether it takes one sample more.
+    pub fn has_room(&self) -> bool
+        ensures { result ≡ nat_lt self.now.count (10 ^ 14) }
+    {
+        self.count < MOST
     }
 
     /// Adds a sample at the end. It takes 10^14 samples at most.

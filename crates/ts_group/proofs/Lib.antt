@@ -1,0 +1,5 @@
+pub mod Ordered
+pub mod Parts
+pub mod Summed
+pub mod Times
+pub mod Told

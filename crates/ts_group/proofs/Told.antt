@@ -1,0 +1,41 @@
+-- What is told of what is kept of rows.
+use Rattle.std.proofs.Common.{◌≡◌, ◌≤◌, ℕ, ◌==◌, Bool, false, if◌then◌else◌, List, [], ◌∷◌, ◌++◌, map, length, Option, Some, refl, ap, ◌∙◌, arith, ne_eqb}
+use Rattle.std.proofs.lemmas.List.{map-append}
+use Rattle.std.proofs.lemmas.List.Elements.{All-rest, All-pop}
+use Rattle.std.specs.Map.{keys_of}
+use Rattle.ts_spec.specs.declared.bucket.Reducer.{Reducer}
+use Rattle.ts_spec.specs.Sample.{Point, MAX_TIME}
+use Rattle.ts_spec.specs.Aggregate.{Summary, summary}
+use Rattle.ts_spec.specs.Answer.{Cell, Row, turned, first_ones}
+use Rattle.ts_spec.specs.Groups.{times, numbers_at, reduced, reduced_row, reduced_rows}
+use Rattle.ts_spec.proofs.Aggregates.{summary-count}
+use Rattle.ts_group.specs.Summaries.{Summaries, AreTimely, Kept, HasTaken, summary_at}
+use Rattle.ts_group.specs.Rows.{cell_told, row_told, rows_told, group_rows}
+
+told-reduced : (reducer : Reducer) (ps : List Point) → cell_told reducer (summary ps) ≡ reduced reducer ps
+told-reduced reducer [] = refl
+told-reduced reducer (p ∷ ps) =
+    let some : ((summary (p ∷ ps)).count == 0) ≡ false = ne_eqb (summary (p ∷ ps)).count 0 (λ e. absurd (omega (arith, summary-count (p ∷ ps), e))) in
+    rw some refl
+
+told-times : (reducer : Reducer) (rows : List Row) (ts : List ℕ) → map (row_told reducer) (map (summary_at rows) ts) ≡ map (reduced_row reducer rows) ts
+told-times reducer rows [] = refl
+told-times reducer rows (t ∷ ts) =
+    ap (λ (c : Cell). record { time = t; value = c } ∷ map (row_told reducer) (map (summary_at rows) ts)) (told-reduced reducer (numbers_at t rows))
+    ∙ ap (λ (l : List Row). reduced_row reducer rows t ∷ l) (told-times reducer rows ts)
+
+-- the rows of a group
+pub told-rows : (k : Kept) (reducer : Reducer) (count : Option ℕ) (back : Bool) (told : List Row) (rows : List Row)
+    → told ≡ first_ones count (rows_told reducer back k.summaries) → HasTaken k rows → k.lost ≡ false → told ≡ group_rows reducer count back rows
+told-rows k reducer count back told rows is taken kept_all =
+    is ∙ ap (λ (es : Summaries). first_ones count (rows_told reducer back es)) (taken kept_all)
+    ∙ ap (λ (l : List Row). first_ones count (turned back l)) (told-times reducer rows (times rows))
+
+-- ---- the times that are left
+
+pub timely-first : (es rest : Summaries) (e : ℕ × Summary) → es ≡ e ∷ rest → AreTimely es → AreTimely rest
+timely-first es rest e is h = All-rest (λ t. t ≤ MAX_TIME) e.0 (keys_of rest) (keys_of es) (ap keys_of is) h
+
+pub timely-last : (es rest : Summaries) (e : ℕ × Summary) → es ≡ rest ++ e ∷ [] → AreTimely es → AreTimely rest
+timely-last es rest e is h =
+    (All-pop (λ t. t ≤ MAX_TIME) (keys_of es) (keys_of rest) (Some e.0) (ap keys_of is ∙ map-append (λ (d : ℕ × Summary). d.0) rest (e ∷ [])) h).0

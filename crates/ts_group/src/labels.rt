@@ -1,0 +1,132 @@
+// The labels that a group shows.
+ghost use Rattle.std.specs.Prelude.{◌≡◌, ◌<◌, length, slice_get, option_map, Some};
+ghost use Rattle.std.specs.Option.{option_copied};
+ghost use Rattle.ts_spec.specs.Aggregate.{aggregator_of};
+ghost use Rattle.ts_spec.specs.Filter.{value_of};
+ghost use Rattle.ts_spec.specs.Questions.{picked_label};
+ghost use Rattle.ts_spec.specs.Replies.{aggregator_name};
+ghost use Rattle.ts_labels.specs.declared.show.Show.TheVariants as which;
+ghost use Rattle.ts_group.specs.Labels.{label_of, labels_of, shown_of};
+
+use ts_agg::{Reducer, aggregator_of, name};
+use ts_labels::Show;
+
+// The names of the labels that tell how a group was reduced, and of which series.
+const REDUCER: &[u8] = b"__reducer__";
+
+const SOURCE: &[u8] = b"__source__";
+
+/// What a group shows as its labels. A client may have given its own label one of the names of the others.
+#[derive(Clone, Copy)]
+pub struct GroupLabels<'a> {
+    /// The label whose values make the groups, and the value of this one.
+    pub label: &'a [u8],
+    pub value: &'a [u8],
+    pub reducer: Reducer,
+    /// The keys of its series in their order, with commas between them.
+    pub sources: &'a [u8],
+}
+
+// A label that is shown, with its value if the group has it.
+#[derive(Clone, Copy)]
+pub(crate) struct Shown<'a> {
+    pub(crate) name: &'a [u8],
+    pub(crate) value: Option<&'a [u8]>,
+}
+
+impl<'a> GroupLabels<'a> {
+    // How many labels are shown.
+    pub(crate) fn shown(&self, show: &Show) -> usize
+        ensures { result ≡ length (shown_of show.now self.now) }
+    {
+        match show {
+            Show::Nothing => 0,
+            Show::All => 3,
+            Show::Selected(names) => names.len(),
+        }
+    }
+
+    // The label that is shown at this place.
+    pub(crate) fn shown_at(&self, show: &'a Show, place: usize) -> Shown<'a>
+        requires { place < length (shown_of show.now self.now) }
+        ensures { slice_get (shown_of show.now self.now) place ≡ Some (label_of result) }
+    {
+        match show {
+            Show::Nothing => unreachable!(),
+            Show::All => self.label_at(place),
+            Show::Selected(names) => self.labelled(names[place].bytes()),
+        }
+    }
+
+    // One of its own.
+    fn label_at(&self, place: usize) -> Shown<'a>
+        requires { place < 3 }
+        ensures { slice_get (shown_of which.All self.now) place ≡ Some (label_of result) }
+    {
+        Shown {
+            name: self.name_at(place),
+            value: Some(self.value_at(place)),
+        }
+    }
+
+    // The name of one of its own.
+    fn name_at(&self, place: usize) -> &'a [u8]
+        requires { place < 3 }
+        ensures { option_map (λ l. l.name) (slice_get (labels_of self.now) place) ≡ Some result.now }
+    {
+        if place == 0 {
+            return self.label;
+        }
+        if place == 1 {
+            return REDUCER;
+        }
+        SOURCE
+    }
+
+    // The value of one of its own.
+    fn value_at(&self, place: usize) -> &'a [u8]
+        requires { place < 3 }
+        ensures { option_map (λ l. l.value) (slice_get (labels_of self.now) place) ≡ Some result.now }
+    {
+        if place == 0 {
+            return self.value;
+        }
+        if place == 1 {
+            return self.reducer_name();
+        }
+        self.sources
+    }
+
+    // The label with this name.
+    fn labelled(&self, name: &'a [u8]) -> Shown<'a>
+        ensures { label_of result ≡ picked_label (labels_of self.now) name.now }
+    {
+        Shown {
+            name,
+            value: self.get(name),
+        }
+    }
+
+    // The value of a label, if it has that.
+    fn get(&self, name: &[u8]) -> Option<&'a [u8]>
+        ensures { option_copied result ≡ value_of name.now (labels_of self.now) }
+    {
+        if self.label == name {
+            return Some(self.value);
+        }
+        if REDUCER == name {
+            return Some(self.reducer_name());
+        }
+        if SOURCE == name {
+            return Some(self.sources);
+        }
+        None
+    }
+
+    // The name of its reducer.
+    fn reducer_name(&self) -> &'static [u8]
+        ensures { result.now ≡ aggregator_name (aggregator_of self.now.reducer) }
+    {
+        name(aggregator_of(self.reducer)).as_bytes()
+    }
+}

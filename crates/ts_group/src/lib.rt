@@ -1,0 +1,16 @@
+//! The answers over series in groups: what a group tells, reduced time by time.
+#![tactic(auto)]
+
+mod group_texts;
+mod labels;
+mod reduction;
+mod row_texts;
+mod rows;
+mod summaries;
+
+pub use group_texts::encode_group;
+pub use labels::GroupLabels;
+pub use reduction::Reduction;
+pub use row_texts::encode_group_rows;
+pub use rows::GroupRows;
+pub use ts_agg::Reducer;

@@ -1,0 +1,89 @@
+// The rows of a group, reduced time by time as they come.
+ghost use Rattle.std.specs.Prelude.{◌≡◌, false, List, []};
+ghost use Rattle.ts_spec.specs.Answer.{Row as TheRow};
+ghost use Rattle.ts_group.specs.Rows.{group_rows};
+ghost use Rattle.ts_group.specs.Summaries.{HasTaken};
+
+use crate::rows::GroupRows;
+use crate::summaries::{Summaries, add};
+use std::alloc::Global;
+use std::collections::BTreeMap;
+use std::marker::Model;
+use ts_agg::Reducer;
+use ts_range::{Keep, Row, Take};
+
+/// Takes the rows of the series of a group, one series after another, and keeps of each time what its numbers come to.
+/// So it grows with the times that differ, and not with the rows. Rows may come in any order of time.
+#[derive(Drop)]
+pub struct Reduction {
+    kept: Summaries,
+    // Whether there was no memory for some row.
+    lost: bool,
+}
+
+impl Model for Reduction {
+    ghost use Rattle.ts_group.specs.Summaries.{Kept, AreTimely};
+
+    ghost Value = { Kept };
+
+    ghost view = { λ r. record { summaries = r.kept.entries; lost = r.lost } };
+
+    ghost invariant = { λ r. AreTimely r.kept.entries };
+}
+
+impl Reduction {
+    /// No row yet. Takes no memory.
+    pub fn new(alloc: Global) -> Reduction
+        ensures taken { HasTaken result [] }
+        ensures kept { result.lost ≡ false }
+    {
+        Reduction {
+            kept: BTreeMap::new(alloc),
+            lost: false,
+        }
+    }
+
+    /// Whether there was no memory for some row.
+    pub fn is_lost(&self) -> bool
+        ensures { result ≡ self.now.lost }
+    {
+        self.lost
+    }
+
+    /// The rows of the group by a reducer, in ascending time or the last one first, and so many of them at most. Takes
+    /// no memory.
+    pub fn rows(&self, reducer: Reducer, count: Option<u64>, reverse: bool) -> GroupRows<'_>
+        ensures { (rows : List TheRow) → HasTaken self.now rows → self.now.lost ≡ false
+            → result ≡ group_rows reducer count reverse rows }
+    {
+        GroupRows::new(&self.kept, reducer, count, reverse)
+    }
+}
+
+impl Take for Reduction {
+    ghost use Rattle.ts_range.specs.Taking.{no_limit};
+
+    ghost has = { λ r rows. HasTaken r rows };
+
+    ghost limit = { λ r. no_limit };
+
+    fn row(&mut self, row: Row) {
+        if self.lost {
+            return;
+        }
+        match add(&mut self.kept, row) {
+            Ok(()) => {}
+            Err(_) => self.lost = true,
+        }
+    }
+
+    fn is_full(&self) -> bool {
+        self.lost
+    }
+}
+
+impl Keep for Reduction {
+    fn lose(&mut self) {
+        self.lost = true;
+    }
+}

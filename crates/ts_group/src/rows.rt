@@ -1,0 +1,142 @@
+// The rows that a group tells, one after another.
+ghost use Rattle.std.specs.Prelude.{◌≡◌, ◌≤◌, List, ◌∷◌, ◌++◌, [], length, map, MatchOption, IfOk};
+ghost use Rattle.ts_spec.specs.Answer.{Row as TheRow, first_ones};
+ghost use Rattle.ts_spec.specs.Sample.{MAX_TIME};
+ghost use Rattle.ts_range.specs.Query.{cell_of, row_of};
+ghost use Rattle.ts_range.specs.Walk.{most_of};
+ghost use Rattle.ts_group.specs.Rows.{cell_told, rows_told};
+ghost use Rattle.ts_group.specs.Summaries.{AreTimely};
+
+use crate::summaries::Summaries;
+use std::alloc::{AllocError, Global};
+use std::collections::btree_map::Iter;
+use std::marker::Model;
+use ts_agg::{Reducer, Running, aggregator_of};
+use ts_range::{Row, RowList, Take};
+use ts_sample::Cell;
+
+/// The rows of a group that are left to be told, the next one first.
+#[derive(Drop)]
+pub struct GroupRows<'a> {
+    times: Iter<'a, u64, Running>,
+    // How many of them are told, and whether from their end.
+    left: usize,
+    reverse: bool,
+    reducer: Reducer,
+}
+
+impl<'a> Model for GroupRows<'a> {
+    ghost use Rattle.std.specs.Prelude.{List, take};
+    ghost use Rattle.ts_spec.specs.Answer.{Row as TheRow};
+    ghost use Rattle.ts_group.specs.Rows.{rows_told};
+
+    ghost Value = { List TheRow };
+
+    ghost view = { λ g. take g.left (rows_told g.reducer g.reverse g.times) };
+
+    ghost use Rattle.ts_group.specs.Rows.{AreInPart};
+
+    ghost invariant = { λ g. AreInPart g.left g.times };
+}
+
+impl<'a> GroupRows<'a> {
+    // The rows of these times, and so many of them at most.
+    pub(crate) fn new(
+        kept: &'a Summaries,
+        reducer: Reducer,
+        count: Option<u64>,
+        reverse: bool,
+    ) -> GroupRows<'a>
+        requires { AreTimely kept.now.entries }
+        ensures { result ≡ first_ones count (rows_told reducer reverse kept.now.entries) }
+    {
+        GroupRows {
+            times: kept.iter(),
+            left: at_most(count, kept.len()),
+            reverse,
+            reducer,
+        }
+    }
+
+    /// How many are left.
+    pub fn len(&self) -> usize
+        ensures { result ≡ length self.now }
+    {
+        self.left
+    }
+
+    /// The next one, if any is left.
+    pub fn next(&mut self) -> Option<Row>
+        ensures { MatchOption result ((self.old ≡ []) × (self.new ≡ [])) (λ row. self.old ≡ row_of row ∷ self.new) }
+    {
+        let left = self.left.checked_sub(1)?;
+        let row = next_row(&mut self.times, self.reducer, self.reverse)?;
+        self.left = left;
+        Some(row)
+    }
+
+    /// Hands on all that are left.
+    pub fn hand_on<T: Take>(mut self, taker: &mut T)
+        ensures limit { T.limit taker.new ≡ T.limit taker.old }
+        ensures taken { (before : List TheRow) → T.has taker.old before → T.has taker.new (before ++ self.entry) }
+    {
+        while let Some(row) = self.next() {
+            taker.row(row);
+        }
+    }
+
+    /// All that are left, in a list.
+    pub fn into_list(self, alloc: Global) -> Result<Vec<Row>, AllocError>
+        ensures { IfOk result (λ list. map row_of list.items ≡ self.entry) }
+    {
+        let mut taker = RowList::with_room(alloc, self.len())?;
+        self.hand_on(&mut taker);
+        taker.into_rows()
+    }
+}
+
+// So many of the rows, if there is a limit.
+fn at_most(count: Option<u64>, rows: usize) -> usize
+    ensures { result ≡ most_of count rows }
+{
+    match count {
+        None => rows,
+        Some(count) => rows.min(count as usize),
+    }
+}
+
+// The row of the next time, from one end or the other.
+fn next_row(times: &mut Iter<'_, u64, Running>, reducer: Reducer, reverse: bool) -> Option<Row>
+    requires { AreTimely times.old }
+    ensures row { MatchOption result (times.old ≡ []) (λ row. rows_told reducer reverse times.old ≡ row_of row ∷ rows_told reducer reverse times.new) }
+    ensures timely { AreTimely times.new }
+{
+    if reverse {
+        let (time, running) = times.next_back()?;
+        return Some(row_at(*time, reducer, running));
+    }
+    let (time, running) = times.next()?;
+    Some(row_at(*time, reducer, running))
+}
+
+// The row of a time.
+fn row_at(time: u64, reducer: Reducer, running: &Running) -> Row
+    requires { time ≤ MAX_TIME }
+    ensures time { result.time ≡ time }
+    ensures value { cell_of result.value ≡ cell_told reducer running.now }
+{
+    Row {
+        time,
+        value: cell_at(reducer, running),
+    }
+}
+
+// What a reducer tells of the numbers of a time.
+fn cell_at(reducer: Reducer, running: &Running) -> Cell
+    ensures { cell_of result ≡ cell_told reducer running.now }
+{
+    match running.result(aggregator_of(reducer)) {
+        None => Cell::Nan,
+        Some(value) => Cell::Number(value),
+    }
+}
