@@ -9,7 +9,8 @@ use Rattle.ts_spec.specs.Wire.{Request, Stream, Ended, Inside, Broken, stream_at
 use Rattle.ts_spec.proofs.Runs.{Runs-append, Runs-one, requests_of-then_all, ending_of-then_all, requests_in-append}
 use Rattle.ts_engine.specs.declared.piped.End.{End}
 use Rattle.ts_engine.specs.declared.piped.End.TheVariants as end
-use Rattle.ts_engine.specs.Turn.{World, turn}
+use Rattle.ts_engine.specs.Turn.{World, turn, plain}
+use Rattle.ts_engine.specs.Turns.{OfLast}
 use Rattle.ts_engine.specs.Session.{Spot, Went, WentSome, LastReply, Quitted, CutFault, IsUpToDate}
 use Rattle.ts_engine.specs.Piping.{beginning, Ends}
 use Rattle.ts_engine.specs.Headline.{requests, asks_to_quit, ending, Exchange, AllAnswered, WholeAnswered, SomeAnswered, LastCut, FaultCut, FrontAnswered, Writes, count_done}
@@ -24,7 +25,7 @@ pub splits : (bytes : List ℕ) (left : Option (List ℕ)) (front : List ℕ) �
 splits bytes None front took = absurd took
 splits bytes (Some rest) front took = (rest, took, refl)
 
-module _ (exchange : Exchange) (last : Spot) (at : last.world ≡ exchange.to) where
+module _ (exchange : Exchange) (last : Spot plain) (at : last.world ≡ exchange.to) where
   module _ (front tail : List ℕ) (went : Went (beginning exchange.limits exchange.from) last exchange.had exchange.has front tail) where
     -- the requests in the bytes and whatever follows them
     follows : (more : List ℕ) → stream_at exchange.limits 0 (front ++ more) ≡ then_all went.done (stream_of last.reader more)
@@ -76,7 +77,7 @@ pub its_own_ending : (place : Option ℕ) → ending_of (ended_at place) ≡ end
 its_own_ending None = refl
 its_own_ending (Some place) = refl
 
-module _ (exchange : Exchange) (last : Spot) (at : last.world ≡ exchange.to) (bytes front : List ℕ) (left : Option (List ℕ)) (split : Splits bytes left front) where
+module _ (exchange : Exchange) (last : Spot plain) (at : last.world ≡ exchange.to) (bytes front : List ℕ) (left : Option (List ℕ)) (split : Splits bytes left front) where
   -- the whole of the bytes was taken
   whole : IsAtEnd left → (bytes ≡ front ++ []) × (left ≡ Some [])
   whole at_end =
@@ -114,7 +115,7 @@ module _ (exchange : Exchange) (last : Spot) (at : last.world ≡ exchange.to) (
       }
 
   -- the requests of the bytes, with the last one that had its turn
-  pub with_last : (cut : LastReply (beginning exchange.limits exchange.from) last exchange.had exchange.has front)
+  pub with_last : {said : OfLast plain} (cut : LastReply said (beginning exchange.limits exchange.from) last exchange.had exchange.has front)
       → requests_of (stream_at exchange.limits 0 bytes) ≡ requests_in cut.done ++ cut.last.request ∷ requests_of (stream_of last.reader split.0)
   with_last cut =
       ap (λ (l : List ℕ). requests_of (stream_at exchange.limits 0 l)) split.1 ∙ ap requests_of (cut.stream split.0)
@@ -122,7 +123,7 @@ module _ (exchange : Exchange) (last : Spot) (at : last.world ≡ exchange.to) (
       ∙ ap (λ (l : List Request). l ++ requests_of (stream_of last.reader split.0)) (requests_in-append cut.done (cut.last ∷ []))
       ∙ append_assoc (requests_in cut.done) (cut.last.request ∷ []) (requests_of (stream_of last.reader split.0))
 
-  abbrev pub last_cut : LastReply (beginning exchange.limits exchange.from) last exchange.had exchange.has front → LastCut exchange bytes
+  abbrev pub last_cut : LastReply plain.cut (beginning exchange.limits exchange.from) last exchange.had exchange.has front → LastCut exchange bytes
   last_cut cut = record {
     done = requests_in cut.done;
     last = cut.last.request;

@@ -3,6 +3,7 @@ pub mod Answered
 pub mod Asking
 pub mod Carried
 pub mod Carrying
+pub mod Causes
 pub mod Dropping
 pub mod Executed
 pub mod Faulted

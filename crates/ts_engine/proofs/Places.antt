@@ -7,6 +7,7 @@ use Rattle.ts_spec.specs.declared.wire.Kind.{Kind}
 use Rattle.ts_spec.specs.declared.wire.WireLimits.{WireLimits}
 use Rattle.ts_spec.proofs.Streams.{read_on-nil, read_on-byte}
 use Rattle.ts_engine.specs.Session.{Spot, Went, LastReply, IsBroken, IsUpToDate}
+use Rattle.ts_engine.specs.Turns.{Turns, OfLast}
 use Rattle.ts_resp.specs.declared.protocol.Protocol.{Protocol}
 
 -- each request ends past this place, and a fault is not before it
@@ -78,14 +79,6 @@ read_on-goes limits place begin mode (byte ∷ bytes) more quiet =
     (λ from next q. lower (place + 1 + length bytes) (place + length (byte ∷ bytes)) (read_on limits (place + 1) from next (bytes ++ more)) (omega arith) (read_on-goes limits (place + 1) from next bytes more q))
     (subst IsQuiet (read_on-byte limits place begin mode byte bytes (move limits mode byte) refl) quiet))
 
--- where every whole request had its turn, all that comes is past the bytes fed
-comes_past : (spot : Spot) (bytes : List ℕ) → IsUpToDate spot → IsPast (fed spot.reader) (stream_of spot.reader bytes)
-comes_past spot bytes current =
-    let r = spot.reader in
-    read_on-goes r.limits r.place r.begin (mode_of r.so_far) r.unread bytes
-    (subst (λ (l : List ℕ). IsQuiet (read_on r.limits r.place r.begin (mode_of r.so_far) l)) (append-nil r.unread)
-    (subst IsQuiet (sym current.rest) (ended-quiet (unfinished r))))
-
 last-past : (place : ℕ) (done : List Placed) (last : Placed) (rest : Stream) → IsPast place (then_all (done ++ last ∷ []) rest) → place < last.after
 last-past place [] last rest past = past.0
 last-past place (first ∷ done) last rest past = last-past place done last rest past.1
@@ -94,15 +87,24 @@ fault-past : (place : ℕ) (done : List Placed) (kind : Kind) (at : ℕ) → IsP
 fault-past place [] kind at past = past
 fault-past place (first ∷ done) kind at past = fault-past place done kind at past.1
 
--- a request that comes then ends past the bytes fed
-pub reply_past : (old new : Spot) (had has : List ℕ → Type 0) (bytes : List ℕ) → IsUpToDate old → (cut : LastReply old new had has bytes) → fed old.reader < cut.last.after
-reply_past old new had has bytes current cut =
-    last-past (fed old.reader) cut.done cut.last (stream_of new.reader [])
-    (subst (λ (s : Stream). IsPast (fed old.reader) s) (cut.stream []) (comes_past old (bytes ++ []) current))
+module _ {turns : Turns} where
+  -- where every whole request had its turn, all that comes is past the bytes fed
+  comes_past : (spot : Spot turns) (bytes : List ℕ) → IsUpToDate spot → IsPast (fed spot.reader) (stream_of spot.reader bytes)
+  comes_past spot bytes current =
+      let r = spot.reader in
+      read_on-goes r.limits r.place r.begin (mode_of r.so_far) r.unread bytes
+      (subst (λ (l : List ℕ). IsQuiet (read_on r.limits r.place r.begin (mode_of r.so_far) l)) (append-nil r.unread)
+      (subst IsQuiet (sym current.rest) (ended-quiet (unfinished r))))
 
--- and a fault is not before them
-pub break_past : (old new : Spot) (had has : List ℕ → Type 0) (bytes tail : List ℕ) (fault : Protocol) → IsUpToDate old → Went old new had has bytes tail → IsBroken fault new
-    → fed old.reader ≤ fault.place
-break_past old new had has bytes tail fault current went broken =
-    fault-past (fed old.reader) went.done fault.kind fault.place
-    (subst (λ (s : Stream). IsPast (fed old.reader) s) (went.stream [] ∙ ap (λ (s : Stream). then_all went.done s) (broken [])) (comes_past old (bytes ++ []) current))
+  -- a request that comes then ends past the bytes fed
+  pub reply_past : {said : OfLast turns} (old new : Spot turns) (had has : List ℕ → Type 0) (bytes : List ℕ) → IsUpToDate old → (cut : LastReply said old new had has bytes) → fed old.reader < cut.last.after
+  reply_past old new had has bytes current cut =
+      last-past (fed old.reader) cut.done cut.last (stream_of new.reader [])
+      (subst (λ (s : Stream). IsPast (fed old.reader) s) (cut.stream []) (comes_past old (bytes ++ []) current))
+
+  -- and a fault is not before them
+  pub break_past : (old new : Spot turns) (had has : List ℕ → Type 0) (bytes tail : List ℕ) (fault : Protocol) → IsUpToDate old → Went old new had has bytes tail → IsBroken fault new
+      → fed old.reader ≤ fault.place
+  break_past old new had has bytes tail fault current went broken =
+      fault-past (fed old.reader) went.done fault.kind fault.place
+      (subst (λ (s : Stream). IsPast (fed old.reader) s) (went.stream [] ∙ ap (λ (s : Stream). then_all went.done s) (broken [])) (comes_past old (bytes ++ []) current))

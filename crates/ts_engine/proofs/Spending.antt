@@ -14,6 +14,7 @@ use Rattle.ts_words.specs.declared.status.Status.TheVariants as status
 use Rattle.ts_engine.specs.Headline.{Exchange, ending, asks_to_quit}
 use Rattle.ts_engine.specs.Piping.{beginning, Ends, is_of_input, Piped, HasCauses}
 use Rattle.ts_engine.specs.Session.{Spot}
+use Rattle.ts_engine.specs.Turn.{plain}
 use Rattle.ts_engine.specs.Status.{status_of}
 use Rattle.ts_engine.specs.Top.{status_cut}
 use Rattle.ts_engine.proofs.Headlines.{splits, no_quit, ends_as, front_answered, quitted_all}
@@ -30,7 +31,7 @@ unbroken quits stream None none is = sym (ap (λ (s : Stream). status_cut quits 
 unbroken quits stream (Some place) none is = sym (ap (λ (s : Stream). status_cut quits s) is ∙ ap (λ (b : Bool). status_cut b (ended_at (Some place))) none)
 
 -- where the end of the input was read, it has nothing left
-at_end : (e : End) (left : Option (List ℕ)) (old new : Spot) (had has : List ℕ → Type 0) (bytes : List ℕ) (ends : Ends e left old new had has bytes)
+at_end : (e : End) (left : Option (List ℕ)) (old new : Spot plain) (had has : List ℕ → Type 0) (bytes : List ℕ) (ends : Ends e left old new had has bytes)
     → is_of_input e left old new had has bytes ends ≡ true → IsAtEnd left
 at_end end.Ended left old new had has bytes (inl all) same = all.at_end
 at_end end.Ended left old new had has bytes (inr quitted) same = (cc)
@@ -42,7 +43,7 @@ at_end end.Memory left old new had has bytes ends same = (cc)
 at_end end.Budget left old new had has bytes ends same = (cc)
 
 -- by what was answered over the bytes taken
-module _ (exchange : Exchange) (last : Spot) (at : last.world ≡ exchange.to) (left : Option (List ℕ)) (first front more : List ℕ) (is : first ≡ front ++ more) where
+module _ (exchange : Exchange) (last : Spot plain) (at : last.world ≡ exchange.to) (left : Option (List ℕ)) (first front more : List ℕ) (is : first ≡ front ++ more) where
   by_first : (e : End) (reads reads' writes writes' : ℕ) (ends : Ends e left (beginning exchange.limits exchange.from) last exchange.had exchange.has front)
       → (is_of_input e left (beginning exchange.limits exchange.from) last exchange.had exchange.has front ends ≡ true → ⊥) → (e ≡ end.Budget → more ≡ [])
       → HasCauses e reads reads' writes writes' → (Rose reads reads' → ⊥) → (Rose writes writes' → ⊥)

@@ -18,7 +18,7 @@ use Rattle.ts_engine.specs.Session.{Spot, Quitted}
 use Rattle.ts_engine.specs.Status.{status_of, place_of}
 use Rattle.ts_engine.specs.Taken.{quit_place, place_after, Near, Taken}
 use Rattle.ts_engine.specs.Top.{Reports}
-use Rattle.ts_engine.specs.Turn.{World}
+use Rattle.ts_engine.specs.Turn.{World, plain}
 use Rattle.ts_engine.proofs.Headlines.{Splits, splits, writes, executed_writes}
 use Rattle.ts_engine.proofs.Quits.{neither}
 
@@ -34,7 +34,7 @@ place_after-last : (done : List Placed) (last : Placed) (rest : Stream) → plac
 place_after-last [] last rest = refl
 place_after-last (first ∷ done) last rest = place_after-last done last rest
 
-module _ (exchange : Exchange) (last : Spot) (at : last.world ≡ exchange.to) (bytes front : List ℕ) (left : Option (List ℕ)) (split : Splits bytes left front) (taken : ℕ) where
+module _ (exchange : Exchange) (last : Spot plain) (at : last.world ≡ exchange.to) (bytes front : List ℕ) (left : Option (List ℕ)) (split : Splits bytes left front) (taken : ℕ) where
   -- no read was made past an end that showed itself
   near_writes : (budget : ℕ) (e : End) (spent : e ≡ end.Budget → length front ≡ budget) (ends : Ends e left (beginning exchange.limits exchange.from) last exchange.had exchange.has front)
       → IfSome (shown_at e left (beginning exchange.limits exchange.from) last exchange.had exchange.has front ends) (λ place. taken ≤ place + PIECE)
@@ -60,12 +60,12 @@ module _ (exchange : Exchange) (last : Spot) (at : last.world ≡ exchange.to) (
   near_writes budget end.WriteFault spent (inr cut) near = near
 
 -- an input that has nothing left ends as one that has
-abbrev read_alone : (left : Option (List ℕ)) (old new : Spot) (had has : List ℕ → Type 0) (bytes : List ℕ) → ReadAll left old new had has bytes ⊎ Quitted old new had has bytes
+abbrev read_alone : (left : Option (List ℕ)) (old new : Spot plain) (had has : List ℕ → Type 0) (bytes : List ℕ) → ReadAll left old new had has bytes ⊎ Quitted old new had has bytes
     → ReadAll (Some []) old new had has bytes ⊎ Quitted old new had has bytes
 read_alone left old new had has bytes (inl all) = inl (record { went = all.went; ended = all.ended; at_end = refl })
 read_alone left old new had has bytes (inr quitted) = inr quitted
 
-abbrev ends_alone : (e : End) (left : Option (List ℕ)) (old new : Spot) (had has : List ℕ → Type 0) (bytes : List ℕ) → Ends e left old new had has bytes → Ends e (Some []) old new had has bytes
+abbrev ends_alone : (e : End) (left : Option (List ℕ)) (old new : Spot plain) (had has : List ℕ → Type 0) (bytes : List ℕ) → Ends e left old new had has bytes → Ends e (Some []) old new had has bytes
 ends_alone end.Ended left old new had has bytes ends = read_alone left old new had has bytes ends
 ends_alone (end.Truncated place) left old new had has bytes ends = (ends.0, ends.1, refl)
 ends_alone (end.Protocol fault) left old new had has bytes ends = ends
@@ -75,7 +75,7 @@ ends_alone end.Memory left old new had has bytes ends = ends
 ends_alone end.Budget left old new had has bytes ends = ends
 
 -- and shows itself there
-pub shown_alone : (e : End) (left : Option (List ℕ)) (old new : Spot) (had has : List ℕ → Type 0) (bytes : List ℕ) (ends : Ends e left old new had has bytes)
+pub shown_alone : (e : End) (left : Option (List ℕ)) (old new : Spot plain) (had has : List ℕ → Type 0) (bytes : List ℕ) (ends : Ends e left old new had has bytes)
     → shown_at e (Some []) old new had has bytes (ends_alone e left old new had has bytes ends) ≡ shown_at e left old new had has bytes ends
 shown_alone end.Ended left old new had has bytes (inl all) = refl
 shown_alone end.Ended left old new had has bytes (inr quitted) = refl
@@ -86,7 +86,7 @@ shown_alone end.WriteFault left old new had has bytes ends = refl
 shown_alone end.Memory left old new had has bytes ends = refl
 shown_alone end.Budget left old new had has bytes ends = refl
 
-pub of_input_alone : (e : End) (left : Option (List ℕ)) (old new : Spot) (had has : List ℕ → Type 0) (bytes : List ℕ) (ends : Ends e left old new had has bytes)
+pub of_input_alone : (e : End) (left : Option (List ℕ)) (old new : Spot plain) (had has : List ℕ → Type 0) (bytes : List ℕ) (ends : Ends e left old new had has bytes)
     → is_of_input e (Some []) old new had has bytes (ends_alone e left old new had has bytes ends) ≡ is_of_input e left old new had has bytes ends
 of_input_alone end.Ended left old new had has bytes (inl all) = refl
 of_input_alone end.Ended left old new had has bytes (inr quitted) = refl
@@ -101,7 +101,7 @@ of_input_alone end.Budget left old new had has bytes ends = refl
 abbrev pub piped_alone : (limits : WireLimits) (budget : ℕ) (outcome : Outcome) (from to : World) (told left : Option (List ℕ)) (had has : List ℕ → Type 0)
     → (piped : Piped limits budget outcome from to told left had has) → Piped limits budget outcome from to (Some piped.bytes) (Some []) had has
 piped_alone limits budget outcome from to told left had has piped =
-    let first : Spot = beginning limits from in
+    let first : Spot plain = beginning limits from in
     record {
       bytes = piped.bytes;
       last = piped.last;

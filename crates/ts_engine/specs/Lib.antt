@@ -18,3 +18,4 @@ pub mod Status
 pub mod Taken
 pub mod Top
 pub mod Turn
+pub mod Turns

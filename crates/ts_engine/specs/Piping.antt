@@ -1,4 +1,4 @@
--- What `pipe` does to an input, an output and a database.
+-- What `pipe` does to an input, an output and a database, and what answers a whole input by turns of any kind.
 use Rattle.std.specs.Prelude.{◌≡◌, ◌≢◌, ◌⊎◌, Bool, true, false, ℕ, ◌+◌, ◌<◌, ◌≤◌, List, [], length, Option, None, Some, IfSome}
 use Rattle.std.specs.Io.KnownBytes.{Consumes, IsAtEnd}
 use Rattle.std.proofs.Common.{inl, inr}
@@ -11,85 +11,90 @@ use Rattle.ts_engine.specs.declared.piped.End.TheVariants as end
 use Rattle.ts_engine.specs.declared.piped.Outcome.{Outcome}
 use Rattle.ts_engine.specs.declared.piped.Step.{Step}
 use Rattle.ts_engine.specs.declared.go.Go.TheVariants as go
-use Rattle.ts_engine.specs.Turn.{World}
+use Rattle.ts_engine.specs.Turn.{World, plain}
+use Rattle.ts_engine.specs.Turns.{Turns, NoFault, AFault}
 use Rattle.ts_engine.specs.Session.{Spot, Went, LastReply, Quitted, CutFault, Answers}
 
 -- where a session begins: nothing was read or executed
-abbrev pub beginning : WireLimits → World → Spot
-beginning limits world = record {
+abbrev pub beginning_of : (turns : Turns) → WireLimits → turns.World → Spot turns
+beginning_of turns limits world = record {
   reader = record { limits = limits; begin = 0; place = 0; so_far = None; unread = [] };
   executed = 0;
   world = world;
 }
 
--- the input was read to its end, which is between requests
-pub record ReadAll (left : Option (List ℕ)) (old new : Spot) (had has : List ℕ → Type 0) (bytes : List ℕ) : Type 0 where
-  pub went : Went old new had has bytes []
-  pub ended : stream_of new.reader [] ≡ Ended
-  pub at_end : IsAtEnd left
+abbrev pub beginning : WireLimits → World → Spot plain
+beginning limits world = beginning_of plain limits world
 
--- how the requests in these bytes went, by the end; left is what the input still has
-abbrev pub Ends : End → Option (List ℕ) → Spot → Spot → (List ℕ → Type 0) → (List ℕ → Type 0) → List ℕ → Type 0
-Ends end.Ended left old new had has bytes = ReadAll left old new had has bytes ⊎ Quitted old new had has bytes
-Ends (end.Truncated place) left old new had has bytes = Went old new had has bytes [] × (stream_of new.reader [] ≡ Inside place) × IsAtEnd left
-Ends (end.Protocol fault) left old new had has bytes = Answers (go.Broken fault) old new had has bytes
-Ends end.ReadFault left old new had has bytes = Answers go.More old new had has bytes
-Ends end.WriteFault left old new had has bytes = Answers go.WriteFault old new had has bytes
-Ends end.Memory left old new had has bytes = Answers go.Memory old new had has bytes
-Ends end.Budget left old new had has bytes = Answers go.More old new had has bytes
+module _ {turns : Turns} where
+  -- the input was read to its end, which is between requests
+  pub record ReadAll (left : Option (List ℕ)) (old new : Spot turns) (had has : List ℕ → Type 0) (bytes : List ℕ) : Type 0 where
+    pub went : Went old new had has bytes []
+    pub ended : stream_of new.reader [] ≡ Ended
+    pub at_end : IsAtEnd left
 
--- the input goes on, or it has ended so
-abbrev pub EndsOr : Option End → Option (List ℕ) → Spot → Spot → (List ℕ → Type 0) → (List ℕ → Type 0) → List ℕ → Type 0
-EndsOr None left old new had has bytes = Answers go.More old new had has bytes
-EndsOr (Some e) left old new had has bytes = Ends e left old new had has bytes
+  -- how the requests in these bytes went, by the end; left is what the input still has
+  abbrev pub Ends : End → Option (List ℕ) → Spot turns → Spot turns → (List ℕ → Type 0) → (List ℕ → Type 0) → List ℕ → Type 0
+  Ends end.Ended left old new had has bytes = ReadAll left old new had has bytes ⊎ Quitted old new had has bytes
+  Ends (end.Truncated place) left old new had has bytes = Went old new had has bytes [] × (stream_of new.reader [] ≡ Inside place) × IsAtEnd left
+  Ends (end.Protocol fault) left old new had has bytes = Answers (go.Broken fault) old new had has bytes
+  Ends end.ReadFault left old new had has bytes = Answers go.More old new had has bytes
+  Ends end.WriteFault left old new had has bytes = Answers go.WriteFault old new had has bytes
+  Ends end.Memory left old new had has bytes = Answers go.Memory old new had has bytes
+  Ends end.Budget left old new had has bytes = Answers go.More old new had has bytes
 
--- whether the end of the input was read, and no QUIT
-abbrev pub was_read : (left : Option (List ℕ)) (old new : Spot) (had has : List ℕ → Type 0) (bytes : List ℕ) → ReadAll left old new had has bytes ⊎ Quitted old new had has bytes → Bool
-was_read left old new had has bytes (inl all) = true
-was_read left old new had has bytes (inr quitted) = false
+  -- the input goes on, or it has ended so
+  abbrev pub EndsOr : Option End → Option (List ℕ) → Spot turns → Spot turns → (List ℕ → Type 0) → (List ℕ → Type 0) → List ℕ → Type 0
+  EndsOr None left old new had has bytes = Answers go.More old new had has bytes
+  EndsOr (Some e) left old new had has bytes = Ends e left old new had has bytes
 
--- whether an end is that of the input
-abbrev pub is_of_input : (e : End) (left : Option (List ℕ)) (old new : Spot) (had has : List ℕ → Type 0) (bytes : List ℕ) → Ends e left old new had has bytes → Bool
-is_of_input end.Ended left old new had has bytes ends = was_read left old new had has bytes ends
-is_of_input (end.Truncated place) left old new had has bytes ends = true
-is_of_input (end.Protocol fault) left old new had has bytes ends = false
-is_of_input end.ReadFault left old new had has bytes ends = false
-is_of_input end.WriteFault left old new had has bytes ends = false
-is_of_input end.Memory left old new had has bytes ends = false
-is_of_input end.Budget left old new had has bytes ends = false
+  -- whether the end of the input was read, and no QUIT
+  abbrev pub was_read : (left : Option (List ℕ)) (old new : Spot turns) (had has : List ℕ → Type 0) (bytes : List ℕ) → ReadAll left old new had has bytes ⊎ Quitted old new had has bytes → Bool
+  was_read left old new had has bytes (inl all) = true
+  was_read left old new had has bytes (inr quitted) = false
 
--- whether the input has ended
-abbrev pub has_ended : (e : Option End) (left : Option (List ℕ)) (old new : Spot) (had has : List ℕ → Type 0) (bytes : List ℕ) → EndsOr e left old new had has bytes → Bool
-has_ended None left old new had has bytes ends = false
-has_ended (Some e) left old new had has bytes ends = is_of_input e left old new had has bytes ends
+  -- whether an end is that of the input
+  abbrev pub is_of_input : (e : End) (left : Option (List ℕ)) (old new : Spot turns) (had has : List ℕ → Type 0) (bytes : List ℕ) → Ends e left old new had has bytes → Bool
+  is_of_input end.Ended left old new had has bytes ends = was_read left old new had has bytes ends
+  is_of_input (end.Truncated place) left old new had has bytes ends = true
+  is_of_input (end.Protocol fault) left old new had has bytes ends = false
+  is_of_input end.ReadFault left old new had has bytes ends = false
+  is_of_input end.WriteFault left old new had has bytes ends = false
+  is_of_input end.Memory left old new had has bytes ends = false
+  is_of_input end.Budget left old new had has bytes ends = false
 
--- one read took these bytes, none at the end of the input, and what they hold was answered
-pub record Pumped (step : Step) (left rest : Option (List ℕ)) (old new : Spot) (had has : List ℕ → Type 0) : Type 0 where
-  pub bytes : List ℕ
-  pub count : length bytes ≡ step.taken
-  pub took : Consumes left rest bytes
-  pub ends : EndsOr step.end rest old new had has bytes
-  pub none : has_ended step.end rest old new had has bytes ends ≡ true → step.taken ≡ 0
+  -- whether the input has ended
+  abbrev pub has_ended : (e : Option End) (left : Option (List ℕ)) (old new : Spot turns) (had has : List ℕ → Type 0) (bytes : List ℕ) → EndsOr e left old new had has bytes → Bool
+  has_ended None left old new had has bytes ends = false
+  has_ended (Some e) left old new had has bytes ends = is_of_input e left old new had has bytes ends
 
--- the place after the request whose reply failed, or of the fault whose text did
-abbrev pub cut_at : (old new : Spot) (had has : List ℕ → Type 0) (bytes : List ℕ) → LastReply old new had has bytes ⊎ CutFault old new had has bytes → ℕ
-cut_at old new had has bytes (inl cut) = cut.last.after
-cut_at old new had has bytes (inr cut) = cut.fault.place
+  -- one read took these bytes, none at the end of the input, and what they hold was answered
+  pub record Pumped (step : Step) (left rest : Option (List ℕ)) (old new : Spot turns) (had has : List ℕ → Type 0) : Type 0 where
+    pub bytes : List ℕ
+    pub count : length bytes ≡ step.taken
+    pub took : Consumes left rest bytes
+    pub ends : EndsOr step.end rest old new had has bytes
+    pub none : has_ended step.end rest old new had has bytes ends ≡ true → step.taken ≡ 0
 
--- the place after QUIT, if there is one
-abbrev pub quit_at : (left : Option (List ℕ)) (old new : Spot) (had has : List ℕ → Type 0) (bytes : List ℕ) → ReadAll left old new had has bytes ⊎ Quitted old new had has bytes → Option ℕ
-quit_at left old new had has bytes (inl all) = None
-quit_at left old new had has bytes (inr quitted) = Some quitted.reply.last.after
+  -- the place after the request whose reply failed, or of the fault whose text did
+  abbrev pub cut_at : (old new : Spot turns) (had has : List ℕ → Type 0) (bytes : List ℕ) → LastReply turns.cut old new had has bytes ⊎ CutFault old new had has bytes → ℕ
+  cut_at old new had has bytes (inl cut) = cut.last.after
+  cut_at old new had has bytes (inr cut) = cut.fault.place
 
--- where an end shows itself in the input, if it does before the input ends
-abbrev pub shown_at : (e : End) (left : Option (List ℕ)) (old new : Spot) (had has : List ℕ → Type 0) (bytes : List ℕ) → Ends e left old new had has bytes → Option ℕ
-shown_at end.Ended left old new had has bytes ends = quit_at left old new had has bytes ends
-shown_at (end.Truncated place) left old new had has bytes ends = None
-shown_at (end.Protocol fault) left old new had has bytes ends = Some fault.place
-shown_at end.ReadFault left old new had has bytes ends = None
-shown_at end.WriteFault left old new had has bytes ends = Some (cut_at old new had has bytes ends)
-shown_at end.Memory left old new had has bytes ends = None
-shown_at end.Budget left old new had has bytes ends = None
+  -- the place after QUIT, if there is one
+  abbrev pub quit_at : (left : Option (List ℕ)) (old new : Spot turns) (had has : List ℕ → Type 0) (bytes : List ℕ) → ReadAll left old new had has bytes ⊎ Quitted old new had has bytes → Option ℕ
+  quit_at left old new had has bytes (inl all) = None
+  quit_at left old new had has bytes (inr quitted) = Some quitted.reply.last.after
+
+  -- where an end shows itself in the input, if it does before the input ends
+  abbrev pub shown_at : (e : End) (left : Option (List ℕ)) (old new : Spot turns) (had has : List ℕ → Type 0) (bytes : List ℕ) → Ends e left old new had has bytes → Option ℕ
+  shown_at end.Ended left old new had has bytes ends = quit_at left old new had has bytes ends
+  shown_at (end.Truncated place) left old new had has bytes ends = None
+  shown_at (end.Protocol fault) left old new had has bytes ends = Some fault.place
+  shown_at end.ReadFault left old new had has bytes ends = None
+  shown_at end.WriteFault left old new had has bytes ends = Some (cut_at old new had has bytes ends)
+  shown_at end.Memory left old new had has bytes ends = None
+  shown_at end.Budget left old new had has bytes ends = None
 
 -- the most bytes that one read asks for
 abbrev pub PIECE : ℕ
@@ -97,18 +102,22 @@ PIECE = 4096
 
 -- These bytes were taken, at most the budget, and fewer where the end of the input was read. What they hold was answered from the start on.
 -- No read was made past an end that showed itself.
-pub record Piped (limits : WireLimits) (budget : ℕ) (outcome : Outcome) (from to : World) (left rest : Option (List ℕ)) (had has : List ℕ → Type 0) : Type 0 where
+pub record PipedBy (turns : Turns) (limits : WireLimits) (budget : ℕ) (outcome : Outcome) (from to : turns.World) (left rest : Option (List ℕ)) (had has : List ℕ → Type 0) : Type 0 where
   pub bytes : List ℕ
-  pub last : Spot
+  pub last : Spot turns
   pub count : length bytes ≡ outcome.taken
   pub within : outcome.taken ≤ budget
   pub spent : outcome.end ≡ end.Budget → outcome.taken ≡ budget
   pub took : Consumes left rest bytes
   pub world : last.world ≡ to
   pub executed : last.executed ≡ outcome.executed
-  pub ends : Ends outcome.end rest (beginning limits from) last had has bytes
-  pub near : IfSome (shown_at outcome.end rest (beginning limits from) last had has bytes ends) (λ place. outcome.taken ≤ place + PIECE)
-  pub below : is_of_input outcome.end rest (beginning limits from) last had has bytes ends ≡ true → outcome.taken < budget
+  pub ends : Ends outcome.end rest (beginning_of turns limits from) last had has bytes
+  pub near : IfSome (shown_at outcome.end rest (beginning_of turns limits from) last had has bytes ends) (λ place. outcome.taken ≤ place + PIECE)
+  pub below : is_of_input outcome.end rest (beginning_of turns limits from) last had has bytes ends ≡ true → outcome.taken < budget
+
+-- the same by plain turns
+abbrev pub Piped : WireLimits → (budget : ℕ) → Outcome → (from to : World) → (left rest : Option (List ℕ)) → (had has : List ℕ → Type 0) → Type 0
+Piped limits budget outcome from to left rest had has = PipedBy plain limits budget outcome from to left rest had has
 
 -- the counts of faults did not fall: a fault is the end only where its count rose, and any other end comes only where that is as it was
 pub record HasCauses (e : End) (reads reads' writes writes' : ℕ) : Type 0 where
@@ -119,6 +128,15 @@ pub record HasCauses (e : End) (reads reads' writes writes' : ℕ) : Type 0 wher
   pub unread : e ≢ end.ReadFault → reads' ≡ reads
   pub unwritten : e ≢ end.WriteFault → writes' ≡ writes
 
-abbrev pub HasCausesOr : Option End → (reads reads' writes writes' : ℕ) → Type 0
-HasCausesOr None reads reads' writes writes' = (reads' ≡ reads) × (writes' ≡ writes)
-HasCausesOr (Some e) reads reads' writes writes' = HasCauses e reads reads' writes writes'
+-- the same with turns that have counts of their own
+module _ (turns : Turns) where
+  pub record HasCausesBy (e : End) (reads reads' writes writes' : ℕ) (own own' : turns.Faults) : Type 0 where
+    pub reads_later : reads ≤ reads'
+    pub read : e ≡ end.ReadFault → Rose reads reads'
+    pub write : e ≡ end.WriteFault → AFault turns writes writes' own own'
+    pub unread : e ≢ end.ReadFault → reads' ≡ reads
+    pub unwritten : e ≢ end.WriteFault → NoFault turns writes writes' own own'
+
+  abbrev pub HasCausesByOr : Option End → (reads reads' writes writes' : ℕ) → (own own' : turns.Faults) → Type 0
+  HasCausesByOr None reads reads' writes writes' own own' = (reads' ≡ reads) × NoFault turns writes writes' own own'
+  HasCausesByOr (Some e) reads reads' writes writes' own own' = HasCausesBy e reads reads' writes writes' own own'

@@ -7,6 +7,8 @@ use Rattle.ts_engine.specs.declared.go.Go.{Go}
 use Rattle.ts_engine.specs.declared.session.Session.{Session as Kept}
 use Rattle.ts_db.specs.Held.{Held}
 use Rattle.ts_engine.specs.Session.{Spot}
+use Rattle.ts_engine.specs.Turn.{plain}
+use Rattle.ts_engine.specs.Turns.{Turns}
 
 abbrev pub reader_of : Kept → Reading
 reader_of s = s.reader
@@ -17,8 +19,12 @@ executed_by s = s.executed
 abbrev pub ended_of : Kept → Option Go
 ended_of s = s.ended
 
+-- where it stands in this world
+abbrev pub spot_in : (turns : Turns) → Kept → turns.World → Spot turns
+spot_in turns s world = record { reader = s.reader; executed = s.executed; world = world }
+
 -- where it stands over this database, with these readings left
-abbrev pub spot : Kept → Held → Option (List ℕ) → Spot
+abbrev pub spot : Kept → Held → Option (List ℕ) → Spot plain
 spot s held readings = record { reader = s.reader; executed = s.executed; world = record { held = held; readings = readings } }
 
 -- every whole request had its turn, and the rest is no whole request

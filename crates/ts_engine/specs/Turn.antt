@@ -12,6 +12,7 @@ use Rattle.ts_spec.specs.Text.{Reply, text}
 use Rattle.ts_spec.specs.Wire.{Request}
 use Rattle.ts_spec.specs.declared.limits.Limits.{Limits}
 use Rattle.ts_db.specs.Held.{Held, YieldsToMemory}
+use Rattle.ts_engine.specs.Turns.{Turns}
 
 -- the database, and the readings of the clock that are left, where they are told
 pub record World : Type 0 where
@@ -162,3 +163,15 @@ TurnBy (Err fault) from written to = IsRefused fault from written to
 
 abbrev pub turn : World → Request → List ℕ → World → Type 0
 turn from request written to = TurnBy (command request) from written to ⊎ IsUnread request from written to
+
+-- ---- turns that do nothing but this
+
+-- where a reply is cut short, the request had its turn
+abbrev pub plain : Turns
+plain = record {
+  World = World;
+  turn = turn;
+  cut = λ from request reply kept to. turn from request reply to;
+  Faults = Unit {0};
+  rose = λ before now. ⊥;
+}

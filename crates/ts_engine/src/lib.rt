@@ -35,6 +35,7 @@ mod session;
 mod status;
 mod told;
 mod turn;
+mod turns;
 mod walked;
 mod wanted;
 

@@ -3,12 +3,13 @@ ghost use Rattle.std.specs.Prelude.{◌≡◌, ◌+◌, ◌<◌, ◌≤◌, ◌^
 ghost use Rattle.ts_resp.specs.Reading.{fed, unfinished};
 ghost use Rattle.ts_db.specs.Held.{Carries};
 ghost use Rattle.ts_engine.specs.Limits.{CanRead};
-ghost use Rattle.ts_engine.specs.Standing.{spot, reader_of, ended_of, HasAnswered};
-ghost use Rattle.ts_engine.specs.Piping.{Piped, Pumped, HasCauses, HasCausesOr};
+ghost use Rattle.ts_engine.specs.Standing.{spot_in, reader_of, ended_of, HasAnswered};
+ghost use Rattle.ts_engine.specs.Piping.{Piped, PipedBy, Pumped, HasCauses, HasCausesBy, HasCausesByOr};
 ghost use Rattle.ts_engine.specs.Ending.{end_at, end_by};
 
 use crate::go::Go;
 use crate::session::Session;
+use crate::turns::{Plain, Turns};
 use std::alloc::Global;
 use ts_db::Db;
 use ts_io::{Clock, Sink, Source};
@@ -73,6 +74,29 @@ pub fn pipe<S: Source, K: Sink, C: Clock>(
     ensures within { result.taken ≤ budget }
     ensures causes { HasCauses result.end (S.faults input.old) (S.faults input.new) (K.faults out.old) (K.faults out.new) }
 {
+    pipe_by(alloc, &mut Plain, db, input, out, clock, limits, budget)
+}
+
+/// The same, by turns of any kind.
+pub(crate) fn pipe_by<T: Turns, S: Source, K: Sink, C: Clock>(
+    alloc: Global,
+    turns: &mut T,
+    db: &mut Db,
+    input: &mut S,
+    out: &mut K,
+    clock: &mut C,
+    limits: WireLimits,
+    budget: u64,
+) -> Outcome
+    requires limits { CanRead limits }
+    requires budget { 1 ≤ budget }
+    ensures piped { Carries db.old db.new (λ from to. PipedBy T.kind limits budget result
+        (T.world turns.old from (C.readings clock.old)) (T.world turns.new to (C.readings clock.new))
+        (S.left input.old) (S.left input.new) (K.has out.old) (K.has out.new)) }
+    ensures within { result.taken ≤ budget }
+    ensures causes { HasCausesBy T.kind result.end (S.faults input.old) (S.faults input.new) (K.faults out.old) (K.faults out.new)
+        (T.own turns.old) (T.own turns.new) }
+{
     let Ok(mut session) = Session::new(alloc, limits) else {
         return Outcome {
             executed: 0,
@@ -84,7 +108,15 @@ pub fn pipe<S: Source, K: Sink, C: Clock>(
     let mut taken = 0;
     while taken < budget {
         let most = (budget - taken).min(PIECE as u64) as usize;
-        let step = pump(&mut session, db, input, out, clock, &mut buffer[..most]);
+        let step = pump(
+            &mut session,
+            turns,
+            db,
+            input,
+            out,
+            clock,
+            &mut buffer[..most],
+        );
         taken += step.taken as u64;
         if let Some(end) = step.end {
             return Outcome {
@@ -102,8 +134,9 @@ pub fn pipe<S: Source, K: Sink, C: Clock>(
 }
 
 // Reads one piece and answers what is whole with it.
-fn pump<S: Source, K: Sink, C: Clock>(
+fn pump<T: Turns, S: Source, K: Sink, C: Clock>(
     session: &mut Session,
+    turns: &mut T,
     db: &mut Db,
     input: &mut S,
     out: &mut K,
@@ -115,9 +148,11 @@ fn pump<S: Source, K: Sink, C: Clock>(
     requires within { fed (reader_of session.old) + length buffer.old < 2 ^ 64 }
     requires room { 0 < length buffer.old }
     ensures pumped { Carries db.old db.new (λ from to. Pumped result (S.left input.old) (S.left input.new)
-        (spot session.old from (C.readings clock.old)) (spot session.new to (C.readings clock.new)) (K.has out.old) (K.has out.new)) }
+        (spot_in T.kind session.old (T.world turns.old from (C.readings clock.old)))
+        (spot_in T.kind session.new (T.world turns.new to (C.readings clock.new))) (K.has out.old) (K.has out.new)) }
     ensures current { result.end ≡ None → HasAnswered session.new }
-    ensures causes { HasCausesOr result.end (S.faults input.old) (S.faults input.new) (K.faults out.old) (K.faults out.new) }
+    ensures causes { HasCausesByOr T.kind result.end (S.faults input.old) (S.faults input.new) (K.faults out.old) (K.faults out.new)
+        (T.own turns.old) (T.own turns.new) }
     ensures ended { result.end ≡ None → ended_of session.new ≡ None }
     ensures fed { result.end ≡ None → fed (reader_of session.new) ≡ fed (reader_of session.old) + result.taken }
     ensures within { result.taken ≤ length buffer.old }
@@ -130,7 +165,7 @@ fn pump<S: Source, K: Sink, C: Clock>(
             end: Some(end_of_input(session)),
         },
         Ok(count) => {
-            let go = session.piece(db, &buffer[..count], clock, out);
+            let go = session.piece_by(turns, db, &buffer[..count], clock, out);
             Step {
                 taken: count,
                 end: end_of_piece(go),

@@ -3,7 +3,7 @@ ghost use Rattle.std.specs.Prelude.{◌≡◌, ◌<◌, ◌^◌, Some};
 
 use crate::go::Go;
 use crate::session::Session;
-use crate::turn::take_turn;
+use crate::turns::Turns;
 use std::sync::ledger::Ledger;
 use ts_db::Db;
 use ts_io::{Clock, Sink, write_all_counted};
@@ -12,13 +12,14 @@ use ts_sample::Steps;
 
 impl Session {
     ghost use Rattle.ts_db.specs.Held.{Carries};
-    ghost use Rattle.ts_engine.specs.Session.{Replied, Refused, WroteOrFault};
-    ghost use Rattle.ts_engine.specs.Standing.{spot, reader_of, executed_by};
+    ghost use Rattle.ts_engine.specs.Session.{Replied, Refused, HasCauseBy, WroteOrFault};
+    ghost use Rattle.ts_engine.specs.Standing.{spot_in, reader_of, executed_by};
 
     // Gives the request its turn and writes its reply.
-    pub(crate) fn answer<C: Clock, K: Sink, L: Ledger>(
+    pub(crate) fn answer<T: Turns, C: Clock, K: Sink, L: Ledger>(
         &mut self,
         words: Vec<Word>,
+        turns: &mut T,
         db: &mut Db,
         clock: &mut C,
         out: &mut K,
@@ -27,18 +28,19 @@ impl Session {
         requires counted { executed_by self.old < (reader_of self.old).begin }
         requires bounded { (reader_of self.old).begin < 2 ^ 64 }
         ensures replied { Carries db.old db.new (λ from to. Replied result words.items
-            (spot self.old from (C.readings clock.old)) (spot self.new to (C.readings clock.new)) (K.has out.old) (K.has out.new)) }
+            (spot_in T.kind self.old (T.world turns.old from (C.readings clock.old)))
+            (spot_in T.kind self.new (T.world turns.new to (C.readings clock.new))) (K.has out.old) (K.has out.new)) }
         ensures reader { reader_of self.new ≡ reader_of self.old }
         ensures ends { result ≡ Some Go.More → ⊥ }
-        ensures cause { WroteOrFault (K.faults out.old) (K.faults out.new) result }
+        ensures cause { HasCauseBy T.kind result (K.faults out.old) (K.faults out.new) (T.own turns.old) (T.own turns.new) }
     {
         let mut words = words;
-        let quits = take_turn(db, &mut words, clock, &mut self.room, steps);
+        let answered = turns.answer(db, &mut words, clock, &mut self.room, out, steps);
         self.reader.give_back(words);
         self.executed += 1;
-        match write_all_counted(out, self.room.bytes()) {
-            Ok(()) if quits => Some(Go::Quit),
-            Ok(()) => None,
+        match answered {
+            Ok(quits) if quits => Some(Go::Quit),
+            Ok(_) => None,
             Err(_) => Some(Go::WriteFault),
         }
     }

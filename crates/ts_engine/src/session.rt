@@ -4,6 +4,7 @@ ghost use Rattle.ts_engine.specs.Going.{end_of};
 ghost use Rattle.ts_engine.specs.Limits.{CanRead};
 
 use crate::go::Go;
+use crate::turns::{Plain, Turns};
 use std::alloc::{AllocError, Global};
 use std::marker::Brand;
 use std::sync::ledger::{Blank, Ledger};
@@ -26,8 +27,8 @@ pub struct Session {
 impl Session {
     ghost use Rattle.ts_resp.specs.Reading.{fed, unfinished};
     ghost use Rattle.ts_db.specs.Held.{Carries};
-    ghost use Rattle.ts_engine.specs.Session.{GoesOn, Answers, WroteOrFault};
-    ghost use Rattle.ts_engine.specs.Standing.{spot, reader_of, executed_by, ended_of, Begins, HasAnswered};
+    ghost use Rattle.ts_engine.specs.Session.{GoesOn, Answers, HasCauseBy, WroteOrFault};
+    ghost use Rattle.ts_engine.specs.Standing.{spot, spot_in, reader_of, executed_by, ended_of, Begins, HasAnswered};
 
     /// A session to which no byte came.
     pub fn new(alloc: Global, limits: WireLimits) -> Result<Session, AllocError>
@@ -63,10 +64,34 @@ impl Session {
         ensures fed { ended_of self.new ≡ None → fed (reader_of self.new) ≡ fed (reader_of self.old) + length bytes.now }
         ensures cause { IfNone (ended_of self.old) (WroteOrFault (K.faults out.old) (K.faults out.new) (Some result)) }
     {
+        self.piece_by(&mut Plain, db, bytes, clock, out)
+    }
+
+    /// The same, by turns of any kind.
+    pub(crate) fn piece_by<T: Turns, C: Clock, K: Sink>(
+        &mut self,
+        turns: &mut T,
+        db: &mut Db,
+        bytes: &[u8],
+        clock: &mut C,
+        out: &mut K,
+    ) -> Go
+        requires { fed (reader_of self.old) + length bytes.now < 2 ^ 64 }
+        ensures goes { IfNone (ended_of self.old) (Carries db.old db.new (λ from to. Answers result
+            (spot_in T.kind self.old (T.world turns.old from (C.readings clock.old)))
+            (spot_in T.kind self.new (T.world turns.new to (C.readings clock.new))) (K.has out.old) (K.has out.new) bytes.now)) }
+        ensures current { IfNone (ended_of self.old) (result ≡ Go.More → HasAnswered self.new) }
+        ensures again { IfSome (ended_of self.old) (λ go. (result ≡ go) × (self.new ≡ self.old) × (turns.new ≡ turns.old)
+            × (db.new ≡ db.old) × (clock.new ≡ clock.old) × (out.new ≡ out.old)) }
+        ensures ended { IfNone (ended_of self.old) (ended_of self.new ≡ end_of result) }
+        ensures fed { ended_of self.new ≡ None → fed (reader_of self.new) ≡ fed (reader_of self.old) + length bytes.now }
+        ensures cause { IfNone (ended_of self.old)
+            (HasCauseBy T.kind (Some result) (K.faults out.old) (K.faults out.new) (T.own turns.old) (T.own turns.new)) }
+    {
         if let Some(go) = self.ended {
             return go;
         }
-        let go = self.take_piece::<C, K, Brand>(db, bytes, clock, out, Blank::new(1));
+        let go = self.take_piece::<T, C, K, Brand>(turns, db, bytes, clock, out, Blank::new(1));
         self.ended = go.end();
         go
     }
@@ -86,8 +111,9 @@ impl Session {
     }
 
     // Feeds the piece, and answers what is whole.
-    fn take_piece<C: Clock, K: Sink, L: Ledger>(
+    fn take_piece<T: Turns, C: Clock, K: Sink, L: Ledger>(
         &mut self,
+        turns: &mut T,
         db: &mut Db,
         bytes: &[u8],
         clock: &mut C,
@@ -99,36 +125,39 @@ impl Session {
         requires parts { blank.parts ≡ L.parts }
         requires some { 0 < blank.parts }
         ensures goes { Carries db.old db.new (λ from to. Answers result
-            (spot self.old from (C.readings clock.old)) (spot self.new to (C.readings clock.new))
+            (spot_in T.kind self.old (T.world turns.old from (C.readings clock.old)))
+            (spot_in T.kind self.new (T.world turns.new to (C.readings clock.new)))
             (K.has out.old) (K.has out.new) bytes.now) }
         ensures current { result ≡ Go.More → HasAnswered self.new }
         ensures fed { result ≡ Go.More → fed (reader_of self.new) ≡ fed (reader_of self.old) + length bytes.now }
-        ensures cause { WroteOrFault (K.faults out.old) (K.faults out.new) (Some result) }
+        ensures cause { HasCauseBy T.kind (Some result) (K.faults out.old) (K.faults out.new) (T.own turns.old) (T.own turns.new) }
     {
         let mut steps = Steps::<L>::new(blank);
         match self.reader.feed(bytes) {
-            Ok(()) => self.answer_all(db, clock, out, &mut steps),
+            Ok(()) => self.answer_all(turns, db, clock, out, &mut steps),
             Err(_) => Go::Memory,
         }
     }
 
     // Answers every request that is whole.
-    fn answer_all<C: Clock, K: Sink, L: Ledger>(
+    fn answer_all<T: Turns, C: Clock, K: Sink, L: Ledger>(
         &mut self,
+        turns: &mut T,
         db: &mut Db,
         clock: &mut C,
         out: &mut K,
         steps: &mut Steps<L>,
     ) -> Go
         ensures goes { Carries db.old db.new (λ from to. Answers result
-            (spot self.old from (C.readings clock.old)) (spot self.new to (C.readings clock.new))
+            (spot_in T.kind self.old (T.world turns.old from (C.readings clock.old)))
+            (spot_in T.kind self.new (T.world turns.new to (C.readings clock.new)))
             (K.has out.old) (K.has out.new) []) }
         ensures current { result ≡ Go.More → HasAnswered self.new }
         ensures fed { fed (reader_of self.new) ≡ fed (reader_of self.old) }
-        ensures cause { WroteOrFault (K.faults out.old) (K.faults out.new) (Some result) }
+        ensures cause { HasCauseBy T.kind (Some result) (K.faults out.old) (K.faults out.new) (T.own turns.old) (T.own turns.new) }
     {
         loop {
-            if let Some(go) = self.answer_next(db, clock, out, steps) {
+            if let Some(go) = self.answer_next(turns, db, clock, out, steps) {
                 return go;
             }
         }
@@ -136,24 +165,26 @@ impl Session {
 
     // Gives back the room of a huge reply, takes the next request and answers it. None: one was answered, and there may be
     // more.
-    fn answer_next<C: Clock, K: Sink, L: Ledger>(
+    fn answer_next<T: Turns, C: Clock, K: Sink, L: Ledger>(
         &mut self,
+        turns: &mut T,
         db: &mut Db,
         clock: &mut C,
         out: &mut K,
         steps: &mut Steps<L>,
     ) -> Option<Go>
         ensures goes { Carries db.old db.new (λ from to. GoesOn result
-            (spot self.old from (C.readings clock.old)) (spot self.new to (C.readings clock.new)) (K.has out.old) (K.has out.new)) }
+            (spot_in T.kind self.old (T.world turns.old from (C.readings clock.old)))
+            (spot_in T.kind self.new (T.world turns.new to (C.readings clock.new))) (K.has out.old) (K.has out.new)) }
         ensures onward { result ≡ None → (reader_of self.old).begin < (reader_of self.new).begin }
         ensures current { result ≡ Some Go.More → HasAnswered self.new }
         ensures fed { fed (reader_of self.new) ≡ fed (reader_of self.old) }
         ensures within { (reader_of self.new).begin ≤ fed (reader_of self.new) }
-        ensures cause { WroteOrFault (K.faults out.old) (K.faults out.new) result }
+        ensures cause { HasCauseBy T.kind result (K.faults out.old) (K.faults out.new) (T.own turns.old) (T.own turns.new) }
     {
         self.room.give_back();
         match self.reader.next() {
-            Next::Request(words) => self.answer(words, db, clock, out, steps),
+            Next::Request(words) => self.answer(words, turns, db, clock, out, steps),
             Next::NotYet => Some(Go::More),
             Next::Memory => Some(Go::Memory),
             Next::Broken(fault) => Some(self.refuse(fault, out)),

@@ -1,22 +1,23 @@
 use Rattle.std.proofs.Common.{◌-◌, ◌≡◌, ◌≤◌, None}
 use Rattle.ts_resp.specs.Reading.{fed}
 use Rattle.ts_db.specs.Held.{Carries}
-use Rattle.ts_engine.specs.Standing.{spot, reader_of, ended_of, HasAnswered}
+use Rattle.ts_engine.specs.Standing.{spot_in, reader_of, ended_of, HasAnswered}
+use Rattle.ts_engine.specs.Turns.{NoFault}
 use Rattle.ts_engine.proofs.Pipes.{SoFar}
-use Rattle.ts_engine.proofs.piped.pipe.Given as goal
+use Rattle.ts_engine.proofs.piped.pipe_by.Given as goal
 
 -- every whole request in the bytes taken had its turn, and the session goes on
 abbrev pub invariant-loop-taken : goal.invariant-loop-taken
 invariant-loop-taken g l = record {
-  so_far : Carries l.initial.db l.db (λ from to. SoFar l.fn.limits l.taken (record { held = from; readings = g.C.Clock.readings l.initial.clock })
-      (spot l.session to (g.C.Clock.readings l.clock)) (g.S.Source.left l.initial.input) (g.S.Source.left l.input)
+  so_far : Carries l.initial.db l.db (λ from to. SoFar l.fn.limits l.taken (g.T.Turns.world l.initial.turns from (g.C.Clock.readings l.initial.clock))
+      (spot_in g.T.Turns.kind l.session (g.T.Turns.world l.turns to (g.C.Clock.readings l.clock))) (g.S.Source.left l.initial.input) (g.S.Source.left l.input)
       (g.K.Sink.has l.initial.out) (g.K.Sink.has l.out));
   current : HasAnswered l.session;
   goes_on : ended_of l.session ≡ None;
   fed : fed (reader_of l.session) ≡ l.taken;
   within : l.taken ≤ l.budget;
   reads : g.S.Source.faults l.input ≡ g.S.Source.faults l.initial.input;
-  writes : g.K.Sink.faults l.out ≡ g.K.Sink.faults l.initial.out;
+  writes : NoFault g.T.Turns.kind (g.K.Sink.faults l.initial.out) (g.K.Sink.faults l.out) (g.T.Turns.own l.initial.turns) (g.T.Turns.own l.turns);
 }
 
 abbrev pub decreases-loop-taken : goal.decreases-loop-taken

@@ -1,0 +1,33 @@
+-- Counts of faults over several calls.
+use Rattle.std.proofs.Common.{◌≡◌, ◌⊎◌, ℕ, inl, inr, refl, ap, subst}
+use Rattle.std.specs.Prelude.{Option, None, Some}
+use Rattle.ts_engine.specs.declared.go.Go.{Go}
+use Rattle.ts_engine.specs.declared.go.Go.TheVariants as go
+use Rattle.ts_engine.specs.Session.{HasCauseBy, WroteOrFault}
+use Rattle.ts_engine.specs.Turn.{plain}
+use Rattle.ts_engine.specs.Turns.{Turns, NoFault, AFault}
+
+-- counts that were as they are have the same cause
+pub cause_after : (turns : Turns) (answer : Option Go) (first before now : ℕ) (known own own' : turns.Faults) → NoFault turns first before known own
+    → HasCauseBy turns answer before now own own' → HasCauseBy turns answer first now known own'
+cause_after turns answer first before now known own own' fine cause =
+    subst (λ (n : ℕ). HasCauseBy turns answer n now known own') fine.0 (subst (λ (f : turns.Faults). HasCauseBy turns answer before now f own') fine.1 cause)
+
+-- a write has its cause where the turns have none of their own
+pub cause_of_write : (turns : Turns) (answer : Option Go) (before now : ℕ) (own : turns.Faults) → WroteOrFault before now answer → HasCauseBy turns answer before now own own
+cause_of_write turns None before now own cause = (cause, refl)
+cause_of_write turns (Some go.More) before now own cause = (cause, refl)
+cause_of_write turns (Some go.Quit) before now own cause = (cause, refl)
+cause_of_write turns (Some (go.Broken fault)) before now own cause = (cause, refl)
+cause_of_write turns (Some go.WriteFault) before now own cause = inl (cause.0, cause.1, refl)
+cause_of_write turns (Some go.Memory) before now own cause = (cause, refl)
+
+-- plain turns have no faults of their own
+pub cause_plain : (answer : Option Go) (before now : ℕ) (own own' : plain.Faults) → HasCauseBy plain answer before now own own' → WroteOrFault before now answer
+cause_plain None before now own own' cause = cause.0
+cause_plain (Some go.More) before now own own' cause = cause.0
+cause_plain (Some go.Quit) before now own own' cause = cause.0
+cause_plain (Some (go.Broken fault)) before now own own' cause = cause.0
+cause_plain (Some go.WriteFault) before now own own' (inl failed) = (failed.0, failed.1)
+cause_plain (Some go.WriteFault) before now own own' (inr failed) = absurd failed.1
+cause_plain (Some go.Memory) before now own own' cause = cause.0
