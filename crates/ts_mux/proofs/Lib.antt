@@ -5,6 +5,7 @@ pub mod Closing
 pub mod Closings
 pub mod Concatenation
 pub mod Delivery
+pub mod FramesWithin
 pub mod FramingLemmas
 pub mod FramesReadBack
 pub mod MuxLemmas
