@@ -2,6 +2,7 @@ pub mod Added
 pub mod Answered
 pub mod Asking
 pub mod Carried
+pub mod Captures
 pub mod Carrying
 pub mod Dropping
 pub mod Executed
@@ -9,6 +10,7 @@ pub mod Faulted
 pub mod Few
 pub mod FillingIn
 pub mod Finding
+pub mod FramesWritten
 pub mod Handing
 pub mod Headlines
 pub mod InfoTexts
@@ -26,6 +28,10 @@ pub mod Quits
 pub mod Reaching
 pub mod ReachingBack
 pub mod Refusals
+pub mod ReplayPumps
+pub mod ReplaysOn
+pub mod ReplaySteps
+pub mod ReplyRuns
 pub mod WrittenRows
 pub mod Sessions
 pub mod InShares

@@ -58,7 +58,7 @@ goes-length link is (Some number) h = (is, h.high)
 
 after_bytes-within : (link later : ℕ) (bytes : List ℕ) → IsLink link → later + length bytes ≤ MOST_BYTES → IsMove (after_bytes link later bytes)
 after_bytes-within link zero bytes is h = record { link = is; length = omega (arith, h) }
-after_bytes-within link (suc later) bytes is h = (is, (omega arith, h))
+after_bytes-within link (suc later) bytes is h = (is, omega arith, h)
 
 after_link-within : (so_far : Option ℕ) → IsLinkSoFar so_far → IsMove (after_link so_far)
 after_link-within None h = tt
@@ -80,8 +80,8 @@ move-within (Length link so_far) byte is = go (byte == FEED)
     go true = after_length-within link so_far is.0 is.1
     go false = goes-length link is.0 (with_byte 0 MOST_BYTES so_far byte) (with_byte-between 0 MOST_BYTES so_far byte)
 move-within (Body link later bytes) byte is =
-    let some = is.1.0 in
-    let fits = is.1.1 in
+    let some = is.1 in
+    let fits = is.2 in
     after_bytes-within link (later - 1) (bytes ++ byte ∷ []) is.0 (omega (arith, some, fits, length-append bytes (byte ∷ [])))
 
 at_end-within : (mode : Mode) (begin : ℕ) → All IsFrame (frames_of (at_end mode begin))
