@@ -15,6 +15,7 @@ fn mode_of_line(rt: &HostRuntime, line: &str) -> Result<Option<Mode>, AllocError
 #[test]
 fn words_ask_for_a_mode(rt: HostRuntime) -> Result<(), Fail> {
     assert_eq!(rt; mode_of_line(&rt, "pipe")?, Some(Mode::Pipe));
+    assert_eq!(rt; mode_of_line(&rt, "mux")?, Some(Mode::Mux));
     assert_eq!(rt;
         mode_of_line(&rt, "serve localhost:7379 4294967295")?,
         Some(Mode::Serve(u32::MAX))
@@ -37,6 +38,8 @@ fn other_words_ask_for_none(rt: HostRuntime) -> Result<(), Fail> {
         "",
         "PIPE",
         "pipe pipe",
+        "muxes",
+        "mux 1",
         "serve x",
         "serve x 0",
         "serve x 4294967296",
@@ -67,9 +70,22 @@ fn lines_of_endings(rt: HostRuntime) {
     );
     assert_eq!(rt;
         line(None, Status::Usage, 0, &mut room),
-        b"usage: tsd pipe | tsd serve <address> <connections> | tsd gen <seed> <n>\n".as_slice()
+        b"usage: tsd pipe | tsd serve <address> <connections> | tsd gen <seed> <n> | tsd mux\n".as_slice()
+    );
+    assert_eq!(rt;
+        line(Some(Mode::Pipe), Status::Truncated, 5, &mut room),
+        b"tsd: input ends inside a request that begins at byte 5\n".as_slice()
+    );
+    assert_eq!(rt;
+        line(Some(Mode::Mux), Status::Truncated, 5, &mut room),
+        b"tsd: capture ends inside a frame that begins at byte 5\n".as_slice()
+    );
+    assert_eq!(rt;
+        line(Some(Mode::Mux), Status::CaptureBroken, 18446744073709551615, &mut room),
+        b"tsd: capture broken at byte 18446744073709551615\n".as_slice()
     );
     assert_eq!(rt; Status::Budget.code(), 8);
+    assert_eq!(rt; Status::CaptureBroken.code(), 11);
 }
 
 #[test]

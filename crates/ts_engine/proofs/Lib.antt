@@ -2,6 +2,7 @@ pub mod Added
 pub mod Answered
 pub mod Asking
 pub mod Carried
+pub mod Captures
 pub mod Carrying
 pub mod Causes
 pub mod Dropping
@@ -10,6 +11,7 @@ pub mod Faulted
 pub mod Few
 pub mod FillingIn
 pub mod Finding
+pub mod FramesWritten
 pub mod Handing
 pub mod Headlines
 pub mod InfoTexts
@@ -27,6 +29,10 @@ pub mod Quits
 pub mod Reaching
 pub mod ReachingBack
 pub mod Refusals
+pub mod ReplayPumps
+pub mod ReplaysOn
+pub mod ReplaySteps
+pub mod ReplyRuns
 pub mod WrittenRows
 pub mod Sessions
 pub mod InShares

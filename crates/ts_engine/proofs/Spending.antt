@@ -20,7 +20,7 @@ use Rattle.ts_engine.specs.Top.{status_cut}
 use Rattle.ts_engine.proofs.Headlines.{splits, no_quit, ends_as, front_answered, quitted_all}
 
 -- the first bytes of so many are those that were taken, and more
-first_bytes : (front rest : List ℕ) (budget : ℕ) → length front ≤ budget → take budget (front ++ rest) ≡ front ++ take (budget - length front) rest
+pub first_bytes : (front rest : List ℕ) (budget : ℕ) → length front ≤ budget → take budget (front ++ rest) ≡ front ++ take (budget - length front) rest
 first_bytes front rest budget within =
     let same : budget ≡ length front + (budget - length front) = omega (arith, within) in
     ap (λ (n : ℕ). take n (front ++ rest)) same ∙ take-append-add front rest (budget - length front)

@@ -40,6 +40,7 @@ Sums status.Protocol limits seed n had has = ⊥
 Sums status.ReadFault limits seed n had has = ⊥
 Sums status.AcceptFault limits seed n had has = ⊥
 Sums status.Budget limits seed n had has = ⊥
+Sums status.CaptureBroken limits seed n had has = ⊥
 
 -- What was written of a workload, and how that was reported. Where its summary was written, the status is the good one.
 pub record Workload (limits : Limits) (seed n : ℕ) (had has err_had err_has : List ℕ → Type 0) (given : Status) : Type 0 where

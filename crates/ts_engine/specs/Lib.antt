@@ -3,6 +3,7 @@ pub mod Answering
 pub mod Asked
 pub mod Asking
 pub mod Bounds
+pub mod Captured
 pub mod Ending
 pub mod Generated
 pub mod Going
@@ -10,6 +11,9 @@ pub mod Headline
 pub mod Limits
 pub mod Members
 pub mod Piping
+pub mod Replaying
+pub mod Replays
+pub mod Replies
 pub mod RowTexts
 pub mod Serving
 pub mod Session

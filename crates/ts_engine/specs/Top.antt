@@ -8,7 +8,8 @@ use Rattle.ts_spec.specs.declared.limits.Limits.{Limits}
 use Rattle.std.specs.declared.alloc.Global.{Global}
 use Rattle.ts_db.specs.Held.{Held}
 use Rattle.ts_engine.specs.declared.piped.End.{End}
-use Rattle.ts_words.specs.Endings.{line_of}
+use Rattle.ts_words.specs.Endings.{line_of, line_in}
+use Rattle.ts_words.specs.declared.mode.Mode.{Mode}
 use Rattle.ts_words.specs.declared.status.Status.{Status}
 use Rattle.ts_words.specs.declared.status.Status.TheVariants as status
 use Rattle.ts_engine.specs.Status.{status_of, place_of}
@@ -31,10 +32,17 @@ pub record AreUsable (limits : Limits) : Type 0 where
 abbrev pub IsPipe : List (String Global) → Type 0
 IsPipe words = map string_bytes words ≡ codes "pipe" ∷ []
 
+-- the status is the one meant, and this line was written; or a write failed within the line
+abbrev pub Tells : (line : List ℕ) → (meant : Status) → (given : Status) → (List ℕ → Type 0) → (List ℕ → Type 0) → Type 0
+Tells line meant given had has = ((given ≡ meant) × Grows had has line) ⊎ ((given ≡ status.WriteFault) × GrowsByFront had has line)
+
 -- the status is the one meant, and its line was written, if it has one; or a write failed within that line
 abbrev pub Reports : (meant : Status) → (place : ℕ) → (given : Status) → (List ℕ → Type 0) → (List ℕ → Type 0) → Type 0
-Reports meant place given had has =
-    ((given ≡ meant) × Grows had has (line_of meant place)) ⊎ ((given ≡ status.WriteFault) × GrowsByFront had has (line_of meant place))
+Reports meant place given had has = Tells (line_of meant place) meant given had has
+
+-- the same of the line that the status has in this mode
+abbrev pub ReportsIn : Option Mode → (meant : Status) → (place : ℕ) → (given : Status) → (List ℕ → Type 0) → (List ℕ → Type 0) → Type 0
+ReportsIn mode meant place given had has = Tells (line_in mode meant place) meant given had has
 
 -- how an input with these bytes was answered, from the empty database on: what its end says was written, and the end was reported
 pub record Headline (seen : Seen) (budget : ℕ) (bytes : List ℕ) (left : Option (List ℕ)) (had has : List ℕ → Type 0) (given : Status) : Type 0 where

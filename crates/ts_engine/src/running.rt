@@ -2,12 +2,14 @@
 ghost use Rattle.std.specs.Prelude.{◌≡◌, ◌≢◌, ◌⊎◌, ◌≤◌, ◌<◌, ℕ, false, List, length, take, None, Some};
 ghost use Rattle.ts_io.specs.Causes.{Rose};
 ghost use Rattle.ts_engine.specs.Asked.{asked, IsServe, IsGen, Connections, AllServed};
+ghost use Rattle.ts_engine.specs.Captured.{IsMux, Captured, HasCaptureLine, status_captured};
 ghost use Rattle.ts_engine.specs.Generated.{Workload};
 ghost use Rattle.ts_engine.specs.Headline.{Seen, ending, asks_to_quit};
 ghost use Rattle.ts_engine.specs.Taken.{Taken, HasStatusLine};
 ghost use Rattle.ts_engine.specs.Top.{AreUsable, IsPipe, Reports, Headline, status_by, status_cut, NoneRose};
 
 use crate::address::serve_address;
+use crate::capture::answer_capture;
 use crate::generated::answer_workload;
 use crate::piped::pipe;
 use crate::status::report;
@@ -20,7 +22,8 @@ use ts_words::{Mode, Status};
 /// `input` on `out`, over a new database, at most `budget` bytes of them; `serve ADDRESS N` serves N connections of
 /// `net` at the address, one after another, over one new database, at most `budget` bytes of each, and writes a line
 /// for each to `out`; `gen SEED N` answers the workload of the seed with N changes, over one new database, and writes
-/// its summary to `out`. A status other than `Ended` has its line on `err`.
+/// its summary to `out`; `mux` answers what interleaved connections ask in the capture that `input` is, over a new database,
+/// at most `budget` bytes of it, and writes each reply in a frame to `out`. A status other than `Ended` has its line on `err`.
 pub fn top<S: Source, K: Sink, E: Sink, C: Clock, N: Listener>(
     alloc: Global,
     words: &[String],
@@ -82,6 +85,23 @@ pub fn top<S: Source, K: Sink, E: Sink, C: Clock, N: Listener>(
     ensures gen_complete { IsGen words.now → (Rose (K.faults out.old) (K.faults out.new) → ⊥) → (Rose (E.faults err.old) (E.faults err.new) → ⊥)
         → (result ≡ Status.Memory) ⊎ (result ≡ Status.Ended) }
 
+    // Where the words ask for a capture, what is written is a frame for each request of its interleaved connections, in the order in which they
+    // come, with the reply of one database of plain sample lists; and a frame for each fault, which closes its own connection alone.
+    ensures captured { IsMux words.now → (bytes : List ℕ) → S.left input.old ≡ Some bytes → Captured
+        (record { limits = limits; readings = C.readings clock.old; readings_left = C.readings clock.new; had = K.has out.old; has = K.has out.new })
+        budget bytes (S.left input.new) (E.has err.old) (E.has err.new) result }
+
+    // Where no device fails, the status is what the bytes that may be taken say, or want of memory.
+    ensures capture_complete { IsMux words.now → (bytes : List ℕ) → S.left input.old ≡ Some bytes
+        → NoneRose (S.faults input.old) (S.faults input.new) (K.faults out.old) (K.faults out.new) (E.faults err.old) (E.faults err.new)
+        → (result ≡ Status.Memory) ⊎ (result ≡ status_captured budget bytes) }
+
+    // A status has its line, also where the input tells nothing of itself.
+    ensures capture_line { IsMux words.now → HasCaptureLine (E.has err.old) (E.has err.new) result }
+
+    // Only a capture can be broken.
+    ensures only_capture { result ≡ Status.CaptureBroken → asked words.now ≡ Some Mode.Mux }
+
     // Words that ask for nothing touch nothing but `err`.
     ensures usage { asked words.now ≡ None → Reports Status.Usage 0 result (E.has err.old) (E.has err.new) }
     ensures idle { asked words.now ≡ None → (input.new ≡ input.old) × (out.new ≡ out.old) × (clock.new ≡ clock.old) }
@@ -99,9 +119,9 @@ pub fn top<S: Source, K: Sink, E: Sink, C: Clock, N: Listener>(
     ensures no_write_fault { result ≢ Status.WriteFault → (K.faults out.new ≡ K.faults out.old) × (E.faults err.new ≡ E.faults err.old) }
     ensures no_accept_fault { result ≢ Status.AcceptFault → result ≢ Status.WriteFault → N.faults net.new ≡ N.faults net.old }
 
-    // Only a request to pipe touches `input`, and only one to serve touches `net`, from which no link stays handed out. A workload reads no
-    // clock.
-    ensures input { (asked words.now ≡ Some Mode.Pipe → ⊥) → input.new ≡ input.old }
+    // Only a request to pipe and one for a capture touch `input`, and only one to serve touches `net`, from which no link stays handed out. A
+    // workload reads no clock.
+    ensures input { (asked words.now ≡ Some Mode.Pipe → ⊥) → (asked words.now ≡ Some Mode.Mux → ⊥) → input.new ≡ input.old }
     ensures net { (IsServe words.now → ⊥) → net.new ≡ net.old }
     ensures clock { IsGen words.now → clock.new ≡ clock.old }
     ensures handed_back { N.is_out net.new ≡ false }
@@ -116,6 +136,7 @@ pub fn top<S: Source, K: Sink, E: Sink, C: Clock, N: Listener>(
             alloc, &words[1], net, out, err, clock, links, limits, budget,
         ),
         Some(Mode::Gen(seed, n)) => answer_workload(alloc, seed, n, out, err, limits),
+        Some(Mode::Mux) => answer_capture(alloc, input, out, err, clock, limits, budget),
         None => report(err, Status::Usage, 0),
     }
 }

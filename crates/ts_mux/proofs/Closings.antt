@@ -7,7 +7,7 @@ use Rattle.ts_mux.specs.Order.{Event, Asked, Failed, Connection, Item, news_of, 
 use Rattle.ts_mux.proofs.OneConnection.{none_new}
 use Rattle.ts_mux.proofs.OrderLemmas.{IsDone, without-append, without-own, without-done}
 
-without_twice : (link : ℕ) (items : List Item) → without link (without link items) ≡ without link items
+pub without_twice : (link : ℕ) (items : List Item) → without link (without link items) ≡ without link items
 without_twice link [] = refl
 without_twice link (item ∷ items) = go (not (item.link == link)) refl (without_twice link items)
   where

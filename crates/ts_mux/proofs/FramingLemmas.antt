@@ -46,6 +46,7 @@ not_yet-none r h b = record {
   link = tt;
   length = tt;
   progress = tt;
+  taken = tt;
   not_yet = ends r.place r.begin r.mode r.unread h;
   broken = tt;
   memory = tt;
@@ -63,6 +64,7 @@ not_yet-body r link len e h b = record {
   link = tt;
   length = tt;
   progress = tt;
+  taken = tt;
   not_yet =
       ap (λ mode. read_on r.place r.begin mode (r.unread ++ [])) e
       ∙ ap (read_on r.place r.begin (Body link len [])) (append-nil r.unread)
@@ -84,6 +86,7 @@ broken r h e b = record {
   link = tt;
   length = tt;
   progress = tt;
+  taken = tt;
   not_yet = tt;
   broken = read_on-first r.place r.begin r.mode r.unread Wrong h e;
   memory = tt;
@@ -102,6 +105,7 @@ memory r frame len e b = record {
   link = tt;
   length = tt;
   progress = tt;
+  taken = tt;
   not_yet = tt;
   broken = tt;
   memory = (frame, (λ more. capture_at (r.place + len) (drop len r.unread ++ more)), e);
@@ -116,14 +120,15 @@ memory r frame len e b = record {
 abbrev pub past : Framing → ℕ → Framing
 past r len = record { begin = r.place + len; place = r.place + len; mode = start; unread = drop len r.unread }
 
-pub whole : (r : Framing) (frame : Frame) (len : ℕ) → 0 < len → len ≤ length r.unread → r.begin ≤ r.place → IsLink frame.link → length frame.bytes ≤ MOST_BYTES
+pub whole : (r : Framing) (frame : Frame) (len : ℕ) → 0 < len → len ≤ length r.unread → r.begin ≤ r.place → IsLink frame.link → length frame.bytes ≤ MOST_BYTES → length frame.bytes ≤ len
     → ((more : List ℕ) → capture_of r more ≡ Then frame (capture_at (r.place + len) (drop len r.unread ++ more)))
     → Answers r (past r len) (next.Whole frame)
-whole r frame len some fits b link size e = record {
+whole r frame len some fits b link size within e = record {
   whole = e;
   link = link;
   length = size;
   progress = omega (arith, b, some);
+  taken = omega (arith, b, within);
   not_yet = tt;
   broken = tt;
   memory = tt;
@@ -141,7 +146,7 @@ pub empty : (r new : Framing) (link : ℕ) (bytes : List ℕ) → 0 < length r.u
 empty r new link bytes some e is b none n =
     subst (λ bytes. Answers r new (next.Whole (record { link = link; bytes = bytes }))) (sym none)
     (subst (λ new. Answers r new (next.Whole (record { link = link; bytes = [] }))) (sym n)
-    (whole r (record { link = link; bytes = [] }) 1 (omega arith) (omega (arith, some)) b is (omega arith)
+    (whole r (record { link = link; bytes = [] }) 1 (omega arith) (omega (arith, some)) b is (omega arith) (omega arith)
     (read_on-first r.place r.begin r.mode r.unread _ some e)))
 
 -- the frame whose bytes are all there
@@ -156,7 +161,7 @@ frame_taken r new link len bytes e some most fits is b all n =
     let size : length (take len r.unread) ≡ len = length-take-le len r.unread fits in
     subst (λ bytes. Answers r new (next.Whole (record { link = link; bytes = bytes }))) (sym all)
     (subst (λ new. Answers r new (next.Whole (record { link = link; bytes = take len r.unread }))) (sym n)
-    (whole r (record { link = link; bytes = take len r.unread }) len some fits b is (omega (arith, size, most))
+    (whole r (record { link = link; bytes = take len r.unread }) len some fits b is (omega (arith, size, most)) (omega (arith, size))
     (frame_is_whole r link len e some fits)))
 
 -- the first byte goes on with the header

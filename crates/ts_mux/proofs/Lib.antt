@@ -4,6 +4,7 @@ pub mod CapturesAtWork
 pub mod Closing
 pub mod Closings
 pub mod Delivery
+pub mod FramesWithin
 pub mod FramingLemmas
 pub mod FramesReadBack
 pub mod MuxLemmas

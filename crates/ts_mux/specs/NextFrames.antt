@@ -1,5 +1,5 @@
 -- Which answer a reader of frames gave, and what one step of it did.
-use Rattle.std.specs.Prelude.{◌≡◌, ℕ, ◌<◌, ◌≤◌, List, [], length}
+use Rattle.std.specs.Prelude.{◌≡◌, ℕ, ◌+◌, ◌<◌, ◌≤◌, List, [], length}
 use Rattle.ts_mux.specs.declared.frame.Frame.{Frame}
 use Rattle.ts_mux.specs.declared.frames.NextFrame.{NextFrame}
 use Rattle.ts_mux.specs.declared.frames.NextFrame.TheVariants.{Whole, NotYet, Broken, Memory}
@@ -58,6 +58,7 @@ pub record GoesOn (old new : Framing) : Type 0 where
 pub record Answers (old new : Framing) (next : NextFrame) : Type 0 where
   pub whole : IfWhole next (λ frame. (more : List ℕ) → capture_of old more ≡ capture.Then frame (capture_of new more))
   pub link : IfWhole next (λ frame. IsLink frame.link)
+  pub taken : IfWhole next (λ frame. old.begin + length frame.bytes ≤ new.begin)
   pub length : IfWhole next (λ frame. length frame.bytes ≤ capture.MOST_BYTES)
   pub progress : IfWhole next (λ _. old.begin < new.begin)
   pub not_yet : OnNotYet next (capture_of new [] ≡ ended_at (unfinished new))

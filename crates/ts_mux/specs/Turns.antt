@@ -21,6 +21,13 @@ IfRequest (Fault link protocol) P = Unit {0}
 IfRequest NotYet P = Unit {0}
 IfRequest Memory P = Unit {0}
 
+-- a fact of the connection that a fault closes, if it gave one
+abbrev pub IfFault : Turn → (ℕ → Type 0) → Type 0
+IfFault (Request link words) P = Unit {0}
+IfFault (Fault link protocol) P = P link
+IfFault NotYet P = Unit {0}
+IfFault Memory P = Unit {0}
+
 -- a fact where it gave none
 abbrev pub UnlessItem : Turn → Type 0 → Type 0
 UnlessItem (Request link words) P = Unit {0}

@@ -89,6 +89,7 @@ impl Frames {
         ensures link { IfWhole result (λ frame. IsLink frame.link) }
         ensures length { IfWhole result (λ frame. length frame.bytes ≤ MOST_BYTES) }
         ensures progress { IfWhole result (λ _. self.old.begin < self.new.begin) }
+        ensures taken { IfWhole result (λ frame. self.old.begin + length frame.bytes ≤ self.new.begin) }
         ensures not_yet { OnNotYet result
             (capture_of self.new [] ≡ ended_at (unfinished self.new)) }
         ensures broken { IfBroken result (λ place. (more : List ℕ)

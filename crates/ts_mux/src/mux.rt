@@ -41,7 +41,7 @@ impl Mux {
     ghost use Rattle.ts_mux.specs.Framing.{IsFrame};
     ghost use Rattle.ts_mux.specs.Order.{open_order, without};
     ghost use Rattle.ts_mux.specs.Muxing.{ahead, delivered_to};
-    ghost use Rattle.ts_mux.specs.Turns.{IfItem, IfRequest, UnlessItem, OnNotYet, Gives};
+    ghost use Rattle.ts_mux.specs.Turns.{IfItem, IfRequest, IfFault, UnlessItem, OnNotYet, Gives};
 
     /// A Mux to which no frame was delivered. Takes no memory.
     pub fn new(alloc: Global, limits: WireLimits) -> Mux
@@ -87,6 +87,7 @@ impl Mux {
     pub fn next(&mut self) -> Turn
         ensures item { IfItem result (λ item. (frames : List Frame) → ahead self.old frames ≡ item ∷ ahead self.new frames) }
         ensures words { IfRequest result (λ words. words ≢ []) }
+        ensures closed { IfFault result (λ link. (frames : List Frame) → without link (ahead self.new frames) ≡ ahead self.new frames) }
         ensures progress { IfItem result (λ _. length (ahead self.new []) < length (ahead self.old [])) }
         ensures same { UnlessItem result ((frames : List Frame) → ahead self.new frames ≡ ahead self.old frames) }
         ensures not_yet { OnNotYet result (ahead self.new [] ≡ []) }

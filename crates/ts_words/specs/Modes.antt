@@ -4,7 +4,7 @@ use Rattle.std.specs.Option.{option_map}
 use Rattle.std.specs.Cmp.Lexicographic.{pointwise}
 use Rattle.std.specs.List.{list_all}
 use Rattle.ts_words.specs.declared.mode.Mode.{Mode}
-use Rattle.ts_words.specs.declared.mode.Mode.TheVariants.{Pipe, Serve, Gen}
+use Rattle.ts_words.specs.declared.mode.Mode.TheVariants.{Pipe, Serve, Gen, Mux}
 
 -- the same bytes
 abbrev pub same : List ℕ → List ℕ → Bool
@@ -45,7 +45,7 @@ abbrev pub gen_of : (seed n : List ℕ) → Option Mode
 gen_of seed n = gen_with (number 0 (2 ^ 64 - 1) seed) (number 0 1000000 n)
 
 abbrev pub one_word : List ℕ → Option Mode
-one_word word = if same word (codes "pipe") then Some Pipe else None
+one_word word = if same word (codes "pipe") then Some Pipe else (if same word (codes "mux") then Some Mux else None)
 
 abbrev pub three_words : (word first second : List ℕ) → Option Mode
 three_words word first second =
@@ -62,5 +62,6 @@ mode_of (word ∷ first ∷ second ∷ third ∷ words) = None
 -- the numbers of a mode are within their bounds
 abbrev pub IsWithin : Mode → Type 0
 IsWithin Pipe = Unit {0}
+IsWithin Mux = Unit {0}
 IsWithin (Serve connections) = 1 ≤ connections
 IsWithin (Gen seed n) = n ≤ 1000000

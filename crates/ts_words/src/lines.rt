@@ -1,35 +1,52 @@
 // The lines on standard error, one for each ending.
 ghost use Rattle.std.specs.Prelude.{◌≡◌, ◌+◌, ◌<◌, ◌≤◌, ◌++◌, length, take};
 ghost use Rattle.std.specs.Fmt.{decimal};
-ghost use Rattle.ts_words.specs.Endings.{ended, line_of};
+ghost use Rattle.ts_words.specs.Endings.{ended, line_in};
 
 use crate::room::{put, put_number};
 use crate::{Mode, Status};
 
 /// The line on standard error of an ending, in the room: nothing for a good one. `place` is where a stream breaks,
-/// or where the request begins inside which it ends, counted in bytes from 0. The lines are the same in each mode.
-pub fn line(_mode: Option<Mode>, status: Status, place: u64, room: &mut [u8; 160]) -> &[u8]
-    ensures { result.now ≡ line_of status place }
+/// or where the request or frame begins inside which it ends, counted in bytes from 0. Only the mode `Mux` has a line of
+/// its own, of a capture that ends inside a frame.
+pub fn line(mode: Option<Mode>, status: Status, place: u64, room: &mut [u8; 160]) -> &[u8]
+    ensures { result.now ≡ line_in mode status place }
 {
     let end = match status {
         Status::Ended => 0,
         Status::Usage => put_line(
             room,
-            b"usage: tsd pipe | tsd serve <address> <connections> | tsd gen <seed> <n>",
+            b"usage: tsd pipe | tsd serve <address> <connections> | tsd gen <seed> <n> | tsd mux",
         ),
-        Status::Truncated => put_place(
-            room,
-            b"tsd: input ends inside a request that begins at byte ",
-            place,
-        ),
+        Status::Truncated => put_truncated(mode, room, place),
         Status::Protocol => put_place(room, b"tsd: protocol fault at byte ", place),
         Status::ReadFault => put_line(room, b"tsd: read fault"),
         Status::WriteFault => put_line(room, b"tsd: write fault"),
         Status::Memory => put_line(room, b"tsd: out of memory"),
         Status::AcceptFault => put_line(room, b"tsd: accept fault"),
         Status::Budget => put_line(room, b"tsd: budget of bytes used up"),
+        Status::CaptureBroken => put_place(room, b"tsd: capture broken at byte ", place),
     };
     &room[..end]
+}
+
+// Puts the line of an input that ends inside a request or a frame, and gives its length.
+fn put_truncated(mode: Option<Mode>, room: &mut [u8; 160], place: u64) -> usize
+    ensures text { take result room.new ≡ line_in mode Status.Truncated place }
+    ensures within { result ≤ 160 }
+{
+    match mode {
+        Some(Mode::Mux) => put_place(
+            room,
+            b"tsd: capture ends inside a frame that begins at byte ",
+            place,
+        ),
+        Some(Mode::Pipe | Mode::Serve(_) | Mode::Gen(_, _)) | None => put_place(
+            room,
+            b"tsd: input ends inside a request that begins at byte ",
+            place,
+        ),
+    }
 }
 
 // Puts a line of this text, and gives its length.

@@ -18,11 +18,13 @@ pub enum Mode {
     Serve(u32),
     /// To answer the workload of this seed, with so many requests for samples, at most 1000000.
     Gen(u64, u32),
+    /// To answer the requests of a capture of interleaved connections.
+    Mux,
 }
 
 impl Mode {
-    /// The mode that the words after the program's name ask for: `pipe`, `serve ADDRESS CONNECTIONS` or
-    /// `gen SEED N`. Other words ask for none.
+    /// The mode that the words after the program's name ask for: `pipe`, `mux`, `serve ADDRESS CONNECTIONS`
+    /// or `gen SEED N`. Other words ask for none.
     pub fn read(words: &[String]) -> Option<Mode>
         ensures mode { result ≡ mode_of (map string_bytes words.now) }
         ensures within { IfSome result IsWithin }
@@ -41,6 +43,8 @@ fn one_word(word: &str) -> Option<Mode>
 {
     if word == "pipe" {
         Some(Mode::Pipe)
+    } else if word == "mux" {
+        Some(Mode::Mux)
     } else {
         None
     }

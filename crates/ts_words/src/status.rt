@@ -9,7 +9,7 @@ pub enum Status {
     Ended,
     /// The words of the command line are none that the program knows.
     Usage,
-    /// The input ends inside a request.
+    /// The input ends inside a request, or a capture inside a frame.
     Truncated,
     /// The stream of requests is broken.
     Protocol,
@@ -23,10 +23,12 @@ pub enum Status {
     AcceptFault,
     /// As many bytes were taken as may be.
     Budget,
+    /// The capture of interleaved connections is broken.
+    CaptureBroken,
 }
 
 impl Status {
-    /// The exit status of the process, from 0 to 8.
+    /// The exit status of the process, from 0 to 8, or 11.
     pub fn code(self) -> u8
         ensures { result ≡ code_of self }
     {
@@ -40,6 +42,7 @@ impl Status {
             Status::Memory => 6,
             Status::AcceptFault => 7,
             Status::Budget => 8,
+            Status::CaptureBroken => 11,
         }
     }
 }

@@ -1,0 +1,203 @@
+-- What was done with a capture is what is said of its end.
+use Rattle.std.specs.Prelude.{Option, Some, None}
+use Rattle.std.specs.Io.KnownBytes.{IsAtEnd}
+use Rattle.std.proofs.Common.{◌≡◌, ◌≢◌, ◌⊎◌, inl, inr, Bool, true, false, nat_le, ℕ, ◌-◌, ◌<◌, List, [], ◌++◌, length, take, refl, sym, ◌∙◌, ap, subst, arith, length-append, append-nil}
+use Rattle.std.proofs.lemmas.Bool.{le-leb, lt-leb}
+use Rattle.std.proofs.lemmas.List.{take_all}
+use Rattle.ts_io.specs.Causes.{Rose}
+use Rattle.ts_db.specs.Held.{Held}
+use Rattle.ts_mux.specs.Capture as capture
+use Rattle.ts_mux.specs.Capture.{Capture}
+use Rattle.ts_mux.specs.Framing.{ended_at}
+use Rattle.ts_mux.specs.Order.{Item}
+use Rattle.ts_words.specs.declared.mode.Mode.TheVariants as mode
+use Rattle.ts_words.specs.declared.status.Status.{Status}
+use Rattle.ts_words.specs.declared.status.Status.TheVariants as status
+use Rattle.ts_engine.specs.declared.replayed.CaptureEnd.{CaptureEnd}
+use Rattle.ts_engine.specs.declared.replayed.CaptureEnd.TheVariants as end
+use Rattle.ts_engine.specs.Captured.{items, ending, SomeReplied, FrameCut, EndReplied, Writes, Captured, status_of, place_of, status_by, status_captured}
+use Rattle.ts_engine.specs.Headline.{Exchange, Seen, exchange_of}
+use Rattle.ts_engine.specs.Replaying.{Spot, beginning, Went, WentSome, LastFrame, IsUpToDate, Ends, is_of_input, Replayed, HasCauses}
+use Rattle.ts_engine.specs.Replies.{IsReply, Replies}
+use Rattle.ts_engine.specs.Top.{ReportsIn}
+use Rattle.ts_engine.specs.Turn.{World}
+use Rattle.ts_engine.proofs.Headlines.{Splits, splits}
+use Rattle.ts_engine.proofs.Spending.{first_bytes}
+
+module _ (exchange : Exchange) (last : Spot) (at : last.world ≡ exchange.to) where
+  module _ (front : List ℕ) (went : Went (beginning exchange.limits exchange.from) last exchange.had exchange.has front) (bytes more : List ℕ) (whole : bytes ≡ front ++ more) where
+    pub ends_as : ending bytes ≡ last.ending more
+    ends_as = ap ending whole ∙ went.ending more
+
+    -- where nothing further is asked, all items had their replies
+    pub end_replied : (end : Capture) → last.items more ≡ [] → last.ending more ≡ end → EndReplied exchange bytes end
+    end_replied end none is =
+        let all : items exchange.limits bytes ≡ went.done = ap (items exchange.limits) whole ∙ went.items more ∙ ap (λ (l : List Item). went.done ++ l) none ∙ append-nil went.done in
+        record {
+          replied = record {
+            frames = went.frames;
+            replies = subst (λ (w : World). Replies exchange.from (items exchange.limits bytes) went.frames w) at
+                (subst (λ (l : List Item). Replies exchange.from l went.frames last.world) (sym all) went.replies);
+            grown = went.grown;
+          };
+          ended = ends_as ∙ is;
+        }
+
+  module _ (bytes front : List ℕ) (left : Option (List ℕ)) (split : Splits bytes left front) where
+    -- the whole of the bytes was taken
+    pub all_taken : IsAtEnd left → bytes ≡ front ++ []
+    all_taken at_end = split.1 ∙ ap (λ (l : List ℕ). front ++ l) (subst IsAtEnd split.2 at_end)
+
+    pub up_to_date : (went : Went (beginning exchange.limits exchange.from) last exchange.had exchange.has front) → (current : IsUpToDate last) → EndReplied exchange front (ended_at current.0)
+    up_to_date went current = end_replied front went front [] (sym (append-nil front)) (ended_at current.0) current.1.items current.1.is
+
+    some_replied : WentSome (beginning exchange.limits exchange.from) last exchange.had exchange.has front → SomeReplied exchange bytes
+    some_replied went =
+        let rest = went.items split.0 in
+        record {
+          done = went.done;
+          others = rest.0;
+          first = ap (items exchange.limits) split.1 ∙ rest.1;
+          frames = went.frames;
+          replies = subst (λ (w : World). Replies exchange.from went.done went.frames w) at went.replies;
+          grown = went.grown;
+        }
+
+    frame_cut : LastFrame (beginning exchange.limits exchange.from) last exchange.had exchange.has front → FrameCut exchange bytes
+    frame_cut cut =
+        let rest = cut.items split.0 in
+        record {
+          done = cut.done;
+          last = cut.last;
+          others = rest.0;
+          first = ap (items exchange.limits) split.1 ∙ rest.1;
+          frames = cut.frames;
+          mid = cut.mid;
+          text = cut.text;
+          kept = cut.kept;
+          replies = cut.replies;
+          reply = subst (λ (w : World). IsReply cut.mid cut.last.event cut.text w) at cut.reply;
+          grown = cut.grown;
+        }
+
+    -- what was done over the bytes taken is what is said of the end
+    pub writes : (e : CaptureEnd) → Ends e left (beginning exchange.limits exchange.from) last exchange.had exchange.has front → Writes exchange bytes front e
+    writes end.Ended ends =
+        let whole = all_taken ends.2 in
+        (end_replied front ends.0 bytes [] whole capture.Ended ends.1.items ends.1.is, sym (whole ∙ append-nil front))
+    writes (end.Truncated place) ends =
+        let whole = all_taken ends.2 in
+        (end_replied front ends.0 bytes [] whole (capture.Inside place) ends.1.items ends.1.is, sym (whole ∙ append-nil front))
+    writes (end.Broken place) ends = end_replied front ends.0 bytes split.0 split.1 (capture.Broken place) (ends.1.items split.0) (ends.1.ending split.0)
+    writes end.ReadFault ends = (ends.1.0, up_to_date ends.0 ends.1)
+    writes end.Budget ends = (ends.1.0, up_to_date ends.0 ends.1)
+    writes end.Memory ends = some_replied ends
+    writes end.WriteFault ends = frame_cut ends
+
+-- what was done from the empty database on with an input that told its bytes
+module _ (seen : Seen) (held : Held) (budget : ℕ) (e : CaptureEnd) (bytes : List ℕ) (left : Option (List ℕ)) where
+  captured_of : Replayed seen.limits.wire budget e (exchange_of seen held).from (exchange_of seen held).to (Some bytes) left seen.had seen.has
+      → (had has : List ℕ → Type 0) (given : Status) → ReportsIn (Some mode.Mux) (status_of e) (place_of e) given had has → (e ≡ end.Ended → given ≡ status.Ended)
+      → Captured seen budget bytes left had has given
+  captured_of replayed had has given reported quiet =
+      let split = splits bytes left replayed.bytes replayed.took in
+      record {
+        held = held;
+        ended = e;
+        front = replayed.bytes;
+        rest = split.0;
+        split = split.1;
+        left_is = split.2;
+        within = replayed.within;
+        spent = replayed.spent;
+        written = writes (exchange_of seen held) replayed.last replayed.world bytes replayed.bytes left split e replayed.ends;
+        reported = reported;
+        quiet = quiet;
+      }
+
+  pub captured_told : (told : Option (List ℕ)) → told ≡ Some bytes
+      → Replayed seen.limits.wire budget e (exchange_of seen held).from (exchange_of seen held).to told left seen.had seen.has
+      → (had has : List ℕ → Type 0) (given : Status) → ReportsIn (Some mode.Mux) (status_of e) (place_of e) given had has → (e ≡ end.Ended → given ≡ status.Ended)
+      → Captured seen budget bytes left had has given
+  captured_told told tells replayed =
+      captured_of (subst (λ (o : Option (List ℕ)). Replayed seen.limits.wire budget e (exchange_of seen held).from (exchange_of seen held).to o left seen.had seen.has) tells replayed)
+
+-- ---- the status
+
+broken_by : (spent : Bool) (place : ℕ) → status.CaptureBroken ≡ status_by spent (capture.Broken place)
+broken_by true place = refl
+broken_by false place = refl
+
+spent_by : (place : Option ℕ) → status.Budget ≡ status_by true (ended_at place)
+spent_by None = refl
+spent_by (Some place) = refl
+
+module _ (budget : ℕ) (bytes : List ℕ) where
+  -- the whole of it was read below the budget
+  below_by : (end : Capture) → length bytes < budget → ending bytes ≡ end → status_captured budget bytes ≡ status_by false end
+  below_by end below is =
+      ap (λ (b : Bool). status_by b (ending (take budget bytes))) (lt-leb budget (length bytes) below)
+      ∙ ap (status_by false) (ap ending (take_all budget bytes (omega (arith, below))) ∙ is)
+
+  cut_by : (end : Capture) → ending (take budget bytes) ≡ end → status_captured budget bytes ≡ status_by (nat_le budget (length bytes)) end
+  cut_by end is = ap (status_by (nat_le budget (length bytes))) is
+
+  module _ (exchange : Exchange) (e : CaptureEnd) (left : Option (List ℕ)) (replayed : Replayed exchange.limits budget e exchange.from exchange.to (Some bytes) left exchange.had exchange.has) where
+    front : List ℕ
+    front = replayed.bytes
+
+    split : Splits bytes left replayed.bytes
+    split = splits bytes left replayed.bytes replayed.took
+
+    -- the first bytes of so many are those that were taken, and more
+    first : take budget bytes ≡ replayed.bytes ++ take (budget - length replayed.bytes) split.0
+    first = ap (take budget) split.1 ∙ first_bytes replayed.bytes split.0 budget replayed.within
+
+    read_to : (end : Capture) (went : Went (beginning exchange.limits exchange.from) replayed.last exchange.had exchange.has replayed.bytes) → IsAtEnd left → is_of_input e ≡ true
+        → replayed.last.ending [] ≡ end → status_captured budget bytes ≡ status_by false end
+    read_to end went at_end read is =
+        let whole = all_taken exchange replayed.last replayed.world bytes replayed.bytes left split at_end in
+        let below = replayed.below read in
+        below_by end (omega (arith, below, ap length whole, length-append replayed.bytes [])) (ends_as exchange replayed.last replayed.world replayed.bytes went bytes [] whole ∙ is)
+
+    by_end : (is : CaptureEnd) → e ≡ is → Ends is left (beginning exchange.limits exchange.from) replayed.last exchange.had exchange.has replayed.bytes → (reads reads' writes writes' : ℕ)
+        → HasCauses is reads reads' writes writes' → (Rose reads reads' → ⊥) → (Rose writes writes' → ⊥) → (status_of is ≡ status.Memory) ⊎ (status_of is ≡ status_captured budget bytes)
+    by_end end.Ended same ends reads reads' writes writes' causes no_read no_write = inr (sym (read_to capture.Ended ends.0 ends.2 (ap is_of_input same) ends.1.is))
+    by_end (end.Truncated place) same ends reads reads' writes writes' causes no_read no_write = inr (sym (read_to (capture.Inside place) ends.0 ends.2 (ap is_of_input same) ends.1.is))
+    by_end (end.Broken place) same ends reads reads' writes writes' causes no_read no_write =
+        inr (broken_by (nat_le budget (length bytes)) place ∙ sym (cut_by (capture.Broken place)
+        (ends_as exchange replayed.last replayed.world replayed.bytes ends.0 (take budget bytes) (take (budget - length replayed.bytes) split.0) first ∙ ends.1.ending (take (budget - length replayed.bytes) split.0))))
+    by_end end.ReadFault same ends reads reads' writes writes' causes no_read no_write = absurd (no_read (causes.read refl))
+    by_end end.WriteFault same ends reads reads' writes writes' causes no_read no_write = absurd (no_write (causes.write refl))
+    by_end end.Memory same ends reads reads' writes writes' causes no_read no_write = inl refl
+    by_end end.Budget same ends reads reads' writes writes' causes no_read no_write =
+        let used = replayed.spent same in
+        let none : budget - length replayed.bytes ≡ 0 = omega (arith, used) in
+        let all : take budget bytes ≡ replayed.bytes ++ [] = first ∙ ap (λ (n : ℕ). replayed.bytes ++ take n split.0) none in
+        inr (spent_by ends.1.0
+        ∙ sym (ap (λ (b : Bool). status_by b (ending (take budget bytes))) (le-leb budget (length bytes) (omega (arith, used, ap length split.1, length-append replayed.bytes split.0)))
+        ∙ ap (status_by true) (ends_as exchange replayed.last replayed.world replayed.bytes ends.0 (take budget bytes) [] all ∙ ends.1.1.is)))
+
+-- where no fault was counted, the status is the capture's, or want of memory
+pub by_capture : (exchange : Exchange) (budget : ℕ) (e : CaptureEnd) (bytes : List ℕ) (told left : Option (List ℕ)) → told ≡ Some bytes
+    → Replayed exchange.limits budget e exchange.from exchange.to told left exchange.had exchange.has → (reads reads' writes writes' : ℕ)
+    → HasCauses e reads reads' writes writes' → (Rose reads reads' → ⊥) → (Rose writes writes' → ⊥) → (status_of e ≡ status.Memory) ⊎ (status_of e ≡ status_captured budget bytes)
+by_capture exchange budget e bytes told left tells replayed reads reads' writes writes' causes no_read no_write =
+    let here = subst (λ (o : Option (List ℕ)). Replayed exchange.limits budget e exchange.from exchange.to o left exchange.had exchange.has) tells replayed in
+    by_end budget bytes exchange e left here e refl here.ends reads reads' writes writes' causes no_read no_write
+
+-- a capture has neither the status of wrong words nor that of a connection that could not be accepted
+never_meant : (e : CaptureEnd) → (status_of e ≢ status.Usage) × (status_of e ≢ status.AcceptFault)
+never_meant end.Ended = (λ is. (cc), λ is. (cc))
+never_meant (end.Truncated place) = (λ is. (cc), λ is. (cc))
+never_meant (end.Broken place) = (λ is. (cc), λ is. (cc))
+never_meant end.ReadFault = (λ is. (cc), λ is. (cc))
+never_meant end.WriteFault = (λ is. (cc), λ is. (cc))
+never_meant end.Memory = (λ is. (cc), λ is. (cc))
+never_meant end.Budget = (λ is. (cc), λ is. (cc))
+
+pub never : (e : CaptureEnd) (meant given : Status) → meant ≡ status_of e → (given ≡ status.WriteFault) ⊎ (given ≡ meant) → (given ≢ status.Usage) × (given ≢ status.AcceptFault)
+never e meant given means (inl failed) = (λ is. (cc), λ is. (cc))
+never e meant given means (inr same) =
+    let none = never_meant e in
+    (λ is. none.0 (sym (same ∙ means) ∙ is), λ is. none.1 (sym (same ∙ means) ∙ is))

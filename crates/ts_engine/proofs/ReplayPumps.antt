@@ -1,0 +1,201 @@
+-- How what was read and replayed adds up over a whole input.
+use Rattle.std.specs.Prelude.{true, Option, Some, None}
+use Rattle.std.specs.Io.KnownBytes.{Consumes, Keeps, IsAtEnd}
+use Rattle.std.proofs.KnownBytes.{Consumes-nil, Consumes-trans, Consumes-kept}
+use Rattle.std.proofs.Common.{◌≡◌, ◌<◌, ℕ, ◌+◌, ◌≤◌, List, [], ◌++◌, length, take, refl, sym, ◌∙◌, ap, subst, arith, length-append}
+use Rattle.ts_spec.specs.Run.{is_quit}
+use Rattle.ts_spec.specs.declared.wire.WireLimits.{WireLimits}
+use Rattle.ts_db.specs.Held.{Held}
+use Rattle.ts_mux.specs.Capture.{Capture, capture, frames_of, ending_of}
+use Rattle.ts_mux.specs.Framing.{unfinished, ended_at}
+use Rattle.ts_mux.specs.Order.{closing}
+use Rattle.ts_mux.proofs.FramesWithin.{frames-within}
+use Rattle.ts_engine.specs.declared.course.Course.{Course}
+use Rattle.ts_engine.specs.declared.course.Course.TheVariants as course
+use Rattle.ts_engine.specs.declared.replay.Replay.{Replay as Kept}
+use Rattle.ts_engine.specs.declared.replayed.CaptureEnd.{CaptureEnd}
+use Rattle.ts_engine.specs.declared.replayed.CaptureEnd.TheVariants as end
+use Rattle.ts_engine.specs.declared.replayed.Read.{Read}
+use Rattle.ts_engine.specs.Replaying.{Spot, beginning, Went, Answers, IsAt, IsUpToDate, Ends, EndsOr, has_ended, Pumped, Replayed, HasCauses, end_at, end_by}
+use Rattle.ts_engine.specs.Replays.{coming, standing, HasAnswered, Begins}
+use Rattle.ts_engine.specs.Turn.{World}
+use Rattle.ts_engine.proofs.ReplaysOn.{went_none, not_answered, went_on, answers_on}
+use Rattle.ts_engine.proofs.ReplaySteps.{no_frames, its_own_ending}
+
+-- so many bytes were taken, and what they hold was answered
+pub record SoFar (limits : WireLimits) (taken : ℕ) (from : World) (now : Spot) (left rest : Option (List ℕ)) (had has : List ℕ → Type 0) : Type 0 where
+  pub bytes : List ℕ
+  pub count : length bytes ≡ taken
+  pub took : Consumes left rest bytes
+  pub went : Went (beginning limits from) now had has bytes
+
+-- nothing was taken yet
+pub so_far_none : (limits : WireLimits) (r : Kept) (held : Held) (readings left : Option (List ℕ)) (has : List ℕ → Type 0) → Begins limits r
+    → SoFar limits 0 (record { held = held; readings = readings }) (standing r held readings) left left has has
+so_far_none limits r held readings left has begins = record {
+  bytes = [];
+  count = refl;
+  took = Consumes-nil left;
+  went = went_none (beginning limits (record { held = held; readings = readings })) (standing r held readings) has []
+      (λ more. sym (begins.coming (frames_of (capture more)) (frames-within more)) ∙ ap (λ (rest : Capture). coming r (frames_of rest)) (sym (begins.capture more)))
+      (λ more. ap ending_of (sym (begins.capture more))) refl;
+}
+
+-- what is whole was answered
+pub is_at : (r : Kept) (held : Held) (readings : Option (List ℕ)) → HasAnswered r → IsAt (ended_at (unfinished r.frames)) (standing r held readings)
+is_at r held readings answered = record {
+  items = ap (λ (rest : Capture). coming r (frames_of rest)) answered.rest
+      ∙ ap (coming r) (no_frames (unfinished r.frames))
+      ∙ ap (closing is_quit) answered.asked;
+  is = ap ending_of answered.rest ∙ its_own_ending (unfinished r.frames);
+}
+
+pub is_up_to_date : (r : Kept) (held : Held) (readings : Option (List ℕ)) → HasAnswered r → IsUpToDate (standing r held readings)
+is_up_to_date r held readings answered = (unfinished r.frames, is_at r held readings answered)
+
+-- nothing was read
+same_spot : (now : Spot) (has : List ℕ → Type 0) → Went now now has has []
+same_spot now has = went_none now now has [] (λ more. refl) (λ more. refl) refl
+
+-- the end of the input, by where it stands
+ends_read : (place : Option ℕ) (left : Option (List ℕ)) (now : Spot) (has : List ℕ → Type 0) → IsAt (ended_at place) now → IsAtEnd left → Ends (end_at place) left now now has has []
+ends_read None left now has at at_end = (same_spot now has, at, at_end)
+ends_read (Some place) left now has at at_end = (same_spot now has, at, at_end)
+
+-- a read took nothing: that is the end of the input
+pub pumped_end : (r : Kept) (held : Held) (readings left rest : Option (List ℕ)) (has : List ℕ → Type 0) (e : CaptureEnd) → e ≡ end_at (unfinished r.frames) → HasAnswered r
+    → (n : ℕ) (buffer : List ℕ) → n ≡ 0 → Consumes left rest (take n buffer) → IsAtEnd rest
+    → Pumped (record { taken = 0; end = Some e }) left rest (standing r held readings) (standing r held readings) has has
+pumped_end r held readings left rest has e is answered n buffer none took at_end = record {
+  bytes = [];
+  count = refl;
+  took = subst (λ (i : ℕ). Consumes left rest (take i buffer)) none took;
+  ends = subst (λ (x : CaptureEnd). Ends x rest (standing r held readings) (standing r held readings) has has []) (sym is)
+      (ends_read (unfinished r.frames) rest (standing r held readings) has (is_at r held readings answered) at_end);
+  none = λ same. refl;
+}
+
+-- an end after some bytes is an end over all of them
+ends_on : (e : CaptureEnd) (first mid last : Spot) (had has' has : List ℕ → Type 0) (x y : List ℕ) (rest : Option (List ℕ))
+    → Went first mid had has' x → Ends e rest mid last has' has y → Ends e rest first last had has (x ++ y)
+ends_on end.Ended first mid last had has' has x y rest went ends = (went_on first mid had has' x went last has y ends.0, ends.1, ends.2)
+ends_on (end.Truncated place) first mid last had has' has x y rest went ends = (went_on first mid had has' x went last has y ends.0, ends.1, ends.2)
+ends_on (end.Broken place) first mid last had has' has x y rest went ends = answers_on first mid had has' x went (course.Broken place) last has y ends
+ends_on end.ReadFault first mid last had has' has x y rest went ends = (went_on first mid had has' x went last has y ends.0, ends.1)
+ends_on end.WriteFault first mid last had has' has x y rest went ends = answers_on first mid had has' x went course.WriteFault last has y ends
+ends_on end.Memory first mid last had has' has x y rest went ends = answers_on first mid had has' x went course.Memory last has y ends
+ends_on end.Budget first mid last had has' has x y rest went ends = (went_on first mid had has' x went last has y ends.0, ends.1)
+
+module _ (limits : WireLimits) (taken : ℕ) (from : World) (mid : Spot) (left between : Option (List ℕ)) (had has' : List ℕ → Type 0)
+    (so_far : SoFar limits taken from mid left between had has') where
+  -- one more piece was answered
+  pub so_far_more : (read : Read) (now : Spot) (rest : Option (List ℕ)) (has : List ℕ → Type 0) → read.end ≡ None
+      → Pumped read between rest mid now has' has → SoFar limits (taken + read.taken) from now left rest had has
+  so_far_more read now rest has is pumped =
+      let ends = subst (λ e. EndsOr e rest mid now has' has pumped.bytes) is pumped.ends in
+      record {
+        bytes = so_far.bytes ++ pumped.bytes;
+        count = omega (arith, so_far.count, pumped.count, length-append so_far.bytes pumped.bytes);
+        took = Consumes-trans left between rest so_far.bytes pumped.bytes so_far.took pumped.took;
+        went = went_on (beginning limits from) mid had has' so_far.bytes so_far.went now has pumped.bytes ends;
+      }
+
+  -- the last piece was answered
+  replayed_last : (budget count : ℕ) (e : CaptureEnd) (now : Spot) (rest : Option (List ℕ)) (has : List ℕ → Type 0)
+      → taken < budget → taken + count ≤ budget → (e ≡ end.Budget → ⊥)
+      → Pumped (record { taken = count; end = Some e }) between rest mid now has' has → Replayed limits budget e from now.world left rest had has
+  replayed_last budget count e now rest has less within unspent pumped = record {
+    bytes = so_far.bytes ++ pumped.bytes;
+    last = now;
+    within = omega (arith, so_far.count, pumped.count, length-append so_far.bytes pumped.bytes, within);
+    spent = λ same. absurd (unspent same);
+    below = λ same.
+        let none : count ≡ 0 = pumped.none same in
+        omega (arith, so_far.count, pumped.count, length-append so_far.bytes pumped.bytes, none, less);
+    took = Consumes-trans left between rest so_far.bytes pumped.bytes so_far.took pumped.took;
+    world = refl;
+    ends = ends_on e (beginning limits from) mid now had has' has so_far.bytes pumped.bytes rest so_far.went pumped.ends;
+  }
+
+  pub replayed_end : (budget : ℕ) (read : Read) (e : CaptureEnd) (now : Spot) (rest : Option (List ℕ)) (has : List ℕ → Type 0)
+      → taken < budget → taken + read.taken ≤ budget → read.end ≡ Some e → (read.end ≡ Some end.Budget → ⊥)
+      → Pumped read between rest mid now has' has → Replayed limits budget e from now.world left rest had has
+  replayed_end budget read e now rest has less within is unspent pumped =
+      replayed_last budget read.taken e now rest has less within (λ same. unspent (is ∙ ap Some same))
+      (subst (λ (o : Option CaptureEnd). Pumped (record { taken = read.taken; end = o }) between rest mid now has' has) is pumped)
+
+  -- the budget is used up
+  pub replayed_budget : (budget : ℕ) → taken ≡ budget → IsUpToDate mid → Replayed limits budget end.Budget from mid.world left between had has'
+  replayed_budget budget spent current = record {
+    bytes = so_far.bytes;
+    last = mid;
+    within = omega (arith, so_far.count, spent);
+    spent = λ _. so_far.count ∙ spent;
+    below = λ same. (cc);
+    took = so_far.took;
+    world = refl;
+    ends = (so_far.went, current);
+  }
+
+-- there was no memory to begin
+pub replayed_none : (limits : WireLimits) (budget : ℕ) (from : World) (left : Option (List ℕ)) (has : List ℕ → Type 0) → Replayed limits budget end.Memory from from left left has has
+replayed_none limits budget from left has = record {
+  bytes = [];
+  last = beginning limits from;
+  within = omega arith;
+  spent = λ same. (cc);
+  below = λ same. (cc);
+  took = Consumes-nil left;
+  world = refl;
+  ends = not_answered (beginning limits from) (beginning limits from) has [] refl;
+}
+
+-- how the input goes on, or ends, with an answer of the replay
+abbrev ends_by : (answer : Course) (rest : Option (List ℕ)) (old new : Spot) (had has : List ℕ → Type 0) (bytes : List ℕ) → Answers answer old new had has bytes → EndsOr (end_by answer) rest old new had has bytes
+ends_by course.More rest old new had has bytes goes = goes
+ends_by (course.Broken place) rest old new had has bytes goes = goes
+ends_by course.WriteFault rest old new had has bytes goes = goes
+ends_by course.Memory rest old new had has bytes goes = goes
+
+-- none of them is the end of the input
+no_end : (answer : Course) → has_ended (end_by answer) ≡ true → ⊥
+no_end course.More same = (cc)
+no_end (course.Broken place) same = (cc)
+no_end course.WriteFault same = (cc)
+no_end course.Memory same = (cc)
+
+-- a read took some bytes, and what they hold was answered
+pub pumped_piece : (answer : Course) (e : Option CaptureEnd) (taken : ℕ) (old new : Spot) (left rest : Option (List ℕ)) (had has : List ℕ → Type 0) (bytes : List ℕ) → e ≡ end_by answer
+    → length bytes ≡ taken → Consumes left rest bytes → Answers answer old new had has bytes → Pumped (record { taken = taken; end = e }) left rest old new had has
+pumped_piece answer e taken old new left rest had has bytes is count took goes =
+    subst (λ (x : Option CaptureEnd). Pumped (record { taken = taken; end = x }) left rest old new had has) (sym is) (record {
+      bytes = bytes;
+      count = count;
+      took = took;
+      ends = ends_by answer rest old new had has bytes goes;
+      none = λ same. absurd (no_end answer same);
+    })
+
+-- the replay goes on where it is no end
+pub goes_by_end : (answer : Course) (e : Option CaptureEnd) → e ≡ end_by answer → e ≡ None → answer ≡ course.More
+goes_by_end course.More e is none = refl
+goes_by_end (course.Broken place) e is none = (cc)
+goes_by_end course.WriteFault e is none = (cc)
+goes_by_end course.Memory e is none = (cc)
+
+-- a read failed
+pub pumped_fault : (r : Kept) (held : Held) (readings left rest : Option (List ℕ)) (has : List ℕ → Type 0) → Keeps left rest → HasAnswered r
+    → Pumped (record { taken = 0; end = Some end.ReadFault }) left rest (standing r held readings) (standing r held readings) has has
+pumped_fault r held readings left rest has keeps answered = record {
+  bytes = [];
+  count = refl;
+  took = Consumes-kept left left rest [] (Consumes-nil left) keeps;
+  ends = (same_spot (standing r held readings) has, is_up_to_date r held readings answered);
+  none = λ same. refl;
+}
+
+-- counts that are as they were before a piece have the same causes
+pub causes_from : (e : CaptureEnd) (first reads reads' wrote writes writes' : ℕ) → reads ≡ first → writes ≡ wrote
+    → HasCauses e reads reads' writes writes' → HasCauses e first reads' wrote writes'
+causes_from e first reads reads' wrote writes writes' read write causes =
+    subst (λ (n : ℕ). HasCauses e n reads' wrote writes') read (subst (λ (n : ℕ). HasCauses e reads reads' n writes') write causes)

@@ -1,0 +1,45 @@
+-- What is to be asked of a Mux after one of its items, and of a capture after one of its frames.
+use Rattle.std.proofs.Common.{◌≡◌, ℕ, suc, ◌≤◌, Bool, true, false, not, ◌==◌, if◌then◌else◌, List, [], ◌∷◌, length, refl, sym, ◌∙◌, ap, Option, None, Some, arith}
+use Rattle.ts_spec.specs.Wire.{Request}
+use Rattle.ts_spec.specs.Run.{is_quit}
+use Rattle.ts_resp.specs.declared.protocol.Protocol.{Protocol}
+use Rattle.ts_mux.specs.declared.frame.Frame.{Frame}
+use Rattle.ts_mux.specs.Capture.{frames_of, ending_of}
+use Rattle.ts_mux.specs.Framing.{ended_at}
+use Rattle.ts_mux.specs.Order.{Item, Asked, Failed, without, closing}
+use Rattle.ts_mux.proofs.Closings.{closing-without}
+
+-- a request was taken, and a QUIT closed its connection
+pub asked_next : (link : ℕ) (words : Request) (old mid coming : List Frame → List Item)
+    → ((frames : List Frame) → old frames ≡ record { link = link; event = Asked words } ∷ mid frames)
+    → ((frames : List Frame) → coming frames ≡ (if is_quit words then without link (closing is_quit (mid frames)) else closing is_quit (mid frames)))
+    → (frames : List Frame) → closing is_quit (old frames) ≡ record { link = link; event = Asked words } ∷ coming frames
+asked_next link words old mid coming gives closes frames =
+    ap (closing is_quit) (gives frames) ∙ ap (λ (items : List Item). record { link = link; event = Asked words } ∷ items) (sym (closes frames))
+
+-- a fault was taken, and its connection is closed
+pub failed_next : (link : ℕ) (fault : Protocol) (old new : List Frame → List Item)
+    → ((frames : List Frame) → old frames ≡ record { link = link; event = Failed fault } ∷ new frames)
+    → ((frames : List Frame) → without link (new frames) ≡ new frames)
+    → (frames : List Frame) → closing is_quit (old frames) ≡ record { link = link; event = Failed fault } ∷ closing is_quit (new frames)
+failed_next link fault old new gives closed frames =
+    ap (closing is_quit) (gives frames)
+    ∙ ap (λ (items : List Item). record { link = link; event = Failed fault } ∷ items) (sym (closing-without is_quit link (new frames)) ∙ ap (closing is_quit) (closed frames))
+
+-- a connection that is closed takes away some items and adds none
+pub without-shorter : (link : ℕ) (items : List Item) → length (without link items) ≤ length items
+without-shorter link [] = omega arith
+without-shorter link (item ∷ items) = go (not (item.link == link)) (without-shorter link items)
+  where
+    go : (test : Bool) → length (without link items) ≤ length items → length (if test then item ∷ without link items else without link items) ≤ suc (length items)
+    go true h = omega (arith, h)
+    go false h = omega (arith, h)
+
+-- a capture that ends has no further frame
+pub no_frames : (place : Option ℕ) → frames_of (ended_at place) ≡ []
+no_frames None = refl
+no_frames (Some place) = refl
+
+pub its_own_ending : (place : Option ℕ) → ending_of (ended_at place) ≡ ended_at place
+its_own_ending None = refl
+its_own_ending (Some place) = refl

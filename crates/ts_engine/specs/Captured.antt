@@ -1,0 +1,134 @@
+-- What is written for a capture of interleaved connections, by its end.
+use Rattle.std.specs.Prelude.{◌≡◌, Bool, true, false, ℕ, ◌≤◌, nat_le, List, [], ◌∷◌, ◌++◌, length, take, map, codes, Option, Some, String}
+use Rattle.std.specs.String.{string_bytes}
+use Rattle.std.specs.declared.alloc.Global.{Global}
+use Rattle.ts_io.specs.Sinks.{Grows}
+use Rattle.ts_spec.specs.declared.wire.WireLimits.{WireLimits}
+use Rattle.ts_db.specs.Held.{Held}
+use Rattle.ts_mux.specs.declared.frame.Frame.{Frame}
+use Rattle.ts_mux.specs.Capture as capture
+use Rattle.ts_mux.specs.Capture.{Capture, frames_of, framed, all_framed}
+use Rattle.ts_mux.specs.Framing.{ended_at}
+use Rattle.ts_mux.specs.Order.{Item, order}
+use Rattle.ts_words.specs.declared.mode.Mode.TheVariants as mode
+use Rattle.ts_words.specs.declared.status.Status.{Status}
+use Rattle.ts_words.specs.declared.status.Status.TheVariants as status
+use Rattle.ts_engine.specs.declared.replayed.CaptureEnd.{CaptureEnd}
+use Rattle.ts_engine.specs.declared.replayed.CaptureEnd.TheVariants as end
+use Rattle.ts_engine.specs.Headline.{Exchange, Seen, exchange_of}
+use Rattle.ts_engine.specs.Replies.{Replies, IsReply, reply_frame}
+use Rattle.ts_engine.specs.Top.{ReportsIn}
+use Rattle.ts_engine.specs.Turn.{World}
+
+-- the one word `mux`
+abbrev pub IsMux : List (String Global) → Type 0
+IsMux words = map string_bytes words ≡ codes "mux" ∷ []
+
+-- what the connections in these bytes ask, in order, with their faults
+abbrev pub items : WireLimits → List ℕ → List Item
+items limits bytes = order limits (frames_of (capture.capture bytes))
+
+-- how the bytes end
+abbrev pub ending : List ℕ → Capture
+ending bytes = capture.ending_of (capture.capture bytes)
+
+module _ (exchange : Exchange) where
+  -- the sink has a frame for each item in these bytes
+  pub record AllReplied (bytes : List ℕ) : Type 0 where
+    pub frames : List Frame
+    pub replies : Replies exchange.from (items exchange.limits bytes) frames exchange.to
+    pub grown : Grows exchange.had exchange.has (all_framed frames)
+
+  -- the sink has a frame for each of the first items in these bytes
+  pub record SomeReplied (bytes : List ℕ) : Type 0 where
+    pub done : List Item
+    pub others : List Item
+    pub first : items exchange.limits bytes ≡ done ++ others
+    pub frames : List Frame
+    pub replies : Replies exchange.from done frames exchange.to
+    pub grown : Grows exchange.had exchange.has (all_framed frames)
+
+  -- the sink has such frames, and only bytes at the end of the last item's frame are missing
+  pub record FrameCut (bytes : List ℕ) : Type 0 where
+    pub done : List Item
+    pub last : Item
+    pub others : List Item
+    pub first : items exchange.limits bytes ≡ done ++ last ∷ others
+    pub frames : List Frame
+    pub mid : World
+    pub text : List ℕ
+    pub kept : ℕ
+    pub replies : Replies exchange.from done frames mid
+    pub reply : IsReply mid last.event text exchange.to
+    pub grown : Grows exchange.had exchange.has (all_framed frames ++ take kept (framed (reply_frame last text)))
+
+  -- all items of these bytes have their frames, and the bytes end so
+  pub record EndReplied (bytes : List ℕ) (end : Capture) : Type 0 where
+    pub replied : AllReplied bytes
+    pub ended : ending bytes ≡ end
+
+  -- what is written for a capture with these bytes, of which these were taken
+  abbrev pub Writes : (bytes front : List ℕ) → CaptureEnd → Type 0
+  Writes bytes front end.Ended = EndReplied bytes capture.Ended × (front ≡ bytes)
+  Writes bytes front (end.Truncated place) = EndReplied bytes (capture.Inside place) × (front ≡ bytes)
+  Writes bytes front (end.Broken place) = EndReplied bytes (capture.Broken place)
+  Writes bytes front end.ReadFault = (place : Option ℕ) × EndReplied front (ended_at place)
+  Writes bytes front end.Budget = (place : Option ℕ) × EndReplied front (ended_at place)
+  Writes bytes front end.Memory = SomeReplied bytes
+  Writes bytes front end.WriteFault = FrameCut bytes
+
+-- the status of an end
+abbrev pub status_of : CaptureEnd → Status
+status_of end.Ended = status.Ended
+status_of (end.Truncated place) = status.Truncated
+status_of (end.Broken place) = status.CaptureBroken
+status_of end.ReadFault = status.ReadFault
+status_of end.WriteFault = status.WriteFault
+status_of end.Memory = status.Memory
+status_of end.Budget = status.Budget
+
+-- the place that the line of an end tells, 0 where it tells none
+abbrev pub place_of : CaptureEnd → ℕ
+place_of (end.Truncated place) = place
+place_of (end.Broken place) = place
+place_of end.Ended = 0
+place_of end.ReadFault = 0
+place_of end.WriteFault = 0
+place_of end.Memory = 0
+place_of end.Budget = 0
+
+-- How a capture with these bytes was answered, from the empty database on, and what was taken of it: a front of at most the budget. What its end
+-- says was written, and the end was reported. A good end is not reported otherwise.
+pub record Captured (seen : Seen) (budget : ℕ) (bytes : List ℕ) (left : Option (List ℕ)) (had has : List ℕ → Type 0) (given : Status) : Type 0 where
+  pub held : Held
+  pub ended : CaptureEnd
+  pub front : List ℕ
+  pub rest : List ℕ
+  pub split : bytes ≡ front ++ rest
+  pub left_is : left ≡ Some rest
+  pub within : length front ≤ budget
+  pub spent : ended ≡ end.Budget → length front ≡ budget
+  pub written : Writes (exchange_of seen held) bytes front ended
+  pub reported : ReportsIn (Some mode.Mux) (status_of ended) (place_of ended) given had has
+  pub quiet : ended ≡ end.Ended → given ≡ status.Ended
+
+-- an end of a capture was reported by its status and line, whatever the input tells of itself
+pub record HasCaptureLine (had has : List ℕ → Type 0) (given : Status) : Type 0 where
+  pub ended : CaptureEnd
+  pub reported : ReportsIn (Some mode.Mux) (status_of ended) (place_of ended) given had has
+  pub quiet : ended ≡ end.Ended → given ≡ status.Ended
+
+-- The status of a capture of which these first bytes may be taken, by their ending and by whether the budget is used up with them: that of a
+-- break in them, else that of a used up budget, else that of the ending.
+abbrev pub status_by : (spent : Bool) → Capture → Status
+status_by spent (capture.Broken place) = status.CaptureBroken
+status_by true (capture.Inside place) = status.Budget
+status_by true capture.Ended = status.Budget
+status_by true (capture.Then frame rest) = status.Budget
+status_by false (capture.Inside place) = status.Truncated
+status_by false capture.Ended = status.Ended
+status_by false (capture.Then frame rest) = status.Ended
+
+-- the same of a capture with these bytes
+abbrev pub status_captured : (budget : ℕ) → List ℕ → Status
+status_captured budget bytes = status_by (nat_le budget (length bytes)) (ending (take budget bytes))

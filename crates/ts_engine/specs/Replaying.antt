@@ -1,0 +1,184 @@
+-- What the replay of a capture does over a piece of it.
+use Rattle.std.specs.Prelude.{◌≡◌, ◌≢◌, true, false, Bool, ℕ, ◌≤◌, ◌<◌, List, [], ◌∷◌, ◌++◌, length, take, Option, None, Some}
+use Rattle.std.specs.Io.KnownBytes.{Consumes, IsAtEnd}
+use Rattle.ts_io.specs.Causes.{Rose}
+use Rattle.ts_io.specs.Sinks.{Grows, GrowsByFront}
+use Rattle.ts_spec.specs.declared.wire.WireLimits.{WireLimits}
+use Rattle.ts_mux.specs.declared.frame.Frame.{Frame}
+use Rattle.ts_mux.specs.Capture as capture
+use Rattle.ts_mux.specs.Capture.{Capture, framed, all_framed}
+use Rattle.ts_mux.specs.Framing.{ended_at}
+use Rattle.ts_mux.specs.Order.{Item}
+use Rattle.ts_engine.specs.declared.course.Course.{Course}
+use Rattle.ts_engine.specs.declared.course.Course.TheVariants as course
+use Rattle.ts_engine.specs.declared.replayed.CaptureEnd.{CaptureEnd}
+use Rattle.ts_engine.specs.declared.replayed.CaptureEnd.TheVariants as end
+use Rattle.ts_engine.specs.declared.replayed.Read.{Read}
+use Rattle.ts_engine.specs.Captured as captured
+use Rattle.ts_engine.specs.Replies.{IsReply, Replies, reply_frame}
+use Rattle.ts_engine.specs.Turn.{World}
+
+-- where a replay stands: what is still to be asked and how the capture ends, by the bytes that follow, and the world
+pub record Spot : Type 0 where
+  pub items : List ℕ → List Item
+  pub ending : List ℕ → Capture
+  pub world : World
+
+-- where a replay begins
+abbrev pub beginning : WireLimits → World → Spot
+beginning limits world = record { items = captured.items limits; ending = captured.ending; world = world }
+
+-- over these bytes these items had their replies
+pub record Went (old new : Spot) (had has : List ℕ → Type 0) (bytes : List ℕ) : Type 0 where
+  pub done : List Item
+  pub frames : List Frame
+  pub items : (more : List ℕ) → old.items (bytes ++ more) ≡ done ++ new.items more
+  pub ending : (more : List ℕ) → old.ending (bytes ++ more) ≡ new.ending more
+  pub replies : Replies old.world done frames new.world
+  pub grown : Grows had has (all_framed frames)
+
+-- these items come first over the bytes, and had their replies; what else there is was left
+pub record WentSome (old new : Spot) (had has : List ℕ → Type 0) (bytes : List ℕ) : Type 0 where
+  pub done : List Item
+  pub frames : List Frame
+  pub items : (more : List ℕ) → (others : List Item) × (old.items (bytes ++ more) ≡ done ++ others)
+  pub replies : Replies old.world done frames new.world
+  pub grown : Grows had has (all_framed frames)
+
+-- and a front of the frame of the item after them was written
+pub record LastFrame (old new : Spot) (had has : List ℕ → Type 0) (bytes : List ℕ) : Type 0 where
+  pub done : List Item
+  pub frames : List Frame
+  pub mid : World
+  pub last : Item
+  pub text : List ℕ
+  pub kept : ℕ
+  pub items : (more : List ℕ) → (others : List Item) × (old.items (bytes ++ more) ≡ done ++ last ∷ others)
+  pub replies : Replies old.world done frames mid
+  pub reply : IsReply mid last.event text new.world
+  pub grown : Grows had has (all_framed frames ++ take kept (framed (reply_frame last text)))
+
+-- the capture is broken here, and nothing is left to be asked
+pub record IsBroken (place : ℕ) (spot : Spot) : Type 0 where
+  pub ending : (more : List ℕ) → spot.ending more ≡ capture.Broken place
+  pub items : (more : List ℕ) → spot.items more ≡ []
+
+-- how a replay went over a piece, by its answer
+abbrev pub Answers : Course → Spot → Spot → (List ℕ → Type 0) → (List ℕ → Type 0) → List ℕ → Type 0
+Answers course.More old new had has bytes = Went old new had has bytes
+Answers (course.Broken place) old new had has bytes = Went old new had has bytes × IsBroken place new
+Answers course.WriteFault old new had has bytes = LastFrame old new had has bytes
+Answers course.Memory old new had has bytes = WentSome old new had has bytes
+
+-- there may be more of the piece, or the replay answered
+abbrev pub GoesOn : Option Course → Spot → Spot → (List ℕ → Type 0) → (List ℕ → Type 0) → Type 0
+GoesOn None old new had has = Went old new had has []
+GoesOn (Some answer) old new had has = Answers answer old new had has []
+
+-- any answer but that more may come
+abbrev pub end_of : Course → Option Course
+end_of course.More = None
+end_of (course.Broken place) = Some (course.Broken place)
+end_of course.WriteFault = Some course.WriteFault
+end_of course.Memory = Some course.Memory
+
+-- the whole frame was written, or a write failed after a front of it
+abbrev pub Wrote : Option Course → (List ℕ → Type 0) → (List ℕ → Type 0) → List ℕ → Type 0
+Wrote None had has text = Grows had has text
+Wrote (Some course.WriteFault) had has text = GrowsByFront had has text
+Wrote (Some other) had has text = ⊥
+
+-- an item had its reply, and its frame was written unless a write failed
+pub record Replied (answer : Option Course) (item : Item) (old new : World) (had has : List ℕ → Type 0) : Type 0 where
+  pub text : List ℕ
+  pub reply : IsReply old item.event text new
+  pub wrote : Wrote answer had has (framed (reply_frame item text))
+
+-- the count of faults did not fall: a write fault comes only where it rose, and anything else only where it is as it was
+abbrev pub WroteOrFault : ℕ → ℕ → Option Course → Type 0
+WroteOrFault before now (Some course.WriteFault) = (before ≤ now) × Rose before now
+WroteOrFault before now other = now ≡ before
+
+-- ---- a whole capture
+
+-- nothing is left to be asked, and the capture ends so
+pub record IsAt (ending : Capture) (spot : Spot) : Type 0 where
+  pub items : spot.items [] ≡ []
+  pub is : spot.ending [] ≡ ending
+
+-- every whole frame was answered, and the rest is no whole frame
+abbrev pub IsUpToDate : Spot → Type 0
+IsUpToDate spot = (place : Option ℕ) × IsAt (ended_at place) spot
+
+-- how a capture was answered over these bytes, by the end; left is what the input still has
+abbrev pub Ends : CaptureEnd → Option (List ℕ) → Spot → Spot → (List ℕ → Type 0) → (List ℕ → Type 0) → List ℕ → Type 0
+Ends end.Ended left old new had has bytes = Went old new had has bytes × IsAt capture.Ended new × IsAtEnd left
+Ends (end.Truncated place) left old new had has bytes = Went old new had has bytes × IsAt (capture.Inside place) new × IsAtEnd left
+Ends (end.Broken place) left old new had has bytes = Answers (course.Broken place) old new had has bytes
+Ends end.ReadFault left old new had has bytes = Went old new had has bytes × IsUpToDate new
+Ends end.WriteFault left old new had has bytes = Answers course.WriteFault old new had has bytes
+Ends end.Memory left old new had has bytes = Answers course.Memory old new had has bytes
+Ends end.Budget left old new had has bytes = Went old new had has bytes × IsUpToDate new
+
+-- the input goes on, or it has ended so
+abbrev pub EndsOr : Option CaptureEnd → Option (List ℕ) → Spot → Spot → (List ℕ → Type 0) → (List ℕ → Type 0) → List ℕ → Type 0
+EndsOr None left old new had has bytes = Went old new had has bytes
+EndsOr (Some e) left old new had has bytes = Ends e left old new had has bytes
+
+-- whether an end is that of the input
+abbrev pub is_of_input : CaptureEnd → Bool
+is_of_input end.Ended = true
+is_of_input (end.Truncated place) = true
+is_of_input (end.Broken place) = false
+is_of_input end.ReadFault = false
+is_of_input end.WriteFault = false
+is_of_input end.Memory = false
+is_of_input end.Budget = false
+
+abbrev pub has_ended : Option CaptureEnd → Bool
+has_ended None = false
+has_ended (Some e) = is_of_input e
+
+-- one read took these bytes, none at the end of the input, and what they hold was answered
+pub record Pumped (read : Read) (left rest : Option (List ℕ)) (old new : Spot) (had has : List ℕ → Type 0) : Type 0 where
+  pub bytes : List ℕ
+  pub count : length bytes ≡ read.taken
+  pub took : Consumes left rest bytes
+  pub ends : EndsOr read.end rest old new had has bytes
+  pub none : has_ended read.end ≡ true → read.taken ≡ 0
+
+-- These bytes were taken, at most the budget, and fewer where the end of the input was read. What they hold was answered from the start on.
+pub record Replayed (limits : WireLimits) (budget : ℕ) (e : CaptureEnd) (from to : World) (left rest : Option (List ℕ)) (had has : List ℕ → Type 0) : Type 0 where
+  pub bytes : List ℕ
+  pub last : Spot
+  pub within : length bytes ≤ budget
+  pub spent : e ≡ end.Budget → length bytes ≡ budget
+  pub below : is_of_input e ≡ true → length bytes < budget
+  pub took : Consumes left rest bytes
+  pub world : last.world ≡ to
+  pub ends : Ends e rest (beginning limits from) last had has bytes
+
+-- the counts of faults did not fall: a fault is the end only where its count rose, and any other end comes only where that is as it was
+pub record HasCauses (e : CaptureEnd) (reads reads' writes writes' : ℕ) : Type 0 where
+  pub reads_later : reads ≤ reads'
+  pub writes_later : writes ≤ writes'
+  pub read : e ≡ end.ReadFault → Rose reads reads'
+  pub write : e ≡ end.WriteFault → Rose writes writes'
+  pub unread : e ≢ end.ReadFault → reads' ≡ reads
+  pub unwritten : e ≢ end.WriteFault → writes' ≡ writes
+
+abbrev pub HasCausesOr : Option CaptureEnd → (reads reads' writes writes' : ℕ) → Type 0
+HasCausesOr None reads reads' writes writes' = (reads' ≡ reads) × (writes' ≡ writes)
+HasCausesOr (Some e) reads reads' writes writes' = HasCauses e reads reads' writes writes'
+
+-- how the input ends a capture, between two frames or inside the one that begins at a place
+abbrev pub end_at : Option ℕ → CaptureEnd
+end_at None = end.Ended
+end_at (Some place) = end.Truncated place
+
+-- with an answer of the replay, if that is an end
+abbrev pub end_by : Course → Option CaptureEnd
+end_by course.More = None
+end_by (course.Broken place) = Some (end.Broken place)
+end_by course.WriteFault = Some end.WriteFault
+end_by course.Memory = Some end.Memory

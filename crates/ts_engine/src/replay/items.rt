@@ -1,0 +1,137 @@
+// The requests and faults that are whole with a frame.
+ghost use Rattle.std.specs.Prelude.{◌≡◌, ◌<◌, ◌≤◌, ℕ, if◌then◌else◌, List, [], None, Some};
+ghost use Rattle.ts_spec.specs.Run.{is_quit};
+ghost use Rattle.ts_db.specs.Held.{Carries};
+ghost use Rattle.ts_mux.specs.declared.frame.Frame.{Frame};
+ghost use Rattle.ts_mux.specs.Capture.{framed};
+ghost use Rattle.ts_mux.specs.Order.{Asked, without};
+ghost use Rattle.ts_engine.specs.Replaying.{Answers, GoesOn, Wrote, Replied, WroteOrFault};
+ghost use Rattle.ts_engine.specs.Replays.{frames_in, coming, waiting, standing};
+ghost use Rattle.ts_mux.specs.Muxing.{ahead};
+ghost use Rattle.ts_spec.specs.Text.{fault_text};
+
+use super::Replay;
+use crate::course::Course;
+use crate::framing::write_frame;
+use crate::turn::take_turn;
+use std::sync::ledger::Ledger;
+use ts_db::Db;
+use ts_io::{Clock, Sink};
+use ts_mux::Turn;
+use ts_resp::{Protocol, Reply, Word, put};
+use ts_sample::Steps;
+
+impl Replay {
+    // Answers every request and fault that is whole.
+    pub(super) fn answer_items<C: Clock, K: Sink, L: Ledger>(
+        &mut self,
+        db: &mut Db,
+        clock: &mut C,
+        out: &mut K,
+        steps: &mut Steps<L>,
+    ) -> Course
+        ensures goes { Carries db.old db.new (λ from to. Answers result
+            (standing self.old from (C.readings clock.old)) (standing self.new to (C.readings clock.new))
+            (K.has out.old) (K.has out.new) []) }
+        ensures asked { result ≡ Course.More → ahead self.new.mux [] ≡ [] }
+        ensures frames { frames_in self.new ≡ frames_in self.old }
+        ensures cause { WroteOrFault (K.faults out.old) (K.faults out.new) (Some result) }
+    {
+        loop {
+            if let Some(course) = self.answer_item(db, clock, out, steps) {
+                return course;
+            }
+        }
+    }
+
+    // Gives back the room of a huge reply, takes the next request or fault and answers it. None: it was answered, and there
+    // may be more.
+    fn answer_item<C: Clock, K: Sink, L: Ledger>(
+        &mut self,
+        db: &mut Db,
+        clock: &mut C,
+        out: &mut K,
+        steps: &mut Steps<L>,
+    ) -> Option<Course>
+        ensures goes { Carries db.old db.new (λ from to. GoesOn result
+            (standing self.old from (C.readings clock.old)) (standing self.new to (C.readings clock.new))
+            (K.has out.old) (K.has out.new)) }
+        ensures asked { result ≡ Some Course.More → ahead self.new.mux [] ≡ [] }
+        ensures fewer { result ≡ None → waiting self.new < waiting self.old }
+        ensures frames { frames_in self.new ≡ frames_in self.old }
+        ensures cause { WroteOrFault (K.faults out.old) (K.faults out.new) result }
+    {
+        self.room.give_back();
+        match self.mux.next() {
+            Turn::Request(link, words) => self.answer(link, words, db, clock, out, steps),
+            Turn::Fault(link, fault) => self.refuse(link, fault, out),
+            Turn::NotYet => Some(Course::More),
+            Turn::Memory => Some(Course::Memory),
+        }
+    }
+
+    // Gives the request its turn and writes its reply. A QUIT closes its connection.
+    fn answer<C: Clock, K: Sink, L: Ledger>(
+        &mut self,
+        link: u32,
+        words: Vec<Word>,
+        db: &mut Db,
+        clock: &mut C,
+        out: &mut K,
+        steps: &mut Steps<L>,
+    ) -> Option<Course>
+        ensures replied { Carries db.old db.new (λ from to. Replied result
+            (record { link = link; event = Asked words.items })
+            (record { held = from; readings = C.readings clock.old }) (record { held = to; readings = C.readings clock.new })
+            (K.has out.old) (K.has out.new)) }
+        ensures coming { (frames : List Frame) → coming self.new frames
+            ≡ (if is_quit words.items then without link (coming self.old frames) else coming self.old frames) }
+        ensures ends { result ≡ Some Course.More → ⊥ }
+        ensures waiting { waiting self.new ≤ waiting self.old }
+        ensures frames { frames_in self.new ≡ frames_in self.old }
+        ensures cause { WroteOrFault (K.faults out.old) (K.faults out.new) result }
+    {
+        let mut words = words;
+        let quits = take_turn(db, &mut words, clock, &mut self.room, steps);
+        self.close_if(quits, link);
+        self.write(link, out)
+    }
+
+    // Closes a connection, if its request was QUIT.
+    fn close_if(&mut self, quits: bool, link: u32)
+        ensures coming { (frames : List Frame) → coming self.new frames
+            ≡ (if quits then without link (coming self.old frames) else coming self.old frames) }
+        ensures waiting { waiting self.new ≤ waiting self.old }
+        ensures frames { frames_in self.new ≡ frames_in self.old }
+        ensures room { self.new.room ≡ self.old.room }
+    {
+        if quits {
+            self.mux.close(link);
+        }
+    }
+
+    // Writes the error that answers a fault.
+    fn refuse<K: Sink>(&mut self, link: u32, fault: Protocol, out: &mut K) -> Option<Course>
+        ensures wrote { Wrote result (K.has out.old) (K.has out.new) (framed (record { link = link; bytes = fault_text fault.kind })) }
+        ensures ends { result ≡ Some Course.More → ⊥ }
+        ensures mux { self.new.mux ≡ self.old.mux }
+        ensures frames { frames_in self.new ≡ frames_in self.old }
+        ensures cause { WroteOrFault (K.faults out.old) (K.faults out.new) result }
+    {
+        self.room.clear();
+        put(&Reply::Error(fault.message()), &mut self.room);
+        self.write(link, out)
+    }
+
+    // Writes the reply in the room, in a frame of the connection.
+    fn write<K: Sink>(&self, link: u32, out: &mut K) -> Option<Course>
+        ensures wrote { Wrote result (K.has out.old) (K.has out.new) (framed (record { link = link; bytes = self.now.room.bytes })) }
+        ensures ends { result ≡ Some Course.More → ⊥ }
+        ensures cause { WroteOrFault (K.faults out.old) (K.faults out.new) result }
+    {
+        match write_frame(out, link, self.room.bytes()) {
+            Ok(()) => None,
+            Err(_) => Some(Course::WriteFault),
+        }
+    }
+}

@@ -1,0 +1,172 @@
+// What answers a whole capture.
+ghost use Rattle.std.specs.Prelude.{◌≡◌, ◌+◌, ◌<◌, ◌≤◌, ◌^◌, length, None, Some};
+ghost use Rattle.ts_mux.specs.Framing.{fed, unfinished};
+ghost use Rattle.ts_db.specs.Held.{Carries};
+ghost use Rattle.ts_engine.specs.Captured as captured;
+ghost use Rattle.ts_engine.specs.Limits.{CanRead};
+ghost use Rattle.ts_engine.specs.Replaying.{Replayed, Pumped, HasCauses, HasCausesOr, end_at, end_by};
+ghost use Rattle.ts_engine.specs.Replays.{standing, frames_in, HasAnswered};
+
+use crate::course::Course;
+use crate::replay::Replay;
+use std::alloc::Global;
+use ts_db::Db;
+use ts_io::{Clock, Sink, Source};
+use ts_resp::WireLimits;
+use ts_words::Status;
+
+/// How a capture ended.
+#[derive(Clone, Copy, Debug, PartialEq, Eq)]
+pub(crate) enum CaptureEnd {
+    /// It ends between frames.
+    Ended,
+    /// It ends inside the frame that begins at this place.
+    Truncated(u64),
+    /// The byte at this place can't continue it.
+    Broken(u64),
+    /// A read failed.
+    ReadFault,
+    /// A frame could not be written.
+    WriteFault,
+    /// There was no memory to read a frame or a request.
+    Memory,
+    /// As many bytes were taken as may be.
+    Budget,
+}
+
+impl CaptureEnd {
+    // The status of a run that ends so.
+    pub(crate) fn status(self) -> Status
+        ensures { result ≡ captured.status_of self }
+    {
+        match self {
+            CaptureEnd::Ended => Status::Ended,
+            CaptureEnd::Truncated(_) => Status::Truncated,
+            CaptureEnd::Broken(_) => Status::CaptureBroken,
+            CaptureEnd::ReadFault => Status::ReadFault,
+            CaptureEnd::WriteFault => Status::WriteFault,
+            CaptureEnd::Memory => Status::Memory,
+            CaptureEnd::Budget => Status::Budget,
+        }
+    }
+
+    // The place that the line of that status tells, 0 where it tells none.
+    pub(crate) fn place(self) -> u64
+        ensures { result ≡ captured.place_of self }
+    {
+        match self {
+            CaptureEnd::Truncated(place) | CaptureEnd::Broken(place) => place,
+            CaptureEnd::Ended
+            | CaptureEnd::ReadFault
+            | CaptureEnd::WriteFault
+            | CaptureEnd::Memory
+            | CaptureEnd::Budget => 0,
+        }
+    }
+}
+
+// What one read and the answers to its bytes came to.
+#[derive(Clone, Copy)]
+struct Read {
+    taken: usize,
+    end: Option<CaptureEnd>,
+}
+
+/// The most bytes that one read asks for.
+const PIECE: usize = 4096;
+
+/// Answers what interleaved connections ask in a capture, at most `budget` bytes of it. Each reply is written, in a frame of
+/// its connection, before the next request has its turn, and a read is made only when every whole frame was answered.
+pub(crate) fn replay<S: Source, K: Sink, C: Clock>(
+    alloc: Global,
+    db: &mut Db,
+    input: &mut S,
+    out: &mut K,
+    clock: &mut C,
+    limits: WireLimits,
+    budget: u64,
+) -> CaptureEnd
+    requires limits { CanRead limits }
+    requires budget { 1 ≤ budget }
+    ensures replayed { Carries db.old db.new (λ from to. Replayed limits budget result
+        (record { held = from; readings = C.readings clock.old }) (record { held = to; readings = C.readings clock.new })
+        (S.left input.old) (S.left input.new) (K.has out.old) (K.has out.new)) }
+    ensures causes { HasCauses result (S.faults input.old) (S.faults input.new) (K.faults out.old) (K.faults out.new) }
+{
+    let Ok(mut replay) = Replay::new(alloc, limits) else {
+        return CaptureEnd::Memory;
+    };
+    let mut buffer = [0; PIECE];
+    let mut taken = 0;
+    while taken < budget {
+        let most = (budget - taken).min(PIECE as u64) as usize;
+        let read = pump(&mut replay, db, input, out, clock, &mut buffer[..most]);
+        taken += read.taken as u64;
+        if let Some(end) = read.end {
+            return end;
+        }
+    }
+    CaptureEnd::Budget
+}
+
+// Reads one piece and answers the frames that are whole with it.
+fn pump<S: Source, K: Sink, C: Clock>(
+    replay: &mut Replay,
+    db: &mut Db,
+    input: &mut S,
+    out: &mut K,
+    clock: &mut C,
+    buffer: &mut [u8],
+) -> Read
+    requires answered { HasAnswered replay.old }
+    requires within { fed (frames_in replay.old) + length buffer.old < 2 ^ 64 }
+    requires room { 0 < length buffer.old }
+    ensures pumped { Carries db.old db.new (λ from to. Pumped result (S.left input.old) (S.left input.new)
+        (standing replay.old from (C.readings clock.old)) (standing replay.new to (C.readings clock.new)) (K.has out.old) (K.has out.new)) }
+    ensures answered { result.end ≡ None → HasAnswered replay.new }
+    ensures causes { HasCausesOr result.end (S.faults input.old) (S.faults input.new) (K.faults out.old) (K.faults out.new) }
+    ensures fed { result.end ≡ None → fed (frames_in replay.new) ≡ fed (frames_in replay.old) + result.taken }
+    ensures within { result.taken ≤ length buffer.old }
+    ensures some { result.end ≡ None → 0 < result.taken }
+    ensures unspent { result.end ≡ Some CaptureEnd.Budget → ⊥ }
+{
+    match input.read(buffer) {
+        Ok(0) => Read {
+            taken: 0,
+            end: Some(end_of_input(replay)),
+        },
+        Ok(count) => {
+            let course = replay.piece(db, &buffer[..count], clock, out);
+            Read {
+                taken: count,
+                end: end_of_piece(course),
+            }
+        }
+        Err(_) => Read {
+            taken: 0,
+            end: Some(CaptureEnd::ReadFault),
+        },
+    }
+}
+
+// How the capture ends where the input does.
+fn end_of_input(replay: &Replay) -> CaptureEnd
+    ensures { result ≡ end_at (unfinished (frames_in replay.now)) }
+{
+    match replay.place() {
+        None => CaptureEnd::Ended,
+        Some(place) => CaptureEnd::Truncated(place),
+    }
+}
+
+// How the capture ends with an answer of the replay, if it does.
+fn end_of_piece(course: Course) -> Option<CaptureEnd>
+    ensures { result ≡ end_by course }
+{
+    match course {
+        Course::More => None,
+        Course::Broken(place) => Some(CaptureEnd::Broken(place)),
+        Course::WriteFault => Some(CaptureEnd::WriteFault),
+        Course::Memory => Some(CaptureEnd::Memory),
+    }
+}
