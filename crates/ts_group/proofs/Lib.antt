@@ -1,5 +1,9 @@
+pub mod Gathered
+pub mod Joining
+pub mod OneGroup
 pub mod Ordered
 pub mod Parts
 pub mod Summed
 pub mod Times
 pub mod Told
+pub mod Values

@@ -219,6 +219,12 @@ module _ {K : Type 0} {before same : K → K → Bool} {cmp : K → K → Orderi
     pub each-some : (f : K → X) (a : K) (ks : List K) (x : X) → lookup (is_at (cmp a)) (each f ks) ≡ Some x → (has a ks ≡ true) × (x ≡ f a)
     each-some f a ks x found = found-is (has a ks) (f a) x (sym (each-has f a ks) ∙ found)
 
+    -- it is the same of functions that give the same
+    pub each-alike : (f g : K → X) (ks : List K) → ((k : K) → g k ≡ f k) → each f ks ≡ each g ks
+    each-alike f g [] same_as = refl
+    each-alike f g (k ∷ ks) same_as =
+        ap (λ (x : X). (k, x) ∷ each f ks) (sym (same_as k)) ∙ ap (λ (es : List (K × X)). (k, g k) ∷ es) (each-alike f g ks same_as)
+
     -- ---- something else at one key
 
     each-after : (f g : K → X) (a : K) (ks : List K) → AreAfter a ks → ((k : K) → same a k ≡ false → g k ≡ f k) → each f ks ≡ each g ks

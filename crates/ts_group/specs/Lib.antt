@@ -1,3 +1,5 @@
+pub mod Grouped
 pub mod Labels
 pub mod Rows
+pub mod Sources
 pub mod Summaries

@@ -1,16 +1,22 @@
 //! The answers over series in groups: what a group tells, reduced time by time.
 #![tactic(auto)]
 
+mod by_value;
+mod group_replies;
 mod group_texts;
 mod labels;
+mod one_group;
 mod reduction;
 mod row_texts;
 mod rows;
+mod sources;
 mod summaries;
 
+pub use group_replies::group;
 pub use group_texts::encode_group;
 pub use labels::GroupLabels;
 pub use reduction::Reduction;
 pub use row_texts::encode_group_rows;
 pub use rows::GroupRows;
+pub use sources::Sources;
 pub use ts_agg::Reducer;

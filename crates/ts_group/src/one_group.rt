@@ -1,0 +1,53 @@
+// What is kept of a group while its series come.
+ghost use Rattle.std.specs.Prelude.{◌≡◌, ◌++◌, List, [], ◌∷◌, map, OnOk};
+ghost use Rattle.ts_spec.specs.Answer.{Row as TheRow};
+ghost use Rattle.ts_spec.specs.Groups.{Labelled};
+ghost use Rattle.ts_range.specs.Query.{row_of};
+ghost use Rattle.ts_group.specs.Grouped.{grouped, kept_of, labelled_of};
+
+use crate::reduction::Reduction;
+use crate::sources::Sources;
+use std::alloc::{AllocError, Global};
+use ts_multi::Member;
+use ts_range::{Row, Take};
+
+#[derive(Drop)]
+pub(crate) struct Group {
+    pub(crate) sources: Sources,
+    pub(crate) reduction: Reduction,
+}
+
+impl Group {
+    // No series yet.
+    pub(crate) fn new(alloc: Global) -> Group
+        ensures { result ≡ grouped [] }
+    {
+        Group {
+            sources: Sources::new(alloc),
+            reduction: Reduction::new(alloc),
+        }
+    }
+
+    // One series more. After an Err there may be a part of it.
+    pub(crate) fn add(&mut self, member: &Member) -> Result<(), AllocError>
+        ensures { OnOk result ((ms : List Labelled) → self.old ≡ grouped ms
+            → self.new ≡ grouped (ms ++ labelled_of member.now ∷ [])) }
+    {
+        self.sources.add(member.key.bytes())?;
+        take_rows(&mut self.reduction, &member.rows)
+    }
+}
+
+// Takes all these rows.
+fn take_rows(reduction: &mut Reduction, rows: &[Row]) -> Result<(), AllocError>
+    ensures { OnOk result ((before : List TheRow) → reduction.old ≡ kept_of before
+        → reduction.new ≡ kept_of (before ++ map row_of rows.now)) }
+{
+    for row in rows {
+        reduction.row(*row);
+    }
+    if reduction.is_lost() {
+        return Err(AllocError);
+    }
+    Ok(())
+}

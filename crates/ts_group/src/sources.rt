@@ -1,0 +1,63 @@
+// The keys of the series of a group, with commas between them.
+ghost use Rattle.std.specs.Prelude.{◌≡◌, ◌++◌, List, [], ◌∷◌, if◌then◌else◌, codes, OnOk};
+ghost use Rattle.ts_spec.specs.Key.{Key};
+ghost use Rattle.ts_group.specs.Sources.{joined, joining};
+
+use std::alloc::{AllocError, Global};
+use std::marker::Model;
+
+/// The keys of series that were added so far, as a group shows them: with commas between them. A key may be empty.
+#[derive(Drop)]
+pub struct Sources {
+    text: Vec<u8>,
+    // Whether there is a key.
+    some: bool,
+}
+
+impl Model for Sources {
+    ghost use Rattle.ts_group.specs.Sources.{Joined};
+
+    ghost Value = { Joined };
+
+    ghost view = { λ s. record { some = s.some; text = s.text.items } };
+}
+
+impl Sources {
+    /// No key yet. Takes no memory.
+    pub fn new(alloc: Global) -> Sources
+        ensures { result ≡ joining [] }
+    {
+        Sources {
+            text: Vec::new(alloc),
+            some: false,
+        }
+    }
+
+    /// Adds a key at the end. After an Err there may be a part of it.
+    pub fn add(&mut self, key: &[u8]) -> Result<(), AllocError>
+        ensures { OnOk result ((keys : List Key) → self.old ≡ joining keys
+            → self.new ≡ joining (keys ++ key.now ∷ [])) }
+    {
+        add_after(&mut self.text, self.some, key)?;
+        self.some = true;
+        Ok(())
+    }
+
+    /// The text of the keys.
+    pub fn bytes(&self) -> &[u8]
+        ensures { (keys : List Key) → self.now ≡ joining keys → result.now ≡ joined keys }
+    {
+        &self.text
+    }
+}
+
+// Adds a key to a text, with a comma between them if there are others.
+fn add_after(text: &mut Vec<u8>, some: bool, key: &[u8]) -> Result<(), AllocError>
+    ensures { OnOk result (text.new.items ≡ text.old.items ++ (if some then codes "," else []) ++ key.now) }
+{
+    if some {
+        text.push(b',')?;
+        return text.extend_from_slice(key);
+    }
+    text.extend_from_slice(key)
+}
