@@ -81,7 +81,12 @@ fn lines_of_endings(rt: HostRuntime) {
         b"tsd: capture ends inside a frame that begins at byte 5\n".as_slice()
     );
     assert_eq!(rt;
-        line(Some(Mode::Mux), Status::CaptureBroken, 18446744073709551615, &mut room),
+        line(
+            Some(Mode::Mux),
+            Status::CaptureBroken,
+            18446744073709551615,
+            &mut room
+        ),
         b"tsd: capture broken at byte 18446744073709551615\n".as_slice()
     );
     assert_eq!(rt; Status::Budget.code(), 8);

@@ -52,7 +52,12 @@ pub(crate) fn report<E: Sink>(err: &mut E, status: Status, place: u64) -> Status
 }
 
 // The same with the line that the status has in this mode.
-pub(crate) fn report_in<E: Sink>(mode: Option<Mode>, err: &mut E, status: Status, place: u64) -> Status
+pub(crate) fn report_in<E: Sink>(
+    mode: Option<Mode>,
+    err: &mut E,
+    status: Status,
+    place: u64,
+) -> Status
     ensures reported { ReportsIn mode status place result (E.has err.old) (E.has err.new) }
     ensures later { E.faults err.old ≤ E.faults err.new }
     ensures cause { result ≡ Status.WriteFault → (status ≡ Status.WriteFault) ⊎ Rose (E.faults err.old) (E.faults err.new) }
