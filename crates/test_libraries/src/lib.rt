@@ -13,6 +13,8 @@ mod decimal;
 #[cfg(test)]
 mod faults;
 #[cfg(test)]
+mod group;
+#[cfg(test)]
 mod index;
 #[cfg(test)]
 mod journal;

@@ -20,7 +20,7 @@ use Rattle.ts_group.specs.declared.one_group.Group.{Group}
 use Rattle.ts_group.proofs.Ordered.{each, each-none, each-some, each-alike, each-inserted, each-set}
 use Rattle.ts_group.proofs.Values.{in_bytes, rising-values, values-more, none_having, having-here, having-elsewhere, having-nowhere}
 
-abbrev Groups : Type 0
+abbrev pub Groups : Type 0
 Groups = List (List ℕ × Group)
 
 -- what a group keeps with one more series
@@ -108,11 +108,11 @@ module _ (by : GroupBy) (show : Show) (count : Option ℕ) (back : Bool) (all : 
   left-next es rest e shown now reply before is tells more =
       subst (AreLeft by show count back all rest) (sym more) (next-of es rest e shown reply before.left is before.entries before.so_far tells)
 
-  told-each : (vs : List (List ℕ)) → map (told by show count back all) vs ≡ map member_reply (map (λ value. group by show count back value (having by.label value all)) vs)
+  pub told-each : (vs : List (List ℕ)) → map (told by show count back all) vs ≡ map member_reply (map (λ value. group by show count back value (having by.label value all)) vs)
   told-each [] = refl
   told-each (v ∷ vs) = ap (λ (l : List Reply). told by show count back all v ∷ l) (told-each vs)
 
-  none-left : (vs : List (List ℕ)) → [] ≡ map {B = List ℕ × Group} (λ value. (value, grouped (having by.label value all))) vs → vs ≡ []
+  pub none-left : (vs : List (List ℕ)) → [] ≡ map {B = List ℕ × Group} (λ value. (value, grouped (having by.label value all))) vs → vs ≡ []
   none-left [] e = refl
   none-left (v ∷ vs) e = cc
 

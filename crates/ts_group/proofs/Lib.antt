@@ -7,3 +7,4 @@ pub mod Summed
 pub mod Times
 pub mod Told
 pub mod Values
+pub mod Writing

@@ -4,6 +4,7 @@
 mod by_value;
 mod group_replies;
 mod group_texts;
+mod groups_texts;
 mod labels;
 mod one_group;
 mod reduction;
@@ -14,6 +15,7 @@ mod summaries;
 
 pub use group_replies::group;
 pub use group_texts::encode_group;
+pub use groups_texts::encode_groups;
 pub use labels::GroupLabels;
 pub use reduction::Reduction;
 pub use row_texts::encode_group_rows;

@@ -1,0 +1,20 @@
+use Rattle.std.proofs.Common.{◌≡◌, List, ◌++◌, map, flat_map, OnOk, ap, ◌∙◌, subst}
+use Rattle.ts_spec.specs.Groups.{Labelled}
+use Rattle.ts_spec.specs.Replies.{member_reply}
+use Rattle.ts_spec.specs.Response.{Member}
+use Rattle.ts_spec.specs.Text.{text}
+use Rattle.ts_labels.specs.Show.{show_of}
+use Rattle.ts_command.specs.GroupBy.{group_of}
+use Rattle.ts_group.specs.declared.one_group.Group.{Group}
+use Rattle.ts_group.proofs.Joining.{sources-joined}
+use Rattle.ts_group.proofs.OneGroup.{member-told}
+use Rattle.ts_group.proofs.groups_texts.encode_one.Goals as goal
+
+pub returns-clause-ok : goal.returns-clause-ok
+returns-clause-ok c = λ ms. λ is.
+    subst (λ (m : Member). OnOk c.encode_group.result (c.encode_group.new.out.bytes ≡ c.args.out.now.bytes ++ text (member_reply m)))
+    (member-told (group_of c.args.by.now) (show_of c.args.show.now) c.args.count c.args.reverse ms c.bytes.result.now c.args.value.now c.bytes-2.result.now c.bytes-3.result.now c.rows-rows.result
+    c.bytes.ensures c.bytes-2.ensures
+    (c.bytes-3.ensures (map (λ (m : Labelled). m.key) ms) (ap (λ (g : Group). g.sources) is) ∙ sources-joined ms)
+    (c.rows-rows.ensures (flat_map (λ (m : Labelled). m.rows) ms) (λ kept. ap (λ (g : Group). g.reduction.summaries) is) (ap (λ (g : Group). g.reduction.lost) is)))
+    c.encode_group.ensures.ok
