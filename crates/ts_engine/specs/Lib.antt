@@ -7,9 +7,11 @@ pub mod Ending
 pub mod Generated
 pub mod Going
 pub mod Headline
+pub mod Keeping
 pub mod Limits
 pub mod Members
 pub mod Piping
+pub mod Recording
 pub mod RowTexts
 pub mod Serving
 pub mod Session
