@@ -6,13 +6,12 @@ use Rattle.std.specs.Cmp.Lexicographic.{slice_cmp}
 use Rattle.std.specs.Ordering.{nat_cmp}
 use Rattle.std.specs.BTreeMap.{is_at, insert_entry}
 use Rattle.std.specs.Map.{lookup, set_value}
-use Rattle.ts_spec.specs.Key.{Key, same}
 use Rattle.ts_spec.specs.Filter.{value_of}
 use Rattle.ts_spec.specs.Answer.{Row}
 use Rattle.ts_spec.specs.Command.{GroupBy, Show}
 use Rattle.ts_spec.specs.Replies.{member_reply}
 use Rattle.ts_spec.specs.Text.{Reply}
-use Rattle.ts_spec.specs.Groups.{Labelled, with_value, with_value_of, values, having, group, groups}
+use Rattle.ts_spec.specs.Groups.{Labelled, with_value_of, values, having, group, groups}
 use Rattle.ts_group.specs.Sources.{Joined, joining}
 use Rattle.ts_group.specs.Summaries.{Kept}
 use Rattle.ts_group.specs.Grouped.{kept_of, grouped, by_values}

@@ -1,5 +1,5 @@
 -- What is told of what is kept of rows.
-use Rattle.std.proofs.Common.{◌≡◌, ◌≤◌, ℕ, ◌==◌, Bool, false, if◌then◌else◌, List, [], ◌∷◌, ◌++◌, map, length, Option, Some, refl, ap, ◌∙◌, arith, ne_eqb}
+use Rattle.std.proofs.Common.{◌≡◌, ◌≤◌, ℕ, ◌==◌, Bool, false, List, [], ◌∷◌, ◌++◌, map, Option, Some, refl, ap, ◌∙◌, arith, ne_eqb}
 use Rattle.std.proofs.lemmas.List.{map-append}
 use Rattle.std.proofs.lemmas.List.Elements.{All-rest, All-pop}
 use Rattle.std.specs.Map.{keys_of}
@@ -7,7 +7,7 @@ use Rattle.ts_spec.specs.declared.bucket.Reducer.{Reducer}
 use Rattle.ts_spec.specs.Sample.{Point, MAX_TIME}
 use Rattle.ts_spec.specs.Aggregate.{Summary, summary}
 use Rattle.ts_spec.specs.Answer.{Cell, Row, turned, first_ones}
-use Rattle.ts_spec.specs.Groups.{times, numbers_at, reduced, reduced_row, reduced_rows}
+use Rattle.ts_spec.specs.Groups.{times, numbers_at, reduced, reduced_row}
 use Rattle.ts_spec.proofs.Aggregates.{summary-count}
 use Rattle.ts_group.specs.Summaries.{Summaries, AreTimely, Kept, HasTaken, summary_at}
 use Rattle.ts_group.specs.Rows.{cell_told, row_told, rows_told, group_rows}

@@ -1,5 +1,5 @@
 -- The keys of the series of a group, with commas between them.
-use Rattle.std.specs.Prelude.{◌≡◌, ℕ, Bool, true, false, List, [], ◌∷◌, ◌++◌, codes}
+use Rattle.std.specs.Prelude.{ℕ, Bool, true, false, List, [], ◌∷◌, ◌++◌, codes}
 use Rattle.ts_spec.specs.Key.{Key}
 
 -- keys, with commas between them

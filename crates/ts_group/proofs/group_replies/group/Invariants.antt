@@ -1,6 +1,4 @@
-use Rattle.std.proofs.Common.{◌≡◌, ◌+◌, ◌≤◌, ◌++◌, length, map, vec_len, vec_capacity}
-use Rattle.ts_spec.specs.Replies.{member_reply}
-use Rattle.ts_spec.specs.Groups as spec
+use Rattle.std.proofs.Common.{◌+◌, ◌≤◌, length, map, vec_len, vec_capacity}
 use Rattle.ts_resp.specs.Replies.{reply_of}
 use Rattle.ts_labels.specs.Show.{show_of}
 use Rattle.ts_command.specs.GroupBy.{group_of}

@@ -1,4 +1,4 @@
-use Rattle.std.proofs.Common.{◌+◌, drop, sym, arith}
+use Rattle.std.proofs.Common.{◌+◌, drop, arith}
 use Rattle.std.proofs.Math.ListN.{drop_of_length-le}
 use Rattle.ts_spec.specs.Replies.{shown_label_reply}
 use Rattle.ts_multi.proofs.Texts.{whole, goes-on}

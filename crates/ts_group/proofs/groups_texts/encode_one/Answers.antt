@@ -1,4 +1,4 @@
-use Rattle.std.proofs.Common.{◌≡◌, List, ◌++◌, map, flat_map, OnOk, ap, ◌∙◌, subst}
+use Rattle.std.proofs.Common.{◌≡◌, ◌++◌, map, flat_map, OnOk, ap, ◌∙◌, subst}
 use Rattle.ts_spec.specs.Groups.{Labelled}
 use Rattle.ts_spec.specs.Replies.{member_reply}
 use Rattle.ts_spec.specs.Response.{Member}
