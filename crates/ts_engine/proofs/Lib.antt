@@ -9,6 +9,8 @@ pub mod Faulted
 pub mod Few
 pub mod FillingIn
 pub mod Finding
+pub mod Gathered
+pub mod GroupReplies
 pub mod Handing
 pub mod Headlines
 pub mod InfoTexts

@@ -6,6 +6,7 @@ pub mod Bounds
 pub mod Ending
 pub mod Generated
 pub mod Going
+pub mod Grouping
 pub mod Headline
 pub mod Limits
 pub mod Members
