@@ -1,7 +1,7 @@
 // Questions, in a few words.
 use crate::texts::{filters, labels_to_show, text};
 use std::alloc::{AllocError, Global};
-use ts_command::{Filter, Query, Show};
+use ts_command::{Filter, GroupBy, Query, Show};
 use ts_resp::Word;
 
 // Whether the bucket that is still open counts too.
@@ -36,4 +36,12 @@ pub(crate) fn selection(
     let latest = latest_word(latest);
     let (labels, filters) = (labels_to_show(alloc, show)?, filters(alloc, chosen)?);
     format!(in alloc; "{latest}{labels} {filters}")
+}
+
+// By which label the series are grouped, and how, if they are.
+pub(crate) fn group_text(alloc: Global, group: &Option<GroupBy>) -> Result<String, AllocError> {
+    let Some(GroupBy { label, reducer }) = group else {
+        return String::from_str(alloc, "");
+    };
+    format!(in alloc; " by {} {reducer:?}", text(label))
 }

@@ -1,5 +1,5 @@
 // Commands, in a few words.
-use crate::questions::{last, range, selection};
+use crate::questions::{group_text, last, range, selection};
 use crate::series::{change_text, samples, spec_text};
 use crate::texts::{filters, text, words};
 use std::alloc::{AllocError, Global};
@@ -73,9 +73,11 @@ fn question(alloc: Global, command: &Command) -> Result<String, AllocError> {
             show,
             filters,
             query,
+            group,
         } => {
             let chosen = selection(alloc, *latest, show, filters)?;
-            format!(in alloc; "ranges {chosen} {query:?}")
+            let group = group_text(alloc, group)?;
+            format!(in alloc; "ranges {chosen} {query:?}{group}")
         }
         Command::Get { key, latest } => last(alloc, key, *latest),
         Command::MGet {

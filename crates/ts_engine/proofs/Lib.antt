@@ -12,6 +12,8 @@ pub mod Few
 pub mod FillingIn
 pub mod Finding
 pub mod FramesWritten
+pub mod Gathered
+pub mod GroupReplies
 pub mod Handing
 pub mod Headlines
 pub mod InfoTexts

@@ -38,9 +38,9 @@ member-told m show key k labels rows name own = λ i. record { key = name i; lab
 module _ (limits : Limits) (m : Keeping) (latest : Bool) (show : command.Show) (q : command.Query) (key : Key) where
   -- its rows are told
   pub rows-added : (rows : List Row) (member : Member) (before after : List ℕ) → answer limits.empty_rows q (kept_asked m latest key) ≡ Some rows → member ≡ kept_member m show key rows
-      → after ≡ before ++ text (member_reply member) → IsAdded (rows_at limits m latest show q key) before after
+      → after ≡ before ++ text (member_reply member) → IsAdded text (rows_at limits m latest show q key) before after
   rows-added rows member before after answered is added =
-      subst (λ (o : Option (List Row)). IsAdded (option_map (λ rows. member_reply (kept_member m show key rows)) o) before after) (sym answered)
+      subst (λ (o : Option (List Row)). IsAdded text (option_map (λ rows. member_reply (kept_member m show key rows)) o) before after) (sym answered)
       (added ∙ ap (λ (x : Member). before ++ text (member_reply x)) is)
 
   -- they are not

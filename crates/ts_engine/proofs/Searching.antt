@@ -5,17 +5,15 @@ use Rattle.std.proofs.lemmas.List.Sums.{sum_by-cons}
 use Rattle.std.proofs.lemmas.List.Sorted.{list_any-IsPermutation, sum_by-IsPermutation}
 use Rattle.std.specs.List.{All, AllByRecursion, list_any}
 use Rattle.std.proofs.lemmas.List.Elements.{recursion_from_All}
-use Rattle.std.specs.Prelude.{◌&&◌, ◌||◌, sum_by, if◌then◌else◌, is_none, Option, None, Some}
+use Rattle.std.specs.Prelude.{◌&&◌, ◌||◌, sum_by, if◌then◌else◌, Some}
 use Rattle.ts_spec.specs.Filter.{Filter, all_hold}
 use Rattle.ts_spec.specs.Key.{Key}
 use Rattle.ts_spec.specs.Keyed.{Keyed, get}
 use Rattle.ts_spec.specs.KeptQuestions.{kept_labels_at, kept_selection}
-use Rattle.ts_spec.specs.Text.{Reply}
 use Rattle.ts_sample.specs.declared.id.Id.{Id}
 use Rattle.ts_db.specs.Bounds.{fewest, selection_steps}
 use Rattle.ts_db.specs.Candidates.{passing, Covers}
 use Rattle.ts_db.specs.Held.{Stock, IsLive, AreNumbersOf}
-use Rattle.ts_engine.specs.Members.{replies_then, replies_of}
 
 -- numbers of keys have keys
 keys-of : (ids : Keyed Id) (ns : List Id) → AllByRecursion (IsLive ids) ns → (keys : List Key) × AreNumbersOf ids keys ns
@@ -31,26 +29,21 @@ as-many ids (k ∷ ks) (n ∷ ns) are = ap suc (as-many ids ks ns are.1)
 more-steps : (fs few most : ℕ) → few ≤ most → fs * few ≤ fs * most
 more-steps fs few most less = grind (arith)
 
-module _ (reply : Key → Option Reply) where
-  -- there is nothing to tell of one of them
-  none-any : (ks : List Key) → is_none (replies_of reply ks) ≡ list_any (λ k. is_none (reply k)) ks
-  none-any [] = refl
-  none-any (k ∷ ks) = go (reply k) (replies_of reply ks) ∙ ap (λ (b : Bool). is_none (reply k) || b) (none-any ks)
-    where
-      go : (o : Option Reply) (others : Option (List Reply)) → is_none (replies_then o others) ≡ (is_none o || is_none others)
-      go None others = refl
-      go (Some r) None = refl
-      go (Some r) (Some rs) = refl
+module _ (too_much : Key → Bool) where
+  -- it is not too much of any
+  pub none-of : (ks : List Key) → ((k : Key) → too_much k ≡ false) → list_any too_much ks ≡ false
+  none-of [] never = refl
+  none-of (k ∷ ks) never = ap (λ (b : Bool). b || list_any too_much ks) (never k) ∙ none-of ks never
 
   -- a key that is not selected, or of which there is something to tell
-  skip : (b : Bool) (k : Key) (ks : List Key) → (b && is_none (reply k)) ≡ false → is_none (replies_of reply (if b then k ∷ ks else ks)) ≡ is_none (replies_of reply ks)
+  skip : (b : Bool) (k : Key) (ks : List Key) → (b && too_much k) ≡ false → list_any too_much (if b then k ∷ ks else ks) ≡ list_any too_much ks
   skip false k ks told = refl
-  skip true k ks told = none-any (k ∷ ks) ∙ ap (λ (b : Bool). b || list_any (λ k. is_none (reply k)) ks) told ∙ sym (none-any ks)
+  skip true k ks told = ap (λ (b : Bool). b || list_any too_much ks) told
 
   -- any other key
-  stop : (b : Bool) (k : Key) (ks : List Key) → (b && is_none (reply k)) ≡ true → is_none (replies_of reply (if b then k ∷ ks else ks)) ≡ true
+  stop : (b : Bool) (k : Key) (ks : List Key) → (b && too_much k) ≡ true → list_any too_much (if b then k ∷ ks else ks) ≡ true
   stop false k ks refused = absurd (cc refused)
-  stop true k ks refused = none-any (k ∷ ks) ∙ ap (λ (b : Bool). b || list_any (λ k. is_none (reply k)) ks) refused
+  stop true k ks refused = ap (λ (b : Bool). b || list_any too_much ks) refused
 
 -- a key takes a step for each filter, and what it takes itself only where it is selected
 spend : (most : Key → ℕ) (b : Bool) (k : Key) (ks : List Key) (filters left now new all : ℕ) → now + (filters * suc left + sum_by most (if b then k ∷ ks else ks)) ≤ all
@@ -58,7 +51,7 @@ spend : (most : Key → ℕ) (b : Bool) (k : Key) (ks : List Key) (filters left 
 spend most false k ks filters left now new all few one = omega (arith, mul-suc filters left, few, one)
 spend most true k ks filters left now new all few one = omega (arith, mul-suc filters left, sum_by-cons most k ks, few, one)
 
-module _ (reply : Key → Option Reply) (most : Key → ℕ) (stock : Stock) (fs : List Filter) where
+module _ (too_much : Key → Bool) (most : Key → ℕ) (stock : Stock) (fs : List Filter) where
   -- what the search over these keys takes at most
   abbrev search_steps : List Key → ℕ
   search_steps ks = length fs * length ks + sum_by most (passing stock.keys fs ks)
@@ -68,13 +61,13 @@ module _ (reply : Key → Option Reply) (most : Key → ℕ) (stock : Stock) (fs
 
   -- whether there is nothing to tell of one of those that pass
   abbrev is_one_refused : List Key → Bool
-  is_one_refused ks = is_none (replies_of reply (passing stock.keys fs ks))
+  is_one_refused ks = list_any too_much (passing stock.keys fs ks)
 
   -- of the keys that are done there is something to tell
   pub record Searching (rest : List Id) (old now : ℕ) : Type 0 where
     pub left : List Key
     pub numbers : AreNumbersOf stock.ids left rest
-    pub alike : is_one_refused left ≡ is_none (replies_of reply (kept_selection stock.keys fs))
+    pub alike : is_one_refused left ≡ list_any too_much (kept_selection stock.keys fs)
     pub few : now + search_steps left ≤ old + all_steps
 
   begun : (ns : List Id) (now : ℕ) → All (IsLive stock.ids) ns → Covers stock fs ns → length ns ≤ fewest stock fs → Searching ns now now
@@ -87,8 +80,7 @@ module _ (reply : Key → Option Reply) (most : Key → ℕ) (stock : Stock) (fs
       record {
         left = of.0;
         numbers = of.1;
-        alike = none-any reply (passing stock.keys fs of.0) ∙ sym (list_any-IsPermutation (λ k. is_none (reply k)) (kept_selection stock.keys fs) (passing stock.keys fs of.0) moved)
-            ∙ sym (none-any reply (kept_selection stock.keys fs));
+        alike = sym (list_any-IsPermutation too_much (kept_selection stock.keys fs) (passing stock.keys fs of.0) moved);
         few = omega (arith, sums, steps);
       }
 
@@ -97,7 +89,7 @@ module _ (reply : Key → Option Reply) (most : Key → ℕ) (stock : Stock) (fs
 
   -- what was found out of a key, by its number
   pub record Tried (id : Id) (now new : ℕ) (refused : Bool) : Type 0 where
-    pub is : (key : Key) → get key stock.ids ≡ Some id → refused ≡ (all_hold fs (kept_labels_at (get key stock.keys)) && is_none (reply key))
+    pub is : (key : Key) → get key stock.ids ≡ Some id → refused ≡ (all_hold fs (kept_labels_at (get key stock.keys)) && too_much key)
     pub steps : (key : Key) → get key stock.ids ≡ Some id → new ≤ now + (length fs + (if all_hold fs (kept_labels_at (get key stock.keys)) then most key else 0))
 
   module _ (n : Id) (rest more : List Id) (old now : ℕ) (split : rest ≡ n ∷ more) (so_far : Searching rest old now) where
@@ -116,23 +108,23 @@ module _ (reply : Key → Option Reply) (most : Key → ℕ) (stock : Stock) (fs
       pub search-more : refused ≡ false → Searching more old new
       search-more told = pick so_far.left (subst (AreNumbersOf stock.ids so_far.left) split so_far.numbers) so_far.alike so_far.few
         where
-          pick : (left : List Key) → AreNumbersOf stock.ids left (n ∷ more) → is_one_refused left ≡ is_none (replies_of reply (kept_selection stock.keys fs))
+          pick : (left : List Key) → AreNumbersOf stock.ids left (n ∷ more) → is_one_refused left ≡ list_any too_much (kept_selection stock.keys fs)
               → now + search_steps left ≤ old + all_steps → Searching more old new
           pick [] are like few = absurd are
           pick (k ∷ ks) are like few = record {
             left = ks;
             numbers = are.1;
-            alike = sym (skip reply (all_hold fs (kept_labels_at (get k stock.keys))) k (passing stock.keys fs ks) (sym (tried.is k are.0) ∙ told)) ∙ like;
+            alike = sym (skip too_much (all_hold fs (kept_labels_at (get k stock.keys))) k (passing stock.keys fs ks) (sym (tried.is k are.0) ∙ told)) ∙ like;
             few = spent k ks are.0 few;
           }
 
       -- there is nothing to tell of it
-      pub search-found : refused ≡ true → is_none (replies_of reply (kept_selection stock.keys fs)) ≡ true
+      pub search-found : refused ≡ true → list_any too_much (kept_selection stock.keys fs) ≡ true
       search-found none = pick so_far.left (subst (AreNumbersOf stock.ids so_far.left) split so_far.numbers) so_far.alike
         where
-          pick : (left : List Key) → AreNumbersOf stock.ids left (n ∷ more) → is_one_refused left ≡ is_none (replies_of reply (kept_selection stock.keys fs)) → is_none (replies_of reply (kept_selection stock.keys fs)) ≡ true
+          pick : (left : List Key) → AreNumbersOf stock.ids left (n ∷ more) → is_one_refused left ≡ list_any too_much (kept_selection stock.keys fs) → list_any too_much (kept_selection stock.keys fs) ≡ true
           pick [] are like = absurd are
-          pick (k ∷ ks) are like = sym like ∙ stop reply (all_hold fs (kept_labels_at (get k stock.keys))) k (passing stock.keys fs ks) (sym (tried.is k are.0) ∙ none)
+          pick (k ∷ ks) are like = sym like ∙ stop too_much (all_hold fs (kept_labels_at (get k stock.keys))) k (passing stock.keys fs ks) (sym (tried.is k are.0) ∙ none)
 
       pub search-few : new ≤ old + all_steps
       search-few = pick so_far.left (subst (AreNumbersOf stock.ids so_far.left) split so_far.numbers) so_far.few
@@ -142,10 +134,10 @@ module _ (reply : Key → Option Reply) (most : Key → ℕ) (stock : Stock) (fs
           pick (k ∷ ks) are few = let all = spent k ks are.0 few in omega (arith, all)
 
   -- at the end of the search
-  pub search-none : (rest : List Id) (old now : ℕ) → rest ≡ [] → Searching rest old now → is_none (replies_of reply (kept_selection stock.keys fs)) ≡ false
+  pub search-none : (rest : List Id) (old now : ℕ) → rest ≡ [] → Searching rest old now → list_any too_much (kept_selection stock.keys fs) ≡ false
   search-none rest old now none so_far = pick so_far.left (subst (AreNumbersOf stock.ids so_far.left) none so_far.numbers) so_far.alike
     where
-      pick : (left : List Key) → AreNumbersOf stock.ids left [] → is_one_refused left ≡ is_none (replies_of reply (kept_selection stock.keys fs)) → is_none (replies_of reply (kept_selection stock.keys fs)) ≡ false
+      pick : (left : List Key) → AreNumbersOf stock.ids left [] → is_one_refused left ≡ list_any too_much (kept_selection stock.keys fs) → list_any too_much (kept_selection stock.keys fs) ≡ false
       pick [] are like = sym like
       pick (k ∷ ks) are like = absurd are
 

@@ -26,9 +26,9 @@ wanted_steps stock wanted.Key key = 0
 wanted_steps stock (wanted.Last latest show) key = 0
 wanted_steps stock (wanted.Rows latest show query filters) key = question_steps stock key query.from query.to
 
--- to see whether a key passes filters, and whether what is told of it is too much
-abbrev pub tried_steps : Stock → List Filter → Wanted → Key → ℕ
-tried_steps stock filters w key = length filters + (if all_hold filters (kept_labels_at (get key stock.keys)) then wanted_steps stock w key else 0)
+-- to see whether a key passes filters, and whether what is told of it is too much, which takes so many
+abbrev pub tried_steps : Stock → List Filter → (most : Key → ℕ) → Key → ℕ
+tried_steps stock filters most key = length filters + (if all_hold filters (kept_labels_at (get key stock.keys)) then most key else 0)
 
 -- Each command takes no more steps than its change or its question, and none where no sample is looked at. The triples of TS.MADD
 -- are writes one after another, each of which takes what it may on the database that it meets.
@@ -39,7 +39,7 @@ IsBounded stock reading (Incr key change at spec) old new = new ≤ old + write_
 IsBounded stock reading (Madd triples) old new = ⊤
 IsBounded stock reading (DelRange key from to) old new = new ≤ old + deletion_steps stock key from to
 IsBounded stock reading (Range key latest query) old new = new ≤ old + question_steps stock key query.from query.to
-IsBounded stock reading (MRange latest show filters query) old new = new ≤ old + questions_steps stock filters query.from query.to
+IsBounded stock reading (MRange latest show filters query group) old new = new ≤ old + questions_steps stock filters query.from query.to
 IsBounded stock reading (MGet latest show filters) old new = new ≤ old + selection_steps stock filters
 IsBounded stock reading (QueryIndex filters) old new = new ≤ old + selection_steps stock filters
 IsBounded stock reading (InfoOf key) old new = new ≤ old + 2 * reach_at stock key

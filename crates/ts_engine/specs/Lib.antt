@@ -7,6 +7,7 @@ pub mod Captured
 pub mod Ending
 pub mod Generated
 pub mod Going
+pub mod Grouping
 pub mod Headline
 pub mod Keeping
 pub mod Limits

@@ -1,5 +1,5 @@
 -- Answers over many series, member by member.
-use Rattle.std.specs.Prelude.{◌≡◌, ◌&&◌, ⊤, is_none, Bool, true, false, ℕ, List, [], ◌∷◌, ◌++◌, map, Option, None, Some, option_map, Result, Ok, Err}
+use Rattle.std.specs.Prelude.{◌≡◌, ◌&&◌, ⊤, is_none, Bool, true, false, ℕ, List, [], ◌∷◌, ◌++◌, map, flat_map, Option, None, Some, option_map, Result, Ok, Err}
 use Rattle.std.specs.Option.{ForSome}
 use Rattle.std.specs.declared.alloc.AllocError.{AllocError}
 use Rattle.ts_spec.specs.declared.limits.Limits.{Limits}
@@ -44,46 +44,49 @@ reply_at limits m wanted.Key k = Some (Bulk k)
 reply_at limits m (wanted.Last latest show) k = Some (last_member_reply (kept_last_member m latest (show_of show) k))
 reply_at limits m (wanted.Rows latest show query filters) k = rows_at limits m latest (show_of show) (query_of query) k
 
-abbrev pub replies_then : Option Reply → Option (List Reply) → Option (List Reply)
-replies_then None others = None
-replies_then (Some reply) None = None
-replies_then (Some reply) (Some others) = Some (reply ∷ others)
+abbrev pub told_then : {X : Type 0} → Option X → Option (List X) → Option (List X)
+told_then None others = None
+told_then (Some one) None = None
+told_then (Some one) (Some others) = Some (one ∷ others)
 
 -- what is told of keys, unless there is nothing to tell of one
-abbrev pub replies_of : (Key → Option Reply) → List Key → Option (List Reply)
-replies_of reply [] = Some []
-replies_of reply (k ∷ ks) = replies_then (reply k) (replies_of reply ks)
+abbrev pub each_told : {X : Type 0} → (Key → Option X) → List Key → Option (List X)
+each_told told [] = Some []
+each_told told (k ∷ ks) = told_then (told k) (each_told told ks)
 
--- the text of a reply was added
-abbrev pub IsAdded : Option Reply → (before after : List ℕ) → Type 0
-IsAdded None before after = ⊥
-IsAdded (Some reply) before after = after ≡ before ++ text reply
+-- what is told was added, as it is written
+abbrev pub IsAdded : {X Y : Type 0} → (X → List Y) → Option X → (before after : List Y) → Type 0
+IsAdded written None before after = ⊥
+IsAdded written (Some one) before after = after ≡ before ++ written one
 
--- the text of a reply was added, unless memory was lost; in either case there is one
-abbrev pub IsAddedOrLost : (lost : Bool) → Option Reply → (before after : List ℕ) → Type 0
-IsAddedOrLost lost None before after = ⊥
-IsAddedOrLost lost (Some reply) before after = lost ≡ false → after ≡ before ++ text reply
+-- what is told was added, unless memory was lost; in either case there is something to tell
+abbrev pub IsAddedOrLost : {X Y : Type 0} → (X → List Y) → (lost : Bool) → Option X → (before after : List Y) → Type 0
+IsAddedOrLost written lost None before after = ⊥
+IsAddedOrLost written lost (Some one) before after = lost ≡ false → after ≡ before ++ written one
 
--- the same of an array of replies
+-- the text of an array of replies was added, unless memory was lost; in either case there is one
 abbrev pub AreAddedOrLost : (lost : Bool) → Option (List Reply) → (before after : List ℕ) → Type 0
 AreAddedOrLost lost None before after = ⊥
 AreAddedOrLost lost (Some replies) before after = lost ≡ false → after ≡ before ++ text (array replies)
 
+-- all that is told of keys was added as it is, unless memory was lost; in either case there is something to tell of each
+abbrev pub AreGatheredOrLost : {Y : Type 0} → (lost : Bool) → Option (List (List Y)) → (before after : List Y) → Type 0
+AreGatheredOrLost lost None before after = ⊥
+AreGatheredOrLost lost (Some all) before after = lost ≡ false → after ≡ before ++ flat_map (λ ys. ys) all
+
+-- whether there is nothing to tell of a key
+abbrev pub is_too_much_at : Wanted → Stock → Key → Bool
+is_too_much_at w stock k = is_none (reply_at stock.limits stock.keys w k)
+
 -- whether a key passes filters, and there is nothing to tell of it
-abbrev pub is_refused_at : Stock → List Filter → Wanted → Key → Bool
-is_refused_at stock fs w k = all_hold fs (kept_labels_at (get k stock.keys)) && is_none (reply_at stock.limits stock.keys w k)
+abbrev pub is_refused_at : Stock → List Filter → (is_too_much : Key → Bool) → Key → Bool
+is_refused_at stock fs is_too_much k = all_hold fs (kept_labels_at (get k stock.keys)) && is_too_much k
 
 -- the filters of a query, where there was memory for them, let through what the query does
 abbrev pub AreAsAsked : Wanted → Type 0
 AreAsAsked wanted.Key = ⊤
 AreAsAsked (wanted.Last latest show) = ⊤
 AreAsAsked (wanted.Rows latest show query filters) = ForSome filters (λ f. (p : Point) → passes f p ≡ is_let_through (query_of query) p)
-
--- whether something of a kind can be too much
-abbrev pub can_be_refused : Wanted → Bool
-can_be_refused wanted.Key = false
-can_be_refused (wanted.Last latest show) = false
-can_be_refused (wanted.Rows latest show query filters) = true
 
 -- the response over the series that pass filters
 abbrev pub many_response : Held → Wanted → List Filter → Response

@@ -14,12 +14,12 @@ use crate::info::put_info;
 use crate::keys::{count_keys, drop_keys};
 use crate::members::put_members;
 use crate::questions::{put_get, put_range};
+use crate::ranges::put_ranges;
 use crate::rules::{create_rule, delete_rule};
 use crate::wanted::Wanted;
 use std::sync::ledger::Ledger;
 use ts_command::Command;
 use ts_db::Db;
-use ts_range::Filters;
 use ts_resp::{Out, put};
 use ts_sample::Steps;
 
@@ -78,15 +78,8 @@ pub fn execute<L: Ledger>(
             show,
             filters,
             query,
-        } => {
-            let wanted = Wanted::Rows {
-                latest,
-                show,
-                filters: Filters::of(&query).ok(),
-                query,
-            };
-            put_members(db, &filters, &wanted, out, steps);
-        }
+            group,
+        } => put_ranges(db, &filters, latest, show, query, group, out, steps),
         Command::Get { key, latest } => put_get(db, &key, latest, out, steps),
         Command::MGet {
             latest,

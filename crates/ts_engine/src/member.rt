@@ -40,7 +40,7 @@ pub(crate) fn add_member<L: Ledger>(
 ) -> Result<(), RangeFault>
     requires live { IsLive db.now.ids id }
     requires lets { AreAsAsked wanted.now }
-    ensures added { OnOk result ((key : Key) → get key db.now.ids ≡ Some id → IsAdded (reply_at db.now.limits db.now.keys wanted.now key) out.old.bytes out.new.bytes) }
+    ensures added { OnOk result ((key : Key) → get key db.now.ids ≡ Some id → IsAdded text (reply_at db.now.limits db.now.keys wanted.now key) out.old.bytes out.new.bytes) }
     ensures fault { IfErr result (λ fault. (key : Key) → get key db.now.ids ≡ Some id → is_too_many fault ≡ is_none (reply_at db.now.limits db.now.keys wanted.now key)) }
     ensures room { length out.old.bytes + out.old.spare ≤ length out.new.bytes + out.new.spare }
     ensures steps { (key : Key) → get key db.now.ids ≡ Some id → steps.new ≤ steps.old + wanted_steps db.now wanted.now key }
@@ -70,8 +70,8 @@ pub(crate) fn is_refused<L: Ledger>(db: &Db, id: Id, wanted: &Wanted, steps: &mu
     }
 }
 
-// What comes of a call that may only find no memory.
-fn in_memory(done: Result<(), AllocError>) -> Result<(), RangeFault>
+/// What comes of a call that may only find no memory.
+pub(crate) fn in_memory(done: Result<(), AllocError>) -> Result<(), RangeFault>
     ensures { result ≡ in_memory done }
 {
     match done {
@@ -124,7 +124,7 @@ fn add_rows<L: Ledger>(
     requires live { IsLive db.now.ids id }
     requires lets { ForSome filters.now (λ f. (p : Point) → passes f p ≡ is_let_through (query_of query.now) p) }
     ensures added { OnOk result ((key : Key) → get key db.now.ids ≡ Some id
-        → IsAdded (rows_at db.now.limits db.now.keys latest (show_of show.now) (query_of query.now) key) out.old.bytes out.new.bytes) }
+        → IsAdded text (rows_at db.now.limits db.now.keys latest (show_of show.now) (query_of query.now) key) out.old.bytes out.new.bytes) }
     ensures fault { IfErr result (λ fault. (key : Key) → get key db.now.ids ≡ Some id
         → is_too_many fault ≡ is_none (rows_at db.now.limits db.now.keys latest (show_of show.now) (query_of query.now) key)) }
     ensures room { length out.old.bytes + out.old.spare ≤ length out.new.bytes + out.new.spare }
@@ -138,8 +138,8 @@ fn add_rows<L: Ledger>(
     in_memory(encode_member(db.key_of(id), db.labels_of(id), show, &rows, out))
 }
 
-// That the rows are too many, or else that there is no memory for them.
-fn lost(are_too_many: bool) -> RangeFault
+/// That the rows are too many, or else that there is no memory for them.
+pub(crate) fn lost(are_too_many: bool) -> RangeFault
     ensures { are_too_many ≡ is_too_many result }
 {
     if are_too_many {
@@ -148,8 +148,11 @@ fn lost(are_too_many: bool) -> RangeFault
     RangeFault::Memory(AllocError)
 }
 
-// The rows that answer a question, unless they are too many.
-fn rows_of<L: Ledger>(question: &Question<'_>, steps: &mut Steps<L>) -> Result<Vec<Row>, RangeFault>
+/// The rows that answer a question, unless they are too many.
+pub(crate) fn rows_of<L: Ledger>(
+    question: &Question<'_>,
+    steps: &mut Steps<L>,
+) -> Result<Vec<Row>, RangeFault>
     ensures rows { IfOk result (λ found. answer_asked question.now ≡ Some (map row_of found.items)) }
     ensures fault { IfErr result (λ fault. is_too_many fault ≡ is_none (answer_asked question.now)) }
     ensures steps { steps.new ≤ steps.old + question_steps question.now.db.now (key_asked question.now) question.now.query.now.from question.now.query.now.to }

@@ -10,12 +10,13 @@ ghost use Rattle.ts_db.specs.Bounds.{selection_steps};
 ghost use Rattle.ts_db.specs.Held.{Held, Stands, IsLive, AreNumbersOf};
 ghost use Rattle.ts_engine.specs.Answering.{IsReplyText};
 ghost use Rattle.ts_engine.specs.Bounds.{wanted_steps};
-ghost use Rattle.ts_engine.specs.Members.{reply_at, replies_of, AreAsAsked, IsAddedOrLost, AreAddedOrLost, many_response};
+ghost use Rattle.ts_engine.specs.Members.{reply_at, each_told, AreAsAsked, IsAddedOrLost, AreAddedOrLost, many_response};
 
 use crate::answers::too_many_rows;
-use crate::member::{add_member, is_refused};
+use crate::member::add_member;
 use crate::room::put_no_memory;
 use crate::search::put_unselected;
+use crate::telling::Telling;
 use crate::wanted::Wanted;
 use std::sync::ledger::Ledger;
 use ts_db::{Db, Id};
@@ -78,9 +79,9 @@ fn add_members<L: Ledger>(
     requires live { All (IsLive db.now.ids) ids.now }
     requires lets { AreAsAsked wanted.now }
     ensures added { IfOk result (λ lost. (keys : List Key) → AreNumbersOf db.now.ids keys ids.now
-        → AreAddedOrLost lost (replies_of (reply_at db.now.limits db.now.keys wanted.now) keys) out.old.bytes out.new.bytes) }
+        → AreAddedOrLost lost (each_told (reply_at db.now.limits db.now.keys wanted.now) keys) out.old.bytes out.new.bytes) }
     ensures refused { IfErr result (λ fault. (keys : List Key) → AreNumbersOf db.now.ids keys ids.now
-        → replies_of (reply_at db.now.limits db.now.keys wanted.now) keys ≡ None) }
+        → each_told (reply_at db.now.limits db.now.keys wanted.now) keys ≡ None) }
     ensures room { length out.old.bytes + out.old.spare ≤ length out.new.bytes + out.new.spare }
     ensures steps { (keys : List Key) → AreNumbersOf db.now.ids keys ids.now → steps.new ≤ steps.old + sum_by (wanted_steps db.now wanted.now) keys }
 {
@@ -114,14 +115,14 @@ fn add_next<L: Ledger>(
 ) -> Result<bool, RangeFault>
     requires live { IsLive db.now.ids id }
     requires lets { AreAsAsked wanted.now }
-    ensures added { IfOk result (λ now. (key : Key) → get key db.now.ids ≡ Some id → IsAddedOrLost now (reply_at db.now.limits db.now.keys wanted.now key) out.old.bytes out.new.bytes) }
+    ensures added { IfOk result (λ now. (key : Key) → get key db.now.ids ≡ Some id → IsAddedOrLost text now (reply_at db.now.limits db.now.keys wanted.now key) out.old.bytes out.new.bytes) }
     ensures stays { IfOk result (λ now. now ≡ false → lost ≡ false) }
     ensures refused { IfErr result (λ fault. (key : Key) → get key db.now.ids ≡ Some id → reply_at db.now.limits db.now.keys wanted.now key ≡ None) }
     ensures room { length out.old.bytes + out.old.spare ≤ length out.new.bytes + out.new.spare }
     ensures steps { (key : Key) → get key db.now.ids ≡ Some id → steps.new ≤ steps.old + wanted_steps db.now wanted.now key }
 {
     if lost {
-        if is_refused(db, id, wanted, steps) {
+        if wanted.is_refused(db, id, steps) {
             return Err(RangeFault::EmptyRows);
         }
         return Ok(true);

@@ -1,5 +1,6 @@
 // What is said over many series where there is no memory for their numbers: whether the rows of one are too many.
-ghost use Rattle.std.specs.Prelude.{◌≡◌, ◌+◌, ◌≤◌, [], is_none, length, sum_by, Some};
+ghost use Rattle.std.specs.Prelude.{◌≡◌, ◌+◌, ◌≤◌, [], length, sum_by, Some};
+ghost use Rattle.std.specs.List.{list_any};
 ghost use Rattle.ts_spec.specs.Key.{Key};
 ghost use Rattle.ts_spec.specs.Keyed.{get};
 ghost use Rattle.ts_spec.specs.KeptQuestions.{kept_selection};
@@ -7,11 +8,11 @@ ghost use Rattle.ts_db.specs.Bounds.{selection_steps};
 ghost use Rattle.ts_db.specs.Held.{Held, Stands, IsLive};
 ghost use Rattle.ts_engine.specs.Answering.{IsReplyText};
 ghost use Rattle.ts_engine.specs.Bounds.{wanted_steps, tried_steps};
-ghost use Rattle.ts_engine.specs.Members.{reply_at, replies_of, is_refused_at, many_response};
+ghost use Rattle.ts_engine.specs.Members.{is_refused_at, many_response};
 
 use crate::answers::too_many_rows;
-use crate::member::is_refused;
 use crate::room::put_no_memory;
+use crate::telling::Telling;
 use crate::wanted::Wanted;
 use std::sync::ledger::Ledger;
 use ts_db::{Db, Id};
@@ -40,21 +41,21 @@ pub(crate) fn put_unselected<L: Ledger>(
     put_no_memory(out);
 }
 
-// Whether what is told of a series that passes filters is too much. Takes no memory.
-fn is_one_refused<L: Ledger>(
+/// Whether what is told of a series that passes filters is too much. Takes no memory.
+pub(crate) fn is_one_refused<T: Telling, L: Ledger>(
     db: &Db,
     filters: &[Filter],
-    wanted: &Wanted,
+    telling: &T,
     steps: &mut Steps<L>,
 ) -> bool
-    ensures refused { result ≡ is_none (replies_of (reply_at db.now.limits db.now.keys wanted.now) (kept_selection db.now.keys filters.now)) }
-    ensures steps { steps.new ≤ steps.old + (selection_steps db.now filters.now + sum_by (wanted_steps db.now wanted.now) (kept_selection db.now.keys filters.now)) }
+    ensures refused { result ≡ list_any (T.is_too_much telling.now db.now) (kept_selection db.now.keys filters.now) }
+    ensures steps { steps.new ≤ steps.old + (selection_steps db.now filters.now + sum_by (T.most telling.now db.now) (kept_selection db.now.keys filters.now)) }
 {
-    if !wanted.can_be_refused() {
+    if !telling.can_be_refused() {
         return false;
     }
     for id in db.candidates(filters) {
-        if is_refused_of(db, id, filters, wanted, steps) {
+        if is_refused_of(db, id, filters, telling, steps) {
             return true;
         }
     }
@@ -62,19 +63,19 @@ fn is_one_refused<L: Ledger>(
 }
 
 // Whether the key of a number passes filters, and what is told of it is too much.
-fn is_refused_of<L: Ledger>(
+fn is_refused_of<T: Telling, L: Ledger>(
     db: &Db,
     id: Id,
     filters: &[Filter],
-    wanted: &Wanted,
+    telling: &T,
     steps: &mut Steps<L>,
 ) -> bool
     requires { IsLive db.now.ids id }
-    ensures refused { (key : Key) → get key db.now.ids ≡ Some id → result ≡ is_refused_at db.now filters.now wanted.now key }
-    ensures steps { (key : Key) → get key db.now.ids ≡ Some id → steps.new ≤ steps.old + tried_steps db.now filters.now wanted.now key }
+    ensures refused { (key : Key) → get key db.now.ids ≡ Some id → result ≡ is_refused_at db.now filters.now (T.is_too_much telling.now db.now) key }
+    ensures steps { (key : Key) → get key db.now.ids ≡ Some id → steps.new ≤ steps.old + tried_steps db.now filters.now (T.most telling.now db.now) key }
 {
     if !db.passes(id, filters, steps) {
         return false;
     }
-    is_refused(db, id, wanted, steps)
+    telling.is_refused(db, id, steps)
 }

@@ -1,10 +1,12 @@
 use Rattle.std.proofs.Common.{ℕ, ◌+◌, ◌≤◌, List, refl, ◌∙◌, ap, subst, arith}
 use Rattle.ts_labels.specs.Spec.{spec_of, change_of}
 use Rattle.ts_labels.specs.Show.{show_of}
-use Rattle.ts_spec.specs.Filter.{Filter}
+use Rattle.ts_spec.specs.Filter.{Filter, selection}
+use Rattle.ts_spec.specs.Groups.{ranges_response}
+use Rattle.ts_command.specs.GroupBy.{group_of}
 use Rattle.ts_engine.specs.Answering.{IsReplyText}
 use Rattle.ts_engine.specs.Members.{many_response}
-use Rattle.ts_engine.specs.declared.wanted.Wanted.TheVariants.{Last, Rows}
+use Rattle.ts_engine.specs.declared.wanted.Wanted.TheVariants.{Last}
 use Rattle.ts_engine.specs.declared.wanted.Wanted.TheVariants as wanted
 use Rattle.ts_range.specs.Query.{query_of}
 use Rattle.ts_resp.specs.Replies.{reply_of}
@@ -18,10 +20,10 @@ use Rattle.ts_spec.specs.Step.{time_of, create, alter_at, add_at, incr_at, delet
 use Rattle.ts_db.specs.Held.{Held, Stands, Carries, YieldsToMemory}
 use Rattle.ts_engine.specs.Turn.{IsStep, StepOrMemory, takes_memory}
 use Rattle.ts_engine.proofs.Executed.{alone, step_executes, sure_executes, executes_with, asks_execute, asks_surely, pings_execute}
-use Rattle.std.specs.Prelude.{sum_by, IsTrue}
+use Rattle.std.specs.Prelude.{IsTrue, option_map}
 use Rattle.ts_spec.specs.KeptQuestions.{kept_selection}
 use Rattle.ts_db.specs.Bounds.{write_steps, selection_steps}
-use Rattle.ts_engine.specs.Bounds.{wanted_steps}
+use Rattle.ts_engine.specs.Bounds.{questions_steps}
 use Rattle.ts_engine.proofs.MemberBounds.{sum-none}
 use Rattle.ts_engine.proofs.execution.execute.Goals as goal
 
@@ -78,10 +80,10 @@ returns-in-Range-clause-executes g c =
 
 pub returns-in-MRange-clause-executes : goal.returns-in-MRange-clause-executes
 returns-in-MRange-clause-executes g c =
-    let wanted = Rows c.in-MRange.latest c.in-MRange.show c.in-MRange.query c.ok.result in
-    rw c.in-MRange.is (asks_execute c.args.reading (MRange c.in-MRange.latest (show_of c.in-MRange.show) c.in-MRange.filters.items (query_of c.in-MRange.query)) c.args.db.now c.put_members.new.out.bytes
-    (λ (h : Held). many_response h wanted c.in-MRange.filters.items) (λ (h : Held). YieldsToMemory (many_response h wanted c.in-MRange.filters.items)) (λ from y. (refl, y)) (λ from. record { says = refl; state = refl; limits = refl })
-    (subst (λ (fs : List Filter). (from : Held) → Stands c.args.db.now from → IsReplyText (many_response from wanted fs) c.put_members.new.out.bytes) c.deref.ensures.value c.put_members.ensures.reply))
+    let asked = λ (fs : List Filter) (h : Held). ranges_response h.limits h.state c.in-MRange.latest (show_of c.in-MRange.show) (query_of c.in-MRange.query) (option_map group_of c.in-MRange.group) (selection h.state fs) in
+    rw c.in-MRange.is (asks_execute c.args.reading (MRange c.in-MRange.latest (show_of c.in-MRange.show) c.in-MRange.filters.items (query_of c.in-MRange.query) (option_map group_of c.in-MRange.group)) c.args.db.now c.put_ranges.new.out.bytes
+    (asked c.in-MRange.filters.items) (λ (h : Held). YieldsToMemory (asked c.in-MRange.filters.items h)) (λ from y. (refl, y)) (λ from. record { says = refl; state = refl; limits = refl })
+    (subst (λ (fs : List Filter). (from : Held) → Stands c.args.db.now from → IsReplyText (asked fs from) c.put_ranges.new.out.bytes) c.deref.ensures.value c.put_ranges.ensures.reply))
 
 pub returns-in-MGet-clause-executes : goal.returns-in-MGet-clause-executes
 returns-in-MGet-clause-executes g c =
@@ -161,11 +163,9 @@ returns-in-Range-clause-steps g c = rw c.in-Range.is c.put_range.ensures.steps
 
 pub returns-in-MRange-clause-steps : goal.returns-in-MRange-clause-steps
 returns-in-MRange-clause-steps g c =
-    let stock = c.args.db.now in
-    let wanted = Rows c.in-MRange.latest c.in-MRange.show c.in-MRange.query c.ok.result in
     rw c.in-MRange.is
-    (subst (λ (fs : List Filter). c.put_members.new.steps ≤ c.args.steps.now + (selection_steps stock fs + sum_by (wanted_steps stock wanted) (kept_selection stock.keys fs)))
-    c.deref.ensures.value c.put_members.ensures.steps)
+    (subst (λ (fs : List Filter). c.put_ranges.new.steps ≤ c.args.steps.now + questions_steps c.args.db.now fs c.in-MRange.query.from c.in-MRange.query.to)
+    c.deref.ensures.value c.put_ranges.ensures.steps)
 
 -- a selection of which no rows are told
 pub returns-in-MGet-clause-steps : goal.returns-in-MGet-clause-steps

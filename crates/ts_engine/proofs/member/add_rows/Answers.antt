@@ -67,7 +67,7 @@ returns-clause-added g c =
     let m = c.args.db.now.keys in
     in-memory-done c.encode_member.result c.in_memory.result
     (c.encode_member.new.out.bytes ≡ c.args.out.now.bytes ++ text (member_reply (member_with c.args.show.now c.key_of.result.now c.labels_of.result.now (map row_of c.deref.result.now))))
-    ((key : Key) → get key c.args.db.now.ids ≡ Some c.args.id → IsAdded (rows_at c.args.db.now.limits m c.args.latest (show_of c.args.show.now) (query_of c.args.query.now) key) c.args.out.now.bytes c.encode_member.new.out.bytes)
+    ((key : Key) → get key c.args.db.now.ids ≡ Some c.args.id → IsAdded text (rows_at c.args.db.now.limits m c.args.latest (show_of c.args.show.now) (query_of c.args.query.now) key) c.args.out.now.bytes c.encode_member.new.out.bytes)
     c.in_memory.ensures
     (λ written key at.
     rows-added c.args.db.now.limits m c.args.latest (show_of c.args.show.now) (query_of c.args.query.now) key (map row_of c.in_ok-rows.rows.items)

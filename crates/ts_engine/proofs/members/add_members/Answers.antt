@@ -3,7 +3,7 @@ use Rattle.std.proofs.Math.ListN.{drop_of_length-le}
 use Rattle.std.proofs.lemmas.List.{drop_more}
 use Rattle.std.proofs.lemmas.Result.{err_from_is_err_and}
 use Rattle.std.specs.Fmt.{decimal}
-use Rattle.ts_spec.specs.Text.{line_text}
+use Rattle.ts_spec.specs.Text.{line_text, text}
 use Rattle.ts_engine.specs.Members.{reply_at}
 use Rattle.ts_engine.proofs.ManyTexts.{so-far-none, so-far-more, none-told, all-told}
 use Rattle.ts_engine.specs.Bounds.{wanted_steps}
@@ -12,7 +12,7 @@ use Rattle.ts_engine.proofs.members.add_members.Goals as goal
 
 pub loop-id-init : goal.loop-id-init
 loop-id-init g c = record {
-  told = λ keys are. so-far-none (reply_at c.args.db.now.limits c.args.db.now.keys c.args.wanted.now) c.args.db.now.ids keys c.args.ids.now
+  told = λ keys are. so-far-none text (reply_at c.args.db.now.limits c.args.db.now.keys c.args.wanted.now) c.args.db.now.ids keys c.args.ids.now
       (c.args.out.now.bytes ++ line_text 42 (decimal (length c.args.ids.now))) c.begin_members-lost.new.out.bytes c.begin_members-lost.result are c.begin_members-lost.ensures.begun;
   steps = λ keys are. left-all (wanted_steps c.args.db.now c.args.wanted.now) c.args.db.now.ids keys c.args.ids.now c.args.steps.now are;
   room = c.begin_members-lost.ensures.room;
@@ -30,7 +30,7 @@ pub returns-in_err-lost-clause-refused : goal.returns-in_err-lost-clause-refused
 returns-in_err-lost-clause-refused g c =
     let p = err_from_is_err_and c.from_residual.result c.from_residual.ensures.1 in
     rw p.1 (λ keys are.
-    none-told (reply_at c.args.db.now.limits c.args.db.now.keys c.args.wanted.now) c.args.db.now.ids keys _
+    none-told text (reply_at c.args.db.now.limits c.args.db.now.keys c.args.wanted.now) c.args.db.now.ids keys _
     (drop c.loop-id.id-index c.args.ids.now) (drop (c.loop-id.id-index + 1) c.args.ids.now)
     (c.args.out.now.bytes ++ line_text 42 (decimal (length c.args.ids.now))) c.loop-id.out.bytes c.loop-id.lost
     (drop_more c.args.ids.now c.loop-id.id-index _ c.loop-id-test.true)
@@ -39,7 +39,7 @@ returns-in_err-lost-clause-refused g c =
 
 pub loop-id-preserved : goal.loop-id-preserved
 loop-id-preserved g c = record {
-  told = λ keys are. so-far-more (reply_at c.args.db.now.limits c.args.db.now.keys c.args.wanted.now) c.args.db.now.ids keys _
+  told = λ keys are. so-far-more text (reply_at c.args.db.now.limits c.args.db.now.keys c.args.wanted.now) c.args.db.now.ids keys _
       (drop c.loop-id.id-index c.args.ids.now) (drop (c.loop-id.id-index + 1) c.args.ids.now)
       (c.args.out.now.bytes ++ line_text 42 (decimal (length c.args.ids.now))) c.loop-id.out.bytes c.add_next.new.out.bytes c.loop-id.lost c.in_ok-lost.lost
       (drop_more c.args.ids.now c.loop-id.id-index _ c.loop-id-test.true)

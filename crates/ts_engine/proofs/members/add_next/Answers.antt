@@ -1,4 +1,5 @@
 use Rattle.std.proofs.Common.{ap, sym, ◌∙◌}
+use Rattle.ts_spec.specs.Text.{text}
 use Rattle.ts_engine.specs.Members.{is_too_many, reply_at}
 use Rattle.ts_engine.proofs.ManyReplies.{none-by}
 use Rattle.ts_engine.proofs.ManyTexts.{added-kept, told-lost}
@@ -10,14 +11,14 @@ returns-then-is_refused-clause-refused g c = λ key at.
 
 pub returns-then-lost-clause-added : goal.returns-then-lost-clause-added
 returns-then-lost-clause-added g c = λ key at.
-    told-lost (reply_at c.args.db.now.limits c.args.db.now.keys c.args.wanted.now key) c.args.out.now.bytes c.args.out.now.bytes
+    told-lost text (reply_at c.args.db.now.limits c.args.db.now.keys c.args.wanted.now key) c.args.out.now.bytes c.args.out.now.bytes
     (sym (c.is_refused.ensures.refused key at) ∙ c.if-is_refused.false)
 
 pub returns-in-Ok-clause-added : goal.returns-in-Ok-clause-added
 returns-in-Ok-clause-added g c = λ key at.
-    added-kept (reply_at c.args.db.now.limits c.args.db.now.keys c.args.wanted.now key) c.args.out.now.bytes c.add_member.new.out.bytes (c.in-Ok.ensures.added key at)
+    added-kept text (reply_at c.args.db.now.limits c.args.db.now.keys c.args.wanted.now key) c.args.out.now.bytes c.add_member.new.out.bytes (c.in-Ok.ensures.added key at)
 
 pub returns-in-Err-Memory-clause-added : goal.returns-in-Err-Memory-clause-added
 returns-in-Err-Memory-clause-added g c = λ key at.
-    told-lost (reply_at c.args.db.now.limits c.args.db.now.keys c.args.wanted.now key) c.args.out.now.bytes c.add_member.new.out.bytes
+    told-lost text (reply_at c.args.db.now.limits c.args.db.now.keys c.args.wanted.now key) c.args.out.now.bytes c.add_member.new.out.bytes
     (sym (c.in-Err-Memory.ensures.fault key at) ∙ ap is_too_many c.in-Err-Memory.field-0-is)

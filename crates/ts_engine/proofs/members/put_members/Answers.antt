@@ -1,4 +1,4 @@
-use Rattle.std.proofs.Common.{ℕ, ◌+◌, ◌≤◌, sym, ap, subst, ◌∙◌, arith}
+use Rattle.std.proofs.Common.{sym, ap, subst, ◌∙◌}
 use Rattle.std.specs.Prelude.{sum_by}
 use Rattle.ts_resp.specs.Replies.{reply_of}
 use Rattle.ts_spec.specs.KeptQuestions.{kept_selection}
@@ -8,6 +8,7 @@ use Rattle.ts_db.specs.Held.{AreNumbersOf}
 use Rattle.ts_engine.specs.Bounds.{wanted_steps}
 use Rattle.ts_engine.proofs.Executed.{alone}
 use Rattle.ts_engine.proofs.ManyTexts.{numbers-live}
+use Rattle.ts_engine.proofs.MemberBounds.{after-selection}
 use Rattle.ts_engine.proofs.ManyReplies.{many-refused, many-settled}
 use Rattle.ts_engine.proofs.members.put_members.Goals as goal
 
@@ -15,11 +16,6 @@ pub add_members-requires-clause-live : goal.add_members-requires-clause-live
 add_members-requires-clause-live g c =
     let keys = kept_selection c.args.db.now.keys c.args.filters.now in
     numbers-live c.args.db.now.ids keys c.deref.result.now (subst (AreNumbersOf c.args.db.now.ids keys) (sym c.deref.ensures.value) c.in-Ok.ensures.numbers)
-
--- the selection, and then the members
-module _ (old mid new selection members : ℕ) where
-  both : mid ≤ old + selection → new ≤ mid + members → new ≤ old + (selection + members)
-  both first later = omega (arith, first, later)
 
 pub returns-in-Ok-add_members-clause-reply : goal.returns-in-Ok-add_members-clause-reply
 returns-in-Ok-add_members-clause-reply g c =
@@ -38,11 +34,11 @@ returns-clause-reply g c =
 pub returns-in-Ok-add_members-clause-steps : goal.returns-in-Ok-add_members-clause-steps
 returns-in-Ok-add_members-clause-steps g c =
     let keys = kept_selection c.args.db.now.keys c.args.filters.now in
-    both c.args.steps.now c.select.new.steps c.add_members.new.steps (selection_steps c.args.db.now c.args.filters.now) (sum_by (wanted_steps c.args.db.now c.args.wanted.now) keys) c.select.ensures.steps
+    after-selection c.args.steps.now c.select.new.steps c.add_members.new.steps (selection_steps c.args.db.now c.args.filters.now) (sum_by (wanted_steps c.args.db.now c.args.wanted.now) keys) c.select.ensures.steps
     (c.add_members.ensures.steps keys (subst (AreNumbersOf c.args.db.now.ids keys) (sym c.deref.ensures.value) c.in-Ok.ensures.numbers))
 
 pub returns-clause-steps : goal.returns-clause-steps
 returns-clause-steps g c =
     let keys = kept_selection c.args.db.now.keys c.args.filters.now in
-    both c.args.steps.now c.select.new.steps c.add_members.new.steps (selection_steps c.args.db.now c.args.filters.now) (sum_by (wanted_steps c.args.db.now c.args.wanted.now) keys) c.select.ensures.steps
+    after-selection c.args.steps.now c.select.new.steps c.add_members.new.steps (selection_steps c.args.db.now c.args.filters.now) (sum_by (wanted_steps c.args.db.now c.args.wanted.now) keys) c.select.ensures.steps
     (c.add_members.ensures.steps keys (subst (AreNumbersOf c.args.db.now.ids keys) (sym c.deref.ensures.value) c.in-Ok.ensures.numbers))

@@ -1,10 +1,8 @@
 use Rattle.std.proofs.Common.{◌≡◌, Bool, true, false, ℕ, ◌+◌, ◌≤◌, length, sym, ap, ◌∙◌, arith}
-use Rattle.std.specs.Prelude.{◌&&◌, if◌then◌else◌, is_none}
+use Rattle.std.specs.Prelude.{◌&&◌, if◌then◌else◌}
 use Rattle.ts_spec.specs.Filter.{all_hold}
 use Rattle.ts_spec.specs.Keyed.{get}
 use Rattle.ts_spec.specs.KeptQuestions.{kept_labels_at}
-use Rattle.ts_engine.specs.Bounds.{wanted_steps}
-use Rattle.ts_engine.specs.Members.{reply_at}
 use Rattle.ts_engine.proofs.search.is_refused_of.Goals as goal
 
 -- after the filters come the steps of the key itself, where it is selected
@@ -17,19 +15,19 @@ module _ (filters old mid new most : ℕ) (tried : mid ≤ old + filters) where
 
 pub returns-then-not-passes-clause-refused : goal.returns-then-not-passes-clause-refused
 returns-then-not-passes-clause-refused g c = λ key at.
-    sym (ap (λ (b : Bool). b && is_none (reply_at c.args.db.now.limits c.args.db.now.keys c.args.wanted.now key)) (sym (c.passes.ensures.passes key at) ∙ c.if-not-passes.true))
+    sym (ap (λ (b : Bool). b && g.T.Telling.is_too_much c.args.telling.now c.args.db.now key) (sym (c.passes.ensures.passes key at) ∙ c.if-not-passes.true))
 
 pub returns-then-not-passes-clause-steps : goal.returns-then-not-passes-clause-steps
 returns-then-not-passes-clause-steps g c = λ key at.
-    failed (length c.args.filters.now) c.args.steps.now c.passes.new.steps c.passes.new.steps (wanted_steps c.args.db.now c.args.wanted.now key) c.passes.ensures.steps
+    failed (length c.args.filters.now) c.args.steps.now c.passes.new.steps c.passes.new.steps (g.T.Telling.most c.args.telling.now c.args.db.now key) c.passes.ensures.steps
     (all_hold c.args.filters.now (kept_labels_at (get key c.args.db.now.keys))) (sym (c.passes.ensures.passes key at) ∙ c.if-not-passes.true)
 
 pub returns-clause-refused : goal.returns-clause-refused
 returns-clause-refused g c = λ key at.
     c.is_refused.ensures.refused key at
-    ∙ sym (ap (λ (b : Bool). b && is_none (reply_at c.args.db.now.limits c.args.db.now.keys c.args.wanted.now key)) (sym (c.passes.ensures.passes key at) ∙ c.if-not-passes.false))
+    ∙ sym (ap (λ (b : Bool). b && g.T.Telling.is_too_much c.args.telling.now c.args.db.now key) (sym (c.passes.ensures.passes key at) ∙ c.if-not-passes.false))
 
 pub returns-clause-steps : goal.returns-clause-steps
 returns-clause-steps g c = λ key at.
-    passed (length c.args.filters.now) c.args.steps.now c.passes.new.steps c.is_refused.new.steps (wanted_steps c.args.db.now c.args.wanted.now key) c.passes.ensures.steps
+    passed (length c.args.filters.now) c.args.steps.now c.passes.new.steps c.is_refused.new.steps (g.T.Telling.most c.args.telling.now c.args.db.now key) c.passes.ensures.steps
     (all_hold c.args.filters.now (kept_labels_at (get key c.args.db.now.keys))) (sym (c.passes.ensures.passes key at) ∙ c.if-not-passes.false) (c.is_refused.ensures.steps key at)
