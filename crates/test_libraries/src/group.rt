@@ -37,12 +37,7 @@ fn no_value(time: u32) -> Row {
     }
 }
 
-fn member(
-    alloc: Global,
-    key: &str,
-    labels: Labels,
-    rows: Vec<Row>,
-) -> Result<Member, AllocError> {
+fn member(alloc: Global, key: &str, labels: Labels, rows: Vec<Row>) -> Result<Member, AllocError> {
     let key = word(alloc, key)?;
     Ok(Member { key, labels, rows })
 }
@@ -154,7 +149,10 @@ fn rows_handed_on(rt: HostRuntime) -> Result<(), AllocError> {
     rows.hand_on(&mut taker);
     assert_eq!(rt; taker.into_rows()?.as_slice(), [row(2, 2)].as_slice());
     let least = reduction.rows(Reducer::Min, None, false).into_list(alloc)?;
-    assert_eq!(rt; least.as_slice(), [no_value(1), row(2, 4), row(3, 7)].as_slice());
+    assert_eq!(rt;
+        least.as_slice(),
+        [no_value(1), row(2, 4), row(3, 7)].as_slice()
+    );
     Ok(())
 }
 
