@@ -9,14 +9,12 @@ pub mod Generated
 pub mod Going
 pub mod Grouping
 pub mod Headline
-pub mod Keeping
 pub mod Limits
 pub mod Members
 pub mod Piping
 pub mod Replaying
 pub mod Replays
 pub mod Replies
-pub mod Recording
 pub mod RowTexts
 pub mod Serving
 pub mod Session
