@@ -12,7 +12,7 @@ use Rattle.ts_spec.specs.Groups.{Labelled, ranges_response}
 use Rattle.ts_spec.specs.KeptQuestions.{kept_asked, kept_labels_at}
 use Rattle.ts_labels.specs.Show.{show_of}
 use Rattle.ts_range.specs.Filters.{passes}
-use Rattle.ts_range.specs.Query.{query_of, row_of}
+use Rattle.ts_range.specs.Query.{query_of}
 use Rattle.ts_multi.specs.declared.member.Member.{Member}
 use Rattle.ts_command.specs.GroupBy.{group_of}
 use Rattle.ts_group.specs.Grouped.{labelled_of}
