@@ -19,18 +19,8 @@ impl Nodes {
         }
     }
 
-    // Puts numbers into the order of their keys. Where there is room, each key is looked up once.
+    // Puts numbers into the order of their keys. Takes no memory.
     pub(crate) fn sort_by_key(&self, ids: &mut Vec<Id>)
-        ensures moved { IsPermutation ids.old.items ids.new.items }
-        ensures sorted { IsSortedByKey (key_in self.now) (slice_cmp nat_cmp) ids.new.items }
-    {
-        if ids.sort_by_cached_key(|id| self.key_at(*id)).is_err() {
-            self.sort_in_place(ids);
-        }
-    }
-
-    // The same, which takes no memory.
-    fn sort_in_place(&self, ids: &mut Vec<Id>)
         ensures moved { IsPermutation ids.old.items ids.new.items }
         ensures sorted { IsSortedByKey (key_in self.now) (slice_cmp nat_cmp) ids.new.items }
     {
