@@ -88,9 +88,9 @@ returns-in-MRange-clause-executes g c =
 pub returns-in-MGet-clause-executes : goal.returns-in-MGet-clause-executes
 returns-in-MGet-clause-executes g c =
     let wanted = Last c.in-MGet.latest c.in-MGet.show in
-    rw c.in-MGet.is (asks_execute c.args.reading (MGet c.in-MGet.latest (show_of c.in-MGet.show) c.in-MGet.filters.items) c.args.db.now c.put_members-in-MGet.new.out.bytes
+    rw c.in-MGet.is (asks_execute c.args.reading (MGet c.in-MGet.latest (show_of c.in-MGet.show) c.in-MGet.filters.items) c.args.db.now c.put_members.new.out.bytes
     (λ (h : Held). many_response h wanted c.in-MGet.filters.items) (λ (h : Held). YieldsToMemory (many_response h wanted c.in-MGet.filters.items)) (λ from y. (refl, y)) (λ from. record { says = refl; state = refl; limits = refl })
-    (subst (λ (fs : List Filter). (from : Held) → Stands c.args.db.now from → IsReplyText (many_response from wanted fs) c.put_members-in-MGet.new.out.bytes) c.deref-in-MGet.ensures.value c.put_members-in-MGet.ensures.reply))
+    (subst (λ (fs : List Filter). (from : Held) → Stands c.args.db.now from → IsReplyText (many_response from wanted fs) c.put_members.new.out.bytes) c.deref-in-MGet.ensures.value c.put_members.ensures.reply))
 
 pub returns-in-QueryIndex-clause-executes : goal.returns-in-QueryIndex-clause-executes
 returns-in-QueryIndex-clause-executes g c =
@@ -120,8 +120,8 @@ returns-in-Echo-clause-executes g c =
 
 pub returns-in-Quit-clause-executes : goal.returns-in-Quit-clause-executes
 returns-in-Quit-clause-executes g c =
-    rw c.in-Quit.is (executes_with c.args.reading Quit c.args.db.now (reply_of c.ok-in-Quit.result) c.put-in-Quit.new.out.bytes (λ from stands. record { says = c.ok-in-Quit.ensures; state = refl; limits = refl })
-    (alone (reply_of c.ok-in-Quit.result) c.clear.new.self.bytes c.put-in-Quit.new.out.bytes c.put-in-Quit.ensures.bytes c.clear.ensures.empty))
+    rw c.in-Quit.is (executes_with c.args.reading Quit c.args.db.now (reply_of c.ok.result) c.put-in-Quit.new.out.bytes (λ from stands. record { says = c.ok.ensures; state = refl; limits = refl })
+    (alone (reply_of c.ok.result) c.clear.new.self.bytes c.put-in-Quit.new.out.bytes c.put-in-Quit.ensures.bytes c.clear.ensures.empty))
 
 pub returns-in-Drop-clause-executes : goal.returns-in-Drop-clause-executes
 returns-in-Drop-clause-executes g c =
@@ -172,8 +172,8 @@ pub returns-in-MGet-clause-steps : goal.returns-in-MGet-clause-steps
 returns-in-MGet-clause-steps g c =
     let stock = c.args.db.now in
     rw c.in-MGet.is
-    (subst (λ (fs : List Filter). c.put_members-in-MGet.new.steps ≤ c.args.steps.now + selection_steps stock fs) c.deref-in-MGet.ensures.value
-    (omega (arith, c.put_members-in-MGet.ensures.steps, sum-none (kept_selection stock.keys c.deref-in-MGet.result.now))))
+    (subst (λ (fs : List Filter). c.put_members.new.steps ≤ c.args.steps.now + selection_steps stock fs) c.deref-in-MGet.ensures.value
+    (omega (arith, c.put_members.ensures.steps, sum-none (kept_selection stock.keys c.deref-in-MGet.result.now))))
 
 pub returns-in-QueryIndex-clause-steps : goal.returns-in-QueryIndex-clause-steps
 returns-in-QueryIndex-clause-steps g c =
