@@ -30,7 +30,7 @@ fn main(rt: HostRuntime) -> ExitCode {
 
 /// The status of a run over the process's own streams and clock, and the system's network.
 fn run(rt: &HostRuntime) -> io::Result<u8>
-    ensures { IfOk result (λ status. status ≤ 8) }
+    ensures { IfOk result (λ status. status ≤ 11) }
 {
     let alloc = rt.alloc();
     let mut words = Vec::new(alloc);
