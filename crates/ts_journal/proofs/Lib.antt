@@ -4,6 +4,7 @@ pub mod Putting
 pub mod Taking
 pub mod TripleLemmas
 mod RecordsAtWork
+mod LoadingAtWork
 mod Numbers
 mod LabelWords
 mod Readable
@@ -23,3 +24,9 @@ pub mod ReadBack
 mod ShortAnswers
 mod TakenTriples
 mod Replays
+mod Unfinished
+mod Almost
+pub mod Loads
+pub mod Grown
+pub mod Unrecorded
+pub mod FrontsLoad

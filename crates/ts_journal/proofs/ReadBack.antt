@@ -132,7 +132,7 @@ sample-count reading key (Ok at) (Ok v) s = refl
 sample-count reading key (Ok at) (Err fault) s = absurd s
 sample-count reading key (Err fault) v s = absurd s
 
-samples-count : (reading : ℕ) (ts : List Triple) → AreSamples ts → length (flat_map (triple_words reading) ts) ≡ 3 * length ts
+pub samples-count : (reading : ℕ) (ts : List Triple) → AreSamples ts → length (flat_map (triple_words reading) ts) ≡ 3 * length ts
 samples-count reading [] s = refl
 samples-count reading (t ∷ ts) s =
     let all = length-append (triple_words reading t) (flat_map (triple_words reading) ts) in

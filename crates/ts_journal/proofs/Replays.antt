@@ -19,7 +19,7 @@ use Rattle.ts_journal.specs.Replay.{DoesOne, DoAll, IsStep, IsDone, IsRecorded, 
 use Rattle.ts_journal.proofs.ReadableChanges.{IsReadable}
 use Rattle.ts_journal.proofs.ReadableCommands.{command-readable}
 use Rattle.ts_journal.proofs.ReadBack.{IsWhole, reads-back}
-use Rattle.ts_journal.proofs.ShortAnswers.{no-items}
+use Rattle.ts_journal.proofs.ShortAnswers.{short}
 use Rattle.ts_journal.proofs.TakenTriples.{samples-taken, readable-taken, do-taken, times-accepted}
 
 -- ---- all changes
@@ -29,14 +29,14 @@ pub record Replays (limits : Limits) (m : State) (other : ℕ) (c : Command) (n 
   pub state : (step limits m other c).state ≡ n
   pub reply : IsAccepted (reply_to (step limits m other c).response)
 
-not-refused : (c : Command) (reading : ℕ) (reply : Reply) → record_of c reading reply ≢ [] → is_error reply ≡ false
+pub not-refused : (c : Command) (reading : ℕ) (reply : Reply) → record_of c reading reply ≢ [] → is_error reply ≡ false
 not-refused c reading reply some = go (is_error reply) some
   where
     go : (b : Bool) → (if b then [] else bytes_of (record_words reading (accepted c reply))) ≢ [] → b ≡ false
     go true some = absurd (some refl)
     go false some = refl
 
-some-words : (c : Command) (reading : ℕ) (reply : Reply) → record_of c reading reply ≢ [] → record_words reading (accepted c reply) ≢ []
+pub some-words : (c : Command) (reading : ℕ) (reply : Reply) → record_of c reading reply ≢ [] → record_words reading (accepted c reply) ≢ []
 some-words c reading reply some = λ none. go (is_error reply) none some
   where
     go : (b : Bool) → record_words reading (accepted c reply) ≡ [] → (if b then [] else bytes_of (record_words reading (accepted c reply))) ≢ [] → ⊥
@@ -48,7 +48,7 @@ step-replays : (limits : Limits) (reading other : ℕ) (c : Command) (m n : Stat
 step-replays limits reading other c m n reply fixed done right =
     let same = step-resolved limits m reading other c in record {
       state = ap (λ (o : Outcome). o.state) same ∙ sym done.state;
-      reply = subst (λ (o : Outcome). IsAccepted (reply_to o.response)) (sym same) (ap is_error (sym done.says) ∙ right, no-items limits m reading c fixed);
+      reply = subst (λ (o : Outcome). IsAccepted (reply_to o.response)) (sym same) (ap is_error (sym done.says) ∙ right, (short limits m reading c fixed).none);
     }
 
 pub replays : (limits : Limits) (reading other : ℕ) (c : Command) (m n : State) (reply : Reply) → IsDone limits reading c m reply n → record_of c reading reply ≢ []

@@ -13,6 +13,9 @@ mod reply;
 mod samples;
 mod triples;
 
-pub use laws::{records_read_back, steps_are_executed};
+pub use laws::{
+    a_journal_grows_by_records, fronts_of_a_journal_load, records_read_back, steps_are_executed,
+    what_is_not_recorded_changes_nothing,
+};
 pub use limits::limits_of;
 pub use record::Record;

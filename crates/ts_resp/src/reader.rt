@@ -161,6 +161,14 @@ impl Reader {
         }
     }
 
+    /// Where what was not given yet begins, counted in bytes from the start of the stream: after `next` gave a request, the
+    /// place after it. Takes no memory.
+    pub fn begin(&self) -> u64
+        ensures { result ≡ self.now.begin }
+    {
+        self.begin
+    }
+
     /// Where an unfinished request begins, or None between requests. Requests without words are
     /// passed over. Takes no memory.
     pub fn place(&self) -> Option<u64>

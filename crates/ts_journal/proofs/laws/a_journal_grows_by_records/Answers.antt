@@ -1,0 +1,8 @@
+use Rattle.ts_journal.proofs.Grown.{record-grown}
+use Rattle.ts_journal.proofs.laws.a_journal_grows_by_records.Goals as goal
+
+pub returns-clause-whole : goal.returns-clause-whole
+returns-clause-whole c = λ limits bytes reading command old new reply b loads r within. (record-grown limits bytes reading command old new reply b loads r within).whole
+
+pub returns-clause-torn : goal.returns-clause-torn
+returns-clause-torn c = λ limits bytes reading command old new reply b loads r within. (record-grown limits bytes reading command old new reply b loads r within).torn

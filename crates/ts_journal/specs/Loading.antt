@@ -1,0 +1,67 @@
+-- What a journal loads to: the database after the changes in it.
+use Rattle.std.specs.Prelude.{◌≡◌, ◌≤◌, ℕ, Bool, ◌&&◌, ◌||◌, not, if◌then◌else◌, List, length, take, Option, None, Some, Result, Ok, Err}
+use Rattle.ts_spec.specs.Command.{Command}
+use Rattle.ts_spec.specs.Grammar.{command, needs_clock}
+use Rattle.ts_spec.specs.Refusal.{Fault}
+use Rattle.ts_spec.specs.Replies.{reply_to}
+use Rattle.ts_spec.specs.State.{State, empty}
+use Rattle.ts_spec.specs.Step.{Outcome, step}
+use Rattle.ts_spec.specs.Text.{Reply}
+use Rattle.ts_spec.specs.Wire.{Stream, Then, Ended, Inside, Broken, stream_at}
+use Rattle.ts_spec.specs.declared.limits.Limits.{Limits}
+use Rattle.ts_spec.specs.declared.wire.WireLimits.{WireLimits}
+use Rattle.ts_journal.specs.Limits.{journal_limits}
+use Rattle.ts_journal.specs.Record.{is_change, is_error, items_of}
+use Rattle.ts_journal.specs.Replay.{has_error}
+
+-- the state after its changes, and how many of its bytes are whole requests; or the place after the last change before it breaks
+pub data Load : Type 0 where
+  Loads : State → (place : ℕ) → Load
+  BreaksAt : (place : ℕ) → Load
+
+-- whether a reply is no error, nor has one among its items
+abbrev pub is_accepted : Reply → Bool
+is_accepted reply = not (is_error reply || has_error (items_of reply))
+
+-- the state after a step whose reply is accepted
+abbrev pub accepted_state : Outcome → Option State
+accepted_state done = if is_accepted (reply_to done.response) then Some done.state else None
+
+-- the state after a command of a journal: a change that does not ask for the time, and is accepted
+abbrev pub replayed : Limits → State → Command → Option State
+replayed limits m c = if is_change c && not (needs_clock c) then accepted_state (step limits m 0 c) else None
+
+abbrev pub replayed_by : Limits → State → Result Command Fault → Option State
+replayed_by limits m (Ok c) = replayed limits m c
+replayed_by limits m (Err fault) = None
+
+-- on from the state after a request, or broken after the one before it
+abbrev pub on_or : Option State → (place : ℕ) → (State → Load) → Load
+on_or None place on = BreaksAt place
+on_or (Some m) place on = on m
+
+-- what the requests of a stream of this size load to, from the state that those before this place led to
+abbrev pub load_on : Limits → State → (place size : ℕ) → Stream → Load
+load_on limits m place size (Then request after rest) = on_or (replayed_by limits m (command request)) place (λ n. load_on limits n after size rest)
+load_on limits m place size Ended = Loads m size
+load_on limits m place size (Inside begin) = Loads m begin
+load_on limits m place size (Broken kind at) = BreaksAt at
+
+-- what these bytes load to, from this state
+abbrev pub load_from : Limits → WireLimits → State → List ℕ → Load
+load_from limits wire m bytes = load_on limits m 0 (length bytes) (stream_at (journal_limits wire) 0 bytes)
+
+-- what a journal with these bytes loads to
+abbrev pub load : Limits → List ℕ → Load
+load limits bytes = load_from limits limits.wire empty bytes
+
+-- all of these bytes are changes, which lead to this state
+abbrev pub LoadsTo : Limits → List ℕ → State → Type 0
+LoadsTo limits bytes m = load limits bytes ≡ Loads m (length bytes)
+
+-- a front of these bytes loads to some state, and this is how many of its bytes are whole requests
+pub record FrontLoads (limits : Limits) (bytes : List ℕ) (n : ℕ) : Type 0 where
+  pub state : State
+  pub place : ℕ
+  pub within : place ≤ n
+  pub loads : load limits (take n bytes) ≡ Loads state place
