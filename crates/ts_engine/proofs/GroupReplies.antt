@@ -1,30 +1,37 @@
 -- What is told in groups is the answer of the definitions.
-use Rattle.std.proofs.Common.{◌≡◌, ◌⊎◌, inl, inr, ⊎_elim, Bool, true, false, ℕ, List, [], ◌∷◌, ◌++◌, map, refl, sym, ap, subst, ◌∙◌}
-use Rattle.std.specs.Prelude.{flat_map, filter, Option, None, Some, option_map, is_none, is_some, if◌then◌else◌}
+use Rattle.std.proofs.Common.{◌≡◌, ◌+◌, ◌≤◌, inl, inr, Bool, true, false, ℕ, All, List, [], ◌∷◌, ◌++◌, map, refl, sym, ap, subst, ◌∙◌, arith}
+use Rattle.std.specs.Prelude.{flat_map, filter, Option, None, Some, option_map, is_none, is_some, if◌then◌else◌, sum_by}
+use Rattle.std.proofs.lemmas.List.Elements.{All-head, All-tail}
+use Rattle.std.proofs.lemmas.List.Sums.{sum_by-cons}
 use Rattle.ts_spec.specs.declared.limits.Limits.{Limits}
 use Rattle.ts_spec.specs.Answer.{Row, answer}
 use Rattle.ts_spec.specs.Command.{Query}
 use Rattle.ts_spec.specs.Filter.{Filter, selection, value_of}
-use Rattle.ts_spec.specs.Groups.{Labelled, labelled, labelled_then, labelled_keys, groups, uncounted, grouped_response, ranges_response}
-use Rattle.ts_spec.specs.Key.{Key}
-use Rattle.ts_spec.specs.Keyed.{get}
+use Rattle.ts_spec.specs.Groups.{Labelled, with_value, with_value_of, is_value, values, having, labelled, labelled_then, labelled_keys, group, groups, uncounted, ranges_response}
+use Rattle.ts_spec.specs.Key.{Key, same}
+use Rattle.ts_spec.specs.Keyed.{Keyed, get}
 use Rattle.ts_spec.specs.Kept.{Keeping, kept}
 use Rattle.ts_spec.specs.KeptQuestions.{kept_asked, kept_labels_at, kept_ranges_response, kept_selection}
 use Rattle.ts_spec.specs.Questions.{members_response}
 use Rattle.ts_spec.specs.Refusal.{EmptyRows}
 use Rattle.ts_spec.specs.Replies.{member_reply, array, memory_reply, refusal_reply, reply_to}
-use Rattle.ts_spec.specs.Response.{Member, Response}
+use Rattle.ts_spec.specs.Response.{Response}
 use Rattle.ts_spec.specs.State.{Label}
-use Rattle.ts_spec.specs.Text.{text}
+use Rattle.ts_spec.specs.Text.{Reply, text}
 use Rattle.ts_spec.proofs.KeptAsked.{ranges-kept, selection-kept}
 use Rattle.ts_labels.specs.Show.{show_of}
 use Rattle.ts_range.specs.Query.{query_of}
 use Rattle.ts_command.specs.GroupBy.{group_of}
-use Rattle.ts_db.specs.Held.{Held, Stock, Stands, YieldsToMemory}
+use Rattle.ts_group.specs.Sorted.{having_of}
+use Rattle.ts_group.proofs.Sorted.{having-series}
+use Rattle.ts_sample.specs.declared.id.Id.{Id}
+use Rattle.ts_db.specs.Bounds.{selection_steps}
+use Rattle.ts_db.specs.Faults.{key_with}
+use Rattle.ts_db.specs.Held.{Held, Stock, Stands, AreNumbersOf, YieldsToMemory}
 use Rattle.ts_engine.specs.declared.grouping.Grouping.{Grouping}
 use Rattle.ts_engine.specs.Answering.{IsReplyText}
-use Rattle.ts_engine.specs.Grouping.{IsGrouping, counted, has_label, alone, themselves, series_told, groups_response}
-use Rattle.ts_engine.specs.Members.{told_then, each_told, AreGatheredOrLost}
+use Rattle.ts_engine.specs.Grouping.{IsGrouping, IsNumbered, counted, has_label, alone, themselves, series_told, group_steps, rows_at_number, rows_or_none, numbered, is_too_long, number_steps, numbers_steps, one_if, refusals, group_reply, groups_of_numbers, groups_response}
+use Rattle.ts_engine.specs.Members.{told_then, each_told}
 
 -- all series that are told, one after another
 abbrev flat : List (List Labelled) → List Labelled
@@ -52,6 +59,117 @@ module _ (labels : Key → List Label) (rows : Key → Option (List Row)) (label
       go false None rest is = is
       go false (Some xs) rest is = is
       go true o rest is = in_front k (rows k) o (labelled labels rows rest) is
+
+-- the keys of these numbers
+keys-numbered : (ids : Keyed Id) (keys : List Key) (ns : List Id) → AreNumbersOf ids keys ns → All (IsNumbered ids) ns → keys ≡ map (key_with ids) ns
+keys-numbered ids [] [] are all = refl
+keys-numbered ids [] (n ∷ ns) are all = absurd are
+keys-numbered ids (k ∷ ks) [] are all = absurd are
+keys-numbered ids (k ∷ ks) (n ∷ ns) are all =
+    ap (λ (j : Key). j ∷ ks) (sym ((All-head (IsNumbered ids) n ns all).one k are.0))
+    ∙ ap (λ (js : List Key). key_with ids n ∷ js) (keys-numbered ids ks ns are.1 (All-tail (IsNumbered ids) n ns all))
+
+module _ (stock : Stock) (g : Grouping) where
+  abbrev key_of : Id → Key
+  key_of n = key_with stock.ids n
+
+  -- those that have the label
+  abbrev with_label : List Id → List Id
+  with_label ns = filter (λ n. has_label stock g.by.label (key_of n)) ns
+
+  abbrev ones : Id → ℕ
+  ones n = if has_label stock g.by.label (key_of n) then one_if (is_too_long stock g n) else 0
+
+  abbrev told_at : (b : Bool) → Id → Option (List Row) → Option (List Labelled)
+  told_at b n r = if b then option_map alone (option_map (λ rs. record { key = key_of n; labels = kept_labels_at (get (key_of n) stock.keys); rows = rs }) r) else Some []
+
+  abbrev series_with : Id → Option (List Row) → Labelled
+  series_with n r = record { key = key_of n; labels = kept_labels_at (get (key_of n) stock.keys); rows = rows_or_none r }
+
+  refused-told : (ns : List Id) → 1 ≤ refusals stock g ns → each_told (series_told stock g) (map key_of ns) ≡ None
+  refused-told [] some = absurd (omega (arith, some))
+  refused-told (n ∷ ns) some =
+      go (has_label stock g.by.label (key_of n)) (rows_at_number stock g n) (sum_by-cons ones n ns) (refused-told ns)
+    where
+      go : (b : Bool) (r : Option (List Row)) → refusals stock g (n ∷ ns) ≡ (if b then one_if (is_none r) else 0) + refusals stock g ns
+          → (1 ≤ refusals stock g ns → each_told (series_told stock g) (map key_of ns) ≡ None) → told_then (told_at b n r) (each_told (series_told stock g) (map key_of ns)) ≡ None
+      go true None sum ih = refl
+      go true (Some rows) sum ih = rw (ih (omega (arith, sum, some))) refl
+      go false r sum ih = rw (ih (omega (arith, sum, some))) refl
+
+  flat-told : (ns : List Id) → refusals stock g ns ≡ 0 → option_map flat (each_told (series_told stock g) (map key_of ns)) ≡ Some (map (numbered stock g) (with_label ns))
+  flat-told [] none = refl
+  flat-told (n ∷ ns) none =
+      go (has_label stock g.by.label (key_of n)) (rows_at_number stock g n) refl (each_told (series_told stock g) (map key_of ns)) (sum_by-cons ones n ns) (flat-told ns)
+    where
+      go : (b : Bool) (r : Option (List Row)) → rows_at_number stock g n ≡ r → (o : Option (List (List Labelled))) → refusals stock g (n ∷ ns) ≡ (if b then one_if (is_none r) else 0) + refusals stock g ns
+          → (refusals stock g ns ≡ 0 → option_map flat o ≡ Some (map (numbered stock g) (with_label ns)))
+          → option_map flat (told_then (told_at b n r) o) ≡ Some (map (numbered stock g) (if b then n ∷ with_label ns else with_label ns))
+      go true None e o sum ih = absurd (omega (arith, sum, none))
+      go true (Some rows) e None sum ih = absurd (cc (ih (omega (arith, sum, none))))
+      go true (Some rows) e (Some xs) sum ih =
+          ap (option_map (λ (l : List Labelled). series_with n (Some rows) ∷ l)) (ih (omega (arith, sum, none)))
+          ∙ ap (λ (r : Option (List Row)). Some (series_with n r ∷ map (numbered stock g) (with_label ns))) (sym e)
+      go false r e None sum ih = absurd (cc (ih (omega (arith, sum, none))))
+      go false r e (Some xs) sum ih = ih (omega (arith, sum, none))
+
+  -- the others are in no group
+  values-with : (ns : List Id) → values g.by.label (map (numbered stock g) (with_label ns)) ≡ values g.by.label (map (numbered stock g) ns)
+  values-with [] = refl
+  values-with (n ∷ ns) = go (value_of g.by.label (kept_labels_at (get (key_of n) stock.keys))) refl (values-with ns)
+    where
+      go : (o : Option (List ℕ)) → value_of g.by.label (kept_labels_at (get (key_of n) stock.keys)) ≡ o
+          → values g.by.label (map (numbered stock g) (with_label ns)) ≡ values g.by.label (map (numbered stock g) ns)
+          → values g.by.label (map (numbered stock g) (if is_some o then n ∷ with_label ns else with_label ns)) ≡ with_value_of o (values g.by.label (map (numbered stock g) ns))
+      go None e ih = ih
+      go (Some v) e ih = ap (λ (x : Option (List ℕ)). with_value_of x (values g.by.label (map (numbered stock g) (with_label ns)))) e ∙ ap (with_value v) ih
+
+  having-with : (v : List ℕ) (ns : List Id) → having g.by.label v (map (numbered stock g) (with_label ns)) ≡ having g.by.label v (map (numbered stock g) ns)
+  having-with v [] = refl
+  having-with v (n ∷ ns) = go (value_of g.by.label (kept_labels_at (get (key_of n) stock.keys))) refl (having-with v ns)
+    where
+      go : (o : Option (List ℕ)) → value_of g.by.label (kept_labels_at (get (key_of n) stock.keys)) ≡ o
+          → having g.by.label v (map (numbered stock g) (with_label ns)) ≡ having g.by.label v (map (numbered stock g) ns)
+          → having g.by.label v (map (numbered stock g) (if is_some o then n ∷ with_label ns else with_label ns))
+          ≡ (if is_value v o then numbered stock g n ∷ having g.by.label v (map (numbered stock g) ns) else having g.by.label v (map (numbered stock g) ns))
+      go None e ih = ih
+      go (Some w) e ih =
+          ap (λ (x : Option (List ℕ)). if is_value v x then numbered stock g n ∷ having g.by.label v (map (numbered stock g) (with_label ns)) else having g.by.label v (map (numbered stock g) (with_label ns))) e
+          ∙ ap (λ (l : List Labelled). if same v w then numbered stock g n ∷ l else l) ih
+
+  abbrev group_with : List ℕ → List Labelled → Reply
+  group_with v ms = member_reply (group (group_of g.by) (show_of g.show) g.count g.query.reverse v ms)
+
+  -- the groups of those that have the label are the groups of all
+  groups-numbered : (ns : List Id) → map member_reply (groups (group_of g.by) (show_of g.show) g.count g.query.reverse (map (numbered stock g) (with_label ns))) ≡ groups_of_numbers stock g ns
+  groups-numbered ns =
+      each (values g.by.label (map (numbered stock g) (with_label ns)))
+      ∙ ap (map (λ v. group_reply stock g v (having_of (numbered stock g) g.by.label v ns))) (values-with ns)
+    where
+      same_group : (v : List ℕ) → group_with v (having g.by.label v (map (numbered stock g) (with_label ns))) ≡ group_reply stock g v (having_of (numbered stock g) g.by.label v ns)
+      same_group v = ap (group_with v) (having-with v ns ∙ sym (having-series (numbered stock g) g.by.label v ns))
+
+      each : (vs : List (List ℕ)) → map member_reply (map (λ v. group (group_of g.by) (show_of g.show) g.count g.query.reverse v (having g.by.label v (map (numbered stock g) (with_label ns)))) vs)
+          ≡ map (λ v. group_reply stock g v (having_of (numbered stock g) g.by.label v ns)) vs
+      each [] = refl
+      each (v ∷ vs) =
+          ap (λ (l : List Reply). group_with v (having g.by.label v (map (numbered stock g) (with_label ns))) ∷ l) (each vs)
+          ∙ ap (λ (r : Reply). r ∷ map (λ w. group_reply stock g w (having_of (numbered stock g) g.by.label w ns)) vs) (same_group v)
+
+  -- ---- steps
+
+  -- those with the label take what the keys take
+  pub steps-numbered : (ns : List Id) → numbers_steps stock g ns ≡ sum_by (group_steps g stock) (map key_of ns)
+  steps-numbered [] = refl
+  steps-numbered (n ∷ ns) =
+      let one = λ (m : Id). if has_label stock g.by.label (key_of m) then number_steps stock g m else 0 in
+      omega (arith, sum_by-cons one n ns, sum_by-cons (group_steps g stock) (key_of n) (map key_of ns), steps-numbered ns)
+
+-- the steps of all
+pub numbers-few : (stock : Stock) (g : Grouping) (fs : List Filter) (ns : List Id) (old mid new : ℕ) → AreNumbersOf stock.ids (kept_selection stock.keys fs) ns → All (IsNumbered stock.ids) ns
+    → mid ≤ old + selection_steps stock fs → new ≤ mid + numbers_steps stock g ns → new ≤ old + (selection_steps stock fs + sum_by (group_steps g stock) (kept_selection stock.keys fs))
+numbers-few stock g fs ns old mid new numbers all first later =
+    omega (arith, first, later, steps-numbered stock g ns, ap (sum_by (group_steps g stock)) (keys-numbered stock.ids (kept_selection stock.keys fs) ns numbers all))
 
 module _ (stock : Stock) (g : Grouping) (is : IsGrouping g) where
   abbrev rows_of : Query → Key → Option (List Row)
@@ -104,32 +222,29 @@ module _ (stock : Stock) (g : Grouping) (is : IsGrouping g) where
     pub groups-lost : is_none told ≡ false → after ≡ text memory_reply → (from : Held) → Stands stock from → IsReplyText (groups_response from g fs) after
     groups-lost some written from stands = inr (subst YieldsToMemory (as-told from stands) (yields told some), written)
 
-    -- in place of what was lost there was something to tell of each
-    groups-unsaid : (before now : List Labelled) → AreGatheredOrLost true told before now → after ≡ text memory_reply → (from : Held) → Stands stock from → IsReplyText (groups_response from g fs) after
-    groups-unsaid before now gathered written = groups-lost (some-lost told gathered) written
-      where
-        some-lost : (o : Option (List (List Labelled))) → AreGatheredOrLost true o before now → is_none o ≡ false
-        some-lost None is = absurd is
-        some-lost (Some all) is = refl
+    -- ---- by the numbers of the keys
 
-    -- the text of the groups of all that was gathered, or of want of memory
-    abbrev pub IsTextOf : List Labelled → Type 0
-    IsTextOf now = (after ≡ text (array (map member_reply (groups (group_of g.by) (show_of g.show) g.count g.query.reverse now)))) ⊎ (after ≡ text memory_reply)
+    module _ (ns : List Id) (numbers : AreNumbersOf stock.ids (kept_selection stock.keys fs) ns) (each : All (IsNumbered stock.ids) ns) where
+      told-by : told ≡ each_told (series_told stock g) (map (key_with stock.ids) ns)
+      told-by = ap (each_told (series_told stock g)) (keys-numbered stock.ids (kept_selection stock.keys fs) ns numbers each)
 
-    groups-said : (before now : List Labelled) → before ≡ [] → AreGatheredOrLost false told before now → IsTextOf now → (from : Held) → Stands stock from → IsReplyText (groups_response from g fs) after
-    groups-said before now empty gathered written from stands =
-        subst (λ r. IsReplyText r after) (as-told from stands) (go told gathered)
-      where
-        go : (o : Option (List (List Labelled))) → AreGatheredOrLost false o before now → IsReplyText (response_by (option_map flat o)) after
-        go None is = absurd is
-        go (Some all) is =
-            let same : now ≡ flat all = is refl ∙ ap (λ (l : List Labelled). l ++ flat all) empty in
-            ⊎_elim
-            (λ (w : after ≡ text (array (map member_reply (groups (group_of g.by) (show_of g.show) g.count g.query.reverse now)))). inl (w ∙ ap (λ (ms : List Labelled). text (array (map member_reply (groups (group_of g.by) (show_of g.show) g.count g.query.reverse ms)))) same))
-            (λ (w : after ≡ text memory_reply). inr (tt, w)) written
+      -- the rows of one are too many
+      pub numbers-refused : 1 ≤ refusals stock g ns → after ≡ text (refusal_reply EmptyRows) → (from : Held) → Stands stock from → IsReplyText (groups_response from g fs) after
+      numbers-refused some = groups-refused (told-by ∙ refused-told stock g ns some)
 
-    -- it is told, or want of memory in its place
-    pub groups-settled : (before now : List Labelled) (lost : Bool) → before ≡ [] → AreGatheredOrLost lost told before now → (lost ≡ false → IsTextOf now) → (lost ≡ true → after ≡ text memory_reply)
-        → (from : Held) → Stands stock from → IsReplyText (groups_response from g fs) after
-    groups-settled before now false empty gathered written said = groups-said before now empty gathered (written refl)
-    groups-settled before now true empty gathered written said = groups-unsaid before now gathered (said refl)
+      all-told : refusals stock g ns ≡ 0 → option_map flat told ≡ Some (map (numbered stock g) (with_label stock g ns))
+      all-told none = ap (option_map flat) told-by ∙ flat-told stock g ns none
+
+      is-told : (o : Option (List (List Labelled))) (all : List Labelled) → option_map flat o ≡ Some all → is_none o ≡ false
+      is-told None all e = absurd (cc e)
+      is-told (Some xs) all e = refl
+
+      -- the groups are told, or want of memory in their place
+      pub numbers-settled : (before mid : List ℕ) (lost : Bool) → before ≡ [] → refusals stock g ns ≡ 0 → (lost ≡ false → mid ≡ before ++ text (array (groups_of_numbers stock g ns)))
+          → (lost ≡ false → after ≡ mid) → (lost ≡ true → after ≡ text memory_reply) → (from : Held) → Stands stock from → IsReplyText (groups_response from g fs) after
+      numbers-settled before mid true empty none added keeps said = groups-lost (is-told told (map (numbered stock g) (with_label stock g ns)) (all-told none)) (said refl)
+      numbers-settled before mid false empty none added keeps said = λ from stands.
+          let response = sym (ap response_by (all-told none)) ∙ as-told from stands in
+          inl (keeps refl ∙ added refl ∙ ap (λ (l : List ℕ). l ++ text (array (groups_of_numbers stock g ns))) empty
+          ∙ ap (λ (rs : List Reply). text (array rs)) (sym (groups-numbered stock g ns))
+          ∙ ap (λ r. text (reply_to r)) response)

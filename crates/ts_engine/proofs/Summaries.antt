@@ -17,7 +17,7 @@ use Rattle.ts_engine.specs.declared.piped.Outcome.{Outcome}
 use Rattle.ts_engine.specs.Generated.{with_usual_wire, IsSummary}
 use Rattle.ts_engine.specs.Headline.{requests, start, Exchange, AllAnswered, Writes, count_done}
 use Rattle.ts_engine.specs.Piping.{Piped}
-use Rattle.ts_engine.specs.Turn.{World, turn}
+use Rattle.ts_engine.specs.Turn.{World, turn, plain}
 use Rattle.ts_engine.proofs.Taking.{writes_of, executed_of}
 use Rattle.ts_engine.proofs.Sessions.{grows_as}
 
@@ -30,7 +30,7 @@ pub record RanAll (limits : Limits) (readings : Option (List ℕ)) (bytes : List
 
 module _ (limits : Limits) (readings : Option (List ℕ)) (budget : ℕ) (outcome : Outcome) (to : World) (bytes : List ℕ) (left : Option (List ℕ)) (had has : List ℕ → Type 0)
     (piped : Piped limits.wire budget outcome (start limits readings) to (Some bytes) left had has) where
-  abbrev exchange : Exchange
+  abbrev exchange : Exchange plain
   exchange = record { limits = limits.wire; from = start limits readings; to = to; had = had; has = has }
 
   ran_with : AllAnswered exchange bytes [] → outcome.executed ≡ length (requests limits.wire bytes) → RanAll limits readings bytes outcome.executed to had has

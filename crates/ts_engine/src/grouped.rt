@@ -1,28 +1,31 @@
 // The answers over many series in groups.
-ghost use Rattle.std.specs.Prelude.{◌≡◌, ◌⊎◌, ◌+◌, ◌≤◌, true, false, [], length, map, sum_by};
-ghost use Rattle.ts_spec.specs.Groups.{groups};
+ghost use Rattle.std.specs.Prelude.{◌≡◌, ◌+◌, ◌≤◌, ◌++◌, All, true, false, [], length, sum_by, IfErr, IfOk};
+ghost use Rattle.std.specs.List.{list_any};
+ghost use Rattle.std.specs.Result.{is_err};
 ghost use Rattle.ts_spec.specs.KeptQuestions.{kept_selection};
-ghost use Rattle.ts_spec.specs.Replies.{array, member_reply, memory_reply};
+ghost use Rattle.ts_spec.specs.Replies.{array};
 ghost use Rattle.ts_spec.specs.Text.{text};
-ghost use Rattle.ts_labels.specs.Show.{show_of};
-ghost use Rattle.ts_command.specs.GroupBy.{group_of};
 ghost use Rattle.ts_db.specs.Bounds.{selection_steps};
+ghost use Rattle.ts_db.specs.Faults.{key_with};
 ghost use Rattle.ts_db.specs.Held.{Held, Stands};
 ghost use Rattle.ts_engine.specs.Answering.{IsReplyText};
-ghost use Rattle.ts_engine.specs.Grouping.{IsGrouping, all_labelled, group_steps, groups_response};
+ghost use Rattle.ts_engine.specs.Grouping.{IsGrouping, IsNumbered, group_reply, is_group_refused, group_steps, groups_of_numbers, groups_response, is_too_long, number_steps, numbers_steps, refusals};
 
 use crate::answers::too_many_rows;
+use crate::by_value::{by_value, known_numbers};
 use crate::gathering::gather;
 use crate::grouping::Grouping;
+use crate::members::{begin_members, settle};
 use crate::room::put_no_memory;
 use crate::search::is_one_refused;
-use std::alloc::Global;
+use crate::telling::Telling;
+use std::alloc::AllocError;
 use std::sync::ledger::Ledger;
-use ts_db::Db;
-use ts_group::encode_groups;
+use ts_db::{Db, Id};
+use ts_group::{Group, encode_one};
 use ts_labels::Filter;
-use ts_multi::Member;
-use ts_resp::{Out, put};
+use ts_range::RangeFault;
+use ts_resp::{Out, Word, put};
 use ts_sample::Steps;
 
 /// Writes the groups of the series that pass filters, in the order of their values. Where the rows of a series that has
@@ -45,10 +48,14 @@ pub(crate) fn put_groups<L: Ledger>(
         put_unselected(db, filters, grouping, out, steps);
         return;
     };
-    let mut members = Vec::new(db.alloc());
-    match gather(db, &ids, grouping, &mut members, steps) {
-        Ok(lost) => put_gathered(db.alloc(), grouping, &members, lost, out),
-        Err(_) => put(&too_many_rows(), out),
+    let numbers = ids.as_slice();
+    known_numbers(db, numbers);
+    match add_groups(db, numbers, grouping, out, steps) {
+        Ok(lost) => settle(lost, out),
+        Err(_) => {
+            out.clear();
+            put(&too_many_rows(), out);
+        }
     }
 }
 
@@ -74,33 +81,103 @@ fn put_unselected<L: Ledger>(
     put_no_memory(out);
 }
 
-// Writes the groups of these series, or that there is no memory, as where it was lost.
-fn put_gathered(alloc: Global, grouping: &Grouping, members: &[Member], lost: bool, out: &mut Out)
-    requires empty { out.old.bytes ≡ [] }
-    requires room { 128 ≤ out.old.spare }
-    ensures written { lost ≡ false → (out.new.bytes ≡ text (array (map member_reply (groups (group_of grouping.now.by) (show_of grouping.now.show) grouping.now.count grouping.now.query.reverse (all_labelled members.now)))))
-        ⊎ (out.new.bytes ≡ text memory_reply) }
-    ensures said { lost ≡ true → out.new.bytes ≡ text memory_reply }
-    ensures room { 128 ≤ length out.new.bytes + out.new.spare }
+// Adds an array of the groups of these numbers, unless the rows of one that has the label are too many. Answers whether
+// memory was lost: then there may be a part of it, as there may be after an Err.
+fn add_groups<L: Ledger>(
+    db: &Db,
+    ids: &[Id],
+    grouping: &Grouping,
+    out: &mut Out,
+    steps: &mut Steps<L>,
+) -> Result<bool, RangeFault>
+    requires numbered { All (IsNumbered db.now.ids) ids.now }
+    requires grouping { IsGrouping grouping.now }
+    ensures told { IfOk result (λ lost. refusals db.now grouping.now ids.now ≡ 0) }
+    ensures added { IfOk result (λ lost. lost ≡ false → out.new.bytes ≡ out.old.bytes ++ text (array (groups_of_numbers db.now grouping.now ids.now))) }
+    ensures refused { IfErr result (λ fault. 1 ≤ refusals db.now grouping.now ids.now) }
+    ensures room { length out.old.bytes + out.old.spare ≤ length out.new.bytes + out.new.spare }
+    ensures steps { steps.new ≤ steps.old + numbers_steps db.now grouping.now ids.now }
 {
-    if lost {
-        put_no_memory(out);
-        return;
+    let Ok(groups) = by_value(db, ids, grouping) else {
+        return lost_unless_refused(db, ids, grouping, steps);
+    };
+    let mut lost = begin_members(groups.len(), out);
+    for (value, numbers) in groups.iter() {
+        lost = add_group(db, value, numbers.all(), grouping, lost, out, steps)?;
     }
-    let groups = encode_groups(
-        alloc,
-        members,
+    Ok(lost)
+}
+
+// Answers that memory was lost, unless the rows of one of these that has the label are too many. Takes no memory.
+fn lost_unless_refused<L: Ledger>(
+    db: &Db,
+    ids: &[Id],
+    grouping: &Grouping,
+    steps: &mut Steps<L>,
+) -> Result<bool, RangeFault>
+    requires { All (IsNumbered db.now.ids) ids.now }
+    ensures told { IfOk result (λ lost. refusals db.now grouping.now ids.now ≡ 0) }
+    ensures lost { IfOk result (λ lost. lost ≡ true) }
+    ensures refused { IfErr result (λ fault. 1 ≤ refusals db.now grouping.now ids.now) }
+    ensures steps { steps.new ≤ steps.old + numbers_steps db.now grouping.now ids.now }
+{
+    for id in ids {
+        if is_number_refused(db, *id, grouping, steps) {
+            return Err(RangeFault::EmptyRows);
+        }
+    }
+    Ok(true)
+}
+
+// Whether the series of a number has the label, and its rows are too many. Takes no memory.
+fn is_number_refused<L: Ledger>(db: &Db, id: Id, grouping: &Grouping, steps: &mut Steps<L>) -> bool
+    requires { IsNumbered db.now.ids id }
+    ensures refused { result ≡ is_group_refused grouping.now db.now (key_with db.now.ids id) }
+    ensures steps { steps.new ≤ steps.old + group_steps grouping.now db.now (key_with db.now.ids id) }
+{
+    grouping.is_refused(db, id, steps)
+}
+
+// Adds the group of a value with the series of these numbers, unless memory was lost or is lost now, and answers whether it
+// was. The rows of one may be too many in either case.
+fn add_group<L: Ledger>(
+    db: &Db,
+    value: &Word,
+    ids: &[Id],
+    grouping: &Grouping,
+    before: bool,
+    out: &mut Out,
+    steps: &mut Steps<L>,
+) -> Result<bool, RangeFault>
+    requires numbered { All (IsNumbered db.now.ids) ids.now }
+    requires grouping { IsGrouping grouping.now }
+    ensures told { IfOk result (λ lost. list_any (is_too_long db.now grouping.now) ids.now ≡ false) }
+    ensures added { IfOk result (λ lost. lost ≡ false → out.new.bytes ≡ out.old.bytes ++ text (group_reply db.now grouping.now value.now ids.now)) }
+    ensures stays { IfOk result (λ lost. lost ≡ false → before ≡ false) }
+    ensures refused { IfErr result (λ fault. list_any (is_too_long db.now grouping.now) ids.now ≡ true) }
+    ensures room { length out.old.bytes + out.old.spare ≤ length out.new.bytes + out.new.spare }
+    ensures steps { steps.new ≤ steps.old + sum_by (number_steps db.now grouping.now) ids.now }
+{
+    let mut group = Group::new(db.alloc());
+    let lost = gather(db, ids, grouping, before, &mut group, steps)?;
+    if lost {
+        return Ok(true);
+    }
+    Ok(is_lost(encode_one(
+        db.alloc(),
+        &group,
         &grouping.by,
+        value,
         &grouping.show,
         grouping.count,
         grouping.query.reverse,
         out,
-    );
-    match groups {
-        Ok(()) => {}
-        Err(_) => {
-            out.clear();
-            put_no_memory(out);
-        }
-    }
+    )))
+}
+
+// Whether there was no memory.
+fn is_lost(done: Result<(), AllocError>) -> bool
+    ensures { result ≡ is_err done }
+{
+    done.is_err()
 }

@@ -54,8 +54,8 @@ pub(crate) fn put_members<L: Ledger>(
     }
 }
 
-// Says that there is no memory in the place of what was written, where memory was lost.
-fn settle(lost: bool, out: &mut Out)
+/// Says that there is no memory in the place of what was written, where memory was lost.
+pub(crate) fn settle(lost: bool, out: &mut Out)
     requires { 128 ≤ length out.old.bytes + out.old.spare }
     ensures kept { lost ≡ false → out.new.bytes ≡ out.old.bytes }
     ensures said { lost ≡ true → out.new.bytes ≡ text memory_reply }
@@ -92,8 +92,8 @@ fn add_members<L: Ledger>(
     Ok(lost)
 }
 
-// Begins an array of so many. Answers whether there was no memory for that.
-fn begin_members(count: usize, out: &mut Out) -> bool
+/// Begins an array of so many. Answers whether there was no memory for that.
+pub(crate) fn begin_members(count: usize, out: &mut Out) -> bool
     ensures begun { result ≡ false → out.new.bytes ≡ out.old.bytes ++ line_text 42 (decimal count) }
     ensures room { length out.old.bytes + out.old.spare ≤ length out.new.bytes + out.new.spare }
 {

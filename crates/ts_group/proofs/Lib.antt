@@ -3,6 +3,8 @@ pub mod Joining
 pub mod OneGroup
 pub mod Ordered
 pub mod Parts
+pub mod Shares
+pub mod Sorted
 pub mod Summed
 pub mod Times
 pub mod Told

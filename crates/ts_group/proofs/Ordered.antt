@@ -46,21 +46,21 @@ module _ {K : Type 0} {before same : K → K → Bool} {cmp : K → K → Orderi
       go true e = absurd (false≢true (sym (o.irrefl a) ∙ o.trans a b a h e))
       go false e = e
 
-  apart : (a b : K) → before a b ≡ true → same a b ≡ false
+  pub apart : (a b : K) → before a b ≡ true → same a b ≡ false
   apart a b h = go (same a b) refl
     where
       go : (t : Bool) → same a b ≡ t → same a b ≡ false
       go true e = absurd (false≢true (sym (o.irrefl a) ∙ ap (before a) (o.one a b e) ∙ h))
       go false e = e
 
-  apart-back : (a b : K) → before b a ≡ true → same a b ≡ false
+  pub apart-back : (a b : K) → before b a ≡ true → same a b ≡ false
   apart-back a b h = go (same a b) refl
     where
       go : (t : Bool) → same a b ≡ t → same a b ≡ false
       go true e = absurd (false≢true (sym (o.irrefl a) ∙ ap (λ (c : K). before c a) (o.one a b e) ∙ h))
       go false e = e
 
-  three : (a b : K) → (a ≡ b) ⊎ ((before a b ≡ true) ⊎ (before b a ≡ true))
+  pub three : (a b : K) → (a ≡ b) ⊎ ((before a b ≡ true) ⊎ (before b a ≡ true))
   three a b = go (before a b) (before b a) refl refl
     where
       go : (s t : Bool) → before a b ≡ s → before b a ≡ t → (a ≡ b) ⊎ ((before a b ≡ true) ⊎ (before b a ≡ true))
@@ -83,16 +83,16 @@ module _ {K : Type 0} {before same : K → K → Bool} {cmp : K → K → Orderi
 
   -- ---- one more
 
-  put-before : (a b : K) (bs : List K) → before a b ≡ true → put a (b ∷ bs) ≡ a ∷ b ∷ bs
+  pub put-before : (a b : K) (bs : List K) → before a b ≡ true → put a (b ∷ bs) ≡ a ∷ b ∷ bs
   put-before a b bs e = rw (o.put_cons a b bs, e) refl
 
-  put-here : (a b : K) (bs : List K) → a ≡ b → put a (b ∷ bs) ≡ b ∷ bs
+  pub put-here : (a b : K) (bs : List K) → a ≡ b → put a (b ∷ bs) ≡ b ∷ bs
   put-here a b bs e =
       let none : before a b ≡ false = ap (before a) (sym e) ∙ o.irrefl a in
       let is : same a b ≡ true = ap (same a) (sym e) ∙ o.itself a in
       rw (o.put_cons a b bs, none, is) refl
 
-  put-past : (a b : K) (bs : List K) → before b a ≡ true → put a (b ∷ bs) ≡ b ∷ put a bs
+  pub put-past : (a b : K) (bs : List K) → before b a ≡ true → put a (b ∷ bs) ≡ b ∷ put a bs
   put-past a b bs e = rw (o.put_cons a b bs, not-after b a e, apart-back a b e) refl
 
   put-earlier : (a b : K) (ks : List K) → before a b ≡ true → put a (put b ks) ≡ put b (put a ks)
@@ -143,7 +143,7 @@ module _ {K : Type 0} {before same : K → K → Bool} {cmp : K → K → Orderi
   AreRising [] = ⊤
   AreRising (b ∷ bs) = AreAfter b bs × AreRising bs
 
-  after-earlier : (a b : K) (ks : List K) → before a b ≡ true → AreAfter b ks → AreAfter a ks
+  pub after-earlier : (a b : K) (ks : List K) → before a b ≡ true → AreAfter b ks → AreAfter a ks
   after-earlier a b [] l h = tt
   after-earlier a b (k ∷ ks) l h = (o.trans a b k l h.0, after-earlier a b ks l h.1)
 
@@ -170,7 +170,7 @@ module _ {K : Type 0} {before same : K → K → Bool} {cmp : K → K → Orderi
   has a [] = false
   has a (b ∷ bs) = same a b || has a bs
 
-  none-before : (a : K) (ks : List K) → AreAfter a ks → has a ks ≡ false
+  pub none-before : (a : K) (ks : List K) → AreAfter a ks → has a ks ≡ false
   none-before a [] h = refl
   none-before a (k ∷ ks) h = rw (apart a k h.0) (none-before a ks h.1)
 

@@ -41,8 +41,8 @@ pub fn encode_groups(
     Ok(())
 }
 
-// The text of the group of a value.
-fn encode_one<'a>(
+/// Writes the text of the group of a value. Room is reserved on the way.
+pub fn encode_one<'a>(
     alloc: Global,
     group: &'a Group,
     by: &'a GroupBy,

@@ -15,8 +15,9 @@ mod summaries;
 
 pub use group_replies::group;
 pub use group_texts::encode_group;
-pub use groups_texts::encode_groups;
+pub use groups_texts::{encode_groups, encode_one};
 pub use labels::GroupLabels;
+pub use one_group::Group;
 pub use reduction::Reduction;
 pub use row_texts::encode_group_rows;
 pub use rows::GroupRows;

@@ -11,15 +11,16 @@ use std::alloc::{AllocError, Global};
 use ts_multi::Member;
 use ts_range::{Row, Take};
 
+/// The keys of the series of a group so far, and what their rows come to, time by time.
 #[derive(Drop)]
-pub(crate) struct Group {
+pub struct Group {
     pub(crate) sources: Sources,
     pub(crate) reduction: Reduction,
 }
 
 impl Group {
-    // No series yet.
-    pub(crate) fn new(alloc: Global) -> Group
+    /// No series yet. Takes no memory.
+    pub fn new(alloc: Global) -> Group
         ensures { result ≡ grouped [] }
     {
         Group {
@@ -33,8 +34,16 @@ impl Group {
         ensures { OnOk result ((ms : List Labelled) → self.old ≡ grouped ms
             → self.new ≡ grouped (ms ++ labelled_of member.now ∷ [])) }
     {
-        self.sources.add(member.key.bytes())?;
-        take_rows(&mut self.reduction, &member.rows)
+        self.add_rows(member.key.bytes(), &member.rows)
+    }
+
+    /// One series more, by its key and its rows. After an Err there may be a part of it.
+    pub fn add_rows(&mut self, key: &[u8], rows: &[Row]) -> Result<(), AllocError>
+        ensures { OnOk result ((ms : List Labelled) (m : Labelled) → m.key ≡ key.now → m.rows ≡ map row_of rows.now → self.old ≡ grouped ms
+            → self.new ≡ grouped (ms ++ m ∷ [])) }
+    {
+        self.sources.add(key)?;
+        take_rows(&mut self.reduction, rows)
     }
 }
 

@@ -1,4 +1,4 @@
-use Rattle.std.proofs.Common.{ap, sym, ◌∙◌}
+use Rattle.std.proofs.Common.{ap, ◌∙◌}
 use Rattle.std.specs.Prelude.{is_some}
 use Rattle.ts_spec.specs.Filter.{value_of}
 use Rattle.ts_engine.proofs.Gathered.{some-copied}
