@@ -1,6 +1,7 @@
 -- Frames that are written one after another, and one of which only a front is written.
-use Rattle.std.proofs.Common.{◌≡◌, ℕ, ◌+◌, List, [], ◌∷◌, ◌++◌, length, take, refl, sym, ◌∙◌, ap, subst, append_assoc, length-append, arith}
+use Rattle.std.proofs.Common.{◌≡◌, ℕ, ◌+◌, ◌-◌, List, [], ◌∷◌, ◌++◌, length, take, drop, refl, sym, ◌∙◌, ap, subst, append_assoc, length-append, length-drop, arith}
 use Rattle.std.proofs.Math.Seq.{take-append-add}
+use Rattle.std.proofs.lemmas.List.{take_all, take-append-drop, take-append-le}
 use Rattle.std.specs.Prelude.{Result, Ok, Err, OnErr}
 use Rattle.ts_io.specs.Sinks.{Grows, GrowsByFront}
 use Rattle.ts_io.proofs.Growth.{grows_twice}
@@ -12,7 +13,7 @@ on_err (Ok x) p = tt
 on_err (Err e) p = p
 
 -- the first bytes were written, and a front of the others
-pub front_after : (had between has : List ℕ → Type 0) (first others : List ℕ) → Grows had between first → GrowsByFront between has others → GrowsByFront had has (first ++ others)
+front_after : (had between has : List ℕ → Type 0) (first others : List ℕ) → Grows had between first → GrowsByFront between has others → GrowsByFront had has (first ++ others)
 front_after had between has first others grown front =
     let within = front.within in
     record {
@@ -20,6 +21,32 @@ front_after had between has first others grown front =
       within = omega (arith, within, length-append first others);
       grows = subst (λ l. Grows had has l) (sym (take-append-add first others front.len)) (grows_twice had between has first (take front.len others) grown front.grows);
     }
+
+-- ---- a header with the first of its bytes, and the others
+
+written_apart : (header bytes : List ℕ) (first : ℕ) → (header ++ take first bytes) ++ drop first bytes ≡ header ++ bytes
+written_apart header bytes first = append_assoc header (take first bytes) (drop first bytes) ∙ ap (λ l. header ++ l) (take-append-drop first bytes)
+
+-- a front of the first ones was written
+pub front_of_first : (had has : List ℕ → Type 0) (header bytes written : List ℕ) (first : ℕ) → written ≡ header ++ take first bytes
+    → GrowsByFront had has written → GrowsByFront had has (header ++ bytes)
+front_of_first had has header bytes written first is front =
+    let within = front.within in
+    subst (λ l. GrowsByFront had has l) (ap (λ l. l ++ drop first bytes) is ∙ written_apart header bytes first) (record {
+      len = front.len;
+      within = omega (arith, within, length-append written (drop first bytes));
+      grows = subst (λ l. Grows had has l) (sym (take-append-le front.len written (drop first bytes) within)) front.grows;
+    })
+
+-- the first ones were written, and a front of the others
+pub front_of_others : (had between has : List ℕ → Type 0) (header bytes written : List ℕ) (first : ℕ) → written ≡ header ++ take first bytes
+    → Grows had between written → GrowsByFront between has (take (length bytes - first) (drop first bytes)) → GrowsByFront had has (header ++ bytes)
+front_of_others had between has header bytes written first is grown front =
+    let others : take (length bytes - first) (drop first bytes) ≡ drop first bytes = take_all _ _ (omega (arith, length-drop first bytes)) in
+    subst (λ l. GrowsByFront had has l) (ap (λ l. l ++ drop first bytes) is ∙ written_apart header bytes first)
+    (front_after had between has written (drop first bytes) grown (subst (λ l. GrowsByFront between has l) others front))
+
+-- ---- all frames
 
 pub all_framed-append : (some others : List Frame) → all_framed (some ++ others) ≡ all_framed some ++ all_framed others
 all_framed-append [] others = refl

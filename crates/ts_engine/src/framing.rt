@@ -1,5 +1,5 @@
 // A frame of the output.
-ghost use Rattle.std.specs.Prelude.{◌≡◌, OnOk, OnErr};
+ghost use Rattle.std.specs.Prelude.{◌≡◌, ◌+◌, ◌≤◌, ◌++◌, length, take, OnOk, OnErr};
 ghost use Rattle.ts_io.specs.Causes.{HasCause};
 ghost use Rattle.ts_io.specs.Sinks.{Grows, GrowsByFront};
 ghost use Rattle.ts_mux.specs.Capture.{framed};
@@ -7,14 +7,44 @@ ghost use Rattle.ts_mux.specs.Capture.{framed};
 use ts_io::{Failed, Sink, write_all_counted};
 use ts_mux::Header;
 
-// Writes a frame of this connection with these bytes: its header, and then the bytes.
+// How many bytes of a frame leave together, its header among them.
+const TOGETHER: usize = 512;
+
+// Writes a frame of this connection with these bytes: its header together with the first of the bytes, and then the others.
 pub(crate) fn write_frame<K: Sink>(out: &mut K, link: u32, bytes: &[u8]) -> Result<(), Failed>
     ensures all { OnOk result (Grows (K.has out.old) (K.has out.new) (framed (record { link = link; bytes = bytes.now }))) }
     ensures front { OnErr result (GrowsByFront (K.has out.old) (K.has out.new) (framed (record { link = link; bytes = bytes.now }))) }
     ensures cause { HasCause (K.faults out.old) (K.faults out.new) result }
 {
     let header = Header::new(link, bytes.len());
-    write_all_counted(out, header.bytes())?;
-    write_all_counted(out, bytes)?;
+    let mut room = [0; TOGETHER];
+    let first = put_front(&mut room, header.bytes(), bytes);
+    write_all_counted(out, &room[..header.bytes().len() + first])?;
+    write_all_counted(out, &bytes[first..])?;
     Ok(())
+}
+
+// Puts a header and the first of the bytes into the room, as many as there is room for, and answers how many these are.
+fn put_front(room: &mut [u8; TOGETHER], header: &[u8], bytes: &[u8]) -> usize
+    requires { length header.now ≤ 512 }
+    ensures text { take (length header.now + result) room.new ≡ header.now ++ take result bytes.now }
+    ensures room { length header.now + result ≤ 512 }
+    ensures within { result ≤ length bytes.now }
+{
+    let at = put(room, 0, header);
+    let first = bytes.len().min(TOGETHER - at);
+    put(room, at, &bytes[..first]);
+    first
+}
+
+// Puts a text at a place of the room, and gives the place after it.
+fn put(room: &mut [u8], at: usize, text: &[u8]) -> usize
+    requires { at + length text.now ≤ length room.old }
+    ensures text { take result room.new ≡ take at room.old ++ text.now }
+    ensures after { result ≡ at + length text.now }
+    ensures size { length room.new ≡ length room.old }
+{
+    let after = at + text.len();
+    room[at..after].copy_from_slice(text);
+    after
 }

@@ -1,8 +1,9 @@
--- The readers of a Mux, where one is put back to the others, or taken out of them.
+-- The readers of a Mux, where one is put in the place of its connection, or taken out of it.
 use Rattle.std.proofs.Common.{◌≡◌, ℕ, Bool, true, false, ◌≤◌, ◌==◌, if◌then◌else◌, List, [], ◌∷◌, ◌++◌, length, drop, get_or, Option, Some, None, refl, sym, ap, ◌∙◌, subst, append-nil}
 use Rattle.std.proofs.lemmas.Bool.{eqb-true}
+use Rattle.std.specs.Option.{IsSome}
 use Rattle.std.specs.Ordering.{nat_cmp}
-use Rattle.std.specs.BTreeMap.{BTreeMap, get, Updates}
+use Rattle.std.specs.BTreeMap.{BTreeMap, get, Updates, WritesThrough}
 use Rattle.ts_spec.specs.declared.wire.WireLimits.{WireLimits}
 use Rattle.ts_spec.specs.Wire.{Start, stream_at}
 use Rattle.ts_spec.proofs.Streams.{read_on-nil}
@@ -26,6 +27,11 @@ no_events link (event ∷ events) e = absurd (subst IsCons e tt)
 pub nothing_left : (hand : Option Hand) (held : Hand) → hand ≡ Some held → left_of hand ++ [] ≡ [] → events_of (stream_of held.reader []) ≡ []
 nothing_left hand held e none =
     no_events held.link (events_of (stream_of held.reader [])) (ap left_of (sym e) ∙ sym (append-nil (left_of hand)) ∙ none)
+
+-- a value that is written at a key that the map has
+pub written : (readers rest : BTreeMap ℕ Reading) (link : ℕ) (before now : Reading) → get nat_cmp readers link ≡ Some before
+    → WritesThrough nat_cmp (nat_cmp link) readers now rest → Updates nat_cmp readers rest link (Some now)
+written readers rest link before now there through = through.3 (subst (λ (o : Option Reading). IsSome o) (sym there) refl)
 
 -- ---- a reader that is put back
 
@@ -55,12 +61,16 @@ module _ (readers rest : BTreeMap ℕ Reading) (held : Hand) (updates : Updates 
       go at true same = ap (λ to. get nat_cmp rest to) (sym (eqb-true held.link at same)) ∙ updates.1
       go at false apart = updates.2 at (other_key held.link at (apart-sym held.link at apart))
 
--- ---- a reader that is taken out
+-- ---- a reader that is taken out, and a fresh one
 
-module _ (readers rest : BTreeMap ℕ Reading) (link : ℕ) (updates : Updates nat_cmp readers rest link None) (limits : WireLimits) (closed : List Bool) where
-  pub ahead_taken : (reader : Reading) → get nat_cmp readers link ≡ Some reader → AreAsked readers → (frames : List Frame)
+pub fresh_events : (limits : WireLimits) (reader : Reading) → ((more : List ℕ) → stream_of reader more ≡ stream_at limits 0 more) → events_of (stream_of reader []) ≡ []
+fresh_events limits reader fresh = ap events_of (fresh [] ∙ read_on-nil limits 0 0 Start)
+
+module _ (readers : BTreeMap ℕ Reading) (link : ℕ) (limits : WireLimits) (closed : List Bool) where
+  pub ahead_taken : (rest : BTreeMap ℕ Reading) (reader fresh : Reading) → Updates nat_cmp readers rest link (Some fresh)
+      → get nat_cmp readers link ≡ Some reader → AreAsked readers → (frames : List Frame)
       → ahead_of limits closed rest (Some (record { link = link; reader = reader })) frames ≡ ahead_of limits closed readers None frames
-  ahead_taken reader there all frames =
+  ahead_taken rest reader fresh updates there all frames =
       ap (λ events. items_of link events ++ items_from closes_none (connections limits closed rest (Some (record { link = link; reader = reader }))) frames) (ap events_in (sym there) ∙ all link)
       ∙ items-alike closes_none (connections limits closed rest (Some (record { link = link; reader = reader }))) (connections limits closed readers None) frames
       (λ at before bytes. ap (λ reader. news_of (if get_or closed at true then None else Some (stream_or limits reader)) before bytes) (go at (link == at) refl))
@@ -70,11 +80,11 @@ module _ (readers rest : BTreeMap ℕ Reading) (link : ℕ) (updates : Updates n
       go at false apart = updates.2 at (other_key link at (apart-sym link at apart))
 
   pub ahead_made : (reader : Reading) → get nat_cmp readers link ≡ None → ((more : List ℕ) → stream_of reader more ≡ stream_at limits 0 more) → (frames : List Frame)
-      → ahead_of limits closed rest (Some (record { link = link; reader = reader })) frames ≡ ahead_of limits closed readers None frames
+      → ahead_of limits closed readers (Some (record { link = link; reader = reader })) frames ≡ ahead_of limits closed readers None frames
   ahead_made reader there fresh frames =
-      ap (λ stream. items_of link (events_of stream) ++ items_from closes_none (connections limits closed rest (Some (record { link = link; reader = reader }))) frames)
-      (fresh [] ∙ read_on-nil limits 0 0 Start)
-      ∙ items-alike closes_none (connections limits closed rest (Some (record { link = link; reader = reader }))) (connections limits closed readers None) frames
+      ap (λ events. items_of link events ++ items_from closes_none (connections limits closed readers (Some (record { link = link; reader = reader }))) frames)
+      (fresh_events limits reader fresh)
+      ∙ items-alike closes_none (connections limits closed readers (Some (record { link = link; reader = reader }))) (connections limits closed readers None) frames
       (λ at. go at (get_or closed at true) (link == at) refl)
     where
       same : (before bytes : List ℕ) → news (stream_of reader) before bytes ≡ news (stream_at limits 0) before bytes
@@ -83,8 +93,8 @@ module _ (readers rest : BTreeMap ℕ Reading) (link : ℕ) (updates : Updates n
           ∙ ap (λ stream. drop (length (events_of (stream_at limits 0 before))) (events_of stream)) (fresh (before ++ bytes))
 
       go : (at : ℕ) (gone test : Bool) → (link == at) ≡ test
-          → Alike (if gone then None else Some (stream_or limits (reader_or (if test then Some reader else None) (get nat_cmp rest at))))
+          → Alike (if gone then None else Some (stream_or limits (reader_or (if test then Some reader else None) (get nat_cmp readers at))))
           (if gone then None else Some (stream_or limits (get nat_cmp readers at)))
       go at true test e = λ before bytes. refl
       go at false true e = λ before bytes. same before bytes ∙ ap (λ reader. news (stream_or limits reader) before bytes) (sym there ∙ ap (λ to. get nat_cmp readers to) (eqb-true link at e))
-      go at false false e = λ before bytes. ap (λ reader. news (stream_or limits reader) before bytes) (updates.2 at (other_key link at (apart-sym link at e)))
+      go at false false e = λ before bytes. refl

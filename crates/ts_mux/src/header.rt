@@ -42,7 +42,8 @@ impl Header {
 
     /// Its bytes. Takes no memory.
     pub fn bytes(&self) -> &[u8]
-        ensures { result.now ≡ self.now }
+        ensures bytes { result.now ≡ self.now }
+        ensures short { length result.now ≤ 42 }
     {
         &self.room[..self.len]
     }

@@ -23,7 +23,7 @@ pub struct Mux {
     limits: WireLimits,
     // which connections are closed, by their numbers
     closed: [bool; LINKS],
-    // the open connections that have sent bytes, but for the one at hand
+    // the open connections that have sent bytes; that at hand may have a fresh reader in its place here
     readers: BTreeMap<u32, Reader>,
     hand: Option<Hand>,
     // how many bytes were delivered

@@ -8,6 +8,7 @@ ghost use Rattle.ts_mux.specs.Muxing.{ahead, delivered_to};
 use super::{LINKS, Mux};
 use crate::hand::Hand;
 use std::alloc::AllocError;
+use std::mem;
 use ts_resp::Reader;
 
 impl Mux {
@@ -40,7 +41,7 @@ impl Mux {
         Ok(())
     }
 
-    // Puts the reader at hand back to the others. After an Err it is still at hand.
+    // Puts the reader at hand in the place of its connection, or in a new one. After an Err it is still at hand.
     fn put_back(&mut self) -> Result<(), AllocError>
         requires asked { ahead self.old [] ≡ [] }
         ensures same { (frames : List Frame) → ahead self.new frames ≡ ahead self.old frames }
@@ -51,6 +52,10 @@ impl Mux {
         let Some(hand) = self.hand.take() else {
             return Ok(());
         };
+        if let Some(kept) = self.readers.get_mut(&hand.link) {
+            *kept = hand.reader;
+            return Ok(());
+        }
         match self.readers.insert(hand.link, hand.reader) {
             Ok(_) => Ok(()),
             Err(failed) => {
@@ -61,7 +66,7 @@ impl Mux {
         }
     }
 
-    // Takes the reader of a connection out of the others, or makes one.
+    // Takes the reader of a connection out of its place, where a fresh one stands then, or makes one.
     fn take_out(&mut self, link: u32) -> Reader
         requires hand { self.old.hand ≡ None }
         ensures same { (frames : List Frame) → ahead_of self.new.limits self.new.closed self.new.readers
@@ -71,9 +76,10 @@ impl Mux {
         ensures closed { self.new.closed ≡ self.old.closed }
         ensures delivered { delivered_to self.new ≡ delivered_to self.old }
     {
-        match self.readers.remove(&link) {
-            Some(reader) => reader,
-            None => Reader::new(self.alloc, self.limits),
+        let fresh = Reader::new(self.alloc, self.limits);
+        match self.readers.get_mut(&link) {
+            Some(kept) => mem::replace(kept, fresh),
+            None => fresh,
         }
     }
 }

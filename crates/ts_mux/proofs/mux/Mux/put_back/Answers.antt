@@ -1,25 +1,64 @@
-use Rattle.std.proofs.Common.{◌≤◌, sym, subst, ap, ◌∙◌}
+use Rattle.std.proofs.Common.{◌≤◌, Some, sym, subst, ap, ◌∙◌}
+use Rattle.std.specs.Ordering.{nat_cmp}
+use Rattle.std.specs.BTreeMap.{Updates}
 use Rattle.ts_mux.specs.Links.{ahead_of, hand_fed}
-use Rattle.ts_mux.proofs.Readers.{nothing_left, put_asked, put_within, ahead_put}
+use Rattle.ts_mux.proofs.Readers.{nothing_left, written, put_asked, put_within, ahead_put}
 use Rattle.ts_mux.proofs.mux.Mux.put_back.Goals as goal
+
+-- ---- in the place that its connection has
+
+pub invariant_of-self-in-Some-get_mut-clause-asked : goal.invariant_of-self-in-Some-get_mut-clause-asked
+invariant_of-self-in-Some-get_mut-clause-asked c =
+    let m = c.args.self.now in
+    let held = c.in-Some.hand in
+    put_asked m.readers (c.get_mut.follows.lender held.reader) held
+    (written m.readers (c.get_mut.follows.lender held.reader) held.link c.in-Some-get_mut.kept.now held.reader (sym c.in-Some-get_mut.ensures.value) (c.get_mut.follows.holds held.reader))
+    (nothing_left m.hand held (sym c.take.ensures.value ∙ c.in-Some.is) c.requires.asked) m.asked
+
+pub invariant_of-self-in-Some-get_mut-clause-within : goal.invariant_of-self-in-Some-get_mut-clause-within
+invariant_of-self-in-Some-get_mut-clause-within c =
+    let m = c.args.self.now in
+    let held = c.in-Some.hand in
+    put_within m.readers (c.get_mut.follows.lender held.reader) held
+    (written m.readers (c.get_mut.follows.lender held.reader) held.link c.in-Some-get_mut.kept.now held.reader (sym c.in-Some-get_mut.ensures.value) (c.get_mut.follows.holds held.reader))
+    m.delivered (subst (λ hand. hand_fed hand ≤ m.delivered) (sym c.take.ensures.value ∙ c.in-Some.is) m.hand_within) m.within
+
+pub returns-in-Some-get_mut-clause-same : goal.returns-in-Some-get_mut-clause-same
+returns-in-Some-get_mut-clause-same c = λ frames.
+    let m = c.args.self.now in
+    let held = c.in-Some.hand in
+    let is = sym c.take.ensures.value ∙ c.in-Some.is in
+    ap (λ hand. ahead_of m.limits m.closed (c.get_mut.follows.lender held.reader) hand frames) c.take.ensures.after
+    ∙ ahead_put m.readers (c.get_mut.follows.lender held.reader) held
+    (written m.readers (c.get_mut.follows.lender held.reader) held.link c.in-Some-get_mut.kept.now held.reader (sym c.in-Some-get_mut.ensures.value) (c.get_mut.follows.holds held.reader))
+    m.limits m.closed (nothing_left m.hand held is c.requires.asked) frames
+    ∙ ap (λ hand. ahead_of m.limits m.closed m.readers hand frames) (sym is)
+
+-- ---- in a new place
 
 pub invariant_of-self-in-Ok-clause-asked : goal.invariant_of-self-in-Ok-clause-asked
 invariant_of-self-in-Ok-clause-asked c =
     let m = c.args.self.now in
-    put_asked m.readers c.insert.new.self c.in-Some.hand c.in-Ok.ensures.updates
-    (nothing_left m.hand c.in-Some.hand (sym c.take.ensures.value ∙ c.in-Some.is) c.requires.asked) m.asked
+    let held = c.in-Some.hand in
+    put_asked m.readers c.insert.new.self held
+    (subst (λ readers. Updates nat_cmp readers c.insert.new.self held.link (Some held.reader)) c.get_mut.follows.holds-at-none c.in-Ok.ensures.updates)
+    (nothing_left m.hand held (sym c.take.ensures.value ∙ c.in-Some.is) c.requires.asked) m.asked
 
 pub invariant_of-self-in-Ok-clause-within : goal.invariant_of-self-in-Ok-clause-within
 invariant_of-self-in-Ok-clause-within c =
     let m = c.args.self.now in
-    put_within m.readers c.insert.new.self c.in-Some.hand c.in-Ok.ensures.updates m.delivered
-    (subst (λ hand. hand_fed hand ≤ m.delivered) (sym c.take.ensures.value ∙ c.in-Some.is) m.hand_within) m.within
+    let held = c.in-Some.hand in
+    put_within m.readers c.insert.new.self held
+    (subst (λ readers. Updates nat_cmp readers c.insert.new.self held.link (Some held.reader)) c.get_mut.follows.holds-at-none c.in-Ok.ensures.updates)
+    m.delivered (subst (λ hand. hand_fed hand ≤ m.delivered) (sym c.take.ensures.value ∙ c.in-Some.is) m.hand_within) m.within
 
 pub returns-in-Ok-clause-same : goal.returns-in-Ok-clause-same
 returns-in-Ok-clause-same c = λ frames.
     let m = c.args.self.now in
-    let held = sym c.take.ensures.value ∙ c.in-Some.is in
+    let held = c.in-Some.hand in
+    let is = sym c.take.ensures.value ∙ c.in-Some.is in
     ap (λ hand. ahead_of m.limits m.closed c.insert.new.self hand frames) c.take.ensures.after
-    ∙ ahead_put m.readers c.insert.new.self c.in-Some.hand c.in-Ok.ensures.updates m.limits m.closed
-    (nothing_left m.hand c.in-Some.hand held c.requires.asked) frames
-    ∙ ap (λ hand. ahead_of m.limits m.closed m.readers hand frames) (sym held)
+    ∙ ahead_put m.readers c.insert.new.self held
+    (subst (λ readers. Updates nat_cmp readers c.insert.new.self held.link (Some held.reader)) c.get_mut.follows.holds-at-none c.in-Ok.ensures.updates)
+    m.limits m.closed (nothing_left m.hand held is c.requires.asked) frames
+    ∙ ap (λ hand. ahead_of m.limits m.closed m.readers hand frames) (sym is)
