@@ -6,7 +6,8 @@
 //!   run after another, as `pieces 4096,1`; `cuts`, for pieces of each size, and for two pieces that are cut at each byte; how
 //!   many bytes a write takes, as `takes 1`; which calls of the listener fail, as `failing_calls 3`, its `open` and each
 //!   `accept` counted from 1; that one more connection waits, and that the `next_call` after the run `comes` to it, or `fails`
-//!   first; `encodings`, for series of TS.CREATE in either one; the `numbers` from one up to another; or the
+//!   first; a `journal`, with a record that it `had` before the run or `has` after it, as `journal had DEL a`, with the bytes of
+//!   `had_bytes` and `has_bytes`, and with which of its calls it `fails`, as `journal fails 2`; `encodings`, for series of TS.CREATE in either one; the `numbers` from one up to another; or the
 //!   `lengths` of a word, from one up to another;
 //! - a command, and after ` -> ` the reply that is due to it: its lines, apart by ` | `, or `[1:2, 3:4]` for rows, each with
 //!   a time and a value. A part in braces stands once for each number, which takes the place of each `#`; each `@` is the
@@ -25,6 +26,7 @@
 #![tactic(auto)]
 
 mod end;
+mod journal;
 mod line;
 mod next_call;
 mod patterns;

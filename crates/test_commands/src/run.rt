@@ -71,6 +71,7 @@ fn is_answered_over<S: Source + Drop>(
         coming.push(silent(alloc))?;
     }
     let mut net = MemListener::new(alloc, coming, failing)?;
+    let mut log = setting.journal.log()?;
     let status = top(
         alloc,
         &setting.words(alloc)?,
@@ -79,6 +80,7 @@ fn is_answered_over<S: Source + Drop>(
         &mut err,
         &mut clock,
         &mut net,
+        &mut log,
         setting.usable_limits(),
         setting.budget.max(1),
     );
@@ -86,6 +88,7 @@ fn is_answered_over<S: Source + Drop>(
         out.bytes() == own.exchange.out.as_slice()
             && are_answered(net.done(), links)
             && end.is(status.code(), err.bytes())
+            && setting.journal.is(&log)
             && setting.next_call.is_next(&mut net),
     )
 }

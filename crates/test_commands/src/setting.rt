@@ -1,7 +1,9 @@
 // What a talk is run with: the limits of the database, what the clock shows, and the numbers and words of its lines.
 ghost use Rattle.std.specs.Prelude.{◌≤◌};
+ghost use Rattle.ts_journal.specs.Limits.{IsBounded};
 ghost use Rattle.ts_engine.specs.Top.{AreUsable};
 
+use crate::journal::Journal;
 use crate::next_call::NextCall;
 use std::alloc::{AllocError, Global};
 use ts_engine::Limits;
@@ -29,6 +31,12 @@ const USUAL: [Option<&str>; 1] = [None];
 
 const BOTH: [Option<&str>; 2] = [Some("COMPRESSED"), Some("UNCOMPRESSED")];
 
+// The most words of a request, and the most bytes of a word.
+const MOST_WORDS: u32 = 4_000_000_000;
+
+// The most bytes of a request.
+const MOST_BYTES: u32 = 100_000_000;
+
 #[derive(Drop)]
 pub(crate) struct Setting {
     // The words of the command line, where it is not `pipe`.
@@ -40,6 +48,7 @@ pub(crate) struct Setting {
     // The numbers of the calls of the listener that fail.
     pub(crate) failing_calls: Vec<u64>,
     pub(crate) next_call: NextCall,
+    pub(crate) journal: Journal,
     // How many bytes a read takes at most, in one run after another.
     pub(crate) pieces: Vec<u64>,
     // Whether the requests also come in pieces of each size.
@@ -64,6 +73,7 @@ impl Setting {
             readings: Vec::new(alloc),
             failing_calls: Vec::new(alloc),
             next_call: NextCall::Unmade,
+            journal: Journal::new(alloc),
             pieces: Vec::new(alloc),
             cuts: false,
             takes: 4096,
@@ -80,6 +90,7 @@ impl Setting {
             "words" => self.words = Some(String::from_str(alloc, what)?),
             "failing_calls" => return take_list(what, &mut self.failing_calls),
             "next_call" => return Ok(self.next_call.take(what)),
+            "journal" => return self.journal.take(what),
             "clock" => return take_list(what, &mut self.readings),
             "pieces" => return take_list(what, &mut self.pieces),
             "cuts" => self.cuts = true,
@@ -136,15 +147,16 @@ impl Setting {
         Ok(words)
     }
 
-    // The limits, each of which is 1 at least.
+    // The limits, each of which is 1 at least, and those of requests as large as a journal can have.
     pub(crate) fn usable_limits(&self) -> Limits
-        ensures { AreUsable result }
+        ensures usable { AreUsable result }
+        ensures bounded { IsBounded result.wire }
     {
         let mut limits = self.limits;
-        limits.wire.words = limits.wire.words.max(1);
-        limits.wire.word_bytes = limits.wire.word_bytes.max(1);
-        limits.wire.request_bytes = limits.wire.request_bytes.max(1);
-        limits.wire.line_bytes = limits.wire.line_bytes.max(1);
+        limits.wire.words = limits.wire.words.max(1).min(MOST_WORDS);
+        limits.wire.word_bytes = limits.wire.word_bytes.max(1).min(MOST_WORDS);
+        limits.wire.request_bytes = limits.wire.request_bytes.max(1).min(MOST_BYTES);
+        limits.wire.line_bytes = limits.wire.line_bytes.max(1).min(MOST_BYTES / 2);
         limits.keys = limits.keys.max(1);
         limits.labels = limits.labels.max(1);
         limits.rules = limits.rules.max(1);

@@ -43,7 +43,7 @@ fn push_header(mark: u8, number: usize, bytes: &mut Vec<u8>) -> Result<(), Alloc
 }
 
 // Appends the request of a command.
-fn push_request(command: &str, bytes: &mut Vec<u8>) -> Result<(), AllocError> {
+pub(crate) fn push_request(command: &str, bytes: &mut Vec<u8>) -> Result<(), AllocError> {
     push_header(b'*', command.split(' ').count(), bytes)?;
     for word in command.split(' ') {
         push_header(b'$', word.len(), bytes)?;
@@ -78,7 +78,7 @@ fn push_rows(rows: &str, bytes: &mut Vec<u8>) -> Result<(), AllocError> {
 }
 
 // Appends the bytes of a text, in which `\r` and `\n` stand for the bytes at the end of a line, and `\t` for a tab.
-fn push_bytes(text: &str, bytes: &mut Vec<u8>) -> Result<(), AllocError> {
+pub(crate) fn push_bytes(text: &str, bytes: &mut Vec<u8>) -> Result<(), AllocError> {
     let mut marked = false;
     for byte in text.as_bytes() {
         let byte = match *byte {

@@ -16,6 +16,8 @@ fn mode_of_line(rt: &HostRuntime, line: &str) -> Result<Option<Mode>, AllocError
 fn words_ask_for_a_mode(rt: HostRuntime) -> Result<(), Fail> {
     assert_eq!(rt; mode_of_line(&rt, "pipe")?, Some(Mode::Pipe));
     assert_eq!(rt; mode_of_line(&rt, "mux")?, Some(Mode::Mux));
+    assert_eq!(rt; mode_of_line(&rt, "keep x")?, Some(Mode::Keep));
+    assert_eq!(rt; mode_of_line(&rt, "keep keep")?, Some(Mode::Keep));
     assert_eq!(rt;
         mode_of_line(&rt, "serve localhost:7379 4294967295")?,
         Some(Mode::Serve(u32::MAX))
@@ -40,6 +42,11 @@ fn other_words_ask_for_none(rt: HostRuntime) -> Result<(), Fail> {
         "pipe pipe",
         "muxes",
         "mux 1",
+        "keep",
+        "keep ",
+        "keep -x",
+        "keep a b",
+        "pipe x",
         "serve x",
         "serve x 0",
         "serve x 4294967296",
@@ -70,7 +77,7 @@ fn lines_of_endings(rt: HostRuntime) {
     );
     assert_eq!(rt;
         line(None, Status::Usage, 0, &mut room),
-        b"usage: tsd pipe | tsd serve <address> <connections> | tsd gen <seed> <n> | tsd mux\n".as_slice()
+        b"usage: tsd pipe | tsd serve <address> <connections> | tsd gen <seed> <n> | tsd keep <file> | tsd mux\n".as_slice()
     );
     assert_eq!(rt;
         line(Some(Mode::Pipe), Status::Truncated, 5, &mut room),
@@ -79,6 +86,18 @@ fn lines_of_endings(rt: HostRuntime) {
     assert_eq!(rt;
         line(Some(Mode::Mux), Status::Truncated, 5, &mut room),
         b"tsd: capture ends inside a frame that begins at byte 5\n".as_slice()
+    );
+    assert_eq!(rt;
+        line(Some(Mode::Keep), Status::Truncated, 5, &mut room),
+        b"tsd: input ends inside a request that begins at byte 5\n".as_slice()
+    );
+    assert_eq!(rt;
+        line(Some(Mode::Keep), Status::JournalFault, 7, &mut room),
+        b"tsd: journal fault\n".as_slice()
+    );
+    assert_eq!(rt;
+        line(Some(Mode::Keep), Status::JournalBroken, 203, &mut room),
+        b"tsd: journal broken at byte 203\n".as_slice()
     );
     assert_eq!(rt;
         line(
@@ -90,6 +109,8 @@ fn lines_of_endings(rt: HostRuntime) {
         b"tsd: capture broken at byte 18446744073709551615\n".as_slice()
     );
     assert_eq!(rt; Status::Budget.code(), 8);
+    assert_eq!(rt; Status::JournalFault.code(), 9);
+    assert_eq!(rt; Status::JournalBroken.code(), 10);
     assert_eq!(rt; Status::CaptureBroken.code(), 11);
 }
 

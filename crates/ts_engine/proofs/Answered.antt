@@ -5,16 +5,17 @@ use Rattle.ts_spec.specs.declared.wire.WireLimits.{WireLimits}
 use Rattle.ts_engine.specs.declared.piped.Outcome.{Outcome}
 use Rattle.ts_engine.specs.Answered.{InputAnswered}
 use Rattle.ts_engine.specs.Headline.{Exchange}
-use Rattle.ts_engine.specs.Piping.{Piped, HasCauses}
+use Rattle.ts_engine.specs.Piping.{PipedBy, Piped, HasCauses}
 use Rattle.ts_engine.specs.Serving.{Link, StreamViews, IsServed, link_exchange}
-use Rattle.ts_engine.specs.Turn.{World}
+use Rattle.ts_engine.specs.Turn.{World, plain}
+use Rattle.ts_engine.specs.Turns.{Turns}
 use Rattle.ts_engine.proofs.Spending.{by_budget}
 use Rattle.ts_engine.proofs.Taking.{piped_alone, writes_of, executed_of, near_of}
 use Rattle.ts_engine.proofs.Tops.{by_grammar}
 
-module _ (exchange : Exchange) (budget : ℕ) (outcome : Outcome) (reads reads' writes writes' : ℕ) (causes : HasCauses outcome.end reads reads' writes writes') (bytes : List ℕ) (left : Option (List ℕ)) where
+module _ {turns : Turns} (exchange : Exchange turns) (budget : ℕ) (outcome : Outcome) (reads reads' writes writes' : ℕ) (causes : HasCauses outcome.end reads reads' writes writes') (bytes : List ℕ) (left : Option (List ℕ)) where
   -- an input that told its bytes
-  input_answered : Piped exchange.limits budget outcome exchange.from exchange.to (Some bytes) left exchange.had exchange.has → InputAnswered exchange budget bytes left outcome reads reads' writes writes'
+  pub input_answered : PipedBy turns exchange.limits budget outcome exchange.from exchange.to (Some bytes) left exchange.had exchange.has → InputAnswered exchange budget bytes left outcome reads reads' writes writes'
   input_answered piped = record {
     written = writes_of exchange budget outcome bytes left piped;
     executed = executed_of exchange budget outcome bytes left piped;
@@ -24,9 +25,9 @@ module _ (exchange : Exchange) (budget : ℕ) (outcome : Outcome) (reads reads' 
     spent = λ enough no_read no_write. by_budget exchange budget outcome bytes (Some bytes) left refl piped reads reads' writes writes' causes enough no_read no_write;
   }
 
-  answered_told : (told : Option (List ℕ)) → told ≡ Some bytes → Piped exchange.limits budget outcome exchange.from exchange.to told left exchange.had exchange.has
+  pub answered_told : (told : Option (List ℕ)) → told ≡ Some bytes → PipedBy turns exchange.limits budget outcome exchange.from exchange.to told left exchange.had exchange.has
       → InputAnswered exchange budget bytes left outcome reads reads' writes writes'
-  answered_told told tells piped = input_answered (subst (λ (o : Option (List ℕ)). Piped exchange.limits budget outcome exchange.from exchange.to o left exchange.had exchange.has) tells piped)
+  answered_told told tells piped = input_answered (subst (λ (o : Option (List ℕ)). PipedBy turns exchange.limits budget outcome exchange.from exchange.to o left exchange.had exchange.has) tells piped)
 
 -- a link was served
 module _ {I O : Type 0} (views : StreamViews I O) (limits : WireLimits) (budget : ℕ) (link : Link I O) (from to : World) where
@@ -34,8 +35,8 @@ module _ {I O : Type 0} (views : StreamViews I O) (limits : WireLimits) (budget 
       → HasCauses link.outcome.end (views.reads link.came.input) (views.reads link.back.input) (views.writes link.came.out) (views.writes link.back.out)
       → IsServed views limits budget link from to
   is_served piped causes =
-      let exchange : Exchange = link_exchange views limits budget link from to in
-      let alone = piped_alone limits budget link.outcome from to (views.left link.came.input) (views.left link.back.input) (views.has link.came.out) (views.has link.back.out) piped in
+      let exchange : Exchange plain = link_exchange views limits budget link from to in
+      let alone = piped_alone plain limits budget link.outcome from to (views.left link.came.input) (views.left link.back.input) (views.has link.came.out) (views.has link.back.out) piped in
       record {
         front = piped.bytes;
         count = piped.count;

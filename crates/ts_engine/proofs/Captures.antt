@@ -20,11 +20,11 @@ use Rattle.ts_engine.specs.Headline.{Exchange, Seen, exchange_of}
 use Rattle.ts_engine.specs.Replaying.{Spot, beginning, Went, WentSome, LastFrame, IsUpToDate, Ends, is_of_input, Replayed, HasCauses}
 use Rattle.ts_engine.specs.Replies.{IsReply, Replies}
 use Rattle.ts_engine.specs.Top.{ReportsIn}
-use Rattle.ts_engine.specs.Turn.{World}
+use Rattle.ts_engine.specs.Turn.{World, plain}
 use Rattle.ts_engine.proofs.Headlines.{Splits, splits}
 use Rattle.ts_engine.proofs.Spending.{first_bytes}
 
-module _ (exchange : Exchange) (last : Spot) (at : last.world ≡ exchange.to) where
+module _ (exchange : Exchange plain) (last : Spot) (at : last.world ≡ exchange.to) where
   module _ (front : List ℕ) (went : Went (beginning exchange.limits exchange.from) last exchange.had exchange.has front) (bytes more : List ℕ) (whole : bytes ≡ front ++ more) where
     pub ends_as : ending bytes ≡ last.ending more
     ends_as = ap ending whole ∙ went.ending more
@@ -142,7 +142,7 @@ module _ (budget : ℕ) (bytes : List ℕ) where
   cut_by : (end : Capture) → ending (take budget bytes) ≡ end → status_captured budget bytes ≡ status_by (nat_le budget (length bytes)) end
   cut_by end is = ap (status_by (nat_le budget (length bytes))) is
 
-  module _ (exchange : Exchange) (e : CaptureEnd) (left : Option (List ℕ)) (replayed : Replayed exchange.limits budget e exchange.from exchange.to (Some bytes) left exchange.had exchange.has) where
+  module _ (exchange : Exchange plain) (e : CaptureEnd) (left : Option (List ℕ)) (replayed : Replayed exchange.limits budget e exchange.from exchange.to (Some bytes) left exchange.had exchange.has) where
     front : List ℕ
     front = replayed.bytes
 
@@ -179,25 +179,29 @@ module _ (budget : ℕ) (bytes : List ℕ) where
         ∙ ap (status_by true) (ends_as exchange replayed.last replayed.world replayed.bytes ends.0 (take budget bytes) [] all ∙ ends.1.1.is)))
 
 -- where no fault was counted, the status is the capture's, or want of memory
-pub by_capture : (exchange : Exchange) (budget : ℕ) (e : CaptureEnd) (bytes : List ℕ) (told left : Option (List ℕ)) → told ≡ Some bytes
+pub by_capture : (exchange : Exchange plain) (budget : ℕ) (e : CaptureEnd) (bytes : List ℕ) (told left : Option (List ℕ)) → told ≡ Some bytes
     → Replayed exchange.limits budget e exchange.from exchange.to told left exchange.had exchange.has → (reads reads' writes writes' : ℕ)
     → HasCauses e reads reads' writes writes' → (Rose reads reads' → ⊥) → (Rose writes writes' → ⊥) → (status_of e ≡ status.Memory) ⊎ (status_of e ≡ status_captured budget bytes)
 by_capture exchange budget e bytes told left tells replayed reads reads' writes writes' causes no_read no_write =
     let here = subst (λ (o : Option (List ℕ)). Replayed exchange.limits budget e exchange.from exchange.to o left exchange.had exchange.has) tells replayed in
     by_end budget bytes exchange e left here e refl here.ends reads reads' writes writes' causes no_read no_write
 
--- a capture has neither the status of wrong words nor that of a connection that could not be accepted
-never_meant : (e : CaptureEnd) → (status_of e ≢ status.Usage) × (status_of e ≢ status.AcceptFault)
-never_meant end.Ended = (λ is. (cc), λ is. (cc))
-never_meant (end.Truncated place) = (λ is. (cc), λ is. (cc))
-never_meant (end.Broken place) = (λ is. (cc), λ is. (cc))
-never_meant end.ReadFault = (λ is. (cc), λ is. (cc))
-never_meant end.WriteFault = (λ is. (cc), λ is. (cc))
-never_meant end.Memory = (λ is. (cc), λ is. (cc))
-never_meant end.Budget = (λ is. (cc), λ is. (cc))
+-- a capture has no status that only other words can have
+pub record IsOther (given : Status) : Type 0 where
+  pub no_usage : given ≢ status.Usage
+  pub no_accept : given ≢ status.AcceptFault
+  pub no_journal : given ≢ status.JournalFault
+  pub no_broken : given ≢ status.JournalBroken
 
-pub never : (e : CaptureEnd) (meant given : Status) → meant ≡ status_of e → (given ≡ status.WriteFault) ⊎ (given ≡ meant) → (given ≢ status.Usage) × (given ≢ status.AcceptFault)
-never e meant given means (inl failed) = (λ is. (cc), λ is. (cc))
-never e meant given means (inr same) =
-    let none = never_meant e in
-    (λ is. none.0 (sym (same ∙ means) ∙ is), λ is. none.1 (sym (same ∙ means) ∙ is))
+never_meant : (e : CaptureEnd) → IsOther (status_of e)
+never_meant end.Ended = record { no_usage = λ is. (cc); no_accept = λ is. (cc); no_journal = λ is. (cc); no_broken = λ is. (cc) }
+never_meant (end.Truncated place) = record { no_usage = λ is. (cc); no_accept = λ is. (cc); no_journal = λ is. (cc); no_broken = λ is. (cc) }
+never_meant (end.Broken place) = record { no_usage = λ is. (cc); no_accept = λ is. (cc); no_journal = λ is. (cc); no_broken = λ is. (cc) }
+never_meant end.ReadFault = record { no_usage = λ is. (cc); no_accept = λ is. (cc); no_journal = λ is. (cc); no_broken = λ is. (cc) }
+never_meant end.WriteFault = record { no_usage = λ is. (cc); no_accept = λ is. (cc); no_journal = λ is. (cc); no_broken = λ is. (cc) }
+never_meant end.Memory = record { no_usage = λ is. (cc); no_accept = λ is. (cc); no_journal = λ is. (cc); no_broken = λ is. (cc) }
+never_meant end.Budget = record { no_usage = λ is. (cc); no_accept = λ is. (cc); no_journal = λ is. (cc); no_broken = λ is. (cc) }
+
+pub never : (e : CaptureEnd) (meant given : Status) → meant ≡ status_of e → (given ≡ status.WriteFault) ⊎ (given ≡ meant) → IsOther given
+never e meant given means (inl failed) = record { no_usage = λ is. (cc); no_accept = λ is. (cc); no_journal = λ is. (cc); no_broken = λ is. (cc) }
+never e meant given means (inr same) = subst IsOther (sym (same ∙ means)) (never_meant e)

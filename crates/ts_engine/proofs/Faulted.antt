@@ -1,7 +1,8 @@
 -- Words that were no command have their turn.
 use Rattle.std.proofs.Common.{◌≡◌, false, inl, inr, ⊎_elim, ℕ, List, refl, sym, ◌∙◌, ap, subst}
-use Rattle.std.specs.Prelude.{Result}
+use Rattle.std.specs.Prelude.{◌⊎◌, Result, Err}
 use Rattle.ts_spec.specs.Command.{Command}
+use Rattle.ts_spec.specs.Grammar.{command}
 use Rattle.ts_spec.specs.Run.{is_quit, says_quit}
 use Rattle.ts_spec.specs.Refusal as refusal
 use Rattle.ts_spec.specs.Refusal.{Fault}
@@ -13,23 +14,37 @@ use Rattle.ts_command.specs.Answers.{IsFaultIn}
 use Rattle.ts_command.specs.Faults.{message}
 use Rattle.ts_command.proofs.AnswerLemmas.{IsFaultOfWords, IsWantOfMemory, fault-or-memory}
 use Rattle.ts_engine.specs.Answering.{IsShort}
-use Rattle.ts_engine.specs.Turn.{World, TurnBy, turn}
+use Rattle.ts_engine.specs.Turn.{World, IsRefused, IsUnread, TurnBy, turn}
 use Rattle.ts_engine.proofs.Short.{short_fault, short_memory}
 use Rattle.ts_engine.proofs.Lists.{lists_no_quit}
 
-pub faulted : (words : Request) (fault : CommandFault) (from : World) (written : List ℕ) → IsFaultIn words fault → written ≡ text (Error (message fault)) → turn from words written from
-faulted words fault from written is says =
+-- words that were no command are answered by their fault, or by want of memory
+pub refused_or_unread : (words : Request) (fault : CommandFault) (from : World) (written : List ℕ) → IsFaultIn words fault → written ≡ text (Error (message fault))
+    → ((f : Fault) × (command words ≡ Err f) × IsRefused f from written from) ⊎ IsUnread words from written from
+refused_or_unread words fault from written is says =
     ⊎_elim
-    (λ (in_words : IsFaultOfWords words fault). inl (subst (λ (r : Result Command Fault). TurnBy r from written from) (sym in_words.command) (record {
-      says = says ∙ ap (λ (l : List ℕ). text (Error l)) in_words.message;
-      same = refl;
-    })))
+    (λ (in_words : IsFaultOfWords words fault). inl (
+      _,
+      in_words.command,
+      record {
+        says = says ∙ ap (λ (l : List ℕ). text (Error l)) in_words.message;
+        same = refl;
+      },
+    ))
     (λ (want : IsWantOfMemory words fault). inr (record {
       may = want.lists;
       says = says ∙ ap (λ (l : List ℕ). text (Error l)) want.message;
       same = refl;
     }))
     (fault-or-memory words fault is)
+
+pub faulted : (words : Request) (fault : CommandFault) (from : World) (written : List ℕ) → IsFaultIn words fault → written ≡ text (Error (message fault)) → turn from words written from
+faulted words fault from written is says =
+    ⊎_elim
+    (λ (refused : (f : Fault) × (command words ≡ Err f) × IsRefused f from written from).
+    inl (subst (λ (r : Result Command Fault). TurnBy r from written from) (sym refused.1) refused.2))
+    (λ (unread : IsUnread words from written from). inr unread)
+    (refused_or_unread words fault from written is says)
 
 -- words that were answered by a fault, or by want of memory, are not QUIT
 pub faulted_no_quit : (words : Request) (fault : CommandFault) → IsFaultIn words fault → is_quit words ≡ false

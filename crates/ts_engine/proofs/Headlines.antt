@@ -9,10 +9,9 @@ use Rattle.ts_spec.specs.Wire.{Request, Stream, Ended, Inside, Broken, stream_at
 use Rattle.ts_spec.proofs.Runs.{Runs-append, Runs-one, requests_of-then_all, ending_of-then_all, requests_in-append}
 use Rattle.ts_engine.specs.declared.piped.End.{End}
 use Rattle.ts_engine.specs.declared.piped.End.TheVariants as end
-use Rattle.ts_engine.specs.Turn.{World, turn, plain}
-use Rattle.ts_engine.specs.Turns.{OfLast}
+use Rattle.ts_engine.specs.Turns.{Turns, OfLast}
 use Rattle.ts_engine.specs.Session.{Spot, Went, WentSome, LastReply, Quitted, CutFault, IsUpToDate}
-use Rattle.ts_engine.specs.Piping.{beginning, Ends}
+use Rattle.ts_engine.specs.Piping.{beginning_of, Ends}
 use Rattle.ts_engine.specs.Headline.{requests, asks_to_quit, ending, Exchange, AllAnswered, WholeAnswered, SomeAnswered, LastCut, FaultCut, FrontAnswered, Writes, count_done}
 use Rattle.ts_engine.proofs.Quits.{has_quit-append, until_quit-append, until_quit-last, has_quit-last}
 use Rattle.ts_engine.proofs.Sessions.{grows_as}
@@ -25,8 +24,8 @@ pub splits : (bytes : List ℕ) (left : Option (List ℕ)) (front : List ℕ) �
 splits bytes None front took = absurd took
 splits bytes (Some rest) front took = (rest, took, refl)
 
-module _ (exchange : Exchange) (last : Spot plain) (at : last.world ≡ exchange.to) where
-  module _ (front tail : List ℕ) (went : Went (beginning exchange.limits exchange.from) last exchange.had exchange.has front tail) where
+module _ {turns : Turns} (exchange : Exchange turns) (last : Spot turns) (at : last.world ≡ exchange.to) where
+  module _ (front tail : List ℕ) (went : Went (beginning_of turns exchange.limits exchange.from) last exchange.had exchange.has front tail) where
     -- the requests in the bytes and whatever follows them
     follows : (more : List ℕ) → stream_at exchange.limits 0 (front ++ more) ≡ then_all went.done (stream_of last.reader more)
     follows more = went.stream more
@@ -53,8 +52,8 @@ module _ (exchange : Exchange) (last : Spot plain) (at : last.world ≡ exchange
     pub all_answered : (bytes more : List ℕ) → bytes ≡ front ++ more → requests_of (stream_of last.reader more) ≡ [] → AllAnswered exchange bytes tail
     all_answered bytes more whole none = record {
       text = went.text;
-      run = subst (λ (w : World). Runs turn exchange.from (requests exchange.limits bytes) went.text w) at
-          (subst (λ (l : List Request). Runs turn exchange.from l went.text last.world)
+      run = subst (λ (w : turns.World). Runs turns.turn exchange.from (requests exchange.limits bytes) went.text w) at
+          (subst (λ (l : List Request). Runs turns.turn exchange.from l went.text last.world)
           (sym (all_requests bytes more whole none))
           went.run);
       grown = went.grown;
@@ -77,14 +76,14 @@ pub its_own_ending : (place : Option ℕ) → ending_of (ended_at place) ≡ end
 its_own_ending None = refl
 its_own_ending (Some place) = refl
 
-module _ (exchange : Exchange) (last : Spot plain) (at : last.world ≡ exchange.to) (bytes front : List ℕ) (left : Option (List ℕ)) (split : Splits bytes left front) where
+module _ {turns : Turns} (exchange : Exchange turns) (last : Spot turns) (at : last.world ≡ exchange.to) (bytes front : List ℕ) (left : Option (List ℕ)) (split : Splits bytes left front) where
   -- the whole of the bytes was taken
   whole : IsAtEnd left → (bytes ≡ front ++ []) × (left ≡ Some [])
   whole at_end =
       let none : split.0 ≡ [] = subst IsAtEnd split.2 at_end in
       (split.1 ∙ ap (λ (l : List ℕ). front ++ l) none, split.2 ∙ ap Some none)
 
-  abbrev pub front_answered : Went (beginning exchange.limits exchange.from) last exchange.had exchange.has front [] → IsUpToDate last → FrontAnswered exchange bytes left
+  abbrev pub front_answered : Went (beginning_of turns exchange.limits exchange.from) last exchange.had exchange.has front [] → IsUpToDate last → FrontAnswered exchange bytes left
   front_answered went current = record {
     front = front;
     rest = split.0;
@@ -97,11 +96,11 @@ module _ (exchange : Exchange) (last : Spot plain) (at : last.world ≡ exchange
     answered = all_answered exchange last at front [] went front [] (sym (append-nil front)) (ap requests_of current.rest ∙ no_requests (unfinished last.reader));
   }
 
-  front_executed : Went (beginning exchange.limits exchange.from) last exchange.had exchange.has front [] → IsUpToDate last → last.executed ≡ length (requests exchange.limits front)
+  front_executed : Went (beginning_of turns exchange.limits exchange.from) last exchange.had exchange.has front [] → IsUpToDate last → last.executed ≡ length (requests exchange.limits front)
   front_executed went current =
       all_executed exchange last at front [] went front [] (sym (append-nil front)) (ap requests_of current.rest ∙ no_requests (unfinished last.reader))
 
-  abbrev pub some_answered : WentSome (beginning exchange.limits exchange.from) last exchange.had exchange.has front → SomeAnswered exchange bytes
+  abbrev pub some_answered : WentSome (beginning_of turns exchange.limits exchange.from) last exchange.had exchange.has front → SomeAnswered exchange bytes
   some_answered went =
       let rest = went.stream split.0 in
       record {
@@ -110,12 +109,12 @@ module _ (exchange : Exchange) (last : Spot plain) (at : last.world ≡ exchange
         first = ap (requests exchange.limits) split.1 ∙ ap until_quit (ap requests_of rest.1 ∙ requests_of-then_all went.done rest.0)
             ∙ until_quit-append (requests_in went.done) (requests_of rest.0) went.goes_on;
         text = went.text;
-        run = subst (λ (w : World). Runs turn exchange.from (requests_in went.done) went.text w) at went.run;
+        run = subst (λ (w : turns.World). Runs turns.turn exchange.from (requests_in went.done) went.text w) at went.run;
         grown = went.grown;
       }
 
   -- the requests of the bytes, with the last one that had its turn
-  pub with_last : {said : OfLast plain} (cut : LastReply said (beginning exchange.limits exchange.from) last exchange.had exchange.has front)
+  pub with_last : {said : OfLast turns} (cut : LastReply said (beginning_of turns exchange.limits exchange.from) last exchange.had exchange.has front)
       → requests_of (stream_at exchange.limits 0 bytes) ≡ requests_in cut.done ++ cut.last.request ∷ requests_of (stream_of last.reader split.0)
   with_last cut =
       ap (λ (l : List ℕ). requests_of (stream_at exchange.limits 0 l)) split.1 ∙ ap requests_of (cut.stream split.0)
@@ -123,7 +122,7 @@ module _ (exchange : Exchange) (last : Spot plain) (at : last.world ≡ exchange
       ∙ ap (λ (l : List Request). l ++ requests_of (stream_of last.reader split.0)) (requests_in-append cut.done (cut.last ∷ []))
       ∙ append_assoc (requests_in cut.done) (cut.last.request ∷ []) (requests_of (stream_of last.reader split.0))
 
-  abbrev pub last_cut : LastReply plain.cut (beginning exchange.limits exchange.from) last exchange.had exchange.has front → LastCut exchange bytes
+  abbrev pub last_cut : LastReply turns.cut (beginning_of turns exchange.limits exchange.from) last exchange.had exchange.has front → LastCut exchange bytes
   last_cut cut = record {
     done = requests_in cut.done;
     last = cut.last.request;
@@ -134,29 +133,29 @@ module _ (exchange : Exchange) (last : Spot plain) (at : last.world ≡ exchange
     reply = cut.reply;
     kept = cut.kept;
     run = cut.run;
-    turned = subst (λ (w : World). turn cut.mid cut.last.request cut.reply w) at cut.turned;
+    turned = subst (λ (w : turns.World). turns.cut cut.mid cut.last.request cut.reply cut.kept w) at cut.turned;
     grown = cut.grown;
   }
 
   -- the last request that had its turn is the last one of all
-  quitted_requests : (quitted : Quitted (beginning exchange.limits exchange.from) last exchange.had exchange.has front) → requests exchange.limits bytes ≡ requests_in quitted.reply.done ++ quitted.reply.last.request ∷ []
+  quitted_requests : (quitted : Quitted (beginning_of turns exchange.limits exchange.from) last exchange.had exchange.has front) → requests exchange.limits bytes ≡ requests_in quitted.reply.done ++ quitted.reply.last.request ∷ []
   quitted_requests quitted =
       ap until_quit (with_last quitted.reply)
       ∙ until_quit-last (requests_in quitted.reply.done) quitted.reply.last.request (requests_of (stream_of last.reader split.0)) quitted.reply.goes_on quitted.asked
 
   -- QUIT was answered
-  pub quitted_all : (quitted : Quitted (beginning exchange.limits exchange.from) last exchange.had exchange.has front)
+  pub quitted_all : (quitted : Quitted (beginning_of turns exchange.limits exchange.from) last exchange.had exchange.has front)
       → AllAnswered exchange bytes [] × (asks_to_quit exchange.limits bytes ≡ true)
   quitted_all quitted =
       let cut = quitted.reply in
       let rest : List Request = requests_of (stream_of last.reader split.0) in (
         record {
           text = cut.text ++ cut.reply;
-          run = subst (λ (w : World). Runs turn exchange.from (requests exchange.limits bytes) (cut.text ++ cut.reply) w) at
-              (subst (λ (l : List Request). Runs turn exchange.from l (cut.text ++ cut.reply) last.world)
+          run = subst (λ (w : turns.World). Runs turns.turn exchange.from (requests exchange.limits bytes) (cut.text ++ cut.reply) w) at
+              (subst (λ (l : List Request). Runs turns.turn exchange.from l (cut.text ++ cut.reply) last.world)
               (sym (quitted_requests quitted))
-              (Runs-append turn exchange.from cut.mid last.world (requests_in cut.done) (cut.last.request ∷ []) cut.text cut.reply cut.run
-              (Runs-one turn cut.mid last.world cut.last.request cut.reply cut.turned)));
+              (Runs-append turns.turn exchange.from cut.mid last.world (requests_in cut.done) (cut.last.request ∷ []) cut.text cut.reply cut.run
+              (Runs-one turns.turn cut.mid last.world cut.last.request cut.reply cut.turned)));
           grown = grows_as exchange.had exchange.has (cut.text ++ take cut.kept cut.reply) ((cut.text ++ cut.reply) ++ [])
               (ap (λ (l : List ℕ). cut.text ++ l) quitted.whole ∙ sym (append-nil (cut.text ++ cut.reply))) cut.grown;
         },
@@ -165,7 +164,7 @@ module _ (exchange : Exchange) (last : Spot plain) (at : last.world ≡ exchange
 
   -- the input was read to its end, which is of this kind
   pub whole_answered : (end : Stream) → requests_of end ≡ [] → ending_of end ≡ end
-      → Went (beginning exchange.limits exchange.from) last exchange.had exchange.has front [] → stream_of last.reader [] ≡ end → IsAtEnd left
+      → Went (beginning_of turns exchange.limits exchange.from) last exchange.had exchange.has front [] → stream_of last.reader [] ≡ end → IsAtEnd left
       → WholeAnswered exchange bytes left end
   whole_answered end none own went is at_end =
       let all = whole at_end in
@@ -176,7 +175,7 @@ module _ (exchange : Exchange) (last : Spot plain) (at : last.world ≡ exchange
         left_is = all.1;
       }
 
-  abbrev pub fault_cut : CutFault (beginning exchange.limits exchange.from) last exchange.had exchange.has front → FaultCut exchange bytes
+  abbrev pub fault_cut : CutFault (beginning_of turns exchange.limits exchange.from) last exchange.had exchange.has front → FaultCut exchange bytes
   fault_cut cut = record {
     kind = cut.fault.kind;
     place = cut.fault.place;
@@ -187,7 +186,7 @@ module _ (exchange : Exchange) (last : Spot plain) (at : last.world ≡ exchange
   }
 
   -- what was done over the bytes taken is what the headline says of its end
-  abbrev pub writes : (budget : ℕ) (e : End) → (e ≡ end.Budget → length front ≡ budget) → Ends e left (beginning exchange.limits exchange.from) last exchange.had exchange.has front
+  abbrev pub writes : (budget : ℕ) (e : End) → (e ≡ end.Budget → length front ≡ budget) → Ends e left (beginning_of turns exchange.limits exchange.from) last exchange.had exchange.has front
       → Writes exchange budget bytes left e
   writes budget end.Ended spent (inl all) = inl (whole_answered Ended refl refl all.went all.ended all.at_end)
   writes budget end.Ended spent (inr quitted) = inr (quitted_all quitted)
@@ -204,7 +203,7 @@ module _ (exchange : Exchange) (last : Spot plain) (at : last.world ≡ exchange
   writes budget end.WriteFault spent (inr cut) = inr (fault_cut cut)
 
   -- so many requests as were executed had their turns
-  pub executed_writes : (budget : ℕ) (e : End) (spent : e ≡ end.Budget → length front ≡ budget) (ends : Ends e left (beginning exchange.limits exchange.from) last exchange.had exchange.has front)
+  pub executed_writes : (budget : ℕ) (e : End) (spent : e ≡ end.Budget → length front ≡ budget) (ends : Ends e left (beginning_of turns exchange.limits exchange.from) last exchange.had exchange.has front)
       → last.executed ≡ count_done exchange budget bytes left e (writes budget e spent ends)
   executed_writes budget end.Ended spent (inl all) =
       let everything = whole all.at_end in

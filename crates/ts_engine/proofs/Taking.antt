@@ -13,12 +13,12 @@ use Rattle.ts_engine.specs.declared.piped.Outcome.{Outcome}
 use Rattle.ts_words.specs.declared.status.Status.{Status}
 use Rattle.ts_words.specs.declared.status.Status.TheVariants as status
 use Rattle.ts_engine.specs.Headline.{Exchange, Seen, exchange_of, Writes, count_done}
-use Rattle.ts_engine.specs.Piping.{beginning, PIECE, ReadAll, Ends, shown_at, is_of_input, Piped}
+use Rattle.ts_engine.specs.Piping.{beginning_of, PIECE, ReadAll, Ends, shown_at, is_of_input, PipedBy, Piped}
 use Rattle.ts_engine.specs.Session.{Spot, Quitted}
 use Rattle.ts_engine.specs.Status.{status_of, place_of}
-use Rattle.ts_engine.specs.Taken.{quit_place, place_after, Near, Taken}
+use Rattle.ts_engine.specs.Taken.{quit_place, place_after, Near, FrontTaken, TakenBy, Taken}
 use Rattle.ts_engine.specs.Top.{Reports}
-use Rattle.ts_engine.specs.Turn.{World, plain}
+use Rattle.ts_engine.specs.Turns.{Turns}
 use Rattle.ts_engine.proofs.Headlines.{Splits, splits, writes, executed_writes}
 use Rattle.ts_engine.proofs.Quits.{neither}
 
@@ -34,10 +34,10 @@ place_after-last : (done : List Placed) (last : Placed) (rest : Stream) → plac
 place_after-last [] last rest = refl
 place_after-last (first ∷ done) last rest = place_after-last done last rest
 
-module _ (exchange : Exchange) (last : Spot plain) (at : last.world ≡ exchange.to) (bytes front : List ℕ) (left : Option (List ℕ)) (split : Splits bytes left front) (taken : ℕ) where
+module _ {turns : Turns} (exchange : Exchange turns) (last : Spot turns) (at : last.world ≡ exchange.to) (bytes front : List ℕ) (left : Option (List ℕ)) (split : Splits bytes left front) (taken : ℕ) where
   -- no read was made past an end that showed itself
-  near_writes : (budget : ℕ) (e : End) (spent : e ≡ end.Budget → length front ≡ budget) (ends : Ends e left (beginning exchange.limits exchange.from) last exchange.had exchange.has front)
-      → IfSome (shown_at e left (beginning exchange.limits exchange.from) last exchange.had exchange.has front ends) (λ place. taken ≤ place + PIECE)
+  near_writes : (budget : ℕ) (e : End) (spent : e ≡ end.Budget → length front ≡ budget) (ends : Ends e left (beginning_of turns exchange.limits exchange.from) last exchange.had exchange.has front)
+      → IfSome (shown_at e left (beginning_of turns exchange.limits exchange.from) last exchange.had exchange.has front ends) (λ place. taken ≤ place + PIECE)
       → Near exchange bytes left budget e (writes exchange last at bytes front left split budget e spent ends) taken
   near_writes budget end.Ended spent (inl all) near = tt
   near_writes budget end.Ended spent (inr quitted) near = record {
@@ -60,12 +60,12 @@ module _ (exchange : Exchange) (last : Spot plain) (at : last.world ≡ exchange
   near_writes budget end.WriteFault spent (inr cut) near = near
 
 -- an input that has nothing left ends as one that has
-abbrev read_alone : (left : Option (List ℕ)) (old new : Spot plain) (had has : List ℕ → Type 0) (bytes : List ℕ) → ReadAll left old new had has bytes ⊎ Quitted old new had has bytes
+abbrev read_alone : {turns : Turns} (left : Option (List ℕ)) (old new : Spot turns) (had has : List ℕ → Type 0) (bytes : List ℕ) → ReadAll left old new had has bytes ⊎ Quitted old new had has bytes
     → ReadAll (Some []) old new had has bytes ⊎ Quitted old new had has bytes
 read_alone left old new had has bytes (inl all) = inl (record { went = all.went; ended = all.ended; at_end = refl })
 read_alone left old new had has bytes (inr quitted) = inr quitted
 
-abbrev ends_alone : (e : End) (left : Option (List ℕ)) (old new : Spot plain) (had has : List ℕ → Type 0) (bytes : List ℕ) → Ends e left old new had has bytes → Ends e (Some []) old new had has bytes
+abbrev ends_alone : {turns : Turns} (e : End) (left : Option (List ℕ)) (old new : Spot turns) (had has : List ℕ → Type 0) (bytes : List ℕ) → Ends e left old new had has bytes → Ends e (Some []) old new had has bytes
 ends_alone end.Ended left old new had has bytes ends = read_alone left old new had has bytes ends
 ends_alone (end.Truncated place) left old new had has bytes ends = (ends.0, ends.1, refl)
 ends_alone (end.Protocol fault) left old new had has bytes ends = ends
@@ -75,7 +75,7 @@ ends_alone end.Memory left old new had has bytes ends = ends
 ends_alone end.Budget left old new had has bytes ends = ends
 
 -- and shows itself there
-pub shown_alone : (e : End) (left : Option (List ℕ)) (old new : Spot plain) (had has : List ℕ → Type 0) (bytes : List ℕ) (ends : Ends e left old new had has bytes)
+pub shown_alone : {turns : Turns} (e : End) (left : Option (List ℕ)) (old new : Spot turns) (had has : List ℕ → Type 0) (bytes : List ℕ) (ends : Ends e left old new had has bytes)
     → shown_at e (Some []) old new had has bytes (ends_alone e left old new had has bytes ends) ≡ shown_at e left old new had has bytes ends
 shown_alone end.Ended left old new had has bytes (inl all) = refl
 shown_alone end.Ended left old new had has bytes (inr quitted) = refl
@@ -86,7 +86,7 @@ shown_alone end.WriteFault left old new had has bytes ends = refl
 shown_alone end.Memory left old new had has bytes ends = refl
 shown_alone end.Budget left old new had has bytes ends = refl
 
-pub of_input_alone : (e : End) (left : Option (List ℕ)) (old new : Spot plain) (had has : List ℕ → Type 0) (bytes : List ℕ) (ends : Ends e left old new had has bytes)
+pub of_input_alone : {turns : Turns} (e : End) (left : Option (List ℕ)) (old new : Spot turns) (had has : List ℕ → Type 0) (bytes : List ℕ) (ends : Ends e left old new had has bytes)
     → is_of_input e (Some []) old new had has bytes (ends_alone e left old new had has bytes ends) ≡ is_of_input e left old new had has bytes ends
 of_input_alone end.Ended left old new had has bytes (inl all) = refl
 of_input_alone end.Ended left old new had has bytes (inr quitted) = refl
@@ -98,10 +98,10 @@ of_input_alone end.Memory left old new had has bytes ends = refl
 of_input_alone end.Budget left old new had has bytes ends = refl
 
 -- what `pipe` did with an input is what it does with the bytes that it took of it, where there are no others
-abbrev pub piped_alone : (limits : WireLimits) (budget : ℕ) (outcome : Outcome) (from to : World) (told left : Option (List ℕ)) (had has : List ℕ → Type 0)
-    → (piped : Piped limits budget outcome from to told left had has) → Piped limits budget outcome from to (Some piped.bytes) (Some []) had has
-piped_alone limits budget outcome from to told left had has piped =
-    let first : Spot plain = beginning limits from in
+abbrev pub piped_alone : (turns : Turns) (limits : WireLimits) (budget : ℕ) (outcome : Outcome) (from to : turns.World) (told left : Option (List ℕ)) (had has : List ℕ → Type 0)
+    → (piped : PipedBy turns limits budget outcome from to told left had has) → PipedBy turns limits budget outcome from to (Some piped.bytes) (Some []) had has
+piped_alone turns limits budget outcome from to told left had has piped =
+    let first : Spot turns = beginning_of turns limits from in
     record {
       bytes = piped.bytes;
       last = piped.last;
@@ -117,7 +117,8 @@ piped_alone limits budget outcome from to told left had has piped =
     }
 
 -- what `pipe` did with an input that told its bytes
-module _ (exchange : Exchange) (budget : ℕ) (outcome : Outcome) (bytes : List ℕ) (left : Option (List ℕ)) (piped : Piped exchange.limits budget outcome exchange.from exchange.to (Some bytes) left exchange.had exchange.has) where
+module _ {turns : Turns} (exchange : Exchange turns) (budget : ℕ) (outcome : Outcome) (bytes : List ℕ) (left : Option (List ℕ))
+    (piped : PipedBy turns exchange.limits budget outcome exchange.from exchange.to (Some bytes) left exchange.had exchange.has) where
   abbrev split : Splits bytes left piped.bytes
   split = splits bytes left piped.bytes piped.took
 
@@ -133,34 +134,48 @@ module _ (exchange : Exchange) (budget : ℕ) (outcome : Outcome) (bytes : List 
   pub near_of : Near exchange bytes left budget outcome.end writes_of outcome.taken
   near_of = near_writes exchange piped.last piped.world bytes piped.bytes left split outcome.taken budget outcome.end used_up piped.ends piped.near
 
-pub piped_writes : (exchange : Exchange) (budget : ℕ) (outcome : Outcome) (bytes : List ℕ) (told left : Option (List ℕ)) → told ≡ Some bytes
-    → Piped exchange.limits budget outcome exchange.from exchange.to told left exchange.had exchange.has → Writes exchange budget bytes left outcome.end
-piped_writes exchange budget outcome bytes told left tells piped =
-    writes_of exchange budget outcome bytes left (subst (λ (o : Option (List ℕ)). Piped exchange.limits budget outcome exchange.from exchange.to o left exchange.had exchange.has) tells piped)
+pub piped_writes : {turns : Turns} (exchange : Exchange turns) (budget : ℕ) (outcome : Outcome) (bytes : List ℕ) (told left : Option (List ℕ)) → told ≡ Some bytes
+    → PipedBy turns exchange.limits budget outcome exchange.from exchange.to told left exchange.had exchange.has → Writes exchange budget bytes left outcome.end
+piped_writes {turns} exchange budget outcome bytes told left tells piped =
+    writes_of exchange budget outcome bytes left (subst (λ (o : Option (List ℕ)). PipedBy turns exchange.limits budget outcome exchange.from exchange.to o left exchange.had exchange.has) tells piped)
+
+-- a front of the input was taken
+abbrev pub front_taken : (turns : Turns) (limits : WireLimits) (budget : ℕ) (outcome : Outcome) (from to : turns.World) (bytes : List ℕ) (left : Option (List ℕ)) (had has : List ℕ → Type 0)
+    → PipedBy turns limits budget outcome from to (Some bytes) left had has → FrontTaken budget bytes left
+front_taken turns limits budget outcome from to bytes left had has piped =
+    let parts = splits bytes left piped.bytes piped.took in
+    record { front = piped.bytes; rest = parts.0; split = parts.1; left_is = parts.2; within = omega (arith, piped.count, piped.within) }
+
+module _ {turns : Turns} (exchange : Exchange turns) (budget : ℕ) (outcome : Outcome) (bytes : List ℕ) (left : Option (List ℕ)) where
+  -- it was answered, and so was that front
+  taken_front : PipedBy turns exchange.limits budget outcome exchange.from exchange.to (Some bytes) left exchange.had exchange.has → TakenBy exchange budget bytes left outcome.end
+  taken_front piped = record {
+    written = writes_of exchange budget outcome bytes left piped;
+    taken = front_taken turns exchange.limits budget outcome exchange.from exchange.to bytes left exchange.had exchange.has piped;
+    alone = writes_of exchange budget outcome piped.bytes (Some []) (piped_alone turns exchange.limits budget outcome exchange.from exchange.to (Some bytes) left exchange.had exchange.has piped);
+    near = subst (λ (n : ℕ). Near exchange bytes left budget outcome.end (writes_of exchange budget outcome bytes left piped) n) (sym piped.count) (near_of exchange budget outcome bytes left piped);
+  }
+
+  pub taken_by : (told : Option (List ℕ)) → told ≡ Some bytes
+      → PipedBy turns exchange.limits budget outcome exchange.from exchange.to told left exchange.had exchange.has → TakenBy exchange budget bytes left outcome.end
+  taken_by told tells piped =
+      taken_front (subst (λ (o : Option (List ℕ)). PipedBy turns exchange.limits budget outcome exchange.from exchange.to o left exchange.had exchange.has) tells piped)
 
 -- what it did from the empty database on is what the top call says was taken
-module _ (seen : Seen) (held : Held) (budget : ℕ) (outcome : Outcome) (bytes : List ℕ) (left : Option (List ℕ)) where
-  taken_of : Piped seen.limits.wire budget outcome (exchange_of seen held).from (exchange_of seen held).to (Some bytes) left seen.had seen.has
-      → (had has : List ℕ → Type 0) (given : Status) → Reports (status_of outcome.end) (place_of outcome.end) given had has → (outcome.end ≡ end.Ended → given ≡ status.Ended)
-      → Taken seen budget bytes left had has given
-  taken_of piped had has given reported quiet =
-      let exchange : Exchange = exchange_of seen held in
-      let parts = splits bytes left piped.bytes piped.took in
-      record {
-        headline = record { held = held; end = outcome.end; written = writes_of exchange budget outcome bytes left piped; reported = reported };
-        front = piped.bytes;
-        rest = parts.0;
-        split = parts.1;
-        left_is = parts.2;
-        within = omega (arith, piped.count, piped.within);
-        alone = writes_of exchange budget outcome piped.bytes (Some []) (piped_alone exchange.limits budget outcome exchange.from exchange.to (Some bytes) left exchange.had exchange.has piped);
-        near = subst (λ (n : ℕ). Near exchange bytes left budget outcome.end (writes_of exchange budget outcome bytes left piped) n) (sym piped.count) (near_of exchange budget outcome bytes left piped);
-        quiet = quiet;
-      }
-
-  pub piped_taken : (told : Option (List ℕ)) → told ≡ Some bytes
-      → Piped seen.limits.wire budget outcome (exchange_of seen held).from (exchange_of seen held).to told left seen.had seen.has
-      → (had has : List ℕ → Type 0) (given : Status) → Reports (status_of outcome.end) (place_of outcome.end) given had has → (outcome.end ≡ end.Ended → given ≡ status.Ended)
-      → Taken seen budget bytes left had has given
-  piped_taken told tells piped =
-      taken_of (subst (λ (o : Option (List ℕ)). Piped seen.limits.wire budget outcome (exchange_of seen held).from (exchange_of seen held).to o left seen.had seen.has) tells piped)
+pub piped_taken : (seen : Seen) (held : Held) (budget : ℕ) (outcome : Outcome) (bytes : List ℕ) (left told : Option (List ℕ)) → told ≡ Some bytes
+    → Piped seen.limits.wire budget outcome (exchange_of seen held).from (exchange_of seen held).to told left seen.had seen.has
+    → (had has : List ℕ → Type 0) (given : Status) → Reports (status_of outcome.end) (place_of outcome.end) given had has → (outcome.end ≡ end.Ended → given ≡ status.Ended)
+    → Taken seen budget bytes left had has given
+piped_taken seen held budget outcome bytes left told tells piped had has given reported quiet =
+    let all : TakenBy (exchange_of seen held) budget bytes left outcome.end = taken_by (exchange_of seen held) budget outcome bytes left told tells piped in
+    record {
+      headline = record { held = held; end = outcome.end; written = all.written; reported = reported };
+      front = all.taken.front;
+      rest = all.taken.rest;
+      split = all.taken.split;
+      left_is = all.taken.left_is;
+      within = all.taken.within;
+      alone = all.alone;
+      near = all.near;
+      quiet = quiet;
+    }

@@ -1,23 +1,26 @@
 -- How an input that was read to its end ends.
-use Rattle.std.specs.Prelude.{Option}
-use Rattle.std.proofs.Common.{◌≡◌, ◌≢◌, ◌⊎◌, Bool, false, inl, inr, ⊎_elim, ℕ, ◌<◌, List, length, refl, sym, ◌∙◌, ap, arith, length-append}
+use Rattle.std.specs.Prelude.{Option, Some, None, codes}
+use Rattle.std.proofs.Common.{◌≡◌, ◌≢◌, ◌⊎◌, Bool, true, false, if◌then◌else◌, inl, inr, ⊎_elim, ℕ, ◌<◌, List, [], ◌∷◌, length, refl, sym, ◌∙◌, ap, arith, length-append}
 use Rattle.ts_io.specs.Causes.{Rose}
 use Rattle.ts_spec.specs.Wire.{Stream, Ended, Inside, Broken}
 use Rattle.ts_engine.specs.declared.piped.End.{End}
 use Rattle.ts_engine.specs.declared.piped.End.TheVariants as end
+use Rattle.ts_words.specs.Modes.{same, mode_of}
+use Rattle.ts_words.specs.declared.mode.Mode.TheVariants as mode
 use Rattle.ts_words.specs.declared.status.Status.{Status}
 use Rattle.ts_words.specs.declared.status.Status.TheVariants as status
 use Rattle.ts_engine.specs.Piping.{HasCauses}
 use Rattle.ts_engine.specs.Status.{status_of}
 use Rattle.ts_engine.specs.Top.{status_by, status_at}
 use Rattle.ts_engine.specs.Headline.{Exchange, Writes, ending, asks_to_quit}
+use Rattle.ts_engine.specs.Turns.{Turns}
 
 -- without QUIT the status is that of the ending
 by_ending : (quits : Bool) (stream end : Stream) → quits ≡ false → stream ≡ end → status_at end ≡ status_by quits stream
 by_ending quits stream end none is = ap status_at (sym is) ∙ ap (λ (b : Bool). status_by b stream) (sym none)
 
 -- where no fault was counted and the budget is not reached, the status is the grammar's, or want of memory
-pub by_grammar : (exchange : Exchange) (budget : ℕ) (bytes : List ℕ) (left : Option (List ℕ)) (e : End) (reads reads' writes writes' : ℕ)
+pub by_grammar : {turns : Turns} (exchange : Exchange turns) (budget : ℕ) (bytes : List ℕ) (left : Option (List ℕ)) (e : End) (reads reads' writes writes' : ℕ)
     → Writes exchange budget bytes left e → HasCauses e reads reads' writes writes' → length bytes < budget → (Rose reads reads' → ⊥) → (Rose writes writes' → ⊥)
     → (status_of e ≡ status.Memory) ⊎ (status_of e ≡ status_by (asks_to_quit exchange.limits bytes) (ending exchange.limits bytes))
 by_grammar exchange budget bytes left end.Ended reads reads' writes writes' (inl all) causes below no_read no_write =
@@ -58,3 +61,17 @@ pub not_meant : {E : Type 0} (view : E → Status) (e fault : E) (meant given : 
     → (given ≡ status.WriteFault) ⊎ (given ≡ meant) → given ≢ status.WriteFault → given ≢ view fault → e ≢ fault
 not_meant view e fault meant given means (inl failed) no_write other is = no_write failed
 not_meant view e fault meant given means (inr same) no_write other is = other (same ∙ means ∙ ap view is)
+
+-- ---- the words
+
+-- one word asks for no journal
+one-not-keep : (pipe mux : Bool) → (if pipe then Some mode.Pipe else (if mux then Some mode.Mux else None)) ≡ Some mode.Keep → ⊥
+one-not-keep true mux is = (cc)
+one-not-keep false true is = (cc)
+one-not-keep false false is = (cc)
+
+-- the name of a journal is the second word
+pub keep-words : (words : List (List ℕ)) → Some mode.Keep ≡ mode_of words → 1 < length words
+keep-words [] is = absurd (cc)
+keep-words (word ∷ []) is = absurd (one-not-keep (same word (codes "pipe")) (same word (codes "mux")) (sym is))
+keep-words (word ∷ name ∷ words) is = omega arith

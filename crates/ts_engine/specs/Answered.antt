@@ -8,6 +8,7 @@ use Rattle.ts_engine.specs.Headline.{Exchange, Writes, count_done, ending, asks_
 use Rattle.ts_engine.specs.Status.{status_of}
 use Rattle.ts_engine.specs.Taken.{Near}
 use Rattle.ts_engine.specs.Top.{status_by, status_cut}
+use Rattle.ts_engine.specs.Turns.{Turns}
 
 -- no memory, or this one
 abbrev pub IsMemoryOr : (given wanted : Status) → Type 0
@@ -15,7 +16,7 @@ IsMemoryOr given wanted = (given ≡ status.Memory) ⊎ (given ≡ wanted)
 
 -- What was written for an input with these bytes, of which so many may be taken, is what its end says, for so many requests; and no read was made
 -- past an end that showed itself. Where no count of faults rose, the end is want of memory, or the one that the bytes give.
-pub record InputAnswered (exchange : Exchange) (budget : ℕ) (bytes : List ℕ) (left : Option (List ℕ)) (outcome : Outcome) (reads reads' writes writes' : ℕ) : Type 0 where
+pub record InputAnswered {turns : Turns} (exchange : Exchange turns) (budget : ℕ) (bytes : List ℕ) (left : Option (List ℕ)) (outcome : Outcome) (reads reads' writes writes' : ℕ) : Type 0 where
   pub written : Writes exchange budget bytes left outcome.end
   pub executed : outcome.executed ≡ count_done exchange budget bytes left outcome.end written
   pub near : Near exchange bytes left budget outcome.end written outcome.taken

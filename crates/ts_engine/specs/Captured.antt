@@ -18,7 +18,7 @@ use Rattle.ts_engine.specs.declared.replayed.CaptureEnd.TheVariants as end
 use Rattle.ts_engine.specs.Headline.{Exchange, Seen, exchange_of}
 use Rattle.ts_engine.specs.Replies.{Replies, IsReply, reply_frame}
 use Rattle.ts_engine.specs.Top.{ReportsIn}
-use Rattle.ts_engine.specs.Turn.{World}
+use Rattle.ts_engine.specs.Turn.{World, plain}
 
 -- the one word `mux`
 abbrev pub IsMux : List (String Global) → Type 0
@@ -32,7 +32,7 @@ items limits bytes = order limits (frames_of (capture.capture bytes))
 abbrev pub ending : List ℕ → Capture
 ending bytes = capture.ending_of (capture.capture bytes)
 
-module _ (exchange : Exchange) where
+module _ (exchange : Exchange plain) where
   -- the sink has a frame for each item in these bytes
   pub record AllReplied (bytes : List ℕ) : Type 0 where
     pub frames : List Frame

@@ -40,6 +40,8 @@ Sums status.Protocol limits seed n had has = ⊥
 Sums status.ReadFault limits seed n had has = ⊥
 Sums status.AcceptFault limits seed n had has = ⊥
 Sums status.Budget limits seed n had has = ⊥
+Sums status.JournalFault limits seed n had has = ⊥
+Sums status.JournalBroken limits seed n had has = ⊥
 Sums status.CaptureBroken limits seed n had has = ⊥
 
 -- What was written of a workload, and how that was reported. Where its summary was written, the status is the good one.

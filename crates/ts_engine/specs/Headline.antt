@@ -1,4 +1,4 @@
--- What is written for an input, by its end: the replies of a database of plain sample lists.
+-- What is written for an input, by its end: the replies of turns of any kind, which are those of a database of plain sample lists.
 use Rattle.std.specs.Prelude.{◌≡◌, ◌⊎◌, Bool, true, false, ℕ, ◌+◌, List, [], ◌∷◌, ◌++◌, length, take, Option, Some}
 use Rattle.std.proofs.Common.{inl, inr}
 use Rattle.ts_io.specs.Sinks.{Grows}
@@ -13,7 +13,8 @@ use Rattle.ts_spec.specs.declared.wire.WireLimits.{WireLimits}
 use Rattle.ts_db.specs.Held.{Held}
 use Rattle.ts_engine.specs.declared.piped.End.{End}
 use Rattle.ts_engine.specs.declared.piped.End.TheVariants as end
-use Rattle.ts_engine.specs.Turn.{World, turn}
+use Rattle.ts_engine.specs.Turn.{World, plain}
+use Rattle.ts_engine.specs.Turns.{Turns}
 
 -- the requests in these bytes, up to and with the first QUIT
 abbrev pub requests : WireLimits → List ℕ → List Request
@@ -31,11 +32,12 @@ ending limits bytes = ending_of (stream_at limits 0 bytes)
 abbrev pub start : Limits → Option (List ℕ) → World
 start limits readings = record { held = record { limits = limits; state = empty }; readings = readings }
 
--- an exchange of requests and replies: the limits of requests, the worlds before and after, and what the sink of the replies had and has
-pub record Exchange : Type 1 where
+-- an exchange of requests and replies by turns of a kind: the limits of requests, the worlds before and after, and what the sink of the
+-- replies had and has
+pub record Exchange (turns : Turns) : Type 1 where
   pub limits : WireLimits
-  pub from : World
-  pub to : World
+  pub from : turns.World
+  pub to : turns.World
   pub had : List ℕ → Type 0
   pub has : List ℕ → Type 0
 
@@ -47,8 +49,8 @@ pub record Seen : Type 1 where
   pub had : List ℕ → Type 0
   pub has : List ℕ → Type 0
 
--- that is an exchange from the empty database to this one
-abbrev pub exchange_of : Seen → Held → Exchange
+-- that is an exchange by plain turns, from the empty database to this one
+abbrev pub exchange_of : Seen → Held → Exchange plain
 exchange_of seen held = record {
   limits = seen.limits.wire;
   from = start seen.limits seen.readings;
@@ -57,11 +59,11 @@ exchange_of seen held = record {
   has = seen.has;
 }
 
-module _ (exchange : Exchange) where
+module _ {turns : Turns} (exchange : Exchange turns) where
   -- the sink has the text of a run of all requests in these bytes, and then the tail
   pub record AllAnswered (bytes tail : List ℕ) : Type 0 where
     pub text : List ℕ
-    pub run : Runs turn exchange.from (requests exchange.limits bytes) text exchange.to
+    pub run : Runs turns.turn exchange.from (requests exchange.limits bytes) text exchange.to
     pub grown : Grows exchange.had exchange.has (text ++ tail)
 
   -- the sink has the text of a run of the first requests in these bytes
@@ -70,7 +72,7 @@ module _ (exchange : Exchange) where
     pub others : List Request
     pub first : requests exchange.limits bytes ≡ done ++ others
     pub text : List ℕ
-    pub run : Runs turn exchange.from done text exchange.to
+    pub run : Runs turns.turn exchange.from done text exchange.to
     pub grown : Grows exchange.had exchange.has text
 
   -- the sink has such a text, in which only bytes at the end of the last request's text are missing
@@ -80,11 +82,11 @@ module _ (exchange : Exchange) where
     pub others : List Request
     pub first : requests exchange.limits bytes ≡ done ++ last ∷ others
     pub text : List ℕ
-    pub mid : World
+    pub mid : turns.World
     pub reply : List ℕ
     pub kept : ℕ
-    pub run : Runs turn exchange.from done text mid
-    pub turned : turn mid last reply exchange.to
+    pub run : Runs turns.turn exchange.from done text mid
+    pub turned : turns.cut mid last reply kept exchange.to
     pub grown : Grows exchange.had exchange.has (text ++ take kept reply)
 
   -- the sink has the text of a run of all requests, and the fault's text, in which only bytes at its end are missing

@@ -9,12 +9,16 @@ pub mod Generated
 pub mod Going
 pub mod Grouping
 pub mod Headline
+pub mod Journaled
+pub mod Keeping
 pub mod Limits
 pub mod Members
 pub mod Piping
 pub mod Replaying
 pub mod Replays
 pub mod Replies
+pub mod Recording
+pub mod Restoring
 pub mod RowTexts
 pub mod Serving
 pub mod Session
@@ -24,3 +28,4 @@ pub mod Taken
 pub mod Top
 pub mod Turn
 pub mod Turns
+pub mod Unkept

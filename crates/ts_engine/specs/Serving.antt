@@ -16,7 +16,7 @@ use Rattle.ts_engine.specs.declared.serving.Served.TheVariants.{Done, AcceptFaul
 use Rattle.ts_engine.specs.Answered.{InputAnswered}
 use Rattle.ts_engine.specs.Headline.{Exchange}
 use Rattle.ts_engine.specs.Piping.{HasCauses}
-use Rattle.ts_engine.specs.Turn.{World}
+use Rattle.ts_engine.specs.Turn.{World, plain}
 
 -- ---- lines
 
@@ -61,7 +61,7 @@ pub record Handed {I O : Type 0} (links : List (Link I O)) (coming coming' close
 
 module _ {I O : Type 0} (views : StreamViews I O) (limits : WireLimits) (budget : ℕ) where
   -- what is exchanged over a link, from one world to another
-  abbrev pub link_exchange : Link I O → (from to : World) → Exchange
+  abbrev pub link_exchange : Link I O → (from to : World) → Exchange plain
   link_exchange link from to = record { limits = limits; from = from; to = to; had = views.has link.came.out; has = views.has link.back.out }
 
   -- these bytes of its input, which has this left at the end, were answered

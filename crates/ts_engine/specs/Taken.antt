@@ -11,6 +11,7 @@ use Rattle.ts_engine.specs.Headline.{Exchange, Seen, exchange_of, AllAnswered, W
 use Rattle.ts_engine.specs.Piping.{PIECE}
 use Rattle.ts_engine.specs.Status.{status_of, place_of}
 use Rattle.ts_engine.specs.Top.{Headline, Reports}
+use Rattle.ts_engine.specs.Turns.{Turns}
 
 -- the place after the first QUIT, if there is one
 abbrev pub quit_place : Stream → Option ℕ
@@ -33,7 +34,7 @@ pub record IsNear (place : Option ℕ) (taken : ℕ) : Type 0 where
   pub is : place ≡ Some at
   pub near : taken ≤ at + PIECE
 
-module _ (exchange : Exchange) (bytes : List ℕ) (left : Option (List ℕ)) where
+module _ {turns : Turns} (exchange : Exchange turns) (bytes : List ℕ) (left : Option (List ℕ)) where
   -- past a QUIT
   abbrev pub QuitNear : WholeAnswered exchange bytes left Ended ⊎ (AllAnswered exchange bytes [] × (asks_to_quit exchange.limits bytes ≡ true)) → ℕ → Type 0
   QuitNear (inl whole) taken = ⊤
@@ -53,6 +54,21 @@ module _ (exchange : Exchange) (bytes : List ℕ) (left : Option (List ℕ)) whe
   Near budget end.Budget written taken = ⊤
   Near budget end.Memory written taken = ⊤
   Near budget end.WriteFault written taken = CutNear written taken
+
+-- a front of these bytes was taken, at most the budget; left is what the input has at the end
+pub record FrontTaken (budget : ℕ) (bytes : List ℕ) (left : Option (List ℕ)) : Type 0 where
+  pub front : List ℕ
+  pub rest : List ℕ
+  pub split : bytes ≡ front ++ rest
+  pub left_is : left ≡ Some rest
+  pub within : length front ≤ budget
+
+-- What was written for an input with these bytes, by its end, and what was taken of it: a front, which alone would be answered so.
+pub record TakenBy {turns : Turns} (exchange : Exchange turns) (budget : ℕ) (bytes : List ℕ) (left : Option (List ℕ)) (e : End) : Type 0 where
+  pub written : Writes exchange budget bytes left e
+  pub taken : FrontTaken budget bytes left
+  pub alone : Writes exchange budget taken.front (Some []) e
+  pub near : Near exchange bytes left budget e written (length taken.front)
 
 -- How an input with these bytes was answered, and what was taken of it: a front of at most the budget, which alone would be answered so.
 -- A good end is not reported otherwise.

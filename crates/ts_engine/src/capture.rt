@@ -33,6 +33,8 @@ pub(crate) fn answer_capture<S: Source, K: Sink, E: Sink, C: Clock>(
     ensures line { HasCaptureLine (E.has err.old) (E.has err.new) result }
     ensures no_usage { result ≢ Status.Usage }
     ensures no_accept { result ≢ Status.AcceptFault }
+    ensures no_journal { result ≢ Status.JournalFault }
+    ensures no_broken_journal { result ≢ Status.JournalBroken }
     ensures read_fault { result ≡ Status.ReadFault → Rose (S.faults input.old) (S.faults input.new) }
     ensures write_fault { result ≡ Status.WriteFault
         → Rose (K.faults out.old) (K.faults out.new) ⊎ Rose (E.faults err.old) (E.faults err.new) }

@@ -96,6 +96,7 @@ pub(crate) fn pipe_by<T: Turns, S: Source, K: Sink, C: Clock>(
     ensures within { result.taken ≤ budget }
     ensures causes { HasCausesBy T.kind result.end (S.faults input.old) (S.faults input.new) (K.faults out.old) (K.faults out.new)
         (T.own turns.old) (T.own turns.new) }
+    ensures lent { T.lent turns.new ≡ T.lent turns.old }
 {
     let Ok(mut session) = Session::new(alloc, limits) else {
         return Outcome {
@@ -153,6 +154,7 @@ fn pump<T: Turns, S: Source, K: Sink, C: Clock>(
     ensures current { result.end ≡ None → HasAnswered session.new }
     ensures causes { HasCausesByOr T.kind result.end (S.faults input.old) (S.faults input.new) (K.faults out.old) (K.faults out.new)
         (T.own turns.old) (T.own turns.new) }
+    ensures lent { T.lent turns.new ≡ T.lent turns.old }
     ensures ended { result.end ≡ None → ended_of session.new ≡ None }
     ensures fed { result.end ≡ None → fed (reader_of session.new) ≡ fed (reader_of session.old) + result.taken }
     ensures within { result.taken ≤ length buffer.old }

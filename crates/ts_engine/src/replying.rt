@@ -33,6 +33,7 @@ impl Session {
         ensures reader { reader_of self.new ≡ reader_of self.old }
         ensures ends { result ≡ Some Go.More → ⊥ }
         ensures cause { HasCauseBy T.kind result (K.faults out.old) (K.faults out.new) (T.own turns.old) (T.own turns.new) }
+        ensures lent { T.lent turns.new ≡ T.lent turns.old }
     {
         let mut words = words;
         let answered = turns.answer(db, &mut words, clock, &mut self.room, out, steps);

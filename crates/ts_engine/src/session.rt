@@ -87,6 +87,7 @@ impl Session {
         ensures fed { ended_of self.new ≡ None → fed (reader_of self.new) ≡ fed (reader_of self.old) + length bytes.now }
         ensures cause { IfNone (ended_of self.old)
             (HasCauseBy T.kind (Some result) (K.faults out.old) (K.faults out.new) (T.own turns.old) (T.own turns.new)) }
+        ensures lent { T.lent turns.new ≡ T.lent turns.old }
     {
         if let Some(go) = self.ended {
             return go;
@@ -131,6 +132,7 @@ impl Session {
         ensures current { result ≡ Go.More → HasAnswered self.new }
         ensures fed { result ≡ Go.More → fed (reader_of self.new) ≡ fed (reader_of self.old) + length bytes.now }
         ensures cause { HasCauseBy T.kind (Some result) (K.faults out.old) (K.faults out.new) (T.own turns.old) (T.own turns.new) }
+        ensures lent { T.lent turns.new ≡ T.lent turns.old }
     {
         let mut steps = Steps::<L>::new(blank);
         match self.reader.feed(bytes) {
@@ -155,6 +157,7 @@ impl Session {
         ensures current { result ≡ Go.More → HasAnswered self.new }
         ensures fed { fed (reader_of self.new) ≡ fed (reader_of self.old) }
         ensures cause { HasCauseBy T.kind (Some result) (K.faults out.old) (K.faults out.new) (T.own turns.old) (T.own turns.new) }
+        ensures lent { T.lent turns.new ≡ T.lent turns.old }
     {
         loop {
             if let Some(go) = self.answer_next(turns, db, clock, out, steps) {
@@ -181,6 +184,7 @@ impl Session {
         ensures fed { fed (reader_of self.new) ≡ fed (reader_of self.old) }
         ensures within { (reader_of self.new).begin ≤ fed (reader_of self.new) }
         ensures cause { HasCauseBy T.kind result (K.faults out.old) (K.faults out.new) (T.own turns.old) (T.own turns.new) }
+        ensures lent { T.lent turns.new ≡ T.lent turns.old }
     {
         self.room.give_back();
         match self.reader.next() {

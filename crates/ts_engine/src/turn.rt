@@ -73,7 +73,7 @@ fn take_command<C: Clock, L: Ledger>(
 }
 
 // Whether the command is QUIT.
-fn says_quit(command: &Command) -> bool
+pub(crate) fn says_quit(command: &Command) -> bool
     ensures { result ≡ says_quit (Ok (command_of command.now)) }
 {
     match command {
@@ -83,7 +83,7 @@ fn says_quit(command: &Command) -> bool
 }
 
 // The time, for a command that needs it, and else 0.
-fn reading_for<C: Clock>(command: &Command, clock: &mut C) -> u64
+pub(crate) fn reading_for<C: Clock>(command: &Command, clock: &mut C) -> u64
     ensures reading { IsReading (needs_clock (command_of command.now)) (C.readings clock.old) result }
     ensures left { C.readings clock.new ≡ left_by (needs_clock (command_of command.now)) (C.readings clock.old) }
 {

@@ -23,6 +23,9 @@ pub(crate) trait Turns {
     /// The counts of its own faults.
     ghost own: { Self → kind.Faults };
 
+    /// The reference that it works through, if it holds one: which it is stays.
+    ghost lent: { Self → ℕ };
+
     /// Gives a request its turn, leaves its reply in `room`, and writes it to `out`. Answers whether the request is
     /// QUIT. What a command takes of the words is gone from them afterwards.
     fn answer<C: Clock, K: Sink, L: Ledger>(
@@ -39,7 +42,8 @@ pub(crate) trait Turns {
             (world self.old from (C.readings clock.old)) (world self.new to (C.readings clock.new)) (K.has out.old) (K.has out.new)) }
         ensures quits { IfOk result (λ quits. quits ≡ is_quit words.old.items) }
         ensures room { 128 ≤ length room.new.bytes + room.new.spare }
-        ensures cause { kinds.HasTurnCause kind result (K.faults out.old) (K.faults out.new) (own self.old) (own self.new) };
+        ensures cause { kinds.HasTurnCause kind result (K.faults out.old) (K.faults out.new) (own self.old) (own self.new) }
+        ensures lent { lent self.new ≡ lent self.old };
 }
 
 /// Turns that do no more than what a request asks.
@@ -52,6 +56,8 @@ impl Turns for Plain {
     ghost world = { λ s held readings. record { held = held; readings = readings } };
 
     ghost own = { λ s. tt };
+
+    ghost lent = { λ s. 0 };
 
     fn answer<C: Clock, K: Sink, L: Ledger>(
         &mut self,

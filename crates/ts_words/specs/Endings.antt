@@ -17,6 +17,8 @@ code_of status.WriteFault = 5
 code_of status.Memory = 6
 code_of status.AcceptFault = 7
 code_of status.Budget = 8
+code_of status.JournalFault = 9
+code_of status.JournalBroken = 10
 code_of status.CaptureBroken = 11
 
 -- a line ends with a line feed
@@ -26,7 +28,7 @@ ended text = text ++ 10 ∷ []
 -- the line of an ending, which tells the place of a stream's fault; the good ending has none
 abbrev pub line_of : Status → (place : ℕ) → List ℕ
 line_of status.Ended place = []
-line_of status.Usage place = ended (codes "usage: tsd pipe | tsd serve <address> <connections> | tsd gen <seed> <n> | tsd mux")
+line_of status.Usage place = ended (codes "usage: tsd pipe | tsd serve <address> <connections> | tsd gen <seed> <n> | tsd keep <file> | tsd mux")
 line_of status.Truncated place = ended (codes "tsd: input ends inside a request that begins at byte " ++ decimal place)
 line_of status.Protocol place = ended (codes "tsd: protocol fault at byte " ++ decimal place)
 line_of status.ReadFault place = ended (codes "tsd: read fault")
@@ -34,6 +36,8 @@ line_of status.WriteFault place = ended (codes "tsd: write fault")
 line_of status.Memory place = ended (codes "tsd: out of memory")
 line_of status.AcceptFault place = ended (codes "tsd: accept fault")
 line_of status.Budget place = ended (codes "tsd: budget of bytes used up")
+line_of status.JournalFault place = ended (codes "tsd: journal fault")
+line_of status.JournalBroken place = ended (codes "tsd: journal broken at byte " ++ decimal place)
 line_of status.CaptureBroken place = ended (codes "tsd: capture broken at byte " ++ decimal place)
 
 -- a capture ends inside a frame, and not inside a request
@@ -47,4 +51,5 @@ line_in (Some mode.Mux) ending place = capture_line_of ending place
 line_in (Some mode.Pipe) ending place = line_of ending place
 line_in (Some (mode.Serve connections)) ending place = line_of ending place
 line_in (Some (mode.Gen seed n)) ending place = line_of ending place
+line_in (Some mode.Keep) ending place = line_of ending place
 line_in None ending place = line_of ending place

@@ -4,7 +4,7 @@ use Rattle.std.specs.Option.{option_map}
 use Rattle.std.specs.Cmp.Lexicographic.{pointwise}
 use Rattle.std.specs.List.{list_all}
 use Rattle.ts_words.specs.declared.mode.Mode.{Mode}
-use Rattle.ts_words.specs.declared.mode.Mode.TheVariants.{Pipe, Serve, Gen, Mux}
+use Rattle.ts_words.specs.declared.mode.Mode.TheVariants.{Pipe, Serve, Gen, Keep, Mux}
 
 -- the same bytes
 abbrev pub same : List ℕ → List ℕ → Bool
@@ -26,14 +26,14 @@ abbrev pub number : (least most : ℕ) → List ℕ → Option ℕ
 number least most word =
     if is_digits word && nat_le least (digits_number word) && nat_le (digits_number word) most then Some (digits_number word) else None
 
--- an address is not empty, and no word begins with `-`
-abbrev pub is_address : List ℕ → Bool
-is_address [] = false
-is_address (first ∷ rest) = not (first == 45)
+-- an address or the name of a file is not empty, and no word begins with `-`
+abbrev pub is_operand : List ℕ → Bool
+is_operand [] = false
+is_operand (first ∷ rest) = not (first == 45)
 
 -- the words after `serve`: an address, and how many connections
 abbrev pub serve_of : (address connections : List ℕ) → Option Mode
-serve_of address connections = if is_address address then option_map Serve (number 1 (2 ^ 32 - 1) connections) else None
+serve_of address connections = if is_operand address then option_map Serve (number 1 (2 ^ 32 - 1) connections) else None
 
 -- how many requests for samples go with a seed
 abbrev pub gen_with : Option ℕ → Option ℕ → Option Mode
@@ -47,6 +47,10 @@ gen_of seed n = gen_with (number 0 (2 ^ 64 - 1) seed) (number 0 1000000 n)
 abbrev pub one_word : List ℕ → Option Mode
 one_word word = if same word (codes "pipe") then Some Pipe else (if same word (codes "mux") then Some Mux else None)
 
+-- the word after `keep`: the name of the journal's file
+abbrev pub two_words : (word name : List ℕ) → Option Mode
+two_words word name = if same word (codes "keep") && is_operand name then Some Keep else None
+
 abbrev pub three_words : (word first second : List ℕ) → Option Mode
 three_words word first second =
     if same word (codes "serve") then serve_of first second else (if same word (codes "gen") then gen_of first second else None)
@@ -55,13 +59,14 @@ three_words word first second =
 abbrev pub mode_of : List (List ℕ) → Option Mode
 mode_of [] = None
 mode_of (word ∷ []) = one_word word
-mode_of (word ∷ first ∷ []) = None
+mode_of (word ∷ name ∷ []) = two_words word name
 mode_of (word ∷ first ∷ second ∷ []) = three_words word first second
 mode_of (word ∷ first ∷ second ∷ third ∷ words) = None
 
 -- the numbers of a mode are within their bounds
 abbrev pub IsWithin : Mode → Type 0
 IsWithin Pipe = Unit {0}
+IsWithin Keep = Unit {0}
 IsWithin Mux = Unit {0}
 IsWithin (Serve connections) = 1 ≤ connections
 IsWithin (Gen seed n) = n ≤ 1000000

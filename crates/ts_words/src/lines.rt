@@ -16,7 +16,7 @@ pub fn line(mode: Option<Mode>, status: Status, place: u64, room: &mut [u8; 160]
         Status::Ended => 0,
         Status::Usage => put_line(
             room,
-            b"usage: tsd pipe | tsd serve <address> <connections> | tsd gen <seed> <n> | tsd mux",
+            b"usage: tsd pipe | tsd serve <address> <connections> | tsd gen <seed> <n> | tsd keep <file> | tsd mux",
         ),
         Status::Truncated => put_truncated(mode, room, place),
         Status::Protocol => put_place(room, b"tsd: protocol fault at byte ", place),
@@ -25,6 +25,8 @@ pub fn line(mode: Option<Mode>, status: Status, place: u64, room: &mut [u8; 160]
         Status::Memory => put_line(room, b"tsd: out of memory"),
         Status::AcceptFault => put_line(room, b"tsd: accept fault"),
         Status::Budget => put_line(room, b"tsd: budget of bytes used up"),
+        Status::JournalFault => put_line(room, b"tsd: journal fault"),
+        Status::JournalBroken => put_place(room, b"tsd: journal broken at byte ", place),
         Status::CaptureBroken => put_place(room, b"tsd: capture broken at byte ", place),
     };
     &room[..end]
@@ -41,7 +43,7 @@ fn put_truncated(mode: Option<Mode>, room: &mut [u8; 160], place: u64) -> usize
             b"tsd: capture ends inside a frame that begins at byte ",
             place,
         ),
-        Some(Mode::Pipe | Mode::Serve(_) | Mode::Gen(_, _)) | None => put_place(
+        Some(Mode::Pipe | Mode::Serve(_) | Mode::Gen(_, _) | Mode::Keep) | None => put_place(
             room,
             b"tsd: input ends inside a request that begins at byte ",
             place,

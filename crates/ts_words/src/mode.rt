@@ -18,19 +18,23 @@ pub enum Mode {
     Serve(u32),
     /// To answer the workload of this seed, with so many requests for samples, at most 1000000.
     Gen(u64, u32),
+    /// To answer the requests of standard input over what a journal of changes says, and to add each change to it. The name
+    /// of the journal's file is the second word.
+    Keep,
     /// To answer the requests of a capture of interleaved connections.
     Mux,
 }
 
 impl Mode {
-    /// The mode that the words after the program's name ask for: `pipe`, `mux`, `serve ADDRESS CONNECTIONS`
-    /// or `gen SEED N`. Other words ask for none.
+    /// The mode that the words after the program's name ask for: `pipe`, `mux`, `keep NAME`,
+    /// `serve ADDRESS CONNECTIONS` or `gen SEED N`. Other words ask for none.
     pub fn read(words: &[String]) -> Option<Mode>
         ensures mode { result ≡ mode_of (map string_bytes words.now) }
         ensures within { IfSome result IsWithin }
     {
         match words {
             [word] => one_word(word),
+            [word, name] => two_words(word, name),
             [word, first, second] => three_words(word, first, second),
             _ => None,
         }
@@ -45,6 +49,17 @@ fn one_word(word: &str) -> Option<Mode>
         Some(Mode::Pipe)
     } else if word == "mux" {
         Some(Mode::Mux)
+    } else {
+        None
+    }
+}
+
+fn two_words(word: &str, name: &str) -> Option<Mode>
+    ensures mode { result ≡ words.two_words word.now name.now }
+    ensures within { IfSome result IsWithin }
+{
+    if word == "keep" && is_operand(name.as_bytes()) {
+        Some(Mode::Keep)
     } else {
         None
     }
@@ -67,15 +82,15 @@ fn serve(address: &str, connections: &str) -> Option<Mode>
     ensures mode { result ≡ serve_of address.now connections.now }
     ensures within { IfSome result IsWithin }
 {
-    if !is_address(address.as_bytes()) {
+    if !is_operand(address.as_bytes()) {
         return None;
     }
     let connections = number_of(connections.as_bytes(), 1, u32::MAX.into())?;
     Some(Mode::Serve(connections as u32))
 }
 
-fn is_address(word: &[u8]) -> bool
-    ensures { result ≡ words.is_address word.now }
+fn is_operand(word: &[u8]) -> bool
+    ensures { result ≡ words.is_operand word.now }
 {
     match word {
         [first, ..] => *first != b'-',

@@ -23,12 +23,16 @@ pub enum Status {
     AcceptFault,
     /// As many bytes were taken as may be.
     Budget,
+    /// A call on the journal failed.
+    JournalFault,
+    /// The journal is broken, or has a request that is no record of a change.
+    JournalBroken,
     /// The capture of interleaved connections is broken.
     CaptureBroken,
 }
 
 impl Status {
-    /// The exit status of the process, from 0 to 8, or 11.
+    /// The exit status of the process, from 0 to 11.
     pub fn code(self) -> u8
         ensures { result ≡ code_of self }
     {
@@ -42,6 +46,8 @@ impl Status {
             Status::Memory => 6,
             Status::AcceptFault => 7,
             Status::Budget => 8,
+            Status::JournalFault => 9,
+            Status::JournalBroken => 10,
             Status::CaptureBroken => 11,
         }
     }

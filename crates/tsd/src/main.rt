@@ -12,7 +12,7 @@ use std::io::ErrorKind;
 use std::process::ExitCode;
 use std::{env, io};
 use ts_engine::{Limits, Status, top, usual_budget};
-use ts_io::{Clock, Listener, Sink, Source, StdSink, StdSource, SystemClock, TcpNet};
+use ts_io::{Clock, FileLog, Listener, Log, Sink, Source, StdSink, StdSource, SystemClock, TcpNet};
 
 /// The status where there was no memory for the words of the command line.
 const OUT_OF_MEMORY: u8 = 6;
@@ -42,14 +42,15 @@ fn run(rt: &HostRuntime) -> io::Result<u8>
     let mut err = StdSink::new(rt.stderr());
     let mut clock = SystemClock::new(rt);
     let mut net = TcpNet::new(rt);
+    let mut log = FileLog::new(rt);
     let status = answer(
-        alloc, &words, &mut input, &mut out, &mut err, &mut clock, &mut net,
+        alloc, &words, &mut input, &mut out, &mut err, &mut clock, &mut net, &mut log,
     );
     Ok(status.code())
 }
 
 /// Runs what the words ask for, under the limits and the budget of the program.
-fn answer<S: Source, K: Sink, E: Sink, C: Clock, N: Listener>(
+fn answer<S: Source, K: Sink, E: Sink, C: Clock, N: Listener, J: Log>(
     alloc: Global,
     words: &[String],
     input: &mut S,
@@ -57,6 +58,7 @@ fn answer<S: Source, K: Sink, E: Sink, C: Clock, N: Listener>(
     err: &mut E,
     clock: &mut C,
     net: &mut N,
+    log: &mut J,
 ) -> Status
     requires { N.is_out net.old ≡ false }
     ensures { IsPipe words.now → (bytes : List ℕ) → S.left input.old ≡ Some bytes → Headline
@@ -71,6 +73,7 @@ fn answer<S: Source, K: Sink, E: Sink, C: Clock, N: Listener>(
         err,
         clock,
         net,
+        log,
         Limits::usual(),
         usual_budget(),
     )

@@ -33,10 +33,10 @@ returns-clause-complete g c = λ bytes told none.
     (by_capture _ c.args.budget c.replay-end.result bytes _ _ told carried.done _ _ _ _ c.replay-end.ensures.causes none.0 none.1)
 
 pub returns-clause-no_usage : goal.returns-clause-no_usage
-returns-clause-no_usage g c = λ is. (never c.replay-end.result c.status.result c.report_in.result c.status.ensures c.report_in.ensures.same).0 is
+returns-clause-no_usage g c = λ is. (never c.replay-end.result c.status.result c.report_in.result c.status.ensures c.report_in.ensures.same).no_usage is
 
 pub returns-clause-no_accept : goal.returns-clause-no_accept
-returns-clause-no_accept g c = λ is. (never c.replay-end.result c.status.result c.report_in.result c.status.ensures c.report_in.ensures.same).1 is
+returns-clause-no_accept g c = λ is. (never c.replay-end.result c.status.result c.report_in.result c.status.ensures c.report_in.ensures.same).no_accept is
 
 pub returns-clause-no_read_fault : goal.returns-clause-no_read_fault
 returns-clause-no_read_fault g c = λ no_read no_write.
@@ -49,3 +49,9 @@ returns-clause-no_write_fault g c = λ no_write.
     let other = not_meant status_of c.replay-end.result end.WriteFault c.status.result c.report_in.result
     c.status.ensures c.report_in.ensures.same no_write no_write in
     (c.replay-end.ensures.causes.unwritten other, c.report_in.ensures.no_fault no_write)
+
+pub returns-clause-no_journal : goal.returns-clause-no_journal
+returns-clause-no_journal g c = λ is. (never c.replay-end.result c.status.result c.report_in.result c.status.ensures c.report_in.ensures.same).no_journal is
+
+pub returns-clause-no_broken_journal : goal.returns-clause-no_broken_journal
+returns-clause-no_broken_journal g c = λ is. (never c.replay-end.result c.status.result c.report_in.result c.status.ensures c.report_in.ensures.same).no_broken is

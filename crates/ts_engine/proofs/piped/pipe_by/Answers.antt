@@ -17,6 +17,7 @@ loop-taken-init g c = record {
   within = omega arith;
   reads = refl;
   writes = (refl, refl);
+  lent = refl;
 }
 
 pub loop-taken-preserved : goal.loop-taken-preserved
@@ -32,6 +33,7 @@ loop-taken-preserved g c =
       within = search rules;
       reads = causes.0 ∙ c.loop-taken.invariant.reads;
       writes = (causes.1.0 ∙ c.loop-taken.invariant.writes.0, causes.1.1 ∙ c.loop-taken.invariant.writes.1);
+      lent = c.pump-step.ensures.lent ∙ c.loop-taken.invariant.lent;
     }
 
 pub returns-in-Some-clause-piped : goal.returns-in-Some-clause-piped

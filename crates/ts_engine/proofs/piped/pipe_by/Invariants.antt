@@ -18,6 +18,7 @@ invariant-loop-taken g l = record {
   within : l.taken ≤ l.budget;
   reads : g.S.Source.faults l.input ≡ g.S.Source.faults l.initial.input;
   writes : NoFault g.T.Turns.kind (g.K.Sink.faults l.initial.out) (g.K.Sink.faults l.out) (g.T.Turns.own l.initial.turns) (g.T.Turns.own l.turns);
+  lent : g.T.Turns.lent l.turns ≡ g.T.Turns.lent l.initial.turns;
 }
 
 abbrev pub decreases-loop-taken : goal.decreases-loop-taken

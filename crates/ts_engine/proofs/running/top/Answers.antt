@@ -1,4 +1,6 @@
-use Rattle.std.proofs.Common.{◌∙◌, ap, subst, ℕ}
+use Rattle.std.proofs.Common.{◌∙◌, ap, subst, ℕ, map, arith}
+use Rattle.std.proofs.lemmas.List.{length-map}
+use Rattle.std.specs.String.{string_bytes}
 use Rattle.ts_spec.specs.State.{empty}
 use Rattle.ts_words.specs.declared.status.Status.{Status}
 use Rattle.ts_engine.specs.declared.piped.End.TheVariants as end
@@ -7,7 +9,7 @@ use Rattle.ts_engine.specs.Top.{Reports}
 use Rattle.ts_engine.proofs.Links.{same_links, all_served_as}
 use Rattle.ts_engine.proofs.Spending.{by_budget}
 use Rattle.ts_engine.proofs.Taking.{piped_taken, piped_writes}
-use Rattle.ts_engine.proofs.Tops.{by_grammar, answered_as, as_meant, not_meant, answered_or_memory}
+use Rattle.ts_engine.proofs.Tops.{keep-words, by_grammar, answered_as, as_meant, not_meant, answered_or_memory}
 use Rattle.ts_engine.proofs.running.top.Goals as goal
 
 pub returns-in-Some-Pipe-clause-status_line : goal.returns-in-Some-Pipe-clause-status_line
@@ -62,3 +64,8 @@ pub returns-in-Some-Serve-clause-serve_complete : goal.returns-in-Some-Serve-cla
 returns-in-Some-Serve-clause-serve_complete g c = λ links is no_accept no_write.
     all_served_as _ _ c.args.budget c.in-Some-Serve.links links _ _ _ _ c.serve_address.result (same_links _ c.in-Some-Serve.links links (rw c.in-Some-Serve.field-0-is at c.in-Some-Serve.ensures.mode) is)
     (c.serve_address.ensures.complete no_accept no_write)
+
+-- a journal has its name
+pub bounds-words-1-in-Some-Keep : goal.bounds-words-1-in-Some-Keep
+bounds-words-1-in-Some-Keep g c =
+    omega (arith, keep-words (map string_bytes c.args.words.now) (rw c.in-Some-Keep.field-0-is at c.in-Some-Keep.ensures.mode), length-map c.args.words.now string_bytes)

@@ -6,7 +6,7 @@ use Rattle.ts_engine.proofs.Causes.{cause_after}
 use Rattle.ts_engine.proofs.session.Session.answer_all.Goals as goal
 
 pub loop-go-init : goal.loop-go-init
-loop-go-init g c = record { went = carries_none _ _ (λ from stands. fed_only _ _ _ [] (λ more. refl) refl refl); fed = refl; fine = (refl, refl) }
+loop-go-init g c = record { went = carries_none _ _ (λ from stands. fed_only _ _ _ [] (λ more. refl) refl refl); fed = refl; fine = (refl, refl); lent = refl }
 
 pub returns-in-Some-clause-goes : goal.returns-in-Some-clause-goes
 returns-in-Some-clause-goes g c =
@@ -23,4 +23,5 @@ loop-go-preserved g c = record {
   went = carries_then _ _ _ _ _ _ (λ from between to went goes. went_then _ _ _ _ [] went _ _ goes.0) c.loop-go.invariant.went c.in_default.ensures.goes;
   fed = c.in_default.ensures.fed ∙ c.loop-go.invariant.fed;
   fine = (c.in_default.ensures.cause.0 ∙ c.loop-go.invariant.fine.0, c.in_default.ensures.cause.1 ∙ c.loop-go.invariant.fine.1);
+  lent = c.answer_next.ensures.lent ∙ c.loop-go.invariant.lent;
 }

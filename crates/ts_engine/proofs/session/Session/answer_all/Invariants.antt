@@ -14,6 +14,7 @@ invariant-loop-go g l = record {
       (g.K.Sink.has l.initial.out) (g.K.Sink.has l.out) [] []);
   fed : fed (reader_of l.self) ≡ fed (reader_of l.initial.self);
   fine : NoFault g.T.Turns.kind (g.K.Sink.faults l.initial.out) (g.K.Sink.faults l.out) (g.T.Turns.own l.initial.turns) (g.T.Turns.own l.turns);
+  lent : g.T.Turns.lent l.turns ≡ g.T.Turns.lent l.initial.turns;
 }
 
 abbrev pub decreases-loop-go : goal.decreases-loop-go

@@ -1,0 +1,42 @@
+-- A turn with its record, as a journal has it.
+use Rattle.std.proofs.Common.{◌≡◌, ℕ, Bool, true, false, List, [], ◌++◌, take, refl, sym, ap, inl, inr, subst}
+use Rattle.std.specs.Prelude.{Option, Result, Ok, Err}
+use Rattle.std.specs.Io.KnownBytes.{append_known}
+use Rattle.ts_io.specs.Logs.{AddsFront}
+use Rattle.ts_io.specs.Sinks.{Grows, GrowsByFront}
+use Rattle.ts_io.proofs.Growth.{grows_none}
+use Rattle.ts_spec.specs.Wire.{Request}
+use Rattle.ts_db.specs.Held.{Held, Stock, Carries}
+use Rattle.ts_engine.specs.Keeping.{kept, Recorded, IsKept, IsTorn, IsCut, keeping}
+use Rattle.ts_engine.specs.Turns.{CutShort, Answered}
+use Rattle.ts_engine.proofs.Carried.{carries_as}
+
+module _ (words : Request) (written record_ : List ℕ) (readings left content content' : Option (List ℕ)) (failed : Bool) (old new : Stock)
+    (recorded : Carries old new (λ from to. Recorded words (record { held = from; readings = readings }) written record_ (record { held = to; readings = left }))) where
+  -- its reply was written
+  pub kept-whole : (had has : List ℕ → Type 0) → content' ≡ append_known content record_ → Grows had has written
+      → Carries old new (λ from to. IsKept (kept readings content failed from) words written (kept left content' failed to) × Grows had has written)
+  kept-whole had has all grown =
+      carries_as old new (λ from to. Recorded words (record { held = from; readings = readings }) written record_ (record { held = to; readings = left }))
+      (λ from to. IsKept (kept readings content failed from) words written (kept left content' failed to) × Grows had has written)
+      (λ from to is. (record { record_ = record_; recorded = is; content = all; failed = refl }, grown)) recorded
+
+  -- a front of it was
+  pub kept-cut : (had has : List ℕ → Type 0) → content' ≡ append_known content record_ → GrowsByFront had has written
+      → Carries old new (λ from to. CutShort keeping words written (kept readings content failed from) (kept left content' failed to) had has)
+  kept-cut had has all front =
+      carries_as old new (λ from to. Recorded words (record { held = from; readings = readings }) written record_ (record { held = to; readings = left }))
+      (λ from to. CutShort keeping words written (kept readings content failed from) (kept left content' failed to) had has)
+      (λ from to is. record { kept = front.len; cut = inl (record { record_ = record_; recorded = is; content = all; failed = refl }); grown = front.grows }) recorded
+
+  -- the journal failed
+  pub kept-torn : (has : List ℕ → Type 0) → AddsFront content content' record_
+      → Carries old new (λ from to. CutShort keeping words written (kept readings content failed from) (kept left content' true to) has has)
+  kept-torn has front =
+      carries_as old new (λ from to. Recorded words (record { held = from; readings = readings }) written record_ (record { held = to; readings = left }))
+      (λ from to. CutShort keeping words written (kept readings content failed from) (kept left content' true to) has has)
+      (λ from to is. record {
+        kept = 0;
+        cut = inr (refl, record { record_ = record_; kept = front.len; within = front.within; recorded = is; content = front.added; failed = refl });
+        grown = grows_none has;
+      }) recorded

@@ -1,0 +1,155 @@
+-- The answer of a change but TS.MADD has no items: that it is done, how many, or why it is refused.
+use Rattle.std.proofs.Common.{◌≡◌, ℕ, ◌+◌, Bool, true, false, if◌then◌else◌, List, [], ◌∷◌, length, refl}
+use Rattle.std.specs.Prelude.{nat_lt, nat_le, is_some, unwrap_or, ℤ, Option, None, Some}
+use Rattle.ts_spec.specs.declared.bucket.Aggregator.{Aggregator}
+use Rattle.ts_spec.specs.declared.limits.Limits.{Limits}
+use Rattle.ts_spec.specs.declared.series.Merge.{Merge}
+use Rattle.ts_spec.specs.declared.series.Merge.TheVariants.{By}
+use Rattle.ts_spec.specs.declared.series.Policy.{Policy}
+use Rattle.ts_spec.specs.Bucket.{Grid}
+use Rattle.ts_spec.specs.Command.{Spec, Change}
+use Rattle.ts_spec.specs.Ignoring.{ignored}
+use Rattle.ts_spec.specs.Key.{Key, same}
+use Rattle.ts_spec.specs.Keyed.{get, with_key, count_keys}
+use Rattle.ts_spec.specs.Making.{fresh, created, create, is_longer, alter_at, altered, has_rules, ruled, create_rule_at, create_rule, delete_rule_at, drop_keys}
+use Rattle.ts_spec.specs.Outcome.{Outcome, refused, answer_only, time_of}
+use Rattle.ts_spec.specs.Refusal.{KeyExists, KeysFull, LabelsFull, TooOld, BeforeLast, SamplesFull, DeleteBeyondRetention, SameKey, SourceIsDest, DestIsSource, DestHasSource, RulesSpent, RulesFull, NoRule}
+use Rattle.ts_spec.specs.Replies.{reply_to}
+use Rattle.ts_spec.specs.Response.{Response, Done, Count}
+use Rattle.ts_spec.specs.Rules.{Merged, Refuse, Keep, To, merge, shown, within_bound, written, deleted, without_rule, dropped, settled}
+use Rattle.ts_spec.specs.Sample.{Point, last_of, between}
+use Rattle.ts_spec.specs.State.{Record, State, link_to, rule_to, change, edge}
+use Rattle.ts_spec.specs.Writing.{shows_more, first_full, rules_at, unless_full, within_destinations, value_at, unless_ignored, write_merged, write, add_at, is_before_last, changed_value, increased, incr_at, meets_expired, delete_at}
+use Rattle.ts_spec.specs.Command.{Command, Create, Alter, Add, Madd, Incr, DelRange, CreateRule, DeleteRule, Range, MRange, Get, MGet, QueryIndex, InfoOf, Ping, Echo, Quit, Drop, Exists}
+use Rattle.ts_spec.specs.Step.{step}
+use Rattle.ts_journal.specs.Fixed.{is_fixed}
+use Rattle.ts_journal.specs.Record.{items_of}
+use Rattle.ts_spec.specs.Text.{Empty}
+use Rattle.std.proofs.lemmas.Bool.{false≢true}
+
+pub record HasNone (done : Outcome) : Type 0 where
+  pub none : items_of (reply_to done.response) ≡ Empty
+
+line : {done : Outcome} → items_of (reply_to done.response) ≡ Empty → HasNone done
+line h = record { none = h }
+
+either : (test : Bool) (one other : Outcome) → HasNone one → HasNone other → HasNone (if test then one else other)
+either true one other h k = h
+either false one other h k = k
+
+-- ---- series
+
+created-none : (limits : Limits) (m : State) (key : Key) (d : Record) (response : Response) → items_of (reply_to response) ≡ Empty → HasNone (created limits m key d response)
+created-none limits m key d response h =
+    let made : Outcome = record { state = with_key key d m; response = response } in
+    either (nat_lt limits.labels (length d.labels)) (refused m LabelsFull) (if nat_le limits.keys (count_keys m) then refused m KeysFull else made) (line refl)
+    (either (nat_le limits.keys (count_keys m)) (refused m KeysFull) made (line refl) (line h))
+
+create-none : (limits : Limits) (m : State) (key : Key) (s : Spec) → HasNone (create limits m key s)
+create-none limits m key s = either (is_some (get key m)) (refused m KeyExists) (created limits m key (fresh s [] None) Done) (line refl) (created-none limits m key (fresh s [] None) Done refl)
+
+alter-none : (limits : Limits) (m : State) (key : Key) (c : Change) (there : Option Record) → HasNone (alter_at limits m key c there)
+alter-none limits m key c None = line refl
+alter-none limits m key c (Some d) =
+    either (is_longer limits.labels c.labels) (refused m LabelsFull) (record { state = settled (change key (altered c) m); response = Done }) (line refl) (line refl)
+
+-- ---- samples
+
+full-none : (m : State) (full : Option Key) (done : Outcome) → HasNone done → HasNone (unless_full m full done)
+full-none m None done h = h
+full-none m (Some key) done h = line refl
+
+ignored-none : (m : State) (last : Option ℕ) (done : Outcome) → HasNone done → HasNone (unless_ignored m last done)
+ignored-none m None done h = h
+ignored-none m (Some t) done h = line refl
+
+merged-none : (limits : Limits) (m : State) (key : Key) (t : ℕ) (met : Merged) → HasNone (write_merged limits m key t met)
+merged-none limits m key t (Refuse refusal) = line refl
+merged-none limits m key t Keep = line refl
+merged-none limits m key t (To v) =
+    let done : Outcome = record { state = written key t v m; response = Count t } in
+    either (shows_more limits.samples done.state key) (refused m SamplesFull) (within_destinations limits m key done) (line refl)
+    (full-none m (first_full limits.samples done.state (rules_at (get key m))) done (line refl))
+
+write-none : (limits : Limits) (m : State) (key : Key) (d : Record) (how : Merge) (t : ℕ) (v : ℤ) → HasNone (write limits m key d how t v)
+write-none limits m key d how t v =
+    either (nat_lt t (edge d)) (refused m TooOld) (unless_ignored m (ignored m key d t v) (write_merged limits m key t (merge how (value_at t (shown m key)) v))) (line refl)
+    (ignored-none m (ignored m key d t v) (write_merged limits m key t (merge how (value_at t (shown m key)) v)) (merged-none limits m key t (merge how (value_at t (shown m key)) v)))
+
+add-none : (limits : Limits) (m : State) (key : Key) (t : ℕ) (v : ℤ) (on : Option Policy) (s : Spec) (there : Option Record) → HasNone (add_at limits m key t v on s there)
+add-none limits m key t v on s None = created-none limits m key (fresh s (record { time = t; value = v; made = 0 } ∷ []) (Some t)) (Count t) refl
+add-none limits m key t v on s (Some d) = write-none limits m key d (By (unwrap_or on d.options.policy)) t v
+
+increased-none : (limits : Limits) (m : State) (key : Key) (d : Record) (t : ℕ) (met : Merged) → HasNone (increased limits m key d t met)
+increased-none limits m key d t (To v) = ignored-none m (ignored m key d t v) (write_merged limits m key t (To v)) (merged-none limits m key t (To v))
+increased-none limits m key d t (Refuse refusal) = line refl
+increased-none limits m key d t Keep = line refl
+
+incr-none : (limits : Limits) (m : State) (key : Key) (change : ℤ) (t : ℕ) (s : Spec) (there : Option Record) → HasNone (incr_at limits m key change t s there)
+incr-none limits m key change t s None = created-none limits m key (fresh s (record { time = t; value = change; made = 0 } ∷ []) (Some t)) (Count t) refl
+incr-none limits m key change t s (Some d) =
+    let last : Option Point = last_of (shown m key) in
+    let rest : Outcome = increased limits m key d t (within_bound (changed_value change last)) in
+    either (is_before_last t last) (refused m BeforeLast) (if nat_lt t (edge d) then refused m TooOld else rest) (line refl)
+    (either (nat_lt t (edge d)) (refused m TooOld) rest (line refl) (increased-none limits m key d t (within_bound (changed_value change last))))
+
+delete-none : (limits : Limits) (m : State) (key : Key) (from to : ℕ) (there : Option Record) → HasNone (delete_at limits m key from to there)
+delete-none limits m key from to None = line refl
+delete-none limits m key from to (Some d) =
+    let done : Outcome = record { state = deleted key from to m; response = Count (length (between from to (shown m key))) } in
+    let rest : Outcome = within_destinations limits m key done in
+    either (nat_lt to from) (answer_only m (Count 0)) (if meets_expired from (edge d) d.rules then refused m DeleteBeyondRetention else rest) (line refl)
+    (either (meets_expired from (edge d) d.rules) (refused m DeleteBeyondRetention) rest (line refl)
+    (full-none m (first_full limits.samples done.state (rules_at (get key m))) done (line refl)))
+
+-- ---- rules and keys
+
+rule_at-none : (limits : Limits) (m : State) (source dest : Key) (agg : Aggregator) (grid : Grid) (there other : Option Record) → HasNone (create_rule_at limits m source dest agg grid there other)
+rule_at-none limits m source dest agg grid None other = line refl
+rule_at-none limits m source dest agg grid (Some s) None = line refl
+rule_at-none limits m source dest agg grid (Some s) (Some d) =
+    choices (is_some (link_to m source)) (has_rules d.rules) (is_some (link_to m dest)) (nat_le limits.born s.born) (nat_le limits.rules (length s.rules))
+  where
+    choices : (a b c x y : Bool) → HasNone (if a then refused m SourceIsDest else (if b then refused m DestIsSource else (if c then refused m DestHasSource
+        else (if x then refused m RulesSpent else (if y then refused m RulesFull else record { state = ruled source dest agg grid m; response = Done })))))
+    choices true b c x y = line refl
+    choices false true c x y = line refl
+    choices false false true x y = line refl
+    choices false false false true y = line refl
+    choices false false false false true = line refl
+    choices false false false false false = line refl
+
+rule-none : (limits : Limits) (m : State) (source dest : Key) (agg : Aggregator) (grid : Grid) → HasNone (create_rule limits m source dest agg grid)
+rule-none limits m source dest agg grid = either (same source dest) (refused m SameKey) (create_rule_at limits m source dest agg grid (get source m) (get dest m)) (line refl) (rule_at-none limits m source dest agg grid (get source m) (get dest m))
+
+no_rule-none : (m : State) (source dest : Key) (there : Option Record) → HasNone (delete_rule_at m source dest there)
+no_rule-none m source dest None = line refl
+no_rule-none m source dest (Some d) =
+    either (is_some (rule_to dest d.rules)) (record { state = without_rule source dest m; response = Done }) (refused m NoRule) (line refl) (line refl)
+
+drop-none : (m : State) (so_far : ℕ) (keys : List Key) → HasNone (drop_keys m so_far keys)
+drop-none m so_far [] = line refl
+drop-none m so_far (key ∷ keys) =
+    let there : Bool = is_some (get key m) in
+    drop-none (if there then dropped key m else m) (if there then so_far + 1 else so_far) keys
+
+pub no-items : (limits : Limits) (m : State) (reading : ℕ) (c : Command) → is_fixed c ≡ true → items_of (reply_to (step limits m reading c).response) ≡ Empty
+no-items limits m reading (Create key s) h = (create-none limits m key s).none
+no-items limits m reading (Alter key c) h = (alter-none limits m key c (get key m)).none
+no-items limits m reading (Add key at v on s) h = (add-none limits m key (time_of reading at) v on s (get key m)).none
+no-items limits m reading (Madd ts) h = absurd (false≢true h)
+no-items limits m reading (Incr key v at s) h = (incr-none limits m key v (time_of reading at) s (get key m)).none
+no-items limits m reading (DelRange key from to) h = (delete-none limits m key from to (get key m)).none
+no-items limits m reading (CreateRule source dest agg grid) h = (rule-none limits m source dest agg grid).none
+no-items limits m reading (DeleteRule source dest) h = (no_rule-none m source dest (get source m)).none
+no-items limits m reading (Range key latest q) h = absurd (false≢true h)
+no-items limits m reading (MRange latest show filters q group) h = absurd (false≢true h)
+no-items limits m reading (Get key latest) h = absurd (false≢true h)
+no-items limits m reading (MGet latest show filters) h = absurd (false≢true h)
+no-items limits m reading (QueryIndex filters) h = absurd (false≢true h)
+no-items limits m reading (InfoOf key) h = absurd (false≢true h)
+no-items limits m reading (Ping word) h = absurd (false≢true h)
+no-items limits m reading (Echo word) h = absurd (false≢true h)
+no-items limits m reading Quit h = absurd (false≢true h)
+no-items limits m reading (Drop keys) h = (drop-none m 0 keys).none
+no-items limits m reading (Exists keys) h = absurd (false≢true h)

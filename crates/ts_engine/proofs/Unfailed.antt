@@ -1,0 +1,200 @@
+-- What was done with an input by a server that keeps a journal, where the journal did not fail.
+use Rattle.std.specs.Prelude.{◌≢◌, Option, Some, IfSome}
+use Rattle.std.proofs.Common.{◌≡◌, ◌⊎◌, inl, inr, Bool, true, false, ℕ, ◌+◌, ◌≤◌, List, [], ◌∷◌, refl, sym, ◌∙◌, ap, subst, arith}
+use Rattle.ts_io.specs.Causes.{Rose}
+use Rattle.ts_spec.specs.Run.{Runs}
+use Rattle.ts_spec.specs.Wire.{Request}
+use Rattle.ts_spec.specs.declared.wire.WireLimits.{WireLimits}
+use Rattle.ts_engine.specs.declared.piped.End.{End}
+use Rattle.ts_engine.specs.declared.piped.End.TheVariants as end
+use Rattle.ts_engine.specs.declared.piped.Outcome.{Outcome}
+use Rattle.ts_engine.specs.Answered.{InputAnswered}
+use Rattle.ts_engine.specs.Headline.{Exchange}
+use Rattle.ts_engine.specs.Keeping.{Kept, IsKept, IsCut, JournalFaults, keeping, journaled}
+use Rattle.ts_engine.specs.Piping.{beginning_of, PIECE, ReadAll, Ends, shown_at, is_of_input, PipedBy, HasCauses, HasCausesBy}
+use Rattle.ts_engine.specs.Session.{Spot, Went, WentSome, LastReply, Quitted, CutFault}
+use Rattle.ts_engine.specs.Turns.{OfLast, is_turn, NoFault, AFault}
+use Rattle.ts_engine.specs.Taken.{TakenBy}
+use Rattle.ts_engine.proofs.Answered.{answered_told}
+use Rattle.ts_engine.proofs.Taking.{taken_by}
+
+pub not_both : (failed : Bool) → failed ≡ false → failed ≡ true → ⊥
+not_both failed fine is = (cc)
+
+-- ---- turns
+
+-- a journal that had not failed has not failed after a run
+pub kept_runs : (from to : Kept) (requests : List Request) (text : List ℕ) → Runs IsKept from requests text to → to.failed ≡ from.failed
+kept_runs from to [] text run = ap (λ (k : Kept). k.failed) run.1
+kept_runs from to (request ∷ requests) text run = kept_runs run.mid to requests run.rest run.after ∙ run.here.failed
+
+-- where it has not failed, the record of a turn is in it
+pub kept_of : (from : Kept) (request : Request) (written : List ℕ) (kept : ℕ) (to : Kept) → to.failed ≡ false → IsCut from request written kept to → IsKept from request written to
+kept_of from request written kept to fine (inl is) = is
+kept_of from request written kept to fine (inr torn) = absurd (not_both to.failed fine torn.1.failed)
+
+-- ---- how the turns went
+
+abbrev same : Spot keeping → Spot journaled
+same spot = record { reader = spot.reader; executed = spot.executed; world = spot.world }
+
+module _ (old new : Spot keeping) (had has : List ℕ → Type 0) (bytes : List ℕ) where
+  abbrev went_same : (tail : List ℕ) → Went old new had has bytes tail → Went (same old) (same new) had has bytes tail
+  went_same tail went = record {
+    done = went.done;
+    text = went.text;
+    stream = went.stream;
+    run = went.run;
+    goes_on = went.goes_on;
+    grown = went.grown;
+    executed = went.executed;
+  }
+
+  abbrev some_same : WentSome old new had has bytes → WentSome (same old) (same new) had has bytes
+  some_same went = record {
+    done = went.done;
+    text = went.text;
+    stream = went.stream;
+    run = went.run;
+    goes_on = went.goes_on;
+    grown = went.grown;
+    executed = went.executed;
+  }
+
+  abbrev last_same : (said : OfLast keeping) (said' : OfLast journaled) (cut : LastReply said old new had has bytes) → said' cut.mid cut.last.request cut.reply cut.kept new.world
+      → LastReply said' (same old) (same new) had has bytes
+  last_same said said' cut turned = record {
+    done = cut.done;
+    text = cut.text;
+    mid = cut.mid;
+    last = cut.last;
+    reply = cut.reply;
+    kept = cut.kept;
+    stream = cut.stream;
+    run = cut.run;
+    goes_on = cut.goes_on;
+    turned = turned;
+    grown = cut.grown;
+    executed = cut.executed;
+  }
+
+  abbrev read_same : (left : Option (List ℕ)) → ReadAll left old new had has bytes ⊎ Quitted old new had has bytes → ReadAll left (same old) (same new) had has bytes ⊎ Quitted (same old) (same new) had has bytes
+  read_same left (inl all) = inl (record { went = went_same [] all.went; ended = all.ended; at_end = all.at_end })
+  read_same left (inr quitted) = inr (record {
+    reply = last_same (is_turn keeping) (is_turn journaled) quitted.reply quitted.reply.turned;
+    whole = quitted.whole;
+    asked = quitted.asked;
+  })
+
+  abbrev cut_same : new.world.failed ≡ false → LastReply keeping.cut old new had has bytes ⊎ CutFault old new had has bytes
+      → LastReply journaled.cut (same old) (same new) had has bytes ⊎ CutFault (same old) (same new) had has bytes
+  cut_same fine (inl cut) = inl (last_same keeping.cut journaled.cut cut (kept_of cut.mid cut.last.request cut.reply cut.kept new.world fine cut.turned))
+  cut_same fine (inr cut) = inr (record { fault = cut.fault; kept = cut.kept; went = went_same _ cut.went; broken = cut.broken })
+
+  abbrev ends_same : (e : End) (left : Option (List ℕ)) → new.world.failed ≡ false → Ends e left old new had has bytes → Ends e left (same old) (same new) had has bytes
+  ends_same end.Ended left fine ends = read_same left ends
+  ends_same (end.Truncated place) left fine ends = (went_same [] ends.0, ends.1, ends.2)
+  ends_same (end.Protocol fault) left fine ends = (went_same _ ends.0, ends.1)
+  ends_same end.ReadFault left fine ends = (went_same [] ends.0, record { rest = ends.1.rest })
+  ends_same end.WriteFault left fine ends = cut_same fine ends
+  ends_same end.Memory left fine ends = some_same ends
+  ends_same end.Budget left fine ends = (went_same [] ends.0, record { rest = ends.1.rest })
+
+  shown_same : (e : End) (left : Option (List ℕ)) (fine : new.world.failed ≡ false) (ends : Ends e left old new had has bytes)
+      → shown_at e left (same old) (same new) had has bytes (ends_same e left fine ends) ≡ shown_at e left old new had has bytes ends
+  shown_same end.Ended left fine (inl all) = refl
+  shown_same end.Ended left fine (inr quitted) = refl
+  shown_same (end.Truncated place) left fine ends = refl
+  shown_same (end.Protocol fault) left fine ends = refl
+  shown_same end.ReadFault left fine ends = refl
+  shown_same end.WriteFault left fine (inl cut) = refl
+  shown_same end.WriteFault left fine (inr cut) = refl
+  shown_same end.Memory left fine ends = refl
+  shown_same end.Budget left fine ends = refl
+
+  of_input_same : (e : End) (left : Option (List ℕ)) (fine : new.world.failed ≡ false) (ends : Ends e left old new had has bytes)
+      → is_of_input e left (same old) (same new) had has bytes (ends_same e left fine ends) ≡ is_of_input e left old new had has bytes ends
+  of_input_same end.Ended left fine (inl all) = refl
+  of_input_same end.Ended left fine (inr quitted) = refl
+  of_input_same (end.Truncated place) left fine ends = refl
+  of_input_same (end.Protocol fault) left fine ends = refl
+  of_input_same end.ReadFault left fine ends = refl
+  of_input_same end.WriteFault left fine (inl cut) = refl
+  of_input_same end.WriteFault left fine (inr cut) = refl
+  of_input_same end.Memory left fine ends = refl
+  of_input_same end.Budget left fine ends = refl
+
+-- where the journal did not fail, each turn that was made has its record in it
+pub unfailed : (limits : WireLimits) (budget : ℕ) (outcome : Outcome) (from to : Kept) (left rest : Option (List ℕ)) (had has : List ℕ → Type 0) → to.failed ≡ false
+    → PipedBy keeping limits budget outcome from to left rest had has → PipedBy journaled limits budget outcome from to left rest had has
+unfailed limits budget outcome from to left rest had has fine piped =
+    let first : Spot keeping = beginning_of keeping limits from in
+    let here : piped.last.world.failed ≡ false = ap (λ (k : Kept). k.failed) piped.world ∙ fine in
+    record {
+      bytes = piped.bytes;
+      last = same piped.last;
+      count = piped.count;
+      within = piped.within;
+      spent = piped.spent;
+      took = piped.took;
+      world = piped.world;
+      executed = piped.executed;
+      ends = ends_same first piped.last had has piped.bytes outcome.end rest here piped.ends;
+      near = subst (λ (o : Option ℕ). IfSome o (λ place. outcome.taken ≤ place + PIECE)) (sym (shown_same first piped.last had has piped.bytes outcome.end rest here piped.ends)) piped.near;
+      below = λ is. piped.below (sym (of_input_same first piped.last had has piped.bytes outcome.end rest here piped.ends) ∙ is);
+    }
+
+-- ---- counts of faults
+
+-- a write that failed was one of the output
+write_failed : (writes writes' : ℕ) (own own' : JournalFaults) → own'.failed ≡ false → AFault keeping writes writes' own own' → (writes ≤ writes') × Rose writes writes' × (own' ≡ own)
+write_failed writes writes' own own' fine (inl failed) = failed
+write_failed writes writes' own own' fine (inr failed) = absurd (not_both own'.failed fine failed.1.failed)
+
+no_fault : (writes writes' : ℕ) (own own' : JournalFaults) → NoFault keeping writes writes' own own' → (writes ≤ writes') × (own' ≡ own)
+no_fault writes writes' own own' none = (omega (arith, none.0), none.1)
+
+-- the count of the output did not fall, and that of the journal is as it was
+unfailed_counts : (e : End) (writes writes' : ℕ) (own own' : JournalFaults) → own'.failed ≡ false → (e ≡ end.WriteFault → AFault keeping writes writes' own own')
+    → (e ≢ end.WriteFault → NoFault keeping writes writes' own own') → (writes ≤ writes') × (own' ≡ own)
+unfailed_counts end.WriteFault writes writes' own own' fine failed none =
+    let wrote = write_failed writes writes' own own' fine (failed refl) in
+    (wrote.0, wrote.2)
+unfailed_counts end.Ended writes writes' own own' fine failed none = no_fault writes writes' own own' (none (λ is. (cc)))
+unfailed_counts (end.Truncated place) writes writes' own own' fine failed none = no_fault writes writes' own own' (none (λ is. (cc)))
+unfailed_counts (end.Protocol fault) writes writes' own own' fine failed none = no_fault writes writes' own own' (none (λ is. (cc)))
+unfailed_counts end.ReadFault writes writes' own own' fine failed none = no_fault writes writes' own own' (none (λ is. (cc)))
+unfailed_counts end.Memory writes writes' own own' fine failed none = no_fault writes writes' own own' (none (λ is. (cc)))
+unfailed_counts end.Budget writes writes' own own' fine failed none = no_fault writes writes' own own' (none (λ is. (cc)))
+
+-- the causes of an end are those of plain turns, and the journal's count of faults is as it was
+pub unfailed_causes : (e : End) (reads reads' writes writes' : ℕ) (own own' : JournalFaults) → own'.failed ≡ false → HasCausesBy keeping e reads reads' writes writes' own own'
+    → HasCauses e reads reads' writes writes' × (own'.count ≡ own.count)
+unfailed_causes e reads reads' writes writes' own own' fine causes =
+    let counts = unfailed_counts e writes writes' own own' fine causes.write causes.unwritten in (
+      record {
+        reads_later = causes.reads_later;
+        writes_later = counts.0;
+        read = causes.read;
+        write = λ is. (write_failed writes writes' own own' fine (causes.write is)).1;
+        unread = causes.unread;
+        unwritten = λ is. (causes.unwritten is).0;
+      },
+      ap (λ (f : JournalFaults). f.count) counts.1,
+    )
+
+-- ---- a whole input
+
+-- where the journal did not fail, what was done with an input that told its bytes is how that was answered
+module _ (exchange : Exchange journaled) (budget : ℕ) (outcome : Outcome) (bytes : List ℕ) (told left : Option (List ℕ)) (tells : told ≡ Some bytes) (fine : exchange.to.failed ≡ false)
+    (piped : PipedBy keeping exchange.limits budget outcome exchange.from exchange.to told left exchange.had exchange.has) where
+  here : PipedBy journaled exchange.limits budget outcome exchange.from exchange.to told left exchange.had exchange.has
+  here = unfailed exchange.limits budget outcome exchange.from exchange.to told left exchange.had exchange.has fine piped
+
+  pub unfailed_answered : (reads reads' writes writes' : ℕ) (own own' : JournalFaults) → own'.failed ≡ false → HasCausesBy keeping outcome.end reads reads' writes writes' own own'
+      → InputAnswered exchange budget bytes left outcome reads reads' writes writes'
+  unfailed_answered reads reads' writes writes' own own' whole causes =
+      answered_told exchange budget outcome reads reads' writes writes' (unfailed_causes outcome.end reads reads' writes writes' own own' whole causes).0 bytes left told tells here
+
+  pub unfailed_taken : TakenBy exchange budget bytes left outcome.end
+  unfailed_taken = taken_by exchange budget outcome bytes left told tells here

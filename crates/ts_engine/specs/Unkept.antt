@@ -1,0 +1,31 @@
+-- What is written for an input where the journal fails.
+use Rattle.std.specs.Prelude.{◌≡◌, ℕ, List, ◌∷◌, ◌++◌, length, Option}
+use Rattle.ts_io.specs.Sinks.{Grows}
+use Rattle.ts_spec.specs.Run.{Runs}
+use Rattle.ts_spec.specs.Wire.{Request, stream_at}
+use Rattle.ts_engine.specs.Headline.{Exchange, requests}
+use Rattle.ts_engine.specs.Keeping.{Kept, IsKept, IsTorn, journaled}
+use Rattle.ts_engine.specs.Taken.{FrontTaken, IsNear, place_after}
+
+module _ (exchange : Exchange journaled) where
+  -- The first requests in these bytes had their turns: their records are in the journal, and their text is in the sink. The next one had its turn
+  -- too; the journal failed with a front of its record, and nothing of its reply was written.
+  pub record Unkept (bytes : List ℕ) : Type 0 where
+    pub done : List Request
+    pub last : Request
+    pub others : List Request
+    pub first : requests exchange.limits bytes ≡ done ++ last ∷ others
+    pub text : List ℕ
+    pub mid : Kept
+    pub reply : List ℕ
+    pub run : Runs IsKept exchange.from done text mid
+    pub torn : IsTorn mid last reply exchange.to
+    pub grown : Grows exchange.had exchange.has text
+
+  -- That was so, and a front of the bytes was taken, which alone would be answered so, and at most one piece past the request whose record is
+  -- torn.
+  pub record UnkeptTaken (budget : ℕ) (bytes : List ℕ) (left : Option (List ℕ)) : Type 0 where
+    pub taken : FrontTaken budget bytes left
+    pub unkept : Unkept bytes
+    pub alone : Unkept taken.front
+    pub near : IsNear (place_after (stream_at exchange.limits 0 bytes) (length unkept.done)) (length taken.front)

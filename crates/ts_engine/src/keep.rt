@@ -1,0 +1,182 @@
+// What is done where the words of the command line ask for a journal.
+ghost use Rattle.std.specs.Prelude.{◌≡◌, ◌≢◌, ◌⊎◌, ◌<◌, ◌≤◌, ℕ, false, List, length, Some};
+ghost use Rattle.ts_io.specs.Causes.{Rose};
+ghost use Rattle.ts_journal.specs.Limits.{IsBounded};
+ghost use Rattle.ts_db.specs.Held.{Carries};
+ghost use Rattle.ts_engine.specs.Answered.{IsMemoryOr};
+ghost use Rattle.ts_engine.specs.Journaled as journaled;
+ghost use Rattle.ts_engine.specs.Journaled.{Journaled, HasJournalLine, HasJournalCauses, IsAnswered, Did, status_kept};
+ghost use Rattle.ts_engine.specs.Keeping.{kept};
+ghost use Rattle.ts_engine.specs.Limits.{CanRead};
+ghost use Rattle.ts_engine.specs.Top.{AreUsable, NoneRose};
+
+use crate::kept::pipe_kept;
+use crate::opened::open_journal;
+use crate::piped::End;
+use crate::status::report_in;
+use std::alloc::Global;
+use ts_db::{Db, Limits};
+use ts_io::{Clock, Log, Sink, Source};
+use ts_resp::WireLimits;
+use ts_words::{Mode, Status};
+
+/// How a run with a journal ended.
+#[derive(Clone, Copy, Debug, PartialEq, Eq)]
+pub(crate) enum JournalEnd {
+    /// The journal was loaded, and the input was answered and ended so.
+    Answered(End),
+    /// The journal was loaded, and then the record of a change could not be added to it.
+    NotKept,
+    /// The journal could not be opened, read or cut.
+    NotLoaded,
+    /// It was read to its end, and breaks after this place.
+    Broken(u64),
+    /// As many bytes of it were read as may be.
+    TooLong,
+    /// There was no memory to load it.
+    NoMemory,
+}
+
+impl JournalEnd {
+    // The status of a run that ends so.
+    fn status(self) -> Status
+        ensures { result ≡ journaled.status_of self }
+    {
+        match self {
+            JournalEnd::Answered(end) => end.status(),
+            JournalEnd::NotKept | JournalEnd::NotLoaded => Status::JournalFault,
+            JournalEnd::Broken(_) => Status::JournalBroken,
+            JournalEnd::TooLong => Status::Budget,
+            JournalEnd::NoMemory => Status::Memory,
+        }
+    }
+
+    // The place that the line of that status tells, 0 where it tells none.
+    fn place(self) -> u64
+        ensures { result ≡ journaled.place_of self }
+    {
+        match self {
+            JournalEnd::Answered(end) => end.place(),
+            JournalEnd::Broken(place) => place,
+            JournalEnd::NotKept
+            | JournalEnd::NotLoaded
+            | JournalEnd::TooLong
+            | JournalEnd::NoMemory => 0,
+        }
+    }
+}
+
+// Answers the requests of `input` over what the journal of this name loads to, at most `budget` bytes of either one, and adds
+// the record of each change to the journal before its reply is written. A status other than `Ended` has its line on `err`.
+pub(crate) fn answer_kept<S: Source, K: Sink, E: Sink, C: Clock, J: Log>(
+    alloc: Global,
+    name: &str,
+    input: &mut S,
+    out: &mut K,
+    err: &mut E,
+    clock: &mut C,
+    log: &mut J,
+    limits: Limits,
+    budget: u64,
+) -> Status
+    requires limits { AreUsable limits }
+    requires bounded { IsBounded limits.wire }
+    requires budget { 1 ≤ budget }
+    ensures journaled { (journal bytes : List ℕ) → J.content log.old ≡ Some journal → S.left input.old ≡ Some bytes → Journaled
+        (record {
+          seen = record { limits = limits; readings = C.readings clock.old; readings_left = C.readings clock.new; had = K.has out.old; has = K.has out.new };
+          journal = journal;
+          journal_left = J.content log.new;
+        })
+        ((input.new ≡ input.old) × (out.new ≡ out.old) × (clock.new ≡ clock.old))
+        budget bytes (S.left input.new) (E.has err.old) (E.has err.new) result }
+    ensures complete { (journal bytes : List ℕ) → J.content log.old ≡ Some journal → S.left input.old ≡ Some bytes
+        → NoneRose (S.faults input.old) (S.faults input.new) (K.faults out.old) (K.faults out.new) (E.faults err.old) (E.faults err.new)
+        → (Rose (J.faults log.old) (J.faults log.new) → ⊥)
+        → (result ≡ Status.Memory) ⊎ (result ≡ status_kept limits budget journal bytes) }
+    ensures line { HasJournalLine (E.has err.old) (E.has err.new) result }
+    ensures no_usage { result ≢ Status.Usage }
+    ensures no_accept { result ≢ Status.AcceptFault }
+    ensures no_capture { result ≢ Status.CaptureBroken }
+    ensures read_fault { result ≡ Status.ReadFault → Rose (S.faults input.old) (S.faults input.new) }
+    ensures write_fault { result ≡ Status.WriteFault
+        → Rose (K.faults out.old) (K.faults out.new) ⊎ Rose (E.faults err.old) (E.faults err.new) }
+    ensures journal_fault { result ≡ Status.JournalFault → Rose (J.faults log.old) (J.faults log.new) }
+    ensures no_read_fault { result ≢ Status.ReadFault → result ≢ Status.WriteFault → S.faults input.new ≡ S.faults input.old }
+    ensures no_write_fault { result ≢ Status.WriteFault → (K.faults out.new ≡ K.faults out.old) × (E.faults err.new ≡ E.faults err.old) }
+    ensures no_journal_fault { result ≢ Status.JournalFault → result ≢ Status.WriteFault → J.faults log.new ≡ J.faults log.old }
+{
+    let end = keep(alloc, name, input, out, clock, log, limits, budget);
+    report_in(Some(Mode::Keep), err, end.status(), end.place())
+}
+
+// Loads the journal of this name into a new database, and answers the input over that.
+fn keep<S: Source, K: Sink, C: Clock, J: Log>(
+    alloc: Global,
+    name: &str,
+    input: &mut S,
+    out: &mut K,
+    clock: &mut C,
+    log: &mut J,
+    limits: Limits,
+    budget: u64,
+) -> JournalEnd
+    requires limits { AreUsable limits }
+    requires bounded { IsBounded limits.wire }
+    requires budget { 1 ≤ budget }
+    ensures did { (journal bytes : List ℕ) → J.content log.old ≡ Some journal → S.left input.old ≡ Some bytes → Did
+        (record {
+          seen = record { limits = limits; readings = C.readings clock.old; readings_left = C.readings clock.new; had = K.has out.old; has = K.has out.new };
+          journal = journal;
+          journal_left = J.content log.new;
+        })
+        ((input.new ≡ input.old) × (out.new ≡ out.old) × (clock.new ≡ clock.old))
+        budget bytes (S.left input.new) result }
+    ensures complete { (journal bytes : List ℕ) → J.content log.old ≡ Some journal → S.left input.old ≡ Some bytes
+        → (Rose (S.faults input.old) (S.faults input.new) → ⊥) → (Rose (K.faults out.old) (K.faults out.new) → ⊥)
+        → (Rose (J.faults log.old) (J.faults log.new) → ⊥)
+        → IsMemoryOr (journaled.status_of result) (status_kept limits budget journal bytes) }
+    ensures causes { HasJournalCauses result (S.faults input.old) (S.faults input.new) (K.faults out.old) (K.faults out.new)
+        (J.faults log.old) (J.faults log.new) }
+{
+    let mut db = Db::new(alloc, limits);
+    let wire = limits.wire;
+    match open_journal(alloc, &mut db, name, log, wire, budget) {
+        Ok(()) => answer_input(alloc, &mut db, input, out, clock, log, wire, budget),
+        Err(end) => end,
+    }
+}
+
+// Answers the input over what the journal loaded to.
+fn answer_input<S: Source, K: Sink, C: Clock, J: Log>(
+    alloc: Global,
+    db: &mut Db,
+    input: &mut S,
+    out: &mut K,
+    clock: &mut C,
+    log: &mut J,
+    limits: WireLimits,
+    budget: u64,
+) -> JournalEnd
+    requires limits { CanRead limits }
+    requires budget { 1 ≤ budget }
+    ensures answered { Carries db.old db.new (λ from to. (bytes : List ℕ) → S.left input.old ≡ Some bytes → IsAnswered result
+        (λ failed. record {
+          limits = limits;
+          from = kept (C.readings clock.old) (J.content log.old) false from;
+          to = kept (C.readings clock.new) (J.content log.new) failed to;
+          had = K.has out.old;
+          has = K.has out.new;
+        })
+        limits budget bytes (S.left input.new)
+        (S.faults input.old) (S.faults input.new) (K.faults out.old) (K.faults out.new) (J.faults log.old) (J.faults log.new)) }
+    ensures causes { HasJournalCauses result (S.faults input.old) (S.faults input.new) (K.faults out.old) (K.faults out.new)
+        (J.faults log.old) (J.faults log.new) }
+{
+    let kept = pipe_kept(alloc, db, input, out, clock, log, limits, budget);
+    if kept.failed {
+        JournalEnd::NotKept
+    } else {
+        JournalEnd::Answered(kept.outcome.end)
+    }
+}

@@ -1,0 +1,124 @@
+// Turns that keep a journal.
+ghost use Rattle.std.specs.Prelude.{◌≡◌, ◌≤◌, List, ℕ, false, OnOk, OnErr, Option};
+ghost use Rattle.std.specs.Io.KnownBytes.{append_known};
+ghost use Rattle.ts_io.specs.Causes.{HasCause};
+ghost use Rattle.ts_io.specs.Logs.{AddsFront};
+ghost use Rattle.ts_db.specs.Held.{Carries};
+ghost use Rattle.ts_engine.specs.Keeping.{keeping, kept};
+ghost use Rattle.ts_engine.specs.Limits.{CanRead};
+ghost use Rattle.ts_engine.specs.Piping.{PipedBy, HasCausesBy};
+ghost use Rattle.ts_engine.specs.Recording.{told_by};
+
+use crate::piped::{Outcome, pipe_by};
+use crate::recorded::take_recorded;
+use crate::turns::Turns;
+use std::alloc::Global;
+use std::mem;
+use std::sync::ledger::Ledger;
+use ts_db::Db;
+use ts_io::{Clock, Failed, Log, Sink, Source, append_all_counted, write_all_counted};
+use ts_journal::Record;
+use ts_resp::{Out, WireLimits, Word};
+use ts_sample::Steps;
+
+/// Turns whose records are added to a journal, each before its reply is written. Where the journal fails, the reply is not
+/// written, and `failed` says so.
+#[derive(Drop)]
+pub(crate) struct Journaled<'a, J: Log> {
+    pub(crate) log: &'a mut J,
+    pub(crate) failed: bool,
+}
+
+impl<J: Log> Turns for Journaled<'_, J> {
+    ghost kind = { keeping };
+
+    ghost world = { λ s held readings. record { held = held; readings = readings; content = J.content s.log.now; failed = s.failed } };
+
+    ghost own = { λ s. record { failed = s.failed; count = J.faults s.log.now } };
+
+    ghost lent = { λ s. s.log.ghost_name };
+
+    fn answer<C: Clock, K: Sink, L: Ledger>(
+        &mut self,
+        db: &mut Db,
+        words: &mut Vec<Word>,
+        clock: &mut C,
+        room: &mut Out,
+        out: &mut K,
+        steps: &mut Steps<L>,
+    ) -> Result<bool, Failed> {
+        let alloc = *words.allocator();
+        let taken = take_recorded(
+            alloc,
+            db,
+            mem::replace(words, Vec::new(alloc)),
+            clock,
+            room,
+            steps,
+        );
+        let text = room.bytes();
+        match append_record(self.log, taken.entry, text) {
+            Ok(()) => {}
+            Err(failed) => {
+                self.failed = true;
+                return Err(failed);
+            }
+        }
+        match write_all_counted(out, text) {
+            Ok(()) => Ok(taken.quits),
+            Err(failed) => Err(failed),
+        }
+    }
+}
+
+/// What became of a stream whose changes were kept in a journal.
+#[derive(Clone, Copy, Debug, PartialEq, Eq)]
+pub(crate) struct KeptOutcome {
+    /// The end is that a reply could not be written where the journal failed before it.
+    pub(crate) outcome: Outcome,
+    pub(crate) failed: bool,
+}
+
+/// Answers the requests of an input as `pipe` does, and adds the record of what each one changed to the journal, before
+/// its reply is written. Where the journal fails nothing is written of that reply, and the stream ends.
+pub(crate) fn pipe_kept<S: Source, K: Sink, C: Clock, J: Log>(
+    alloc: Global,
+    db: &mut Db,
+    input: &mut S,
+    out: &mut K,
+    clock: &mut C,
+    log: &mut J,
+    limits: WireLimits,
+    budget: u64,
+) -> KeptOutcome
+    requires limits { CanRead limits }
+    requires budget { 1 ≤ budget }
+    ensures kept { Carries db.old db.new (λ from to. PipedBy keeping limits budget result.outcome
+        (kept (C.readings clock.old) (J.content log.old) false from) (kept (C.readings clock.new) (J.content log.new) result.failed to)
+        (S.left input.old) (S.left input.new) (K.has out.old) (K.has out.new)) }
+    ensures causes { HasCausesBy keeping result.outcome.end (S.faults input.old) (S.faults input.new) (K.faults out.old) (K.faults out.new)
+        (record { failed = false; count = J.faults log.old }) (record { failed = result.failed; count = J.faults log.new }) }
+{
+    let mut turns = Journaled { log, failed: false };
+    let outcome = pipe_by(alloc, &mut turns, db, input, out, clock, limits, budget);
+    KeptOutcome {
+        outcome,
+        failed: turns.failed,
+    }
+}
+
+// Adds a record to the journal, where the reply has this text.
+fn append_record<J: Log>(log: &mut J, entry: Option<Record>, reply: &[u8]) -> Result<(), Failed>
+    ensures all { OnOk result (J.content log.new ≡ append_known (J.content log.old) (told_by entry reply.now)) }
+    ensures front { OnErr result (AddsFront (J.content log.old) (J.content log.new) (told_by entry reply.now)) }
+    ensures place { J.place log.new ≡ J.place log.old }
+    ensures cause { HasCause (J.faults log.old) (J.faults log.new) result }
+{
+    match entry {
+        Some(entry) => {
+            let mut entry = entry;
+            append_all_counted(log, entry.bytes(reply))
+        }
+        None => append_all_counted(log, &[]),
+    }
+}

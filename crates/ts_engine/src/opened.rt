@@ -1,0 +1,68 @@
+// A journal that is opened and loaded.
+ghost use Rattle.std.specs.Prelude.{◌≡◌, ◌≤◌, ◌<◌, ℕ, List, Some, IfErr, true, false};
+ghost use Rattle.ts_io.specs.Causes.{Rose};
+ghost use Rattle.ts_db.specs.Held.{Carries};
+ghost use Rattle.ts_journal.specs.Limits.{IsBounded};
+ghost use Rattle.ts_engine.specs.Journaled.{IsOpened, IsUnopened, is_unloaded};
+ghost use Rattle.ts_engine.specs.Limits.{CanRead};
+
+use crate::keep::JournalEnd;
+use crate::loading::{Loaded, load};
+use std::alloc::Global;
+use ts_db::Db;
+use ts_io::Log;
+use ts_resp::WireLimits;
+
+// Opens the journal of this name, does again what the changes in it did, and cuts it after the last whole one.
+pub(crate) fn open_journal<J: Log>(
+    alloc: Global,
+    db: &mut Db,
+    name: &str,
+    log: &mut J,
+    limits: WireLimits,
+    budget: u64,
+) -> Result<(), JournalEnd>
+    requires limits { CanRead limits }
+    requires bounded { IsBounded limits }
+    ensures opened { Carries db.old db.new (λ from to. (journal : List ℕ) → J.content log.old ≡ Some journal
+        → IsOpened result limits budget from to journal (J.content log.new)) }
+    ensures ends { IfErr result IsUnopened }
+    ensures later { J.faults log.old ≤ J.faults log.new }
+    ensures fault { is_unloaded result ≡ true → Rose (J.faults log.old) (J.faults log.new) }
+    ensures no_fault { is_unloaded result ≡ false → J.faults log.new ≡ J.faults log.old }
+{
+    match log.open(name) {
+        Ok(()) => load_journal(alloc, db, log, limits, budget),
+        Err(_) => Err(JournalEnd::NotLoaded),
+    }
+}
+
+// The same of a journal that is open.
+fn load_journal<J: Log>(
+    alloc: Global,
+    db: &mut Db,
+    log: &mut J,
+    limits: WireLimits,
+    budget: u64,
+) -> Result<(), JournalEnd>
+    requires limits { CanRead limits }
+    requires bounded { IsBounded limits }
+    requires start { J.place log.old ≡ 0 }
+    ensures opened { Carries db.old db.new (λ from to. (journal : List ℕ) → J.content log.old ≡ Some journal
+        → IsOpened result limits budget from to journal (J.content log.new)) }
+    ensures ends { IfErr result IsUnopened }
+    ensures later { J.faults log.old ≤ J.faults log.new }
+    ensures fault { is_unloaded result ≡ true → Rose (J.faults log.old) (J.faults log.new) }
+    ensures no_fault { is_unloaded result ≡ false → J.faults log.new ≡ J.faults log.old }
+{
+    match load(alloc, db, log, limits, budget) {
+        Loaded::Whole(place) => match log.cut(place) {
+            Ok(()) => Ok(()),
+            Err(_) => Err(JournalEnd::NotLoaded),
+        },
+        Loaded::Broken(place) => Err(JournalEnd::Broken(place)),
+        Loaded::Fault => Err(JournalEnd::NotLoaded),
+        Loaded::Budget => Err(JournalEnd::TooLong),
+        Loaded::Memory => Err(JournalEnd::NoMemory),
+    }
+}
