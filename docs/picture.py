@@ -88,13 +88,17 @@ def drawn(shown):
 
 
 def main(words):
+    if words == ["--help"]:
+        print(__doc__.strip())
+        return
+    if words not in ([], ["--check"]):
+        print("docs/picture.py: it takes the word --check, or none (--help tells more)", file=sys.stderr)
+        sys.exit(2)
     picture = drawn(REPLIES.read_text(encoding="utf-8"))
     if words == ["--check"]:
         if not PICTURE.exists() or PICTURE.read_text(encoding="utf-8") != picture:
             sys.exit("docs/day.svg is not what docs/picture.py draws: run docs/picture.py")
         print("docs/day.svg: as drawn from examples/attic.out")
-    elif words:
-        sys.exit(__doc__)
     else:
         PICTURE.write_text(picture, encoding="utf-8")
 
