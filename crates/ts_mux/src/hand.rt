@@ -4,6 +4,7 @@ ghost use Rattle.ts_resp.specs.Reading.{fed};
 ghost use Rattle.ts_mux.specs.Turns.{IfRequest, SaysOf};
 
 use crate::Turn;
+use std::alloc::Global;
 use ts_resp::{Next, Reader};
 
 // The connection at hand.
@@ -14,6 +15,13 @@ pub(crate) struct Hand {
 }
 
 impl Hand {
+    // Gives back the room of its reader for very many bytes, where none is unread.
+    pub(crate) fn give_back(&mut self, alloc: Global)
+        ensures { self.new ≡ self.old }
+    {
+        self.reader.give_back(Vec::new(alloc));
+    }
+
     // The next request or fault of its reader.
     pub(crate) fn next(&mut self) -> Turn
         ensures says { SaysOf result self.old.link self.old.reader self.new.reader }
