@@ -3,6 +3,7 @@ pub mod Joining
 pub mod OneGroup
 pub mod Ordered
 pub mod Parts
+pub mod Placed
 pub mod Shares
 pub mod Sorted
 pub mod Summed

@@ -69,7 +69,7 @@ module _ {K : Type 0} {before same : K → K → Bool} {cmp : K → K → Orderi
       go false false e d = inl (o.total a b e d)
 
   -- whether they compare as equal
-  at-same : (a b : K) → is_at (cmp a) b ≡ same a b
+  pub at-same : (a b : K) → is_at (cmp a) b ≡ same a b
   at-same a b = elim (three a b) [
     | inl e ↦ rw (o.compares a b) (go (before a b) (same a b) (ap (before a) (sym e) ∙ o.irrefl a))
     | inr (inl e) ↦ rw (o.compares a b, e, apart a b e) refl

@@ -39,3 +39,7 @@ timely-first es rest e is h = All-rest (λ t. t ≤ MAX_TIME) e.0 (keys_of rest)
 pub timely-last : (es rest : Summaries) (e : ℕ × Summary) → es ≡ rest ++ e ∷ [] → AreTimely es → AreTimely rest
 timely-last es rest e is h =
     (All-pop (λ t. t ≤ MAX_TIME) (keys_of es) (keys_of rest) (Some e.0) (ap keys_of is ∙ map-append (λ (d : ℕ × Summary). d.0) rest (e ∷ [])) h).0
+
+pub time-last : (es rest : Summaries) (e : ℕ × Summary) → es ≡ rest ++ e ∷ [] → AreTimely es → e.0 ≤ MAX_TIME
+time-last es rest e is h =
+    (All-pop (λ t. t ≤ MAX_TIME) (keys_of es) (keys_of rest) (Some e.0) (ap keys_of is ∙ map-append (λ (d : ℕ × Summary). d.0) rest (e ∷ [])) h).1

@@ -10,6 +10,7 @@ mod one_group;
 mod reduction;
 mod row_texts;
 mod rows;
+mod slots;
 mod sources;
 mod summaries;
 

@@ -5,9 +5,8 @@ ghost use Rattle.ts_group.specs.Rows.{group_rows};
 ghost use Rattle.ts_group.specs.Summaries.{HasTaken};
 
 use crate::rows::GroupRows;
-use crate::summaries::{Summaries, add};
+use crate::summaries::Summaries;
 use std::alloc::Global;
-use std::collections::BTreeMap;
 use std::marker::Model;
 use ts_agg::Reducer;
 use ts_range::{Keep, Row, Take};
@@ -26,9 +25,9 @@ impl Model for Reduction {
 
     ghost Value = { Kept };
 
-    ghost view = { λ r. record { summaries = r.kept.entries; lost = r.lost } };
+    ghost view = { λ r. record { summaries = r.kept; lost = r.lost } };
 
-    ghost invariant = { λ r. AreTimely r.kept.entries };
+    ghost invariant = { λ r. AreTimely r.kept };
 }
 
 impl Reduction {
@@ -38,7 +37,7 @@ impl Reduction {
         ensures kept { result.lost ≡ false }
     {
         Reduction {
-            kept: BTreeMap::new(alloc),
+            kept: Summaries::new(alloc),
             lost: false,
         }
     }
@@ -71,7 +70,7 @@ impl Take for Reduction {
         if self.lost {
             return;
         }
-        match add(&mut self.kept, row) {
+        match self.kept.add(row) {
             Ok(()) => {}
             Err(_) => self.lost = true,
         }

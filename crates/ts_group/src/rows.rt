@@ -7,9 +7,8 @@ ghost use Rattle.ts_range.specs.Walk.{most_of};
 ghost use Rattle.ts_group.specs.Rows.{cell_told, rows_told};
 ghost use Rattle.ts_group.specs.Summaries.{AreTimely};
 
-use crate::summaries::Summaries;
+use crate::summaries::{Summaries, SummaryIter};
 use std::alloc::{AllocError, Global};
-use std::collections::btree_map::Iter;
 use std::marker::Model;
 use ts_agg::{Reducer, Running, aggregator_of};
 use ts_range::{Row, RowList, Take};
@@ -18,7 +17,7 @@ use ts_sample::Cell;
 /// The rows of a group that are left to be told, the next one first.
 #[derive(Drop)]
 pub struct GroupRows<'a> {
-    times: Iter<'a, u64, Running>,
+    times: SummaryIter<'a>,
     // How many of them are told, and whether from their end.
     left: usize,
     reverse: bool,
@@ -47,8 +46,8 @@ impl<'a> GroupRows<'a> {
         count: Option<u64>,
         reverse: bool,
     ) -> GroupRows<'a>
-        requires { AreTimely kept.now.entries }
-        ensures { result ≡ first_ones count (rows_told reducer reverse kept.now.entries) }
+        requires { AreTimely kept.now }
+        ensures { result ≡ first_ones count (rows_told reducer reverse kept.now) }
     {
         GroupRows {
             times: kept.iter(),
@@ -106,17 +105,17 @@ fn at_most(count: Option<u64>, rows: usize) -> usize
 }
 
 // The row of the next time, from one end or the other.
-fn next_row(times: &mut Iter<'_, u64, Running>, reducer: Reducer, reverse: bool) -> Option<Row>
+fn next_row(times: &mut SummaryIter<'_>, reducer: Reducer, reverse: bool) -> Option<Row>
     requires { AreTimely times.old }
     ensures row { MatchOption result (times.old ≡ []) (λ row. rows_told reducer reverse times.old ≡ row_of row ∷ rows_told reducer reverse times.new) }
     ensures timely { AreTimely times.new }
 {
     if reverse {
         let (time, running) = times.next_back()?;
-        return Some(row_at(*time, reducer, running));
+        return Some(row_at(time, reducer, running));
     }
     let (time, running) = times.next()?;
-    Some(row_at(*time, reducer, running))
+    Some(row_at(time, reducer, running))
 }
 
 // The row of a time.

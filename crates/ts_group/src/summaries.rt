@@ -1,71 +1,158 @@
 // What is kept of rows, time by time. After an Err it may have part of a row.
-ghost use Rattle.std.specs.Prelude.{◌≡◌, ◌≤◌, ◌++◌, List, [], ◌∷◌, OnOk};
-ghost use Rattle.ts_spec.specs.Aggregate.{summary};
+ghost use Rattle.std.specs.Prelude.{◌≡◌, ◌++◌, ℕ, None, Some, List, [], ◌∷◌, length, MatchOption, OnOk, OnErr};
+ghost use Rattle.std.specs.BTreeMap.{insert_entry, is_at};
+ghost use Rattle.std.specs.Map.{lookup};
+ghost use Rattle.std.specs.Ordering.{nat_cmp};
 ghost use Rattle.ts_spec.specs.Answer.{Row as TheRow};
-ghost use Rattle.ts_spec.specs.Groups.{number_then};
-ghost use Rattle.ts_spec.specs.Sample.{Point, MAX_TIME};
-ghost use Rattle.ts_range.specs.Query.{cell_of, row_of};
+ghost use Rattle.ts_range.specs.Query.{row_of};
+ghost use Rattle.ts_group.specs.Places.{ArePlaced};
 ghost use Rattle.ts_group.specs.Summaries.{AreTimely, summaries};
 
-use std::alloc::AllocError;
+use crate::slots::{Slot, is_of};
+use std::alloc::{AllocError, Global};
 use std::collections::BTreeMap;
+use std::collections::btree_map::Iter;
+use std::marker::Model;
 use ts_agg::Running;
 use ts_range::Row;
-use ts_sample::{Cell, Sample, Units};
 
-// For each time that rows have, what its numbers come to.
-pub(crate) type Summaries = BTreeMap<u64, Running>;
+// For each time that rows have, what its numbers come to. Times that come in the order of those before are found at once.
+#[derive(Drop)]
+pub(crate) struct Summaries {
+    // the place of each time
+    places: BTreeMap<u64, usize>,
+    // what stands there: the times in the order in which each came first
+    slots: Vec<Slot>,
+    // the place of the last row: after it the time of the next one may stand
+    last: usize,
+}
 
-// Takes one row more.
-pub(crate) fn add(kept: &mut Summaries, row: Row) -> Result<(), AllocError>
-    requires timely { AreTimely kept.old.entries }
-    ensures added { OnOk result ((rows : List TheRow) → kept.old.entries ≡ summaries rows
-        → kept.new.entries ≡ summaries (rows ++ row_of row ∷ [])) }
-    ensures timely { AreTimely kept.new.entries }
-{
-    match kept.get_mut(&row.time) {
-        Some(running) => count(running, row.time, row.value),
-        None => {
-            let mut running = Running::new();
-            count(&mut running, row.time, row.value)?;
-            kept.insert(row.time, running)?;
-            Ok(())
+impl Model for Summaries {
+    ghost use Rattle.ts_group.specs.Summaries.{Summaries as TheSummaries};
+    ghost use Rattle.ts_group.specs.Places.{summaries_in, ArePlaced};
+
+    ghost Value = { TheSummaries };
+
+    ghost view = { λ s. summaries_in s.slots.items s.places.entries };
+
+    ghost invariant = { λ s. ArePlaced s.slots.items s.places.entries };
+}
+
+impl Summaries {
+    // Those of no row. Takes no memory.
+    pub(crate) fn new(alloc: Global) -> Summaries
+        ensures { result ≡ [] }
+    {
+        Summaries {
+            places: BTreeMap::new(alloc),
+            slots: Vec::new(alloc),
+            last: 0,
+        }
+    }
+
+    // Takes one row more.
+    pub(crate) fn add(&mut self, row: Row) -> Result<(), AllocError>
+        requires timely { AreTimely self.old }
+        ensures added { OnOk result ((rows : List TheRow) → self.old ≡ summaries rows → self.new ≡ summaries (rows ++ row_of row ∷ [])) }
+        ensures timely { AreTimely self.new }
+    {
+        let next = self.last.saturating_add(1);
+        match place_of(&self.places, &self.slots, next, row.time) {
+            Some(place) => {
+                self.last = place;
+                self.slots[place].count(row)
+            }
+            None => {
+                let slot = Slot::of_row(row)?;
+                self.last = add_slot(&mut self.places, &mut self.slots, slot)?;
+                Ok(())
+            }
+        }
+    }
+
+    // How many times there are.
+    pub(crate) fn len(&self) -> usize
+        ensures { result ≡ length self.now }
+    {
+        self.places.len()
+    }
+
+    // The times in ascending order, with what the numbers of each come to.
+    pub(crate) fn iter(&self) -> SummaryIter<'_>
+        ensures { result ≡ self.now }
+    {
+        SummaryIter {
+            places: self.places.iter(),
+            slots: &self.slots,
         }
     }
 }
 
-// Counts a cell among others of its time. Only a number counts.
-fn count(running: &mut Running, time: u64, cell: Cell) -> Result<(), AllocError>
-    requires { time ≤ MAX_TIME }
-    ensures { OnOk result ((ps : List Point) → running.old ≡ summary ps
-        → running.new ≡ summary (ps ++ number_then time (cell_of cell) [])) }
+// The place of a time, if it has one. It is looked at first whether that is the place `next`.
+fn place_of(places: &BTreeMap<u64, usize>, slots: &[Slot], next: usize, time: u64) -> Option<usize>
+    requires { ArePlaced slots.now places.now.entries }
+    ensures { result ≡ lookup (is_at (nat_cmp time)) places.now.entries }
 {
-    match cell {
-        Cell::Nan => Ok(()),
-        Cell::Number(value) => count_number(running, &sample_at(time, value)),
+    if is_of(slots, next, time) {
+        return Some(next);
     }
+    places.get(&time).copied()
 }
 
-// Counts a number among others, unless these are too many.
-fn count_number(running: &mut Running, sample: &Sample) -> Result<(), AllocError>
-    ensures { OnOk result ((ps : List Point) → running.old ≡ summary ps
-        → running.new ≡ summary (ps ++ sample.now ∷ [])) }
+// Puts what is kept of a new time at a new place, and answers which that is. After an Err all is as before.
+fn add_slot(
+    places: &mut BTreeMap<u64, usize>,
+    slots: &mut Vec<Slot>,
+    slot: Slot,
+) -> Result<usize, AllocError>
+    requires { lookup (is_at (nat_cmp slot.time)) places.old.entries ≡ None }
+    ensures places { OnOk result (places.new.entries ≡ insert_entry nat_cmp places.old.entries slot.time (length slots.old.items)) }
+    ensures slots { OnOk result (slots.new.items ≡ slots.old.items ++ slot ∷ []) }
+    ensures same_places { OnErr result (places.new.entries ≡ places.old.entries) }
+    ensures same_slots { OnErr result (slots.new.items ≡ slots.old.items) }
 {
-    if !running.has_room() {
+    let place = slots.len();
+    let time = slot.time;
+    slots.push(slot)?;
+    if places.insert(time, place).is_err() {
+        slots.pop();
         return Err(AllocError);
     }
-    running.push(sample);
-    Ok(())
+    Ok(place)
 }
 
-// A number of a time, as a sample.
-fn sample_at(time: u64, value: Units) -> Sample
-    requires { time ≤ MAX_TIME }
-    ensures { result ≡ record { time = time; value = value; made = 0 } }
-{
-    Sample {
-        value,
-        time,
-        made: 0,
+// The times that are left, from both ends, with what the numbers of each come to.
+#[derive(Drop)]
+pub(crate) struct SummaryIter<'a> {
+    places: Iter<'a, u64, usize>,
+    slots: &'a [Slot],
+}
+
+impl<'a> Model for SummaryIter<'a> {
+    ghost use Rattle.ts_group.specs.Summaries.{Summaries as TheSummaries};
+    ghost use Rattle.ts_group.specs.Places.{summaries_in, AreWithin};
+
+    ghost Value = { TheSummaries };
+
+    ghost view = { λ i. summaries_in i.slots.now i.places };
+
+    ghost invariant = { λ i. AreWithin i.slots.now i.places };
+}
+
+impl<'a> SummaryIter<'a> {
+    // The first one.
+    pub(crate) fn next(&mut self) -> Option<(u64, &'a Running)>
+        ensures { MatchOption result ((self.old ≡ []) × (self.new ≡ [])) (λ e. self.old ≡ (e.0, e.1.now) ∷ self.new) }
+    {
+        let (time, place) = self.places.next()?;
+        Some((*time, &self.slots[*place].running))
+    }
+
+    // The last one.
+    pub(crate) fn next_back(&mut self) -> Option<(u64, &'a Running)>
+        ensures { MatchOption result ((self.old ≡ []) × (self.new ≡ [])) (λ e. self.old ≡ self.new ++ (e.0, e.1.now) ∷ []) }
+    {
+        let (time, place) = self.places.next_back()?;
+        Some((*time, &self.slots[*place].running))
     }
 }
