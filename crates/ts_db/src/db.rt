@@ -93,3 +93,8 @@ impl Db {
         let _limits = self.store.limits;
     }
 }
+
+// A database is this field and no other: a further one, such as a copy of samples, does not compile here.
+fn fields(it: &Db) {
+    let Db { store: _ } = it;
+}

@@ -43,3 +43,14 @@ pub(crate) fn are_too_many(limit: u32, labels: &Option<Labels>) -> bool
         Some(labels) => (limit as usize) < labels.len(),
     }
 }
+
+// A node is these fields and no others: a further one, such as a copy of its samples, does not compile here.
+fn fields(it: &Node) {
+    let Node {
+        key: _,
+        series: _,
+        labels: _,
+        rules: _,
+        source: _,
+    } = it;
+}

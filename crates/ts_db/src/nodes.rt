@@ -100,3 +100,8 @@ impl Nodes {
         self.index.remove(id, &node.labels);
     }
 }
+
+// Nodes are these fields and no others: a further one, such as a copy of samples, does not compile here.
+fn fields(it: &Nodes) {
+    let Nodes { slab: _, index: _ } = it;
+}

@@ -61,3 +61,14 @@ impl Store {
         self.limits.keys as usize <= self.keys.len()
     }
 }
+
+// A store is these fields and no others: a further one, such as a copy of samples, does not compile here.
+fn fields(it: &Store) {
+    let Store {
+        alloc: _,
+        limits: _,
+        nodes: _,
+        keys: _,
+        hints: _,
+    } = it;
+}
