@@ -18,18 +18,21 @@ use Rattle.ts_spec.specs.State.{Label}
 use Rattle.ts_sample.specs.declared.id.Id.{Id}
 use Rattle.ts_labels.specs.Filter.{label_of, values_wanted}
 use Rattle.ts_index.specs.Index.{Labelled, numbers_where, has_pair}
-use Rattle.ts_index.specs.Numbers.{AreInOrder}
+use Rattle.ts_index.specs.Numbers.{AreAscending, AreInOrder}
 use Rattle.ts_index.specs.Bounds as index
+use Rattle.ts_index.proofs.NumberLemmas.{AreAscending-where}
 use Rattle.ts_db.specs.declared.node.Node.{Node}
 use Rattle.ts_db.specs.declared.store.Store.{Store}
 use Rattle.ts_db.specs.Bounds.{count_where, fewest, selection_steps}
 use Rattle.ts_db.specs.Held.{Stock, AreNumbersOf}
 use Rattle.ts_db.specs.Indexed.{IsIndexed}
+use Rattle.ts_db.specs.Ordered.{among}
 use Rattle.ts_db.specs.Store.{Nodes, Numbers, key_at, key_in, kept_at, collected, ids_of, number_of, IsInOrder}
 use Rattle.ts_db.proofs.Collecting.{get-ids}
 use Rattle.ts_db.proofs.Permuted.{at, distinct-ordered}
 use Rattle.ts_db.proofs.Tagged.{tagged, IsKnown, IsIndexOf, told}
 use Rattle.ts_db.proofs.ByKey.{by-key}
+use Rattle.ts_db.proofs.Walked.{walked}
 use Rattle.ts_db.proofs.Selecting.{chosen, passes, onto, listing, listing-entries, HaveNodes, all-there, all-found, chosen-selected}
 
 -- the labels of the node of a number
@@ -126,6 +129,18 @@ module _ (nodes : Nodes) (es : Numbers) (told_by : Labelled) (is : IsTold nodes 
 
   pub is-index : IsIndexOf (labels_in nodes) (key_in nodes) told_by es
   is-index = record { sorted = sorted; once = once; known = known; found = named-found nodes es es known each; owned = owner; indexed = indexed }
+
+  -- the numbers that the index tells ascend
+  pub select-ascends : (fs : List Filter) (ids : List Id) → AreInOrder told_by → ids ≡ numbers_where (all_hold fs) told_by → AreAscending ids
+  select-ascends fs ids ordered is = subst AreAscending (sym is) (AreAscending-where (all_hold fs) told_by ordered)
+
+  -- Those that a walk over the keys takes of them are those of the keys that the filters select.
+  pub walk-numbers : (fs : List Filter) (ids after : List Id) → AreInOrder told_by → ids ≡ numbers_where (all_hold fs) told_by → after ≡ among ids es
+      → AreNumbersOf (ids_of es) (kept_selection (collected nodes es) fs) after
+  walk-numbers fs ids after ordered is walk =
+      subst (AreNumbersOf (ids_of es) (kept_selection (collected nodes es) fs))
+      (sym (walk ∙ ap (λ (l : List Id). among l es) is ∙ walked (labels_in nodes) (key_in nodes) (all_hold fs) told_by ordered indexed es known ∙ chosen-tags nodes fs es there))
+      (chosen-selected nodes (ids_of es) fs es sorted there (all-found (ids_of es) es es (λ key. get-ids key es) found))
 
   -- The numbers that the index tells, in the order of their keys, are those of the keys that the filters select.
   pub select-numbers : (fs : List Filter) (before after : List Id) → before ≡ numbers_where (all_hold fs) told_by → IsPermutation before after → IsSortedByKey (key_in nodes) (slice_cmp nat_cmp) after

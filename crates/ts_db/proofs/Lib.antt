@@ -47,6 +47,7 @@ pub mod ShownTotals
 pub mod Permuted
 pub mod Tagged
 pub mod ByKey
+pub mod Walked
 pub mod Choosing
 pub mod Covering
 pub mod Lent

@@ -11,6 +11,7 @@ pub mod Information
 pub mod Latest
 pub mod Linking
 pub mod Links
+pub mod Ordered
 pub mod Planning
 pub mod PutBy
 pub mod RowAmong

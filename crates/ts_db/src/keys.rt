@@ -8,6 +8,7 @@ ghost use Rattle.ts_db.specs.Held.{Held, Stands, AreNumbersOf};
 ghost use Rattle.ts_db.specs.Bounds.{reach_of_all, selection_steps};
 
 use crate::db::Db;
+use crate::ordered::walked_if_many;
 use std::alloc::AllocError;
 use std::sync::ledger::Ledger;
 use ts_labels::{Filter, Labels};
@@ -41,6 +42,9 @@ impl Db {
         let index = self.store.nodes.index();
         index.known();
         let mut ids = index.select(filters, steps)?;
+        if let Some(found) = walked_if_many(self.store.alloc, &self.store.keys, &ids) {
+            return Ok(found);
+        }
         self.store.nodes.sort_by_key(&mut ids);
         Ok(ids)
     }

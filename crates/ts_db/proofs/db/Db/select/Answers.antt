@@ -1,10 +1,43 @@
-use Rattle.std.proofs.Common.{refl, arith}
-use Rattle.std.specs.Prelude.{Ok}
+use Rattle.std.proofs.Common.{◌∙◌, refl, sym, ap, subst, arith}
+use Rattle.std.specs.Prelude.{List, Ok}
 use Rattle.std.specs.declared.alloc.AllocError.{AllocError}
+use Rattle.ts_sample.specs.declared.id.Id.{Id}
+use Rattle.ts_index.specs.Numbers.{AreAscending}
+use Rattle.ts_db.specs.Ordered.{among}
 use Rattle.ts_db.specs.Store.{stock_of}
 use Rattle.ts_db.proofs.Laws.{select-law}
-use Rattle.ts_db.proofs.Choosing.{is-told, select-numbers, select-steps}
+use Rattle.ts_db.proofs.Choosing.{is-told, select-ascends, walk-numbers, select-numbers, select-steps}
 use Rattle.ts_db.proofs.db.Db.select.Goals as goal
+
+pub walked_if_many-requires : goal.walked_if_many-requires
+walked_if_many-requires g c =
+    let s = c.self.inside.store in
+    let index = c.index-index.result.now in
+    let is = is-told s c.self.invariant.store c.iter-keys.ensures.ordered c.iter-keys.ensures.found index c.index-index.ensures c.known.ensures in
+    subst AreAscending (sym c.deref.ensures.value) (select-ascends s.nodes s.keys.entries index is c.args.filters.now c.in_ok-ids.ids.items c.known.ensures c.in_ok-ids.ensures.selected)
+
+-- by a walk over the keys
+
+pub returns-in-Some-clause-numbers : goal.returns-in-Some-clause-numbers
+returns-in-Some-clause-numbers g c = rw (← c.self.view_is)
+    (let s = c.self.inside.store in
+    let index = c.index-index.result.now in
+    let is = is-told s c.self.invariant.store c.iter-keys.ensures.ordered c.iter-keys.ensures.found index c.index-index.ensures c.known.ensures in
+    walk-numbers s.nodes s.keys.entries index is c.args.filters.now c.in_ok-ids.ids.items c.in-Some.found.items c.known.ensures c.in_ok-ids.ensures.selected
+    (c.in-Some.ensures ∙ ap (λ (l : List Id). among l s.keys.entries) c.deref.ensures.value))
+
+pub returns-in-Some-clause-steps : goal.returns-in-Some-clause-steps
+returns-in-Some-clause-steps g c = rw (← c.self.view_is)
+    (let s = c.self.inside.store in
+    let index = c.index-index.result.now in
+    let is = is-told s c.self.invariant.store c.iter-keys.ensures.ordered c.iter-keys.ensures.found index c.index-index.ensures c.known.ensures in
+    let same = select-steps s.nodes s.keys.entries index is (stock_of s) refl c.args.filters.now in
+    omega (arith, same, c.in_ok-ids.ensures.steps))
+
+pub returns-in-Some-clause-each : goal.returns-in-Some-clause-each
+returns-in-Some-clause-each g c = select-law {E = AllocError} (λ ids. ids.items) c.args.self.now c.args.filters.now (Ok c.in-Some.found) (returns-in-Some-clause-numbers g c)
+
+-- by a sort
 
 pub returns-clause-numbers : goal.returns-clause-numbers
 returns-clause-numbers g c = rw (← c.self.view_is)
