@@ -4,7 +4,6 @@ ghost use Rattle.ts_spec.specs.Keyed.{none, get, count_keys};
 ghost use Rattle.ts_spec.specs.State.{empty};
 ghost use Rattle.ts_db.specs.Held.{Held, Stands, Leads};
 
-use crate::hints::Hints;
 use crate::nodes::Nodes;
 use crate::store::Store;
 use std::alloc::Global;
@@ -45,7 +44,6 @@ impl Db {
                 limits,
                 nodes: Nodes::new(alloc),
                 keys: BTreeMap::new(alloc),
-                hints: Hints::new(alloc),
             },
         }
     }

@@ -7,15 +7,29 @@ use ts_sample::Id;
 // How many places there are.
 const PLACES: usize = 4096;
 
-// A number at each place, or nothing yet.
+/// The numbers that keys had when they were last written to. Who writes to the same keys again and again keeps them, and
+/// hands them to each write: they make it sooner done, and change nothing that it does or answers.
 #[derive(Drop)]
-pub(crate) struct Hints {
+pub struct Hints {
+    // how many places there may be
+    places: usize,
+    // a number at each place, once there is one
     ids: Vec<Id>,
 }
 
 impl Hints {
-    pub(crate) fn new(alloc: Global) -> Hints {
+    /// None so far. Takes no memory.
+    pub fn new(alloc: Global) -> Hints {
         Hints {
+            places: PLACES,
+            ids: Vec::new(alloc),
+        }
+    }
+
+    /// None at any time: nothing is kept in them. Takes no memory.
+    pub fn none(alloc: Global) -> Hints {
+        Hints {
+            places: 0,
             ids: Vec::new(alloc),
         }
     }
@@ -27,7 +41,7 @@ impl Hints {
 
     // Keeps a number at a place, if there is memory for it.
     pub(crate) fn keep(&mut self, place: usize, id: Id) {
-        if self.ids.is_empty() && self.ids.resize(PLACES, id).is_err() {
+        if self.ids.is_empty() && self.ids.resize(self.places, id).is_err() {
             return;
         }
         if let Some(kept) = self.ids.get_mut(place) {

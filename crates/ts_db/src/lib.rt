@@ -20,6 +20,7 @@ mod keys;
 mod latest;
 mod linked;
 mod linking;
+mod near;
 mod node;
 mod nodes;
 mod numbered;
@@ -38,6 +39,7 @@ mod write;
 
 pub use db::Db;
 pub use fault::DbFault;
+pub use hints::Hints;
 pub use info::{Info, RuleInfo};
 pub use ts_index::Candidates;
 pub use ts_labels::{Change, Spec};

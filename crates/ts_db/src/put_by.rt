@@ -1,15 +1,15 @@
 // A write to a key that is there, by a policy of its own.
-ghost use Rattle.std.specs.Prelude.{◌≡◌, ◌≤◌, ◌+◌, IfOk, IfErr};
+ghost use Rattle.std.specs.Prelude.{◌≡◌, ◌≤◌, ◌+◌, Some, IfOk, IfErr};
 ghost use Rattle.ts_spec.specs.Sample.{MAX_TIME};
+ghost use Rattle.ts_spec.specs.Key.{Key};
 ghost use Rattle.ts_spec.specs.Keyed.{get};
 ghost use Rattle.ts_db.specs.Held.{IsOwn};
-ghost use Rattle.ts_db.specs.Store.{stock_of, number_of, IsInOrder, IsDb};
+ghost use Rattle.ts_db.specs.Store.{stock_of, number_of, IsInOrder, IsDb, IsThere};
 ghost use Rattle.ts_db.specs.Answering.{KeptNumber};
 ghost use Rattle.ts_db.specs.PutBy.{kept_put_by};
 ghost use Rattle.ts_db.specs.Bounds.{write_steps, IsEasyAppend, IsIgnored};
 
 use crate::fault::DbFault;
-use crate::hints::place_of;
 use crate::ignored::ignored;
 use crate::store::Store;
 use std::sync::ledger::Ledger;
@@ -39,34 +39,41 @@ impl Store {
         ensures easy { IsEasyAppend (stock_of self.old) key.now time → steps.new ≡ steps.old }
         ensures spared { IsIgnored (stock_of self.old) key.now time value → steps.new ≡ steps.old }
     {
-        let place = place_of(key);
-        let Some(id) = self.number_near(key, place) else {
+        let Some(id) = self.keys.get(key).copied() else {
             return Err(DbFault::NoKey);
         };
+        self.put_to(id, time, value, on, steps)
+    }
+
+    // Adds a sample to the series of the key of a number, as above.
+    pub(crate) fn put_to<L: Ledger>(
+        &mut self,
+        id: Id,
+        time: u64,
+        value: Units,
+        on: Option<Policy>,
+        steps: &mut Steps<L>,
+    ) -> Result<u64, DbFault>
+        requires time { time ≤ MAX_TIME }
+        requires db { IsDb self.old }
+        requires there { IsThere self.old id }
+        ensures put { (key : Key) → number_of key self.old.keys.entries ≡ Some id
+            → KeptNumber (stock_of self.old) (kept_put_by self.old.limits (stock_of self.old).keys key time value on (get key (stock_of self.old).keys)) result (stock_of self.new) }
+        ensures bounded { IfOk result (λ t. t ≤ MAX_TIME) }
+        ensures own { (key : Key) → number_of key self.old.keys.entries ≡ Some id → IfErr result (IsOwn (stock_of self.old) key) }
+        ensures store { IsInOrder self.new }
+        ensures counted { steps.old ≤ steps.new }
+        ensures steps { (key : Key) → number_of key self.old.keys.entries ≡ Some id → steps.new ≤ steps.old + write_steps (stock_of self.old) key time }
+        ensures easy { (key : Key) → number_of key self.old.keys.entries ≡ Some id → IsEasyAppend (stock_of self.old) key time → steps.new ≡ steps.old }
+        ensures spared { (key : Key) → number_of key self.old.keys.entries ≡ Some id → IsIgnored (stock_of self.old) key time value → steps.new ≡ steps.old }
+    {
         let Some(node) = self.nodes.get(id.0) else {
             unreachable!();
         };
         if let Some(last) = ignored(node, time, value) {
-            self.hints.keep(place, id);
             return Ok(last);
         }
         let how = Merge::By(on.unwrap_or(node.series.policy()));
-        let answer = self.write(id, how, time, value, steps);
-        self.hints.keep(place, id);
-        answer
-    }
-
-    // The number of a key, if there is one: that at a place of the hints, where its node has the key.
-    fn number_near(&self, key: &Word, place: usize) -> Option<Id>
-        requires { IsInOrder self.now }
-        ensures { result ≡ number_of key.now self.now.keys.entries }
-    {
-        if let Some(id) = self.hints.at(place)
-            && let Some(node) = self.nodes.get(id.0)
-            && node.key == *key
-        {
-            return Some(id);
-        }
-        self.keys.get(key).copied()
+        self.write(id, how, time, value, steps)
     }
 }

@@ -4,7 +4,6 @@ ghost use Rattle.ts_spec.specs.Keyed.{get, count_keys};
 ghost use Rattle.ts_db.specs.Store.{stock_of, IsInOrder};
 ghost use Rattle.ts_db.specs.Answering.{IsReady, IsApplied, IsElsewhere};
 
-use crate::hints::Hints;
 use crate::nodes::Nodes;
 use std::alloc::Global;
 use std::collections::BTreeMap;
@@ -22,7 +21,6 @@ pub(crate) struct Store {
     pub(crate) limits: Limits,
     pub(crate) nodes: Nodes,
     pub(crate) keys: BTreeMap<Word, Id>,
-    pub(crate) hints: Hints,
 }
 
 impl Store {
@@ -69,6 +67,5 @@ fn fields(it: &Store) {
         limits: _,
         nodes: _,
         keys: _,
-        hints: _,
     } = it;
 }

@@ -45,10 +45,10 @@ impl Store {
         ensures easy { IsEasyAppend (stock_of self.old) key time → steps.new ≡ steps.old }
         ensures spared { IsIgnored (stock_of self.old) key time value → steps.new ≡ steps.old }
     {
-        if !self.has(&key) {
+        let Some(id) = self.keys.get(&key).copied() else {
             return self.begin(key, spec, time, value, steps);
-        }
-        self.put_by(&key, time, value, on, steps)
+        };
+        self.put_to(id, time, value, on, steps)
     }
 
     // Writes to the series of a number, and has the destinations of its rules mended. Answers the time.

@@ -1,65 +1,32 @@
-use Rattle.std.proofs.Common.{◌≤◌, refl, sym, ◌∙◌, ap, subst, arith}
-use Rattle.std.proofs.lemmas.Bool.{false≢true}
-use Rattle.std.specs.Prelude.{Option}
-use Rattle.std.specs.Option.{unwrap_or}
-use Rattle.ts_spec.specs.declared.series.Policy.{Policy}
-use Rattle.ts_spec.specs.declared.series.Merge.TheVariants.{By}
-use Rattle.ts_spec.specs.Kept.{Kept}
-use Rattle.ts_spec.specs.KeptStep.{KeptOutcome, kept_write}
-use Rattle.ts_db.specs.Store.{kept_at, stock_of, Holds}
-use Rattle.ts_db.specs.Answering.{KeptNumber}
+use Rattle.std.proofs.Common.{refl, sym, ◌∙◌, ap}
+use Rattle.ts_db.specs.Store.{stock_of}
 use Rattle.ts_db.specs.PutBy.{kept_put_by}
 use Rattle.ts_db.proofs.Storing.{missing}
-use Rattle.ts_db.proofs.Applying.{there}
-use Rattle.ts_db.proofs.Ignoring.{not-ignored, ignored-upto, write-ignored, write-unignored}
 use Rattle.ts_db.proofs.store.Store.put_by.Goals as goal
 
 pub returns-in_default-clause-put : goal.returns-in_default-clause-put
 returns-in_default-clause-put g c = (
-  ap (kept_put_by c.args.self.now.limits (stock_of c.args.self.now).keys c.args.key.now c.args.time c.args.value c.args.on) (missing c.args.self.now.limits c.args.self.now.nodes c.args.self.now.keys.entries c.requires.db.store c.args.key.now (sym c.in_default.ensures)),
+  ap (kept_put_by c.args.self.now.limits (stock_of c.args.self.now).keys c.args.key.now c.args.time c.args.value c.args.on) (missing c.args.self.now.limits c.args.self.now.nodes c.args.self.now.keys.entries c.requires.db.store c.args.key.now (sym (c.in_default.ensures ∙ c.get.ensures.value))),
   refl,
 )
 
-pub returns-clause-put : goal.returns-clause-put
-returns-clause-put g c =
-    let holds : Holds c.args.self.now c.args.key.now c.in-Some.id c.in-Some-get.node.now = record { number = sym c.in-Some.ensures; node = sym c.in-Some-get.ensures } in
-    subst (λ (o : Option Kept). KeptNumber (stock_of c.args.self.now) (kept_put_by c.args.self.now.limits (stock_of c.args.self.now).keys c.args.key.now c.args.time c.args.value c.args.on o) c.write-answer.result (stock_of c.write-answer.new.self))
-    (sym (there c.args.self.now c.requires.db.store c.args.key.now c.in-Some.id c.in-Some-get.node.now holds))
-    (subst (λ (p : Policy). KeptNumber (stock_of c.args.self.now) (kept_write c.args.self.now.limits (stock_of c.args.self.now).keys c.args.key.now (kept_at c.args.self.now.nodes c.in-Some-get.node.now) (By p) c.args.time c.args.value) c.write-answer.result (stock_of c.write-answer.new.self))
-    (c.unwrap_or.ensures ∙ ap (unwrap_or c.args.on) c.policy.ensures)
-    (subst (λ (step : KeptOutcome). KeptNumber (stock_of c.args.self.now) step c.write-answer.result (stock_of c.write-answer.new.self))
-    (sym (write-unignored c.args.self.now c.requires.db.store c.args.key.now c.in-Some.id c.in-Some-get.node.now holds c.args.time c.args.value (By c.unwrap_or.result) c.in_default-ignored.ensures))
-    (c.write-answer.ensures.written c.args.key.now c.in-Some-get.node.now holds)))
+pub put_to-requires-clause-there : goal.put_to-requires-clause-there
+put_to-requires-clause-there g c =
+    let number = sym (c.in-Some.ensures ∙ c.get.ensures.value) in
+    let found = c.requires.db.store.stored c.args.key.now c.in-Some.id number in
+    record { key = c.args.key.now; node = found.0; holds = record { number = number; node = found.1 } }
 
-pub write-answer-requires-clause-there : goal.write-answer-requires-clause-there
-write-answer-requires-clause-there g c =
-    record { key = c.args.key.now; node = c.in-Some-get.node.now; holds = record { number = sym c.in-Some.ensures; node = sym c.in-Some-get.ensures } }
+pub returns-clause-put : goal.returns-clause-put
+returns-clause-put g c = c.put_to.ensures.put c.args.key.now (sym (c.in-Some.ensures ∙ c.get.ensures.value))
+
+pub returns-clause-own : goal.returns-clause-own
+returns-clause-own g c = c.put_to.ensures.own c.args.key.now (sym (c.in-Some.ensures ∙ c.get.ensures.value))
 
 pub returns-clause-steps : goal.returns-clause-steps
-returns-clause-steps g c = c.write-answer.ensures.steps c.args.key.now (sym c.in-Some.ensures)
+returns-clause-steps g c = c.put_to.ensures.steps c.args.key.now (sym (c.in-Some.ensures ∙ c.get.ensures.value))
 
 pub returns-clause-easy : goal.returns-clause-easy
-returns-clause-easy g c = c.write-answer.ensures.easy c.args.key.now (sym c.in-Some.ensures)
-
--- a sample that is ignored
-
-pub returns-in-Some-ignored-clause-put : goal.returns-in-Some-ignored-clause-put
-returns-in-Some-ignored-clause-put g c =
-    let holds : Holds c.args.self.now c.args.key.now c.in-Some.id c.in-Some-get.node.now = record { number = sym c.in-Some.ensures; node = sym c.in-Some-get.ensures } in (
-      ap (kept_put_by c.args.self.now.limits (stock_of c.args.self.now).keys c.args.key.now c.args.time c.args.value c.args.on) (there c.args.self.now c.requires.db.store c.args.key.now c.in-Some.id c.in-Some-get.node.now holds)
-          ∙ write-ignored c.args.self.now c.requires.db.store c.args.key.now c.in-Some.id c.in-Some-get.node.now holds c.args.time c.args.value
-          (By (unwrap_or c.args.on c.in-Some-get.node.now.series.options.policy)) c.in-Some-ignored.last c.in-Some-ignored.ensures,
-      refl,
-    )
-
-pub returns-in-Some-ignored-clause-bounded : goal.returns-in-Some-ignored-clause-bounded
-returns-in-Some-ignored-clause-bounded g c =
-    let holds : Holds c.args.self.now c.args.key.now c.in-Some.id c.in-Some-get.node.now = record { number = sym c.in-Some.ensures; node = sym c.in-Some-get.ensures } in
-    let upto : c.in-Some-ignored.last ≤ c.args.time =
-    ignored-upto c.args.self.now c.requires.db.store c.args.key.now c.in-Some.id c.in-Some-get.node.now holds c.args.time c.args.value c.in-Some-ignored.last c.in-Some-ignored.ensures in
-    omega (arith, c.requires.time)
+returns-clause-easy g c = c.put_to.ensures.easy c.args.key.now (sym (c.in-Some.ensures ∙ c.get.ensures.value))
 
 pub returns-clause-spared : goal.returns-clause-spared
-returns-clause-spared g c told =
-    let holds : Holds c.args.self.now c.args.key.now c.in-Some.id c.in-Some-get.node.now = record { number = sym c.in-Some.ensures; node = sym c.in-Some-get.ensures } in
-    absurd (false≢true (not-ignored c.args.self.now c.requires.db.store c.args.key.now c.in-Some.id c.in-Some-get.node.now holds c.args.time c.args.value c.in_default-ignored.ensures told))
+returns-clause-spared g c = c.put_to.ensures.spared c.args.key.now (sym (c.in-Some.ensures ∙ c.get.ensures.value))

@@ -1,0 +1,48 @@
+use Rattle.std.proofs.Common.{sym, ◌∙◌, subst}
+use Rattle.std.specs.Prelude.{Option}
+use Rattle.ts_spec.specs.Kept.{Kept}
+use Rattle.ts_spec.specs.KeptStep.{kept_add_at}
+use Rattle.ts_labels.specs.Spec.{spec_of}
+use Rattle.ts_db.specs.Store.{stock_of, Holds}
+use Rattle.ts_db.specs.Answering.{KeptNumber}
+use Rattle.ts_db.specs.PutBy.{kept_put_by}
+use Rattle.ts_db.proofs.Applying.{there}
+use Rattle.ts_db.proofs.Storing.{missing}
+use Rattle.ts_db.proofs.store.Store.add.Goals as goal
+
+pub begin-requires-clause-absent : goal.begin-requires-clause-absent
+begin-requires-clause-absent g c = missing c.args.self.now.limits c.args.self.now.nodes c.args.self.now.keys.entries c.requires.db.store c.args.key (sym (c.in_default.ensures ∙ c.get.ensures.value))
+
+pub returns-in_default-clause-added : goal.returns-in_default-clause-added
+returns-in_default-clause-added g c =
+    subst (λ (o : Option Kept). KeptNumber (stock_of c.args.self.now) (kept_add_at c.args.self.now.limits (stock_of c.args.self.now).keys c.args.key c.args.time c.args.value c.args.on (spec_of c.args.spec) o) c.begin.result (stock_of c.begin.new.self))
+    (sym (missing c.args.self.now.limits c.args.self.now.nodes c.args.self.now.keys.entries c.requires.db.store c.args.key (sym (c.in_default.ensures ∙ c.get.ensures.value)))) c.begin.ensures.begun
+
+pub put_to-requires-clause-there : goal.put_to-requires-clause-there
+put_to-requires-clause-there g c =
+    let number = sym (c.in-Some.ensures ∙ c.get.ensures.value) in
+    let found = c.requires.db.store.stored c.args.key c.in-Some.id number in
+    record { key = c.args.key; node = found.0; holds = record { number = number; node = found.1 } }
+
+pub returns-clause-added : goal.returns-clause-added
+returns-clause-added g c =
+    let number = sym (c.in-Some.ensures ∙ c.get.ensures.value) in
+    let found = c.requires.db.store.stored c.args.key c.in-Some.id number in
+    let holds : Holds c.args.self.now c.args.key c.in-Some.id found.0 = record { number = number; node = found.1 } in
+    let is = there c.args.self.now c.requires.db.store c.args.key c.in-Some.id found.0 holds in
+    subst (λ (o : Option Kept). KeptNumber (stock_of c.args.self.now) (kept_add_at c.args.self.now.limits (stock_of c.args.self.now).keys c.args.key c.args.time c.args.value c.args.on (spec_of c.args.spec) o) c.put_to.result (stock_of c.put_to.new.self))
+    (sym is)
+    (subst (λ (o : Option Kept). KeptNumber (stock_of c.args.self.now) (kept_put_by c.args.self.now.limits (stock_of c.args.self.now).keys c.args.key c.args.time c.args.value c.args.on o) c.put_to.result (stock_of c.put_to.new.self))
+    is (c.put_to.ensures.put c.args.key number))
+
+pub returns-clause-own : goal.returns-clause-own
+returns-clause-own g c = c.put_to.ensures.own c.args.key (sym (c.in-Some.ensures ∙ c.get.ensures.value))
+
+pub returns-clause-steps : goal.returns-clause-steps
+returns-clause-steps g c = c.put_to.ensures.steps c.args.key (sym (c.in-Some.ensures ∙ c.get.ensures.value))
+
+pub returns-clause-easy : goal.returns-clause-easy
+returns-clause-easy g c = c.put_to.ensures.easy c.args.key (sym (c.in-Some.ensures ∙ c.get.ensures.value))
+
+pub returns-clause-spared : goal.returns-clause-spared
+returns-clause-spared g c = c.put_to.ensures.spared c.args.key (sym (c.in-Some.ensures ∙ c.get.ensures.value))

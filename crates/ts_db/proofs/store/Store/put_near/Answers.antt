@@ -1,0 +1,32 @@
+use Rattle.std.proofs.Common.{refl, sym, ap}
+use Rattle.ts_db.specs.Store.{stock_of}
+use Rattle.ts_db.specs.PutBy.{kept_put_by}
+use Rattle.ts_db.proofs.Storing.{missing}
+use Rattle.ts_db.proofs.store.Store.put_near.Goals as goal
+
+pub returns-in_default-clause-put : goal.returns-in_default-clause-put
+returns-in_default-clause-put g c = (
+  ap (kept_put_by c.args.self.now.limits (stock_of c.args.self.now).keys c.args.key.now c.args.time c.args.value c.args.on) (missing c.args.self.now.limits c.args.self.now.nodes c.args.self.now.keys.entries c.requires.db.store c.args.key.now (sym c.in_default.ensures)),
+  refl,
+)
+
+pub put_to-answer-requires-clause-there : goal.put_to-answer-requires-clause-there
+put_to-answer-requires-clause-there g c =
+    let number = sym c.in-Some.ensures in
+    let found = c.requires.db.store.stored c.args.key.now c.in-Some.id number in
+    record { key = c.args.key.now; node = found.0; holds = record { number = number; node = found.1 } }
+
+pub returns-clause-put : goal.returns-clause-put
+returns-clause-put g c = c.put_to-answer.ensures.put c.args.key.now (sym c.in-Some.ensures)
+
+pub returns-clause-own : goal.returns-clause-own
+returns-clause-own g c = c.put_to-answer.ensures.own c.args.key.now (sym c.in-Some.ensures)
+
+pub returns-clause-steps : goal.returns-clause-steps
+returns-clause-steps g c = c.put_to-answer.ensures.steps c.args.key.now (sym c.in-Some.ensures)
+
+pub returns-clause-easy : goal.returns-clause-easy
+returns-clause-easy g c = c.put_to-answer.ensures.easy c.args.key.now (sym c.in-Some.ensures)
+
+pub returns-clause-spared : goal.returns-clause-spared
+returns-clause-spared g c = c.put_to-answer.ensures.spared c.args.key.now (sym c.in-Some.ensures)
