@@ -1,6 +1,6 @@
 -- TS.ADD to a key that is there: a write by its policy, or else by the series' own.
-use Rattle.std.proofs.Common.{◌≡◌, ◌≢◌, ℕ, ℤ, refl, sym, ap}
-use Rattle.std.specs.Prelude.{Option, None, Some, Ok, Err, true, false}
+use Rattle.std.proofs.Common.{◌≡◌, ◌≢◌, ℕ, ℤ, refl, sym, ap, subst}
+use Rattle.std.specs.Prelude.{Option, None, Some, Result, Ok, Err, true, false}
 use Rattle.ts_spec.specs.declared.series.Policy.{Policy}
 use Rattle.ts_spec.specs.Command.{Spec}
 use Rattle.ts_spec.specs.Key.{Key}
@@ -9,7 +9,7 @@ use Rattle.ts_spec.specs.Refusal as refusal
 use Rattle.ts_spec.specs.Refusal.{Refusal}
 use Rattle.ts_spec.specs.Response.{Count, Refused}
 use Rattle.ts_spec.specs.State.{Record}
-use Rattle.ts_spec.specs.Step.{Outcome, add_at}
+use Rattle.ts_spec.specs.Step.{Outcome, add_at, put_at}
 use Rattle.ts_sample.specs.declared.id.Id.{Id}
 use Rattle.ts_db.specs.Faults.{refusal_of}
 use Rattle.ts_db.specs.PutBy.{put_by}
@@ -71,3 +71,14 @@ module _ (key : Key) (t : ℕ) (v : ℤ) (on : Option Policy) (spec : Spec) wher
     (λ from stands. refused_as (refusal_of old.ids fault) from (get key from.state) (λ missing. there (only_missing old.ids fault missing)) (answers.0 from stands)),
     answers.1,
   )
+
+-- ---- by no policy of its own
+
+own : (h : Held) (key : Key) (t : ℕ) (v : ℤ) (o : Option Record) → put_by h.limits h.state key t v None o ≡ put_at h.limits h.state key t v o
+own h key t v None = refl
+own h key t v (Some d) = refl
+
+-- it is a write by that of the series
+pub by-own : (old : Stock) (key : Key) (t : ℕ) (v : ℤ) (r : Result ℕ DbFault) (new : Stock) → AnswersNumber old (λ h. put_by h.limits h.state key t v None (get key h.state)) r new
+    → AnswersNumber old (λ h. put_at h.limits h.state key t v (get key h.state)) r new
+by-own old key t v r new = subst (λ (step : Held → Outcome). AnswersNumber old step r new) (λ i h. own h key t v (get key h.state) i)

@@ -16,13 +16,14 @@ use crate::changes::{add, time_at};
 use std::alloc::Global;
 use std::sync::ledger::Ledger;
 use ts_command::Addition;
-use ts_db::{Db, DbFault};
+use ts_db::{Db, DbFault, Hints};
 use ts_resp::{Out, Reply, put};
 use ts_sample::Steps;
 
 /// Executes TS.ADD with no option but ON_DUPLICATE, and leaves its reply in `out`.
 pub(crate) fn put_addition<L: Ledger>(
     db: &mut Db,
+    hints: &mut Hints,
     alloc: Global,
     addition: &Addition,
     reading: u64,
@@ -35,12 +36,13 @@ pub(crate) fn put_addition<L: Ledger>(
 {
     out.clear();
     let time = time_at(addition.at, reading);
-    put(&write(db, alloc, addition, time, steps), out);
+    put(&write(db, hints, alloc, addition, time, steps), out);
 }
 
 // Writes the sample where its words stand. Only for a new series the key is copied.
 fn write<L: Ledger>(
     db: &mut Db,
+    hints: &mut Hints,
     alloc: Global,
     addition: &Addition,
     time: u64,
@@ -51,7 +53,14 @@ fn write<L: Ledger>(
         (get addition.now.key.now from.state)) from (reply_of result) to) }
     ensures short { IsShort (reply_of result) }
 {
-    match db.put_by(addition.key, time, addition.value, addition.on, steps) {
+    match db.put_near(
+        hints,
+        addition.key,
+        time,
+        addition.value,
+        addition.on,
+        steps,
+    ) {
         Ok(time) => number(time),
         Err(fault) => match fault {
             DbFault::NoKey => begin(db, alloc, addition, time, steps),

@@ -12,13 +12,14 @@ use crate::changes::time_at;
 use crate::room::put_no_memory;
 use std::sync::ledger::Ledger;
 use ts_command::Triple;
-use ts_db::Db;
+use ts_db::{Db, Hints};
 use ts_resp::{Out, Reply, begin_array, put, reserve_items};
 use ts_sample::Steps;
 
 /// Writes the reply to TS.MADD: takes the room for it, and then executes the triples one after another.
 pub(crate) fn put_items<L: Ledger>(
     db: &mut Db,
+    hints: &mut Hints,
     triples: Vec<Triple>,
     reading: u64,
     out: &mut Out,
@@ -30,7 +31,7 @@ pub(crate) fn put_items<L: Ledger>(
     ensures room { 128 ≤ length out.new.bytes + out.new.spare }
 {
     match reserve_items(triples.len(), out) {
-        Ok(()) => add_all(db, triples, reading, out, steps),
+        Ok(()) => add_all(db, hints, triples, reading, out, steps),
         Err(_) => put_no_memory(out),
     }
 }
@@ -38,6 +39,7 @@ pub(crate) fn put_items<L: Ledger>(
 // Executes the triples, and writes their items as an array into room that was reserved.
 fn add_all<L: Ledger>(
     db: &mut Db,
+    hints: &mut Hints,
     triples: Vec<Triple>,
     reading: u64,
     out: &mut Out,
@@ -51,13 +53,19 @@ fn add_all<L: Ledger>(
 {
     begin_array(triples.len(), out);
     for triple in triples {
-        let item = add_one(db, triple, reading, steps);
+        let item = add_one(db, hints, triple, reading, steps);
         put(&item, out);
     }
 }
 
 // Executes one triple, and answers its item.
-fn add_one<L: Ledger>(db: &mut Db, triple: Triple, reading: u64, steps: &mut Steps<L>) -> Reply
+fn add_one<L: Ledger>(
+    db: &mut Db,
+    hints: &mut Hints,
+    triple: Triple,
+    reading: u64,
+    steps: &mut Steps<L>,
+) -> Reply
     ensures reply { Carries db.old db.new (λ from to. HasItem from.limits reading (triple_of triple) from.state (reply_of result) to.state
         × (to.limits ≡ from.limits)) }
     ensures short { IsShort (reply_of result) }
@@ -67,7 +75,14 @@ fn add_one<L: Ledger>(db: &mut Db, triple: Triple, reading: u64, steps: &mut Ste
         Err(fault) => return fault_reply(fault),
     };
     match triple.value {
-        Ok(value) => number_reply(db.put(&triple.key, time_at(at, reading), value, steps)),
+        Ok(value) => number_reply(db.put_near(
+            hints,
+            &triple.key,
+            time_at(at, reading),
+            value,
+            None,
+            steps,
+        )),
         Err(fault) => fault_reply(fault),
     }
 }

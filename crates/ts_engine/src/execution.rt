@@ -19,7 +19,7 @@ use crate::rules::{create_rule, delete_rule};
 use crate::wanted::Wanted;
 use std::sync::ledger::Ledger;
 use ts_command::Command;
-use ts_db::Db;
+use ts_db::{Db, Hints};
 use ts_resp::{Out, put};
 use ts_sample::Steps;
 
@@ -29,6 +29,25 @@ use ts_sample::Steps;
 /// milliseconds; one past `MAX_TIME` counts as that.
 pub fn execute<L: Ledger>(
     db: &mut Db,
+    command: Command,
+    reading: u64,
+    out: &mut Out,
+    steps: &mut Steps<L>,
+)
+    requires room { 128 ≤ length out.old.bytes + out.old.spare }
+    requires time { HasTime command }
+    ensures executes { Carries db.old db.new (λ from to. Executes reading (command_of command) from out.new.bytes to) }
+    ensures room { 128 ≤ length out.new.bytes + out.new.spare }
+    ensures steps { IsBounded db.old reading (command_of command) steps.old steps.new }
+{
+    let mut hints = Hints::none(db.alloc());
+    execute_near(db, &mut hints, command, reading, out, steps);
+}
+
+/// Executes a command as `execute` does, with hints, which change nothing that it does or answers.
+pub(crate) fn execute_near<L: Ledger>(
+    db: &mut Db,
+    hints: &mut Hints,
     command: Command,
     reading: u64,
     out: &mut Out,
@@ -54,7 +73,7 @@ pub fn execute<L: Ledger>(
             &add(db, key, time_at(at, reading), value, on, spec, steps),
             out,
         ),
-        Command::Madd { triples } => put_items(db, triples, reading, out, steps),
+        Command::Madd { triples } => put_items(db, hints, triples, reading, out, steps),
         Command::Incr {
             key,
             change,

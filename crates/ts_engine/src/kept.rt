@@ -15,7 +15,7 @@ use crate::turns::Turns;
 use std::alloc::Global;
 use std::mem;
 use std::sync::ledger::Ledger;
-use ts_db::Db;
+use ts_db::{Db, Hints};
 use ts_io::{Clock, Failed, Log, Sink, Source, append_all_counted, write_all_counted};
 use ts_journal::Record;
 use ts_resp::{Out, WireLimits, Word};
@@ -41,6 +41,7 @@ impl<J: Log> Turns for Journaled<'_, J> {
     fn answer<C: Clock, K: Sink, L: Ledger>(
         &mut self,
         db: &mut Db,
+        hints: &mut Hints,
         words: &mut Vec<Word>,
         clock: &mut C,
         room: &mut Out,
@@ -51,6 +52,7 @@ impl<J: Log> Turns for Journaled<'_, J> {
         let taken = take_recorded(
             alloc,
             db,
+            hints,
             mem::replace(words, Vec::new(alloc)),
             clock,
             room,

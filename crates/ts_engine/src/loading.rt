@@ -13,7 +13,7 @@ use crate::restored::{Restored, restore_request};
 use std::alloc::Global;
 use std::marker::Brand;
 use std::sync::ledger::{Blank, Ledger};
-use ts_db::Db;
+use ts_db::{Db, Hints};
 use ts_io::Log;
 use ts_journal::limits_of;
 use ts_resp::{Next, Reader, WireLimits};
@@ -65,6 +65,8 @@ const PIECE: usize = 4096;
 #[derive(Drop)]
 struct Loading {
     reader: Reader,
+    // where the numbers of its keys are
+    hints: Hints,
     // where the last change ends
     end: u64,
     // where the journal breaks, once it does
@@ -95,6 +97,7 @@ pub(crate) fn load<J: Log>(
 {
     let mut loading = Loading {
         reader: Reader::new(alloc, limits_of(limits)),
+        hints: Hints::new(alloc),
         end: 0,
         broken: None,
     };
@@ -192,7 +195,7 @@ impl Loading {
         ensures fed { fed self.new.reader ≡ fed self.old.reader }
     {
         loop {
-            match next_change(&mut self.reader, self.end, db, steps) {
+            match next_change(&mut self.reader, self.end, db, &mut self.hints, steps) {
                 Found::Change(end) => self.end = end,
                 Found::Nothing => return true,
                 Found::Broken(place) => {
@@ -206,7 +209,13 @@ impl Loading {
 }
 
 // Does again what the next request did, if one is whole. The requests before it end at this place.
-fn next_change<L: Ledger>(reader: &mut Reader, end: u64, db: &mut Db, steps: &mut Steps<L>) -> Found
+fn next_change<L: Ledger>(
+    reader: &mut Reader,
+    end: u64,
+    db: &mut Db,
+    hints: &mut Hints,
+    steps: &mut Steps<L>,
+) -> Found
     ensures finds { Carries db.old db.new (λ from to. Finds result reader.old reader.new end from to) }
     ensures onward { IfChange result (reader.old.begin < reader.new.begin) }
     ensures fed { fed reader.new ≡ fed reader.old }
@@ -215,7 +224,7 @@ fn next_change<L: Ledger>(reader: &mut Reader, end: u64, db: &mut Db, steps: &mu
 {
     match reader.next() {
         Next::Request(words) => {
-            let answer = restore_request(db, words, steps);
+            let answer = restore_request(db, hints, words, steps);
             found_by(answer, reader.begin(), end)
         }
         Next::NotYet => Found::Nothing,

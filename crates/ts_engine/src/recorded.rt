@@ -10,13 +10,13 @@ ghost use Rattle.ts_engine.specs.Keeping.{Recorded, IsRecorded};
 ghost use Rattle.ts_engine.specs.Recording.{told_by, HasRecord};
 
 use crate::answers::fault_reply;
-use crate::execution::execute;
+use crate::execution::execute_near;
 use crate::room::put_no_memory;
 use crate::turn::{reading_for, says_quit};
 use std::alloc::{AllocError, Global};
 use std::sync::ledger::Ledger;
 use ts_command::{Command, read};
-use ts_db::Db;
+use ts_db::{Db, Hints};
 use ts_io::Clock;
 use ts_journal::Record;
 use ts_resp::{Out, Word, put};
@@ -34,6 +34,7 @@ pub(crate) struct Taken {
 pub(crate) fn take_recorded<C: Clock, L: Ledger>(
     alloc: Global,
     db: &mut Db,
+    hints: &mut Hints,
     words: Vec<Word>,
     clock: &mut C,
     room: &mut Out,
@@ -48,7 +49,7 @@ pub(crate) fn take_recorded<C: Clock, L: Ledger>(
     match read(words) {
         Ok(command) => {
             let quits = says_quit(&command);
-            let entry = execute_recorded(alloc, db, command, clock, room, steps);
+            let entry = execute_recorded(alloc, db, hints, command, clock, room, steps);
             Taken { quits, entry }
         }
         Err(fault) => {
@@ -66,6 +67,7 @@ pub(crate) fn take_recorded<C: Clock, L: Ledger>(
 fn execute_recorded<C: Clock, L: Ledger>(
     alloc: Global,
     db: &mut Db,
+    hints: &mut Hints,
     command: Command,
     clock: &mut C,
     room: &mut Out,
@@ -80,7 +82,7 @@ fn execute_recorded<C: Clock, L: Ledger>(
     let reading = reading_for(&command, clock);
     match record_for(alloc, &command, reading) {
         Ok(entry) => {
-            execute(db, command, reading, room, steps);
+            execute_near(db, hints, command, reading, room, steps);
             entry
         }
         Err(_) => {

@@ -7,7 +7,7 @@ use crate::course::Course;
 use std::alloc::{AllocError, Global};
 use std::marker::Brand;
 use std::sync::ledger::{Blank, Ledger};
-use ts_db::Db;
+use ts_db::{Db, Hints};
 use ts_io::{Clock, Sink};
 use ts_mux::{Frames, Mux, NextFrame};
 use ts_resp::{Out, WireLimits};
@@ -21,6 +21,7 @@ pub(crate) struct Replay {
     frames: Frames,
     mux: Mux,
     room: Out,
+    hints: Hints,
     ghost fits: { 128 ≤ length room.bytes + room.spare },
     ghost counted: { delivered_to mux ≤ frames.begin },
 }
@@ -41,6 +42,7 @@ impl Replay {
             frames: Frames::new(alloc),
             mux: Mux::new(alloc, limits),
             room,
+            hints: Hints::new(alloc),
         })
     }
 

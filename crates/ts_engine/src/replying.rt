@@ -36,7 +36,15 @@ impl Session {
         ensures lent { T.lent turns.new ≡ T.lent turns.old }
     {
         let mut words = words;
-        let answered = turns.answer(db, &mut words, clock, &mut self.room, out, steps);
+        let answered = turns.answer(
+            db,
+            &mut self.hints,
+            &mut words,
+            clock,
+            &mut self.room,
+            out,
+            steps,
+        );
         self.reader.give_back(words);
         self.executed += 1;
         match answered {

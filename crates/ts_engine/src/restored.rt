@@ -11,7 +11,7 @@ use crate::changes::time_at;
 use crate::keys::drop_keys;
 use std::sync::ledger::Ledger;
 use ts_command::{Command, CommandFault, Triple, read};
-use ts_db::{Db, DbFault};
+use ts_db::{Db, DbFault, Hints};
 use ts_resp::Word;
 use ts_sample::Steps;
 
@@ -29,13 +29,14 @@ pub(crate) enum Restored {
 /// Does again what a request of a journal did: a change that does not ask for the time.
 pub(crate) fn restore_request<L: Ledger>(
     db: &mut Db,
+    hints: &mut Hints,
     words: Vec<Word>,
     steps: &mut Steps<L>,
 ) -> Restored
     ensures restores { Carries db.old db.new (λ from to. RestoresWords result words.items from to) }
 {
     match read(words) {
-        Ok(command) => restore_command(db, command, steps),
+        Ok(command) => restore_command(db, hints, command, steps),
         Err(fault) => restored_of_words(fault),
     }
 }
@@ -51,18 +52,28 @@ fn restored_of_words(fault: CommandFault) -> Restored
 }
 
 // The same of a command.
-fn restore_command<L: Ledger>(db: &mut Db, command: Command, steps: &mut Steps<L>) -> Restored
+fn restore_command<L: Ledger>(
+    db: &mut Db,
+    hints: &mut Hints,
+    command: Command,
+    steps: &mut Steps<L>,
+) -> Restored
     requires time { HasTime command }
     ensures restores { Carries db.old db.new (λ from to. Restores result (command_of command) from to) }
 {
     if command.needs_clock() {
         return Restored::Refused;
     }
-    restore_change(db, command, steps)
+    restore_change(db, hints, command, steps)
 }
 
 // The same of a command that does not ask for the time.
-fn restore_change<L: Ledger>(db: &mut Db, command: Command, steps: &mut Steps<L>) -> Restored
+fn restore_change<L: Ledger>(
+    db: &mut Db,
+    hints: &mut Hints,
+    command: Command,
+    steps: &mut Steps<L>,
+) -> Restored
     requires time { HasTime command }
     requires clock { needs_clock (command_of command) ≡ false }
     ensures restores { Carries db.old db.new (λ from to. Restores result (command_of command) from to) }
@@ -77,7 +88,7 @@ fn restore_change<L: Ledger>(db: &mut Db, command: Command, steps: &mut Steps<L>
             on,
             spec,
         } => numbered(db.add(key, time_at(at, 0), value, on, spec, steps)),
-        Command::Madd { triples } => restore_triples(db, triples, steps),
+        Command::Madd { triples } => restore_triples(db, hints, triples, steps),
         Command::Incr {
             key,
             change,
@@ -107,12 +118,17 @@ fn restore_drop(db: &mut Db, keys: &[Word]) -> Restored
 }
 
 // Writes samples, one after another, up to the first one that is refused.
-fn restore_triples<L: Ledger>(db: &mut Db, triples: Vec<Triple>, steps: &mut Steps<L>) -> Restored
+fn restore_triples<L: Ledger>(
+    db: &mut Db,
+    hints: &mut Hints,
+    triples: Vec<Triple>,
+    steps: &mut Steps<L>,
+) -> Restored
     requires clock { needs_clock (spoken.Madd (triples_of triples.items)) ≡ false }
     ensures restores { Carries db.old db.new (λ from to. Restores result (spoken.Madd (triples_of triples.items)) from to) }
 {
     for triple in triples {
-        match restore_triple(db, triple, steps) {
+        match restore_triple(db, hints, triple, steps) {
             Restored::Accepted => {}
             Restored::Refused => return Restored::Refused,
             Restored::Memory => return Restored::Memory,
@@ -122,7 +138,12 @@ fn restore_triples<L: Ledger>(db: &mut Db, triples: Vec<Triple>, steps: &mut Ste
 }
 
 // Writes one sample.
-fn restore_triple<L: Ledger>(db: &mut Db, triple: Triple, steps: &mut Steps<L>) -> Restored
+fn restore_triple<L: Ledger>(
+    db: &mut Db,
+    hints: &mut Hints,
+    triple: Triple,
+    steps: &mut Steps<L>,
+) -> Restored
     ensures restores { Carries db.old db.new (λ from to. RestoresTriple result (triple_of triple) from to) }
 {
     let at = match triple.at {
@@ -130,7 +151,7 @@ fn restore_triple<L: Ledger>(db: &mut Db, triple: Triple, steps: &mut Steps<L>) 
         Err(_) => return Restored::Refused,
     };
     match triple.value {
-        Ok(value) => numbered(db.put(&triple.key, time_at(at, 0), value, steps)),
+        Ok(value) => numbered(db.put_near(hints, &triple.key, time_at(at, 0), value, None, steps)),
         Err(_) => Restored::Refused,
     }
 }

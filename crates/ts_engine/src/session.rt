@@ -8,7 +8,7 @@ use crate::turns::{Plain, Turns};
 use std::alloc::{AllocError, Global};
 use std::marker::Brand;
 use std::sync::ledger::{Blank, Ledger};
-use ts_db::Db;
+use ts_db::{Db, Hints};
 use ts_io::{Clock, Sink};
 use ts_resp::{Next, Out, Reader, WireLimits};
 use ts_sample::Steps;
@@ -18,6 +18,7 @@ use ts_sample::Steps;
 pub struct Session {
     pub(crate) reader: Reader,
     pub(crate) room: Out,
+    pub(crate) hints: Hints,
     pub(crate) executed: u64,
     ended: Option<Go>,
     ghost fits: { 128 ≤ length room.bytes + room.spare },
@@ -39,6 +40,7 @@ impl Session {
         Ok(Session {
             reader: Reader::new(alloc, limits),
             room,
+            hints: Hints::new(alloc),
             executed: 0,
             ended: None,
         })

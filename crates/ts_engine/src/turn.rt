@@ -8,11 +8,11 @@ ghost use Rattle.ts_engine.specs.Turn.{turn, IsReading, left_by};
 
 use crate::addition::put_addition;
 use crate::answers::fault_reply;
-use crate::execution::execute;
+use crate::execution::execute_near;
 use std::mem;
 use std::sync::ledger::Ledger;
 use ts_command::{Addition, Command, read};
-use ts_db::Db;
+use ts_db::{Db, Hints};
 use ts_io::Clock;
 use ts_resp::{Out, Word, put};
 use ts_sample::Steps;
@@ -22,6 +22,7 @@ use ts_spec::At;
 /// the words is gone from them afterwards.
 pub(crate) fn take_turn<C: Clock, L: Ledger>(
     db: &mut Db,
+    hints: &mut Hints,
     words: &mut Vec<Word>,
     clock: &mut C,
     room: &mut Out,
@@ -35,10 +36,17 @@ pub(crate) fn take_turn<C: Clock, L: Ledger>(
 {
     let alloc = *words.allocator();
     let Some(addition) = Addition::read(words) else {
-        return take_command(db, mem::replace(words, Vec::new(alloc)), clock, room, steps);
+        return take_command(
+            db,
+            hints,
+            mem::replace(words, Vec::new(alloc)),
+            clock,
+            room,
+            steps,
+        );
     };
     let reading = reading_at(addition.at, clock);
-    put_addition(db, alloc, &addition, reading, room, steps);
+    put_addition(db, hints, alloc, &addition, reading, room, steps);
     false
 }
 
@@ -46,6 +54,7 @@ pub(crate) fn take_turn<C: Clock, L: Ledger>(
 #[inline(never)]
 fn take_command<C: Clock, L: Ledger>(
     db: &mut Db,
+    hints: &mut Hints,
     words: Vec<Word>,
     clock: &mut C,
     room: &mut Out,
@@ -61,7 +70,7 @@ fn take_command<C: Clock, L: Ledger>(
         Ok(command) => {
             let reading = reading_for(&command, clock);
             let quits = says_quit(&command);
-            execute(db, command, reading, room, steps);
+            execute_near(db, hints, command, reading, room, steps);
             quits
         }
         Err(fault) => {

@@ -7,7 +7,7 @@ ghost use Rattle.ts_engine.specs.Turns as kinds;
 
 use crate::turn::take_turn;
 use std::sync::ledger::Ledger;
-use ts_db::Db;
+use ts_db::{Db, Hints};
 use ts_io::{Clock, Failed, Sink, write_all_counted};
 use ts_resp::{Out, Word};
 use ts_sample::Steps;
@@ -27,10 +27,11 @@ pub(crate) trait Turns {
     ghost lent: { Self → ℕ };
 
     /// Gives a request its turn, leaves its reply in `room`, and writes it to `out`. Answers whether the request is
-    /// QUIT. What a command takes of the words is gone from them afterwards.
+    /// QUIT. What a command takes of the words is gone from them afterwards. Hints change nothing that is done or written.
     fn answer<C: Clock, K: Sink, L: Ledger>(
         &mut self,
         db: &mut Db,
+        hints: &mut Hints,
         words: &mut Vec<Word>,
         clock: &mut C,
         room: &mut Out,
@@ -62,13 +63,14 @@ impl Turns for Plain {
     fn answer<C: Clock, K: Sink, L: Ledger>(
         &mut self,
         db: &mut Db,
+        hints: &mut Hints,
         words: &mut Vec<Word>,
         clock: &mut C,
         room: &mut Out,
         out: &mut K,
         steps: &mut Steps<L>,
     ) -> Result<bool, Failed> {
-        let quits = take_turn(db, words, clock, room, steps);
+        let quits = take_turn(db, hints, words, clock, room, steps);
         match write_all_counted(out, room.bytes()) {
             Ok(()) => Ok(quits),
             Err(failed) => Err(failed),

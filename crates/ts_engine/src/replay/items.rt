@@ -92,7 +92,14 @@ impl Replay {
         ensures cause { WroteOrFault (K.faults out.old) (K.faults out.new) result }
     {
         let mut words = words;
-        let quits = take_turn(db, &mut words, clock, &mut self.room, steps);
+        let quits = take_turn(
+            db,
+            &mut self.hints,
+            &mut words,
+            clock,
+            &mut self.room,
+            steps,
+        );
         self.close_if(quits, link);
         self.write(link, out)
     }

@@ -21,8 +21,8 @@ use Rattle.ts_engine.proofs.addition.write.Goals as goal
 pub returns-in-Ok-clause-answer : goal.returns-in-Ok-clause-answer
 returns-in-Ok-clause-answer g c =
     let a = c.args.addition.now in
-    answered (λ t. Count t) c.args.db.now c.put_by.new.self (adds a.key.now c.args.time a.value a.on (spec nothing)) (Ok c.in-Ok.time) (reply_of c.number.result) (λ ids. c.number.ensures)
-    (added a.key.now c.args.time a.value a.on (spec nothing) c.args.db.now c.put_by.new.self c.in-Ok.time c.in-Ok.ensures.put)
+    answered (λ t. Count t) c.args.db.now c.put_near.new.self (adds a.key.now c.args.time a.value a.on (spec nothing)) (Ok c.in-Ok.time) (reply_of c.number.result) (λ ids. c.number.ensures)
+    (added a.key.now c.args.time a.value a.on (spec nothing) c.args.db.now c.put_near.new.self c.in-Ok.time c.in-Ok.ensures.put)
 
 pub returns-in-Ok-clause-short : goal.returns-in-Ok-clause-short
 returns-in-Ok-clause-short g c = subst IsShort (sym c.number.ensures) (short_number c.in-Ok.time (omega (arith, c.in-Ok.ensures.bounded)))
@@ -45,5 +45,5 @@ returns-in-NoKey-clause-answer g c =
 pub returns-in_default-clause-answer : goal.returns-in_default-clause-answer
 returns-in_default-clause-answer g c =
     let a = c.args.addition.now in
-    answered (λ t. Count t) c.args.db.now c.put_by.new.self (adds a.key.now c.args.time a.value a.on (spec nothing)) (Err c.in-Err.fault) (reply_of c.refusal_reply.result) c.refusal_reply.ensures.reply
-    (not_added a.key.now c.args.time a.value a.on (spec nothing) c.args.db.now c.put_by.new.self c.in-Err.fault c.in_default.not-NoKey c.in-Err.ensures.put)
+    answered (λ t. Count t) c.args.db.now c.put_near.new.self (adds a.key.now c.args.time a.value a.on (spec nothing)) (Err c.in-Err.fault) (reply_of c.refusal_reply.result) c.refusal_reply.ensures.reply
+    (not_added a.key.now c.args.time a.value a.on (spec nothing) c.args.db.now c.put_near.new.self c.in-Err.fault c.in_default.not-NoKey c.in-Err.ensures.put)

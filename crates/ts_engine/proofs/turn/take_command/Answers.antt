@@ -17,8 +17,8 @@ returns-in-Err-clause-turn g c =
 
 pub returns-in-Ok-clause-turn : goal.returns-in-Ok-clause-turn
 returns-in-Ok-clause-turn g c =
-    turns_by c.args.words.items (command_of c.in-Ok.command) c.reading_for-reading.result (g.C.Clock.readings c.args.clock.now) (g.C.Clock.readings c.reading_for-reading.new.clock) c.args.db.now c.execute.new.db
-    c.execute.new.out.bytes c.in-Ok.ensures.ok c.reading_for-reading.ensures.reading c.reading_for-reading.ensures.left c.execute.ensures.executes
+    turns_by c.args.words.items (command_of c.in-Ok.command) c.reading_for-reading.result (g.C.Clock.readings c.args.clock.now) (g.C.Clock.readings c.reading_for-reading.new.clock) c.args.db.now c.execute_near.new.db
+    c.execute_near.new.out.bytes c.in-Ok.ensures.ok c.reading_for-reading.ensures.reading c.reading_for-reading.ensures.left c.execute_near.ensures.executes
 
 pub returns-in-Err-clause-quits : goal.returns-in-Err-clause-quits
 returns-in-Err-clause-quits g c = sym (faulted_no_quit c.args.words.items c.in-Err.fault c.in-Err.ensures.fault)

@@ -25,7 +25,7 @@ use Rattle.ts_spec.specs.KeptQuestions.{kept_selection}
 use Rattle.ts_db.specs.Bounds.{write_steps, selection_steps}
 use Rattle.ts_engine.specs.Bounds.{questions_steps}
 use Rattle.ts_engine.proofs.MemberBounds.{sum-none}
-use Rattle.ts_engine.proofs.execution.execute.Goals as goal
+use Rattle.ts_engine.proofs.execution.execute_near.Goals as goal
 
 pub returns-in-Create-clause-executes : goal.returns-in-Create-clause-executes
 returns-in-Create-clause-executes g c =
