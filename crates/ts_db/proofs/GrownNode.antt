@@ -8,14 +8,12 @@ use Rattle.ts_spec.specs.Keyed.{with_key}
 use Rattle.ts_spec.specs.Kept.{Kept}
 use Rattle.ts_spec.proofs.Tidy.{some-same}
 use Rattle.ts_sample.specs.declared.id.Id.{Id}
-use Rattle.ts_series.specs.History.{History, list_of, IsKept}
+use Rattle.ts_series.specs.History.{History, list_of}
 use Rattle.ts_series.specs.Plan.{Plan, after}
-use Rattle.ts_rules.specs.declared.rule.Rule.{Rule}
 use Rattle.ts_db.specs.declared.node.Node.{Node}
 use Rattle.ts_db.specs.declared.store.Store.{Store}
 use Rattle.ts_db.specs.Answering.{IsReady}
 use Rattle.ts_db.specs.Growing.{grown, kept_grown}
-use Rattle.ts_db.specs.Planning.{AreChanged}
 use Rattle.ts_db.specs.Turned.{IsTurned, IsGrown}
 use Rattle.ts_db.specs.Store.{kept_of, key_in, kept_at, collected, Nodes, HasLiveLinks, IsNode, IsStore, IsInOrder, Holds}
 use Rattle.ts_db.proofs.Applying.{store-changed, keys-changed}

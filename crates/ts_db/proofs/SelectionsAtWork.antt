@@ -1,5 +1,5 @@
 -- Worked examples of the steps of a selection.
-use Rattle.std.specs.Prelude.{◌≡◌, refl, ℕ, List, [], ◌∷◌, None, codes}
+use Rattle.std.specs.Prelude.{◌≡◌, refl, List, [], ◌∷◌, None, codes}
 use Rattle.ts_spec.specs.declared.series.Options.{Options}
 use Rattle.ts_spec.specs.Filter.{Filter, Among, NotAmong, Present}
 use Rattle.ts_spec.specs.Key.{Key}

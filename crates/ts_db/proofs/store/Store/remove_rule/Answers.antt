@@ -1,4 +1,4 @@
-use Rattle.std.proofs.Common.{◌==◌, not, filter, List, sym, ◌∙◌, ap}
+use Rattle.std.proofs.Common.{◌==◌, not, filter, List, ◌∙◌, ap}
 use Rattle.ts_spec.specs.Kept.{KeptRule}
 use Rattle.ts_rules.specs.declared.rule.Rule.{Rule}
 use Rattle.ts_db.specs.declared.node.Node.{Node}
