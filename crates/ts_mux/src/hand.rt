@@ -4,8 +4,7 @@ ghost use Rattle.ts_resp.specs.Reading.{fed};
 ghost use Rattle.ts_mux.specs.Turns.{IfRequest, SaysOf};
 
 use crate::Turn;
-use std::alloc::Global;
-use ts_resp::{Next, Reader};
+use ts_resp::{Next, Reader, Word};
 
 // The connection at hand.
 #[derive(Drop)]
@@ -15,11 +14,11 @@ pub(crate) struct Hand {
 }
 
 impl Hand {
-    // Gives back the room of its reader for very many bytes, where none is unread.
-    pub(crate) fn give_back(&mut self, alloc: Global)
+    // Takes back the vector of a request that was answered.
+    pub(crate) fn give_back(&mut self, words: Vec<Word>)
         ensures { self.new ≡ self.old }
     {
-        self.reader.give_back(Vec::new(alloc));
+        self.reader.give_back(words);
     }
 
     // The next request or fault of its reader.

@@ -8,7 +8,7 @@ use crate::hand::Hand;
 use crate::{Frame, Turn};
 use std::alloc::{AllocError, Global};
 use std::collections::BTreeMap;
-use ts_resp::Reader;
+use ts_resp::{Reader, Word};
 use ts_spec::WireLimits;
 
 mod delivery;
@@ -104,6 +104,16 @@ impl Mux {
         }
     }
 
+    /// Takes back the vector of a request that was answered, so that the next request of the connection whose frame was
+    /// delivered last finds its room there. Room for very many words goes back, and so does that for very many bytes where
+    /// none is unread.
+    pub fn give_back(&mut self, words: Vec<Word>)
+        ensures same { (frames : List Frame) → ahead self.new frames ≡ ahead self.old frames }
+        ensures delivered { delivered_to self.new ≡ delivered_to self.old }
+    {
+        give_back_to(&mut self.hand, words);
+    }
+
     // The same, but that a fault closes nothing.
     fn ask(&mut self) -> Turn
         ensures words { IfRequest result (λ words. words ≢ []) }
@@ -153,5 +163,14 @@ fn let_go(hand: &mut Option<Hand>, link: u32)
         && at.link == link
     {
         *hand = None;
+    }
+}
+
+// Takes back the vector of a request of the connection at hand, if there is one.
+fn give_back_to(hand: &mut Option<Hand>, words: Vec<Word>)
+    ensures { hand.new ≡ hand.old }
+{
+    if let Some(at) = hand {
+        at.give_back(words);
     }
 }

@@ -100,18 +100,19 @@ impl Replay {
             &mut self.room,
             steps,
         );
-        self.close_if(quits, link);
+        self.settle(quits, link, words);
         self.write(link, out)
     }
 
-    // Closes a connection, if its request was QUIT.
-    fn close_if(&mut self, quits: bool, link: u32)
+    // Takes back the vector of a request that was answered, and closes its connection, if it was QUIT.
+    fn settle(&mut self, quits: bool, link: u32, words: Vec<Word>)
         ensures coming { (frames : List Frame) → coming self.new frames
             ≡ (if quits then without link (coming self.old frames) else coming self.old frames) }
         ensures waiting { waiting self.new ≤ waiting self.old }
         ensures frames { frames_in self.new ≡ frames_in self.old }
         ensures room { self.new.room ≡ self.old.room }
     {
+        self.mux.give_back(words);
         if quits {
             self.mux.close(link);
         }

@@ -41,8 +41,7 @@ impl Mux {
         Ok(())
     }
 
-    // Puts the reader at hand in the place of its connection, or in a new one, without room for very many bytes where none is
-    // unread. After an Err it is still at hand.
+    // Puts the reader at hand in the place of its connection, or in a new one. After an Err it is still at hand.
     fn put_back(&mut self) -> Result<(), AllocError>
         requires asked { ahead self.old [] ≡ [] }
         ensures same { (frames : List Frame) → ahead self.new frames ≡ ahead self.old frames }
@@ -50,10 +49,9 @@ impl Mux {
         ensures closed { self.new.closed ≡ self.old.closed }
         ensures delivered { delivered_to self.new ≡ delivered_to self.old }
     {
-        let Some(mut hand) = self.hand.take() else {
+        let Some(hand) = self.hand.take() else {
             return Ok(());
         };
-        hand.give_back(self.alloc);
         if let Some(kept) = self.readers.get_mut(&hand.link) {
             *kept = hand.reader;
             return Ok(());

@@ -11,10 +11,10 @@ returns-clause-replied g c = carries_as _ _ _ _ (λ from to turned. record {
   text = c.take_turn-quits.new.room.bytes;
   reply = turned;
   wrote = subst (λ room. Wrote c.write.result (g.K.Sink.has c.args.out.now) (g.K.Sink.has c.write.new.out) (framed (record { link = c.args.link; bytes = room.bytes })))
-      c.close_if.ensures.room c.write.ensures.wrote;
+      c.settle.ensures.room c.write.ensures.wrote;
 }) c.take_turn-quits.ensures.turn
 
 pub returns-clause-coming : goal.returns-clause-coming
 returns-clause-coming g c = λ frames.
-    c.close_if.ensures.coming frames
+    c.settle.ensures.coming frames
     ∙ ap (λ test. if test then without c.args.link (coming c.args.self.now frames) else coming c.args.self.now frames) c.take_turn-quits.ensures.quits

@@ -10,24 +10,24 @@ use Rattle.ts_mux.proofs.mux.Mux.put_back.Goals as goal
 pub invariant_of-self-in-Some-get_mut-clause-asked : goal.invariant_of-self-in-Some-get_mut-clause-asked
 invariant_of-self-in-Some-get_mut-clause-asked c =
     let m = c.args.self.now in
-    let held = c.give_back.new.self in
+    let held = c.in-Some.hand in
     put_asked m.readers (c.get_mut.follows.lender held.reader) held
     (written m.readers (c.get_mut.follows.lender held.reader) held.link c.in-Some-get_mut.kept.now held.reader (sym c.in-Some-get_mut.ensures.value) (c.get_mut.follows.holds held.reader))
-    (nothing_left m.hand held (sym c.take.ensures.value ∙ c.in-Some.is ∙ ap Some (sym c.give_back.ensures)) c.requires.asked) m.asked
+    (nothing_left m.hand held (sym c.take.ensures.value ∙ c.in-Some.is) c.requires.asked) m.asked
 
 pub invariant_of-self-in-Some-get_mut-clause-within : goal.invariant_of-self-in-Some-get_mut-clause-within
 invariant_of-self-in-Some-get_mut-clause-within c =
     let m = c.args.self.now in
-    let held = c.give_back.new.self in
+    let held = c.in-Some.hand in
     put_within m.readers (c.get_mut.follows.lender held.reader) held
     (written m.readers (c.get_mut.follows.lender held.reader) held.link c.in-Some-get_mut.kept.now held.reader (sym c.in-Some-get_mut.ensures.value) (c.get_mut.follows.holds held.reader))
-    m.delivered (subst (λ hand. hand_fed hand ≤ m.delivered) (sym c.take.ensures.value ∙ c.in-Some.is ∙ ap Some (sym c.give_back.ensures)) m.hand_within) m.within
+    m.delivered (subst (λ hand. hand_fed hand ≤ m.delivered) (sym c.take.ensures.value ∙ c.in-Some.is) m.hand_within) m.within
 
 pub returns-in-Some-get_mut-clause-same : goal.returns-in-Some-get_mut-clause-same
 returns-in-Some-get_mut-clause-same c = λ frames.
     let m = c.args.self.now in
-    let held = c.give_back.new.self in
-    let is = sym c.take.ensures.value ∙ c.in-Some.is ∙ ap Some (sym c.give_back.ensures) in
+    let held = c.in-Some.hand in
+    let is = sym c.take.ensures.value ∙ c.in-Some.is in
     ap (λ hand. ahead_of m.limits m.closed (c.get_mut.follows.lender held.reader) hand frames) c.take.ensures.after
     ∙ ahead_put m.readers (c.get_mut.follows.lender held.reader) held
     (written m.readers (c.get_mut.follows.lender held.reader) held.link c.in-Some-get_mut.kept.now held.reader (sym c.in-Some-get_mut.ensures.value) (c.get_mut.follows.holds held.reader))
@@ -39,24 +39,24 @@ returns-in-Some-get_mut-clause-same c = λ frames.
 pub invariant_of-self-in-Ok-clause-asked : goal.invariant_of-self-in-Ok-clause-asked
 invariant_of-self-in-Ok-clause-asked c =
     let m = c.args.self.now in
-    let held = c.give_back.new.self in
+    let held = c.in-Some.hand in
     put_asked m.readers c.insert.new.self held
     (subst (λ readers. Updates nat_cmp readers c.insert.new.self held.link (Some held.reader)) c.get_mut.follows.holds-at-none c.in-Ok.ensures.updates)
-    (nothing_left m.hand held (sym c.take.ensures.value ∙ c.in-Some.is ∙ ap Some (sym c.give_back.ensures)) c.requires.asked) m.asked
+    (nothing_left m.hand held (sym c.take.ensures.value ∙ c.in-Some.is) c.requires.asked) m.asked
 
 pub invariant_of-self-in-Ok-clause-within : goal.invariant_of-self-in-Ok-clause-within
 invariant_of-self-in-Ok-clause-within c =
     let m = c.args.self.now in
-    let held = c.give_back.new.self in
+    let held = c.in-Some.hand in
     put_within m.readers c.insert.new.self held
     (subst (λ readers. Updates nat_cmp readers c.insert.new.self held.link (Some held.reader)) c.get_mut.follows.holds-at-none c.in-Ok.ensures.updates)
-    m.delivered (subst (λ hand. hand_fed hand ≤ m.delivered) (sym c.take.ensures.value ∙ c.in-Some.is ∙ ap Some (sym c.give_back.ensures)) m.hand_within) m.within
+    m.delivered (subst (λ hand. hand_fed hand ≤ m.delivered) (sym c.take.ensures.value ∙ c.in-Some.is) m.hand_within) m.within
 
 pub returns-in-Ok-clause-same : goal.returns-in-Ok-clause-same
 returns-in-Ok-clause-same c = λ frames.
     let m = c.args.self.now in
-    let held = c.give_back.new.self in
-    let is = sym c.take.ensures.value ∙ c.in-Some.is ∙ ap Some (sym c.give_back.ensures) in
+    let held = c.in-Some.hand in
+    let is = sym c.take.ensures.value ∙ c.in-Some.is in
     ap (λ hand. ahead_of m.limits m.closed c.insert.new.self hand frames) c.take.ensures.after
     ∙ ahead_put m.readers c.insert.new.self held
     (subst (λ readers. Updates nat_cmp readers c.insert.new.self held.link (Some held.reader)) c.get_mut.follows.holds-at-none c.in-Ok.ensures.updates)
