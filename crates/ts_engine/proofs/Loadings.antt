@@ -11,8 +11,8 @@ use Rattle.ts_journal.specs.Loading.{BreaksAt, replayed_by, on_or, load_on}
 use Rattle.ts_engine.specs.Restoring.{RestoresWords, Finds, found_by, IfChange, loads_by, loads, LoadsOn, LoadsIf}
 use Rattle.ts_engine.specs.declared.restored.Restored.{Restored}
 use Rattle.ts_engine.specs.declared.restored.Restored.TheVariants as restored
-use Rattle.ts_engine.specs.declared.loading.Found.{Found}
-use Rattle.ts_engine.specs.declared.loading.Found.TheVariants as found
+use Rattle.ts_engine.specs.declared.next_change.Found.{Found}
+use Rattle.ts_engine.specs.declared.next_change.Found.TheVariants as found
 use Rattle.ts_engine.specs.declared.loading.Loading.{Loading}
 use Rattle.ts_engine.proofs.Carried.{carries_none, carries_as, carries_then}
 

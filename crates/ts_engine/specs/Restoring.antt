@@ -21,8 +21,8 @@ use Rattle.ts_journal.specs.Loading.{Load, Loads, BreaksAt, replayed, replayed_b
 use Rattle.ts_journal.specs.Replay.{has_error}
 use Rattle.ts_engine.specs.declared.restored.Restored.{Restored}
 use Rattle.ts_engine.specs.declared.restored.Restored.TheVariants as restored
-use Rattle.ts_engine.specs.declared.loading.Found.{Found}
-use Rattle.ts_engine.specs.declared.loading.Found.TheVariants as found
+use Rattle.ts_engine.specs.declared.next_change.Found.{Found}
+use Rattle.ts_engine.specs.declared.next_change.Found.TheVariants as found
 use Rattle.ts_engine.specs.declared.loading.Piece.{Piece}
 use Rattle.ts_engine.specs.declared.loading.Piece.TheVariants as piece
 use Rattle.ts_engine.specs.declared.loading.Loaded.{Loaded}

@@ -30,6 +30,7 @@ mod member;
 mod members;
 mod names;
 mod narrowed;
+mod next_change;
 mod opened;
 mod piped;
 mod question;

@@ -7,16 +7,16 @@ ghost use Rattle.ts_resp.specs.Reading.{fed};
 ghost use Rattle.ts_db.specs.Held.{Carries};
 ghost use Rattle.ts_journal.specs.Limits.{IsBounded};
 ghost use Rattle.ts_engine.specs.Limits.{CanRead};
-ghost use Rattle.ts_engine.specs.Restoring.{Finds, IfChange, HasGivenAll, LoadsIf, IsCurrent, Takes, IfRead, IsLoaded, IsJudged, EndsWithin, found_by, verdict};
+ghost use Rattle.ts_engine.specs.Restoring.{LoadsIf, IsCurrent, Takes, IfRead, IsLoaded, IsJudged, EndsWithin, verdict};
 
-use crate::restored::{Restored, restore_request};
+use crate::next_change::{Found, next_change};
 use std::alloc::Global;
 use std::marker::Brand;
 use std::sync::ledger::{Blank, Ledger};
 use ts_db::{Db, Hints};
 use ts_io::Log;
 use ts_journal::limits_of;
-use ts_resp::{Next, Reader, WireLimits};
+use ts_resp::{Reader, WireLimits};
 use ts_sample::Steps;
 
 /// How a journal was loaded.
@@ -31,19 +31,6 @@ pub(crate) enum Loaded {
     /// As many bytes of it were read as may be.
     Budget,
     /// There was no memory.
-    Memory,
-}
-
-// What is found in the bytes of a journal.
-#[derive(Clone, Copy, Debug, PartialEq, Eq)]
-pub(crate) enum Found {
-    // A change, which ends at this place.
-    Change(u64),
-    // No further whole request.
-    Nothing,
-    // That the journal breaks at this place.
-    Broken(u64),
-    // No memory.
     Memory,
 }
 
@@ -205,41 +192,5 @@ impl Loading {
                 Found::Memory => return false,
             }
         }
-    }
-}
-
-// Does again what the next request did, if one is whole. The requests before it end at this place.
-fn next_change<L: Ledger>(
-    reader: &mut Reader,
-    end: u64,
-    db: &mut Db,
-    hints: &mut Hints,
-    steps: &mut Steps<L>,
-) -> Found
-    ensures finds { Carries db.old db.new (λ from to. Finds result reader.old reader.new end from to) }
-    ensures onward { IfChange result (reader.old.begin < reader.new.begin) }
-    ensures fed { fed reader.new ≡ fed reader.old }
-    ensures within { reader.new.begin ≤ fed reader.new }
-    ensures all { result ≡ Found.Nothing → HasGivenAll reader.new }
-{
-    match reader.next() {
-        Next::Request(words) => {
-            let answer = restore_request(db, hints, words, steps);
-            found_by(answer, reader.begin(), end)
-        }
-        Next::NotYet => Found::Nothing,
-        Next::Broken(fault) => Found::Broken(fault.place),
-        Next::Memory => Found::Memory,
-    }
-}
-
-// What is found by a request that ends at a place, where those before it end at another.
-fn found_by(answer: Restored, after: u64, before: u64) -> Found
-    ensures { result ≡ found_by answer after before }
-{
-    match answer {
-        Restored::Accepted => Found::Change(after),
-        Restored::Refused => Found::Broken(before),
-        Restored::Memory => Found::Memory,
     }
 }

@@ -2,7 +2,7 @@ use Rattle.std.proofs.Common.{◌<◌, refl, ap}
 use Rattle.ts_journal.specs.Loading.{load_on}
 use Rattle.ts_engine.proofs.Carried.{carries_none}
 use Rattle.ts_engine.proofs.Loadings.{finds-by, onward-by}
-use Rattle.ts_engine.proofs.loading.next_change.Goals as goal
+use Rattle.ts_engine.proofs.next_change.next_change.Goals as goal
 
 pub returns-in-Request-clause-finds : goal.returns-in-Request-clause-finds
 returns-in-Request-clause-finds g c =
