@@ -1,14 +1,12 @@
 -- What a session does, in each state that the database stands for.
-use Rattle.std.proofs.Common.{◌≡◌, ◌+◌, ℕ, true, false, Bool, List, refl, sym, ◌∙◌, subst}
-use Rattle.std.specs.Prelude.{Option, None, Some, IfNone, Result, Ok, Err}
+use Rattle.std.proofs.Common.{◌≡◌, ◌+◌, ℕ, List, refl, subst}
+use Rattle.std.specs.Prelude.{Option, None, IfNone}
 use Rattle.ts_resp.specs.Reading.{Reading}
-use Rattle.ts_spec.specs.Run.{is_quit}
 use Rattle.ts_spec.specs.Wire.{Request}
 use Rattle.ts_db.specs.Held.{Held, Stock, Carries}
 use Rattle.ts_engine.specs.declared.go.Go.{Go}
-use Rattle.ts_engine.specs.declared.go.Go.TheVariants as go
 use Rattle.ts_engine.specs.Session.{Spot, TurnedBy, IsEndBy, Replied}
-use Rattle.ts_engine.specs.Turns.{Turns, Answered}
+use Rattle.ts_engine.specs.Turns.{Turns}
 use Rattle.ts_engine.proofs.Carried.{carries_as}
 
 -- what holds of a session that goes on

@@ -1,20 +1,19 @@
 -- A command that was executed, as the laws of a journal speak of it.
-use Rattle.std.proofs.Common.{◌≡◌, ◌⊎◌, inl, inr, ℕ, Bool, true, false, List, [], ◌∷◌, map, refl, sym, ◌∙◌, ap, subst}
-use Rattle.std.specs.Prelude.{Result, Ok, Err}
+use Rattle.std.proofs.Common.{◌≡◌, inl, inr, ℕ, false, List, [], ◌∷◌, map, refl, sym, ◌∙◌, subst}
 use Rattle.ts_spec.specs.Command.{Triple, Command, Create, Alter, Add, Madd, Incr, DelRange, CreateRule, DeleteRule, Range, MRange, Get, MGet, QueryIndex, InfoOf, Ping, Echo, Quit, Drop, Exists}
-use Rattle.ts_spec.specs.Replies.{listed, item_reply, memory_reply}
+use Rattle.ts_spec.specs.Replies.{listed, item_reply}
 use Rattle.ts_spec.specs.Resolved.{is_written, TellsOne}
 use Rattle.ts_spec.specs.Response.{Item as Answer, Wrote, IsWrong, IsRefused as Refuses}
 use Rattle.ts_spec.specs.State.{State}
-use Rattle.ts_spec.specs.Step.{Outcome, triple_step, item_of, step}
-use Rattle.ts_spec.specs.Text.{Reply, Replies}
+use Rattle.ts_spec.specs.Step.{Outcome, triple_step, item_of}
+use Rattle.ts_spec.specs.Text.{Reply}
 use Rattle.ts_spec.specs.declared.limits.Limits.{Limits}
 use Rattle.ts_spec.proofs.Untaken.{triple-told}
 use Rattle.ts_db.specs.Held.{Held}
 use Rattle.ts_journal.specs.Record.{is_number, items_of}
 use Rattle.ts_journal.specs.Replay.{IsTaken, DoesOne, DoAll, IsDone}
 use Rattle.ts_journal.specs.Replay as journal
-use Rattle.ts_engine.specs.Turn.{IsStep, HasItem, HaveItems, HasAllItems, IsAnswered}
+use Rattle.ts_engine.specs.Turn.{IsStep, HasItem, HaveItems, IsAnswered}
 
 -- what is told of one item is the reply of that
 only-reply : (items : List Answer) (item : Answer) (reply : Reply) → items ≡ item ∷ [] → map item_reply items ≡ reply ∷ [] → item_reply item ≡ reply

@@ -1,14 +1,14 @@
 -- A turn with its record, as a journal has it.
-use Rattle.std.proofs.Common.{◌≡◌, ℕ, Bool, true, false, List, [], ◌++◌, take, refl, sym, ap, inl, inr, subst}
-use Rattle.std.specs.Prelude.{Option, Result, Ok, Err}
+use Rattle.std.proofs.Common.{◌≡◌, ℕ, Bool, true, List, refl, inl, inr}
+use Rattle.std.specs.Prelude.{Option}
 use Rattle.std.specs.Io.KnownBytes.{append_known}
 use Rattle.ts_io.specs.Logs.{AddsFront}
 use Rattle.ts_io.specs.Sinks.{Grows, GrowsByFront}
 use Rattle.ts_io.proofs.Growth.{grows_none}
 use Rattle.ts_spec.specs.Wire.{Request}
-use Rattle.ts_db.specs.Held.{Held, Stock, Carries}
-use Rattle.ts_engine.specs.Keeping.{kept, Recorded, IsKept, IsTorn, IsCut, keeping}
-use Rattle.ts_engine.specs.Turns.{CutShort, Answered}
+use Rattle.ts_db.specs.Held.{Stock, Carries}
+use Rattle.ts_engine.specs.Keeping.{kept, Recorded, IsKept, keeping}
+use Rattle.ts_engine.specs.Turns.{CutShort}
 use Rattle.ts_engine.proofs.Carried.{carries_as}
 
 module _ (words : Request) (written record_ : List ℕ) (readings left content content' : Option (List ℕ)) (failed : Bool) (old new : Stock)

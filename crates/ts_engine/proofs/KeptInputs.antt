@@ -1,6 +1,6 @@
 -- How an input is answered over a journal.
 use Rattle.std.specs.Prelude.{Option, Some}
-use Rattle.std.proofs.Common.{◌≡◌, ◌≢◌, ◌⊎◌, inl, inr, ◌≤◌, ◌<◌, ℕ, Bool, true, false, nat_le, if◌then◌else◌, List, length, take, refl, sym, ◌∙◌, ap, subst, arith}
+use Rattle.std.proofs.Common.{◌≡◌, ◌⊎◌, inl, inr, ◌≤◌, ◌<◌, ℕ, Bool, true, false, nat_le, if◌then◌else◌, List, length, take, refl, sym, ◌∙◌, ap, subst, arith}
 use Rattle.std.proofs.lemmas.Bool.{le-leb, lt-leb}
 use Rattle.ts_io.specs.Causes.{Rose}
 use Rattle.ts_spec.specs.declared.wire.WireLimits.{WireLimits}
@@ -12,12 +12,11 @@ use Rattle.ts_engine.specs.declared.keep.JournalEnd.TheVariants as ended
 use Rattle.ts_engine.specs.declared.piped.End.{End}
 use Rattle.ts_engine.specs.declared.piped.End.TheVariants as end
 use Rattle.ts_engine.specs.declared.piped.Outcome.{Outcome}
-use Rattle.ts_engine.specs.Answered.{IsMemoryOr, InputAnswered}
+use Rattle.ts_engine.specs.Answered.{IsMemoryOr}
 use Rattle.ts_engine.specs.Headline.{Exchange, asks_to_quit, ending}
 use Rattle.ts_engine.specs.Journaled.{IsAnswered, HasJournalCauses, status_piped}
-use Rattle.ts_engine.specs.Journaled as journal
 use Rattle.ts_engine.specs.Keeping.{Kept, kept, JournalFaults, keeping, journaled}
-use Rattle.ts_engine.specs.Piping.{PipedBy, HasCauses, HasCausesBy}
+use Rattle.ts_engine.specs.Piping.{PipedBy, HasCausesBy}
 use Rattle.ts_engine.specs.Status.{status_of}
 use Rattle.ts_engine.specs.Top.{status_by, status_cut}
 use Rattle.ts_engine.proofs.Carried.{carries_as}

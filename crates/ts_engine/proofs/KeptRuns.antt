@@ -1,6 +1,6 @@
 -- What was done by a run with a journal.
-use Rattle.std.specs.Prelude.{Option, Some, Result, Ok, Err}
-use Rattle.std.proofs.Common.{◌≡◌, ◌≢◌, ◌⊎◌, inl, inr, ◌≤◌, ◌<◌, ℕ, Bool, true, false, nat_le, if◌then◌else◌, List, length, take, refl, sym, ◌∙◌, ap, subst, arith, length-take}
+use Rattle.std.specs.Prelude.{Option, Ok, Err}
+use Rattle.std.proofs.Common.{◌≡◌, ◌≢◌, ◌⊎◌, inl, inr, ◌<◌, ℕ, Bool, true, false, if◌then◌else◌, List, length, take, refl, sym, ◌∙◌, ap, subst, arith, length-take}
 use Rattle.std.proofs.lemmas.Bool.{le-leb, lt-leb}
 use Rattle.ts_io.specs.Causes.{Rose}
 use Rattle.ts_spec.specs.State.{State, empty}
@@ -17,9 +17,9 @@ use Rattle.ts_engine.specs.declared.keep.JournalEnd.TheVariants as ended
 use Rattle.ts_engine.specs.declared.piped.End.{End}
 use Rattle.ts_engine.specs.declared.piped.End.TheVariants as end
 use Rattle.ts_engine.specs.Answered.{IsMemoryOr}
-use Rattle.ts_engine.specs.Headline.{Exchange, Seen, requests}
+use Rattle.ts_engine.specs.Headline.{Exchange, requests}
 use Rattle.ts_engine.specs.Journaled.{Journals, exchange_over, FrontRestores, GoesOn, Did, IsOpened, IsUnopened, is_unloaded, Wrote, IsAnswered, HasJournalCauses, status_of, status_piped, status_loaded, status_kept}
-use Rattle.ts_engine.specs.Keeping.{Kept, kept, journaled}
+use Rattle.ts_engine.specs.Keeping.{kept, journaled}
 use Rattle.ts_engine.specs.Status as input
 use Rattle.ts_engine.proofs.Journalings.{Told, first-run, told-first, told-torn}
 use Rattle.ts_engine.proofs.Restorings.{RunFront}

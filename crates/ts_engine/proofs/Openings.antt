@@ -3,7 +3,7 @@ use Rattle.std.specs.Prelude.{Option, Some, Result, Ok, Err}
 use Rattle.std.proofs.Common.{◌≡◌, ◌≤◌, ◌<◌, ℕ, List, length, take, ◌∙◌, ap}
 use Rattle.ts_io.specs.Logs.{front}
 use Rattle.ts_spec.specs.declared.wire.WireLimits.{WireLimits}
-use Rattle.ts_db.specs.Held.{Held, Stock, Carries}
+use Rattle.ts_db.specs.Held.{Stock, Carries}
 use Rattle.ts_engine.specs.declared.keep.JournalEnd.{JournalEnd}
 use Rattle.ts_engine.specs.declared.keep.JournalEnd.TheVariants as ended
 use Rattle.ts_engine.specs.declared.loading.Loaded.{Loaded}

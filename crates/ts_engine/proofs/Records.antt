@@ -1,5 +1,5 @@
 -- What is added to a journal is the record of what was done.
-use Rattle.std.specs.Prelude.{Option, None, Some, is_some, IfSome, if◌then◌else◌, Result, Ok, Err}
+use Rattle.std.specs.Prelude.{Option, None, Some, if◌then◌else◌, Result, Ok, Err}
 use Rattle.std.proofs.Common.{◌≡◌, ◌⊎◌, inl, inr, ⊎_elim, ℕ, Bool, true, false, List, [], ◌∷◌, map, refl, sym, ◌∙◌, ap, subst}
 use Rattle.std.proofs.lemmas.Bool.{false≢true}
 use Rattle.ts_command.specs.declared.fault.CommandFault.{CommandFault}
@@ -9,21 +9,21 @@ use Rattle.ts_spec.specs.declared.limits.Limits.{Limits}
 use Rattle.ts_spec.specs.Command.{Triple, Command, Create, Alter, Add, Madd, Incr, DelRange, CreateRule, DeleteRule, Range, MRange, Get, MGet, QueryIndex, InfoOf, Ping, Echo, Quit, Drop, Exists}
 use Rattle.ts_spec.specs.Grammar.{command, needs_clock}
 use Rattle.ts_spec.specs.Refusal.{Fault}
-use Rattle.ts_spec.specs.Replies.{listed, item_reply, memory_reply, reply_to}
+use Rattle.ts_spec.specs.Replies.{listed, item_reply, memory_reply}
 use Rattle.ts_spec.specs.Response.{Item as Answer, Wrote, IsWrong, IsRefused as Refuses, Refused}
 use Rattle.ts_spec.specs.State.{State}
 use Rattle.ts_spec.specs.Step.{step}
-use Rattle.ts_spec.specs.Text.{Reply, Simple, Error, Int, Value, Bulk, Nil, Array, Replies, Empty, Item, IsOneLine, text}
+use Rattle.ts_spec.specs.Text.{Reply, Simple, Error, Int, Value, Bulk, Nil, Array, Replies, Empty, Item, text}
 use Rattle.ts_spec.specs.Wire.{Request}
 use Rattle.ts_spec.proofs.PlainReplies.{fault-plain, memory-plain, reply-lines}
 use Rattle.ts_db.specs.Held.{Held, Stock, Carries}
 use Rattle.ts_journal.specs.Fixed.{is_fixed}
 use Rattle.ts_journal.specs.Held.{told}
-use Rattle.ts_journal.specs.Record.{is_change, is_error, items_of, bytes_of, record_words, accepted, record_of, AreTold, IsRecordOf}
+use Rattle.ts_journal.specs.Record.{is_change, is_error, items_of, record_of, AreTold}
 use Rattle.ts_journal.specs.declared.record.Record.{Record}
 use Rattle.ts_engine.specs.Keeping.{IsUnrecorded, IsRecorded, RecordedBy, Recorded}
 use Rattle.ts_engine.specs.Recording.{told_by, HasRecord}
-use Rattle.ts_engine.specs.Turn.{World, IsStep, HasItem, HaveItems, HasAllItems, IsAnswered, IsLost, IsReading, left_by, IsRefused, IsUnread, Executes}
+use Rattle.ts_engine.specs.Turn.{IsStep, HaveItems, IsAnswered, IsLost, IsReading, left_by, IsRefused, IsUnread, Executes}
 use Rattle.ts_engine.proofs.Carried.{carries_none, carries_as}
 use Rattle.ts_engine.proofs.Faulted.{refused_or_unread}
 use Rattle.ts_engine.proofs.NoItems.{no-items}

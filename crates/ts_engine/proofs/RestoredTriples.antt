@@ -1,6 +1,6 @@
 -- What TS.MADD did in a journal is done again.
 use Rattle.std.specs.Prelude.{◌⊎◌, ℤ, None, Some, Result, Ok, Err, if◌then◌else◌, ◌||◌, not}
-use Rattle.std.proofs.Common.{◌≡◌, inl, inr, Bool, true, false, ℕ, ◌+◌, List, [], ◌∷◌, ◌++◌, map, refl, sym, ◌∙◌, ap, subst}
+use Rattle.std.proofs.Common.{◌≡◌, inl, inr, Bool, true, false, ℕ, List, [], ◌∷◌, ◌++◌, map, refl, sym, ◌∙◌, ap, subst}
 use Rattle.ts_spec.specs.declared.limits.Limits.{Limits}
 use Rattle.ts_spec.specs.Command.{Triple, Madd}
 use Rattle.ts_spec.specs.Grammar.{needs_clock}
@@ -10,7 +10,7 @@ use Rattle.ts_spec.specs.Refusal.{Fault}
 use Rattle.ts_spec.specs.Replies.{listed, item_reply}
 use Rattle.ts_spec.specs.Response.{Item, Wrote, IsWrong, IsRefused, Count}
 use Rattle.ts_spec.specs.State.{State}
-use Rattle.ts_spec.specs.Step.{Outcome, refused, time_of, triple_step, item_of, put_at, madd}
+use Rattle.ts_spec.specs.Step.{Outcome, time_of, triple_step, item_of, put_at, madd}
 use Rattle.ts_spec.specs.declared.command.At.{At}
 use Rattle.ts_sample.specs.declared.id.Id.{Id}
 use Rattle.ts_db.specs.Faults.{refusal_of}

@@ -13,7 +13,7 @@ use Rattle.ts_spec.specs.Replies.{reply_to}
 use Rattle.ts_spec.specs.Response.{Response, Count, Done}
 use Rattle.ts_spec.specs.Rules.{dropped}
 use Rattle.ts_spec.specs.State.{State}
-use Rattle.ts_spec.specs.Step.{Outcome, step, refused, drop_keys}
+use Rattle.ts_spec.specs.Step.{Outcome, step, drop_keys}
 use Rattle.ts_spec.specs.Text.{Reply}
 use Rattle.ts_spec.specs.Wire.{Request}
 use Rattle.ts_sample.specs.declared.id.Id.{Id}

@@ -1,5 +1,5 @@
 use Rattle.std.proofs.Common.{◌≡◌, Bool, true, false, ap, sym, rules}
-use Rattle.ts_engine.proofs.KeptInputs.{end-by, causes-by, input-answered}
+use Rattle.ts_engine.proofs.KeptInputs.{end-by, input-answered}
 use Rattle.ts_engine.proofs.keep.answer_input.Goals as goal
 
 pub returns-then-kept-clause-answered : goal.returns-then-kept-clause-answered

@@ -1,6 +1,5 @@
 use Rattle.std.proofs.Common.{ℕ, ◌≡◌, ⊎_elim, inl, inr, ◌∙◌, ap, subst}
 use Rattle.std.specs.Prelude.{Some}
-use Rattle.ts_io.specs.Causes.{Rose}
 use Rattle.ts_words.specs.declared.mode.Mode.TheVariants as mode
 use Rattle.ts_words.specs.declared.status.Status.{Status}
 use Rattle.ts_words.specs.declared.status.Status.TheVariants as status

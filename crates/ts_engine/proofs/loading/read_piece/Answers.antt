@@ -1,5 +1,5 @@
-use Rattle.std.proofs.Common.{take, sym, ◌∙◌, arith}
-use Rattle.ts_engine.proofs.Carried.{carries_none, carries_as}
+use Rattle.std.proofs.Common.{take, sym, arith}
+use Rattle.ts_engine.proofs.Carried.{carries_as}
 use Rattle.ts_engine.proofs.Loadings.{loads-done}
 use Rattle.ts_engine.proofs.loading.read_piece.Goals as goal
 

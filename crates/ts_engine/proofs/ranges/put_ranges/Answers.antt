@@ -4,7 +4,6 @@ use Rattle.ts_spec.specs.Filter.{selection}
 use Rattle.ts_spec.specs.Groups.{ranges_response}
 use Rattle.ts_spec.specs.KeptQuestions.{kept_selection}
 use Rattle.ts_labels.specs.Show.{show_of}
-use Rattle.ts_range.specs.Query.{query_of}
 use Rattle.ts_command.specs.GroupBy.{group_of}
 use Rattle.ts_db.specs.Bounds.{selection_steps}
 use Rattle.ts_engine.specs.Answering.{IsReplyText}

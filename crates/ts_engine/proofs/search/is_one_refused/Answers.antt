@@ -1,4 +1,4 @@
-use Rattle.std.proofs.Common.{sym, ◌∙◌}
+use Rattle.std.proofs.Common.{sym}
 use Rattle.ts_spec.specs.KeptQuestions.{kept_selection}
 use Rattle.ts_engine.proofs.Searching.{none-of, search-begun, search-live, search-more, search-found, search-few, search-none, search-ended}
 use Rattle.ts_engine.proofs.search.is_one_refused.Goals as goal

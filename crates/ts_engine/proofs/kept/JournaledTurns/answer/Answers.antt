@@ -1,5 +1,4 @@
 use Rattle.std.proofs.Common.{◌≡◌, ℕ, List, subst}
-use Rattle.std.specs.Prelude.{Option}
 use Rattle.std.specs.Io.KnownBytes.{append_known}
 use Rattle.ts_io.specs.Logs.{AddsFront}
 use Rattle.ts_io.specs.Sinks.{Grows, GrowsByFront}

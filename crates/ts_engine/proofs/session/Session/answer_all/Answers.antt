@@ -1,4 +1,4 @@
-use Rattle.std.proofs.Common.{ℕ, [], refl, ◌∙◌, ap, subst}
+use Rattle.std.proofs.Common.{[], refl, ◌∙◌, ap}
 use Rattle.std.specs.Prelude.{Some}
 use Rattle.ts_engine.proofs.Carried.{carries_none, carries_then}
 use Rattle.ts_engine.proofs.Sessions.{fed_only, answers_then, went_then}
