@@ -2,6 +2,7 @@
 ghost use Rattle.std.specs.Prelude.{◌≡◌, ◌≤◌, None, IfOk, IfErr, OnErr, ◌+◌, ◌*◌};
 ghost use Rattle.ts_spec.specs.Keyed.{get};
 ghost use Rattle.ts_spec.specs.KeptStep.{kept_alter_at};
+ghost use Rattle.ts_sample.specs.Steps.{Takes};
 ghost use Rattle.ts_labels.specs.Spec.{change_of};
 ghost use Rattle.ts_db.specs.Held.{IsOwn, reach_at};
 ghost use Rattle.ts_db.specs.Store.{stock_of, IsInOrder};
@@ -29,8 +30,7 @@ impl Store {
         ensures altered { KeptDone (stock_of self.old) (kept_alter_at self.old.limits (stock_of self.old).keys key.now (change_of change) (get key.now (stock_of self.old).keys)) result (stock_of self.new) }
         ensures own { IfErr result (IsOwn (stock_of self.old) key.now) }
         ensures store { IsInOrder self.new }
-        ensures counted { steps.old ≤ steps.new }
-        ensures steps { steps.new ≤ steps.old + 2 * reach_at (stock_of self.old) key.now }
+        ensures steps { Takes steps.old steps.new (2 * reach_at (stock_of self.old) key.now) }
     {
         let Some(id) = self.keys.get(key).copied() else {
             return Err(DbFault::NoKey);

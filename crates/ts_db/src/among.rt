@@ -2,6 +2,7 @@
 ghost use Rattle.std.specs.Prelude.{◌≡◌, ◌≤◌, ◌+◌, ◌*◌, nat_lt, List, length, Some};
 ghost use Rattle.ts_spec.specs.Sample.{Point, IsAscending, at_times, between, first_of, last_of, put, put_all};
 ghost use Rattle.ts_sample.specs.Visit.{visited};
+ghost use Rattle.ts_sample.specs.Steps.{Takes};
 ghost use Rattle.ts_series.specs.History.{list_of, reach};
 ghost use Rattle.ts_series.specs.Seams.{IsSeamed};
 ghost use Rattle.ts_rules.specs.Rules.{one_of};
@@ -76,8 +77,7 @@ pub(crate) fn scan_shown<V: Visit, L: Ledger>(
 )
     requires room { length (between from to (list_of series.now)) + 1 ≤ V.room visit.old }
     ensures visited { visit.new ≡ visited V.step visit.old (between from to (put_all (one_of row) (list_of series.now))) }
-    ensures counted { steps.old ≤ steps.new }
-    ensures steps { steps.new ≤ steps.old + length (between from to (list_of series.now)) + 2 * reach series.now }
+    ensures steps { Takes steps.old steps.new (length (between from to (list_of series.now)) + 2 * reach series.now) }
     ensures seams { IsSeamed series.now.held.pieces from to steps.old steps.new }
 {
     series.known();
@@ -98,8 +98,7 @@ fn scan_with<V: Visit, L: Ledger>(
 )
     requires room { length (between from to (list_of series.now)) + 1 ≤ V.room visit.old }
     ensures visited { visit.new ≡ visited V.step visit.old (put row (between from to (list_of series.now))) }
-    ensures counted { steps.old ≤ steps.new }
-    ensures steps { steps.new ≤ steps.old + length (between from to (list_of series.now)) + 2 * reach series.now }
+    ensures steps { Takes steps.old steps.new (length (between from to (list_of series.now)) + 2 * reach series.now) }
     ensures seams { IsSeamed series.now.held.pieces from to steps.old steps.new }
 {
     let mut among = RowAmong {
@@ -122,8 +121,7 @@ fn walk_among<V: Visit, L: Ledger>(
     ensures same_reference { among.new.visit.ghost_name ≡ among.old.visit.ghost_name }
     ensures visited { (row : Point) → among.old.row ≡ Some row
         → among.new.visit.now ≡ visited V.step among.old.visit.now (put row (between from to (list_of series.now))) }
-    ensures counted { steps.old ≤ steps.new }
-    ensures steps { steps.new ≤ steps.old + length (between from to (list_of series.now)) + 2 * reach series.now }
+    ensures steps { Takes steps.old steps.new (length (between from to (list_of series.now)) + 2 * reach series.now) }
     ensures seams { IsSeamed series.now.held.pieces from to steps.old steps.new }
 {
     series.known();

@@ -3,6 +3,7 @@ ghost use Rattle.std.specs.Prelude.{◌≡◌, ◌≤◌, is_some, IfOk, IfErr, 
 ghost use Rattle.ts_spec.specs.Sample.{MAX_TIME};
 ghost use Rattle.ts_spec.specs.Keyed.{get};
 ghost use Rattle.ts_spec.specs.Step.{create, alter_at, add_at, put_at, incr_at, delete_at, create_rule, delete_rule_at};
+ghost use Rattle.ts_sample.specs.Steps.{Takes};
 ghost use Rattle.ts_labels.specs.Spec.{spec_of, change_of};
 ghost use Rattle.ts_db.specs.Faults.{IsRefusal};
 ghost use Rattle.ts_db.specs.Held.{Held, Stands, AnswersDone, AnswersNumber, IsOwn, Drops, reach_at};
@@ -38,8 +39,7 @@ impl Db {
         ensures altered { AnswersDone self.old (λ h. alter_at h.limits h.state key.now (change_of change) (get key.now h.state)) result self.new }
         ensures limits { self.new.limits ≡ self.old.limits }
         ensures own { IfErr result (IsOwn self.old key.now) }
-        ensures counted { steps.old ≤ steps.new }
-        ensures steps { steps.new ≤ steps.old + 2 * reach_at self.old key.now }
+        ensures steps { Takes steps.old steps.new (2 * reach_at self.old key.now) }
     {
         self.store.alter(key, change, steps)
     }
@@ -61,8 +61,7 @@ impl Db {
         ensures bounded { IfOk result (λ t. t ≤ MAX_TIME) }
         ensures limits { self.new.limits ≡ self.old.limits }
         ensures own { IfErr result (IsOwn self.old key) }
-        ensures counted { steps.old ≤ steps.new }
-        ensures steps { steps.new ≤ steps.old + write_steps self.old key time }
+        ensures steps { Takes steps.old steps.new (write_steps self.old key time) }
         ensures easy { IsEasyAppend self.old key time → steps.new ≡ steps.old }
         ensures spared { IsIgnored self.old key time value → steps.new ≡ steps.old }
     {
@@ -85,8 +84,7 @@ impl Db {
         ensures bounded { IfOk result (λ t. t ≤ MAX_TIME) }
         ensures limits { self.new.limits ≡ self.old.limits }
         ensures own { IfErr result (IsOwn self.old key) }
-        ensures counted { steps.old ≤ steps.new }
-        ensures steps { steps.new ≤ steps.old + write_steps self.old key time }
+        ensures steps { Takes steps.old steps.new (write_steps self.old key time) }
         ensures easy { IsEasyAppend self.old key time → steps.new ≡ steps.old }
         ensures spared { IsChangeIgnored self.old key time change → steps.new ≡ steps.old }
     {
@@ -107,8 +105,7 @@ impl Db {
         ensures bounded { IfOk result (λ t. t ≤ MAX_TIME) }
         ensures limits { self.new.limits ≡ self.old.limits }
         ensures own { IfErr result (IsOwn self.old key.now) }
-        ensures counted { steps.old ≤ steps.new }
-        ensures steps { steps.new ≤ steps.old + write_steps self.old key.now time }
+        ensures steps { Takes steps.old steps.new (write_steps self.old key.now time) }
         ensures easy { IsEasyAppend self.old key.now time → steps.new ≡ steps.old }
         ensures spared { IsIgnored self.old key.now time value → steps.new ≡ steps.old }
     {
@@ -130,8 +127,7 @@ impl Db {
         ensures bounded { IfOk result (λ t. t ≤ MAX_TIME) }
         ensures limits { self.new.limits ≡ self.old.limits }
         ensures own { IfErr result (IsOwn self.old key.now) }
-        ensures counted { steps.old ≤ steps.new }
-        ensures steps { steps.new ≤ steps.old + write_steps self.old key.now time }
+        ensures steps { Takes steps.old steps.new (write_steps self.old key.now time) }
         ensures easy { IsEasyAppend self.old key.now time → steps.new ≡ steps.old }
         ensures spared { IsIgnored self.old key.now time value → steps.new ≡ steps.old }
     {
@@ -152,8 +148,7 @@ impl Db {
         ensures bounded { IfOk result (λ n. n ≤ MAX_TIME) }
         ensures limits { self.new.limits ≡ self.old.limits }
         ensures own { IfErr result (IsOwn self.old key.now) }
-        ensures counted { steps.old ≤ steps.new }
-        ensures steps { steps.new ≤ steps.old + deletion_steps self.old key.now from to }
+        ensures steps { Takes steps.old steps.new (deletion_steps self.old key.now from to) }
     {
         self.store.delete_range(key, from, to, steps)
     }

@@ -6,6 +6,7 @@ ghost use Rattle.ts_spec.specs.Mending.{keep_deleted};
 ghost use Rattle.ts_spec.specs.Response.{Count};
 ghost use Rattle.ts_spec.specs.Sample.{MAX_TIME, between};
 ghost use Rattle.ts_spec.specs.KeptStep.{kept_delete_at, kept_meets_expired, kept_within_destinations};
+ghost use Rattle.ts_sample.specs.Steps.{Takes};
 ghost use Rattle.ts_series.specs.History.{list_of};
 ghost use Rattle.ts_db.specs.declared.node.Node.{Node as TheNode};
 ghost use Rattle.ts_db.specs.Held.{IsOwn};
@@ -37,8 +38,7 @@ impl Store {
         ensures bounded { IfOk result (λ n. n ≤ MAX_TIME) }
         ensures own { IfErr result (IsOwn (stock_of self.old) key.now) }
         ensures store { IsInOrder self.new }
-        ensures counted { steps.old ≤ steps.new }
-        ensures steps { steps.new ≤ steps.old + deletion_steps (stock_of self.old) key.now from to }
+        ensures steps { Takes steps.old steps.new (deletion_steps (stock_of self.old) key.now from to) }
     {
         let Some(id) = self.keys.get(key).copied() else {
             return Err(DbFault::NoKey);

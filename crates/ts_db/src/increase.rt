@@ -5,6 +5,7 @@ ghost use Rattle.ts_spec.specs.Keyed.{get};
 ghost use Rattle.ts_spec.specs.Rules.{within_bound};
 ghost use Rattle.ts_spec.specs.Step.{is_before_last, changed_value};
 ghost use Rattle.ts_spec.specs.KeptStep.{kept_incr_at};
+ghost use Rattle.ts_sample.specs.Steps.{Takes};
 ghost use Rattle.ts_labels.specs.Spec.{spec_of};
 ghost use Rattle.ts_series.specs.History.{list_of};
 ghost use Rattle.ts_db.specs.Held.{IsOwn};
@@ -41,8 +42,7 @@ impl Store {
         ensures bounded { IfOk result (λ t. t ≤ MAX_TIME) }
         ensures own { IfErr result (IsOwn (stock_of self.old) key) }
         ensures store { IsInOrder self.new }
-        ensures counted { steps.old ≤ steps.new }
-        ensures steps { steps.new ≤ steps.old + write_steps (stock_of self.old) key time }
+        ensures steps { Takes steps.old steps.new (write_steps (stock_of self.old) key time) }
         ensures easy { IsEasyAppend (stock_of self.old) key time → steps.new ≡ steps.old }
         ensures spared { IsChangeIgnored (stock_of self.old) key time change → steps.new ≡ steps.old }
     {

@@ -3,6 +3,7 @@ ghost use Rattle.std.specs.Prelude.{◌≡◌, ◌≤◌, map, option_map, Some,
 ghost use Rattle.ts_spec.specs.KeptQuestions.{kept_rule_info, kept_info_response};
 ghost use Rattle.ts_spec.specs.Questions.{time_or_0};
 ghost use Rattle.ts_spec.specs.Response.{Told};
+ghost use Rattle.ts_sample.specs.Steps.{Takes};
 ghost use Rattle.ts_series.specs.History.{reach};
 ghost use Rattle.ts_rules.specs.Rules.{kept_as};
 ghost use Rattle.ts_db.specs.Information.{rule_info_of, info_of};
@@ -54,8 +55,7 @@ impl Store {
         requires store { IsInOrder self.now }
         requires links { HasLiveLinks self.now.nodes node.now }
         ensures info { IfOk result (λ info. Told (info_of info) ≡ kept_info_response (Some (kept_at self.now.nodes node.now))) }
-        ensures counted { steps.old ≤ steps.new }
-        ensures steps { steps.new ≤ steps.old + 2 * reach node.now.series }
+        ensures steps { Takes steps.old steps.new (2 * reach node.now.series) }
     {
         let first = node.series.first(steps);
         let last = node.series.last();

@@ -4,6 +4,7 @@ ghost use Rattle.ts_spec.specs.Filter.{all_hold, selection};
 ghost use Rattle.ts_spec.specs.Keyed.{get};
 ghost use Rattle.ts_spec.specs.KeptQuestions.{kept_selection};
 ghost use Rattle.ts_spec.specs.Totals.{total_shown};
+ghost use Rattle.ts_sample.specs.Steps.{Takes};
 ghost use Rattle.ts_db.specs.Held.{Held, Stands, AreNumbersOf};
 ghost use Rattle.ts_db.specs.Bounds.{reach_of_all, selection_steps};
 
@@ -52,8 +53,7 @@ impl Db {
     /// How many samples all keys show together. Takes no memory.
     pub fn total<L: Ledger>(&self, steps: &mut Steps<L>) -> u64
         ensures each { (held : Held) → Stands self.now held → result ≡ total_shown held.state }
-        ensures counted { steps.old ≤ steps.new }
-        ensures steps { steps.new ≤ steps.old + reach_of_all self.now }
+        ensures steps { Takes steps.old steps.new (reach_of_all self.now) }
     {
         let _keys = self.store.limits.keys;
         let _samples = self.store.limits.samples;

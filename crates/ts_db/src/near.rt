@@ -2,6 +2,7 @@
 ghost use Rattle.std.specs.Prelude.{◌≡◌, ◌≤◌, ◌+◌, IfOk, IfErr};
 ghost use Rattle.ts_spec.specs.Sample.{MAX_TIME};
 ghost use Rattle.ts_spec.specs.Keyed.{get};
+ghost use Rattle.ts_sample.specs.Steps.{Takes};
 ghost use Rattle.ts_db.specs.Held.{AnswersNumber, IsOwn};
 ghost use Rattle.ts_db.specs.Store.{stock_of, number_of, IsInOrder, IsDb};
 ghost use Rattle.ts_db.specs.Answering.{KeptNumber};
@@ -33,8 +34,7 @@ impl Db {
         ensures bounded { IfOk result (λ t. t ≤ MAX_TIME) }
         ensures limits { self.new.limits ≡ self.old.limits }
         ensures own { IfErr result (IsOwn self.old key.now) }
-        ensures counted { steps.old ≤ steps.new }
-        ensures steps { steps.new ≤ steps.old + write_steps self.old key.now time }
+        ensures steps { Takes steps.old steps.new (write_steps self.old key.now time) }
         ensures easy { IsEasyAppend self.old key.now time → steps.new ≡ steps.old }
         ensures spared { IsIgnored self.old key.now time value → steps.new ≡ steps.old }
     {
@@ -59,8 +59,7 @@ impl Store {
         ensures bounded { IfOk result (λ t. t ≤ MAX_TIME) }
         ensures own { IfErr result (IsOwn (stock_of self.old) key.now) }
         ensures store { IsInOrder self.new }
-        ensures counted { steps.old ≤ steps.new }
-        ensures steps { steps.new ≤ steps.old + write_steps (stock_of self.old) key.now time }
+        ensures steps { Takes steps.old steps.new (write_steps (stock_of self.old) key.now time) }
         ensures easy { IsEasyAppend (stock_of self.old) key.now time → steps.new ≡ steps.old }
         ensures spared { IsIgnored (stock_of self.old) key.now time value → steps.new ≡ steps.old }
     {

@@ -7,6 +7,7 @@ ghost use Rattle.ts_spec.specs.Keyed.{get};
 ghost use Rattle.ts_spec.specs.KeptQuestions.{kept_asked, kept_labels_at};
 ghost use Rattle.ts_spec.specs.Questions.{labels_at};
 ghost use Rattle.ts_spec.specs.Sample.{at_times, last_of, put_all};
+ghost use Rattle.ts_sample.specs.Steps.{Takes};
 ghost use Rattle.ts_series.specs.History.{list_of, reach, IsKept};
 ghost use Rattle.ts_rules.specs.Rules.{one_of};
 ghost use Rattle.ts_db.specs.Held.{Held, Stands, IsLive, AreTimes, ends_of, reach_at};
@@ -120,8 +121,7 @@ fn ends<L: Ledger>(series: &Series, row: Option<Sample>, steps: &mut Steps<L>) -
     requires { IsKept series.now }
     ensures ends { result ≡ ends_of (put_all (one_of row) (list_of series.now)) }
     ensures bounded { ForSome result AreTimes }
-    ensures counted { steps.old ≤ steps.new }
-    ensures steps { steps.new ≤ steps.old + reach series.now }
+    ensures steps { Takes steps.old steps.new (reach series.now) }
 {
     let first = first_with(row, series.first(steps));
     let last = last_with(row, series.last());

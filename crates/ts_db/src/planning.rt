@@ -1,5 +1,6 @@
 // The plans for all rules of a source, which are made before anything is changed.
 ghost use Rattle.std.specs.Prelude.{◌≡◌, ◌≤◌, [], ◌∷◌, None, length, IfOk, IfErr, ◌+◌};
+ghost use Rattle.ts_sample.specs.Steps.{Takes};
 ghost use Rattle.slab.specs.Slab as slab;
 ghost use Rattle.ts_series.specs.History.{list_of};
 ghost use Rattle.ts_rules.specs.Rules.{kept_as, IsChanged};
@@ -42,8 +43,7 @@ impl Store {
         ensures fed { IfOk result (λ planned. AreFedBy self.now.limits.samples self.now.nodes (rows_by_work work.now source.now) (gone_by work.now source.now) rules.now planned.plans.items) }
         ensures fit { IfOk result (λ planned. first_full self.now.limits.samples self.now.nodes (rows_by_work work.now source.now) (gone_by work.now source.now) rules.now ≡ None) }
         ensures refused { IfErr result (IsUnplanned (first_full self.now.limits.samples self.now.nodes (rows_by_work work.now source.now) (gone_by work.now source.now) rules.now)) }
-        ensures counted { steps.old ≤ steps.new }
-        ensures steps { steps.new ≤ steps.old + shares_of self.now.nodes work.now source.now rules.now }
+        ensures steps { Takes steps.old steps.new (shares_of self.now.nodes work.now source.now rules.now) }
         ensures easy { AreEasyOf self.now.limits.samples self.now.nodes work.now source.now rules.now → steps.new ≡ steps.old }
     {
         let mut changed = match Vec::with_capacity(self.alloc, rules.len()) {
@@ -89,8 +89,7 @@ impl Store {
         ensures fed { IfOk result (λ plan. IsFedBy self.now.limits.samples self.now.nodes (rows_by_work work source.now) (gone_by work source.now) rule.now plan) }
         ensures fits { IfOk result (λ _. first_full self.now.limits.samples self.now.nodes (rows_by_work work source.now) (gone_by work source.now) (rule.now ∷ []) ≡ None) }
         ensures refused { IfErr result (IsRuleUnplanned rule.now (first_full self.now.limits.samples self.now.nodes (rows_by_work work source.now) (gone_by work source.now) (rule.now ∷ []))) }
-        ensures counted { steps.old ≤ steps.new }
-        ensures steps { steps.new ≤ steps.old + share_at work source.now rule.now (slab.get self.now.nodes rule.now.dest.0) }
+        ensures steps { Takes steps.old steps.new (share_at work source.now rule.now (slab.get self.now.nodes rule.now.dest.0)) }
         ensures easy { IsEasyAt self.now.limits.samples work source.now rule.now (slab.get self.now.nodes rule.now.dest.0) → steps.new ≡ steps.old }
     {
         let Some(dest) = self.nodes.get(rule.dest.0) else {
@@ -121,8 +120,7 @@ fn made_plan<L: Ledger>(
     requires room { Takes work source.now rule.now }
     requires fits { length (list_of dest.now) ≤ limit }
     ensures planned { (k : Key) → IsPlannedSo limit (changed_by work source.now) (gone_by work source.now (kept_as k rule.now)) (rows_by_work work source.now dest.now.born (kept_as k rule.now)) rule.now dest.now result }
-    ensures counted { steps.old ≤ steps.new }
-    ensures steps { steps.new ≤ steps.old + share_of work source.now rule.now dest.now }
+    ensures steps { Takes steps.old steps.new (share_of work source.now rule.now dest.now) }
     ensures easy { IsEasyOf limit work source.now rule.now dest.now → steps.new ≡ steps.old }
 {
     match work {

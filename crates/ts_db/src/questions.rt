@@ -5,6 +5,7 @@ ghost use Rattle.ts_spec.specs.Keyed.{get};
 ghost use Rattle.ts_spec.specs.Questions.{asked, info_response};
 ghost use Rattle.ts_spec.specs.Response.{Told};
 ghost use Rattle.ts_spec.specs.Sample.{IsAscending, at_times, between, last_of};
+ghost use Rattle.ts_sample.specs.Steps.{Takes};
 ghost use Rattle.ts_db.specs.Held.{Held, Stands, Finds, AreTimes, ends_of, reach_at};
 ghost use Rattle.ts_db.specs.Information.{info_of};
 ghost use Rattle.ts_db.specs.Bounds.{walk_steps};
@@ -50,8 +51,7 @@ impl Db {
         ensures samples { (held : Held) → Stands self.now held → Finds (get key.now held.state) (λ samples. samples.items ≡ between from to (asked held.state latest key.now)) result }
         ensures ascending { IfOk result (λ samples. IsAscending samples.items) }
         ensures within { IfOk result (λ samples. between from to samples.items ≡ samples.items) }
-        ensures counted { steps.old ≤ steps.new }
-        ensures steps { steps.new ≤ steps.old + walk_steps self.now key.now from to }
+        ensures steps { Takes steps.old steps.new (walk_steps self.now key.now from to) }
     {
         let Some(id) = self.id_of(key) else {
             return Err(DbFault::NoKey);
@@ -78,8 +78,7 @@ impl Db {
     ) -> Result<Option<Sample>, DbFault>
         ensures before { (held : Held) → Stands self.now held → Finds (get key.now held.state) (λ before. before ≡ last_of (at_times (λ u. nat_lt u t) (asked held.state latest key.now))) result }
         ensures refused { IfErr result (λ fault. fault ≡ DbFault.NoKey) }
-        ensures counted { steps.old ≤ steps.new }
-        ensures steps { steps.new ≤ steps.old + reach_at self.now key.now }
+        ensures steps { Takes steps.old steps.new (reach_at self.now key.now) }
     {
         let Some(id) = self.id_of(key) else {
             return Err(DbFault::NoKey);
@@ -98,8 +97,7 @@ impl Db {
         ensures ends { (held : Held) → Stands self.now held → Finds (get key.now held.state) (λ ends. ends ≡ ends_of (asked held.state latest key.now)) result }
         ensures bounded { IfOk result (λ ends. ForSome ends AreTimes) }
         ensures refused { IfErr result (λ fault. fault ≡ DbFault.NoKey) }
-        ensures counted { steps.old ≤ steps.new }
-        ensures steps { steps.new ≤ steps.old + reach_at self.now key.now }
+        ensures steps { Takes steps.old steps.new (reach_at self.now key.now) }
     {
         let Some(id) = self.id_of(key) else {
             return Err(DbFault::NoKey);
@@ -110,8 +108,7 @@ impl Db {
     /// What TS.INFO tells of a key. It is refused for a missing key, and for want of memory.
     pub fn info<L: Ledger>(&self, key: &Word, steps: &mut Steps<L>) -> Result<Info, DbFault>
         ensures info { (held : Held) → Stands self.now held → Finds (get key.now held.state) (λ info. Told (info_of info) ≡ info_response held.state key.now (get key.now held.state)) result }
-        ensures counted { steps.old ≤ steps.new }
-        ensures steps { steps.new ≤ steps.old + 2 * reach_at self.now key.now }
+        ensures steps { Takes steps.old steps.new (2 * reach_at self.now key.now) }
     {
         let Some(id) = self.id_of(key) else {
             return Err(DbFault::NoKey);

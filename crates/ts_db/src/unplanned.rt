@@ -1,5 +1,6 @@
 // Work for which there was no memory: whether the destination of a rule would be full is told all the same.
 ghost use Rattle.std.specs.Prelude.{◌≡◌, ◌≤◌, false, nat_lt, length, ◌+◌};
+ghost use Rattle.ts_sample.specs.Steps.{Takes};
 ghost use Rattle.slab.specs.Slab as slab;
 ghost use Rattle.ts_db.specs.declared.fault.DbFault.TheVariants.{SamplesFull};
 ghost use Rattle.ts_db.specs.Planning.{gone_by, rows_by_work, Takes, AllTake, fed_list, first_full, IsUnplanned, share_at, shares_of, IsEasyAt, AreEasyOf};
@@ -28,8 +29,7 @@ impl Store {
         requires live { AreLive self.now.nodes rules.now }
         requires room { AllTake work.now source.now rules.now }
         ensures refused { IsUnplanned (first_full self.now.limits.samples self.now.nodes (rows_by_work work.now source.now) (gone_by work.now source.now) rules.now) result }
-        ensures counted { steps.old ≤ steps.new }
-        ensures steps { steps.new ≤ steps.old + shares_of self.now.nodes work.now source.now rules.now }
+        ensures steps { Takes steps.old steps.new (shares_of self.now.nodes work.now source.now rules.now) }
         ensures easy { AreEasyOf self.now.limits.samples self.now.nodes work.now source.now rules.now → steps.new ≡ steps.old }
     {
         for rule in rules {
@@ -52,8 +52,7 @@ impl Store {
         requires live { IsLive self.now.nodes rule.now.dest }
         requires room { Takes work.now source.now rule.now }
         ensures full { result ≡ nat_lt self.now.limits.samples (length (fed_list self.now.nodes (rows_by_work work.now source.now) (gone_by work.now source.now) rule.now)) }
-        ensures counted { steps.old ≤ steps.new }
-        ensures steps { steps.new ≤ steps.old + share_at work.now source.now rule.now (slab.get self.now.nodes rule.now.dest.0) }
+        ensures steps { Takes steps.old steps.new (share_at work.now source.now rule.now (slab.get self.now.nodes rule.now.dest.0)) }
         ensures easy { IsEasyAt self.now.limits.samples work.now source.now rule.now (slab.get self.now.nodes rule.now.dest.0) → steps.new ≡ steps.old }
     {
         match self.plan_rule(rule, source, *work, steps) {

@@ -4,6 +4,7 @@ ghost use Rattle.ts_spec.specs.Sample.{MAX_TIME};
 ghost use Rattle.ts_spec.specs.Key.{Key};
 ghost use Rattle.ts_spec.specs.Keyed.{get};
 ghost use Rattle.ts_spec.specs.KeptStep.{kept_add_at, kept_write_merged};
+ghost use Rattle.ts_sample.specs.Steps.{Takes};
 ghost use Rattle.ts_labels.specs.Spec.{spec_of};
 ghost use Rattle.ts_series.specs.Put.{met};
 ghost use Rattle.ts_db.specs.declared.node.Node.{Node as TheNode};
@@ -40,8 +41,7 @@ impl Store {
         ensures bounded { IfOk result (λ t. t ≤ MAX_TIME) }
         ensures own { IfErr result (IsOwn (stock_of self.old) key) }
         ensures store { IsInOrder self.new }
-        ensures counted { steps.old ≤ steps.new }
-        ensures steps { steps.new ≤ steps.old + write_steps (stock_of self.old) key time }
+        ensures steps { Takes steps.old steps.new (write_steps (stock_of self.old) key time) }
         ensures easy { IsEasyAppend (stock_of self.old) key time → steps.new ≡ steps.old }
         ensures spared { IsIgnored (stock_of self.old) key time value → steps.new ≡ steps.old }
     {

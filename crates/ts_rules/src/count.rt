@@ -4,6 +4,7 @@ ghost use Rattle.ts_spec.specs.Sample.{MAX_TIME, between, outside, put};
 ghost use Rattle.ts_spec.specs.Bucket.{start as start_of};
 ghost use Rattle.ts_spec.specs.Mending.{counted_anew};
 ghost use Rattle.ts_sample.specs.Visit.{visited};
+ghost use Rattle.ts_sample.specs.Steps.{Takes};
 ghost use Rattle.ts_series.specs.History.{list_of, reach};
 ghost use Rattle.ts_rules.specs.Rules.{kept_as};
 ghost use Rattle.ts_rules.specs.Shares.{in_buckets, source_share};
@@ -23,8 +24,7 @@ pub(crate) fn count_written<L: Ledger>(
     steps: &mut Steps<L>,
 ) -> Running
     ensures running { result ≡ counted_anew (kept_as [] rule.now) (start_of rule.now.grid wrote.now.time) (put wrote.now (list_of source.now)) }
-    ensures counted { steps.old ≤ steps.new }
-    ensures bounded { steps.new ≤ steps.old + source_share rule.now source.now wrote.now.time }
+    ensures steps { Takes steps.old steps.new (source_share rule.now source.now wrote.now.time) }
 {
     source.known();
     wrote.known();
@@ -80,8 +80,7 @@ fn scan_until<V: Visit, L: Ledger>(
 )
     requires { length (from_until from end (list_of source.now)) ≤ V.room visit.old }
     ensures visited { visit.new ≡ visited V.step visit.old (from_until from end (list_of source.now)) }
-    ensures counted { steps.old ≤ steps.new }
-    ensures bounded { steps.new ≤ steps.old + length (from_until from end (list_of source.now)) + 2 * reach source.now }
+    ensures steps { Takes steps.old steps.new (length (from_until from end (list_of source.now)) + 2 * reach source.now) }
 {
     if from < end {
         source.scan(from, end - 1, visit, steps);

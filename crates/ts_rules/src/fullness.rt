@@ -1,6 +1,7 @@
 // Whether a destination would show too many samples after a deletion on its source, told without memory.
 ghost use Rattle.std.specs.Prelude.{◌≡◌, ◌≤◌, ◌+◌, nat_lt, length};
 ghost use Rattle.ts_spec.specs.Sample.{MAX_TIME};
+ghost use Rattle.ts_sample.specs.Steps.{Takes};
 ghost use Rattle.ts_series.specs.History.{list_of};
 ghost use Rattle.ts_rules.specs.Plans.{mended_list};
 ghost use Rattle.ts_rules.specs.Deletions.{is_lost, rows_left};
@@ -28,8 +29,7 @@ pub(crate) fn is_full<L: Ledger>(
     requires time { to ≤ MAX_TIME }
     requires fits { length (list_of dest.now) ≤ limit }
     ensures full { result ≡ nat_lt limit (length (mended_list (is_lost rule.now source.now from to) (rows_left rule.now source.now from to dest.now.born) dest.now)) }
-    ensures counted { steps.old ≤ steps.new }
-    ensures bounded { steps.new ≤ steps.old + deletion_share rule.now source.now from to dest.now }
+    ensures steps { Takes steps.old steps.new (deletion_share rule.now source.now from to dest.now) }
 {
     source.known();
     dest.known();

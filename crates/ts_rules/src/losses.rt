@@ -3,6 +3,7 @@ ghost use Rattle.std.specs.Prelude.{◌≡◌, ◌<◌, ◌≤◌, ◌+◌, ◌^
 ghost use Rattle.ts_spec.specs.Sample.{IsAscending, at_times};
 ghost use Rattle.ts_spec.specs.Rules.{is_past};
 ghost use Rattle.ts_spec.specs.Mending.{lies_in};
+ghost use Rattle.ts_sample.specs.Steps.{Takes};
 
 use crate::rule::Rule;
 use crate::walk::Walk;
@@ -21,8 +22,7 @@ pub(crate) fn count_lost<L: Ledger>(
     requires shown { IsAscending shown }
     requires few { length shown < 2 ^ 32 }
     ensures count { result ≡ length (at_times (λ t. is_past rule.now.current t && lies_in rule.now.grid gone.entry t) shown.entry) }
-    ensures counted { steps.old ≤ steps.new }
-    ensures bounded { steps.new ≤ steps.old + length gone.entry + length shown.entry }
+    ensures steps { Takes steps.old steps.new (length gone.entry + length shown.entry) }
 {
     let mut count = 0;
     while let Some(lost) = gone.head() {

@@ -4,6 +4,7 @@ ghost use Rattle.std.specs.List.Sorted.{IsNonDecreasing};
 ghost use Rattle.ts_spec.specs.Sample.{between};
 ghost use Rattle.ts_spec.specs.Answer.{is_listed};
 ghost use Rattle.ts_spec.specs.Mending.{lies_in};
+ghost use Rattle.ts_sample.specs.Steps.{Takes};
 ghost use Rattle.ts_series.specs.History.{list_of, reach};
 ghost use Rattle.ts_rules.specs.Lost.{is_last, with_bucket, HasStartRoom};
 
@@ -54,8 +55,7 @@ impl Lost {
         requires room { HasStartRoom self.grid (length (between from to (list_of source.now))) self }
         ensures rising { IsNonDecreasing result.items }
         ensures lies { (b : ℕ) → is_listed result.items b ≡ lies_in self.grid (between from to (list_of source.now)) b }
-        ensures counted { steps.old ≤ steps.new }
-        ensures bounded { steps.new ≤ steps.old + length (between from to (list_of source.now)) + 2 * reach source.now }
+        ensures steps { Takes steps.old steps.new (length (between from to (list_of source.now)) + 2 * reach source.now) }
     {
         source.known();
         source.scan(from, to, &mut self, steps);

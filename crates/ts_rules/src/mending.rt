@@ -2,6 +2,7 @@
 ghost use Rattle.std.specs.Prelude.{◌≡◌, ◌≤◌, ◌+◌, ◌*◌, false, length};
 ghost use Rattle.std.specs.Option.{ForSome};
 ghost use Rattle.ts_spec.specs.Sample.{MAX_TIME, IsAscending, is_within};
+ghost use Rattle.ts_sample.specs.Steps.{Takes};
 ghost use Rattle.ts_series.specs.History.{list_of, reach};
 ghost use Rattle.ts_series.specs.Mend.{IsRowPast};
 ghost use Rattle.ts_series.specs.Plan.{AreWithin, AreMade};
@@ -28,8 +29,7 @@ pub(crate) fn mended<L: Ledger>(
     requires within { AreWithin from to rows.now }
     requires made { AreMade dest.now.born rows.now }
     ensures mended { IsMending limit (is_within from to) rows.now dest.now result }
-    ensures counted { steps.old ≤ steps.new }
-    ensures bounded { steps.new ≤ steps.old + 3 * reach dest.now }
+    ensures steps { Takes steps.old steps.new (3 * reach dest.now) }
     ensures easy { IsRowPast from to rows.now limit dest.now → steps.new ≡ steps.old }
 {
     match dest.mend(from, to, rows, limit, steps) {
@@ -50,8 +50,7 @@ pub(crate) fn with_row<L: Ledger>(
     requires made { AreMade dest.now.born (one_of row) }
     requires fits { length (list_of dest.now) ≤ limit }
     ensures mended { IsMending limit (λ t. false) (one_of row) dest.now result }
-    ensures counted { steps.old ≤ steps.new }
-    ensures bounded { steps.new ≤ steps.old + 3 * reach dest.now }
+    ensures steps { Takes steps.old steps.new (3 * reach dest.now) }
     ensures easy { ForSome row (λ row. IsPastAll limit dest.now row.time) → steps.new ≡ steps.old }
 {
     dest.known();

@@ -1,6 +1,7 @@
 // The two public calls that plan a change of a source for a rule.
 ghost use Rattle.std.specs.Prelude.{◌≡◌, ◌≤◌, ◌+◌, None, length};
 ghost use Rattle.ts_spec.specs.Sample.{MAX_TIME, between};
+ghost use Rattle.ts_sample.specs.Steps.{Takes};
 ghost use Rattle.ts_series.specs.History.{list_of};
 ghost use Rattle.ts_rules.specs.Rules.{TakesAppended};
 ghost use Rattle.ts_rules.specs.PlansOfWrites.{IsPlanOfWrite};
@@ -37,8 +38,7 @@ pub fn plan_put<L: Ledger>(
     requires append { TakesAppended rule.now source.now wrote.now }
     requires fits { length (list_of dest.now) ≤ limit }
     ensures planned { IsPlanOfWrite limit rule.now source.now wrote.now dest.now result }
-    ensures counted { steps.old ≤ steps.new }
-    ensures bounded { steps.new ≤ steps.old + write_share rule.now source.now wrote.now dest.now }
+    ensures steps { Takes steps.old steps.new (write_share rule.now source.now wrote.now dest.now) }
     ensures easy { IsEasyWrite limit rule.now source.now wrote.now dest.now → steps.new ≡ steps.old }
 {
     let (rule, row) = written(rule, source, wrote, dest.born(), steps);
@@ -61,8 +61,7 @@ pub fn plan_delete<L: Ledger>(
 ) -> Result<RulePlan, RuleFault>
     requires fits { length (list_of dest.now) ≤ limit }
     ensures planned { IsPlanOfDeletion limit rule.now source.now from to dest.now result }
-    ensures counted { steps.old ≤ steps.new }
-    ensures bounded { steps.new ≤ steps.old + deletion_share rule.now source.now from to dest.now }
+    ensures steps { Takes steps.old steps.new (deletion_share rule.now source.now from to dest.now) }
 {
     source.known();
     dest.known();
@@ -99,8 +98,7 @@ fn planned_in<L: Ledger>(
     requires shown { HasRoom (count_touched rule.now from to dest.now) room.shown }
     requires rows { HasRoom (count_touched rule.now from to dest.now + 2) room.rows }
     ensures planned { IsPlanOfDeletion limit rule.now source.now from to dest.now result }
-    ensures counted { steps.old ≤ steps.new }
-    ensures bounded { steps.new ≤ steps.old + deletion_share rule.now source.now from to dest.now }
+    ensures steps { Takes steps.old steps.new (deletion_share rule.now source.now from to dest.now) }
 {
     dest.known();
     let lost = room.lost.starts(source, from, to, steps);

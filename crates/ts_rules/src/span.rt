@@ -2,6 +2,7 @@
 ghost use Rattle.std.specs.Prelude.{◌≡◌, ◌≤◌, ◌+◌, ◌*◌, ◌++◌, not, length};
 ghost use Rattle.ts_spec.specs.Sample.{MAX_TIME, at_times, between};
 ghost use Rattle.ts_spec.specs.Bucket.{start as start_of};
+ghost use Rattle.ts_sample.specs.Steps.{Takes};
 ghost use Rattle.ts_series.specs.History.{list_of, reach};
 ghost use Rattle.ts_rules.specs.Rules.{one_of};
 ghost use Rattle.ts_rules.specs.Plans.{IsMending};
@@ -30,8 +31,7 @@ impl Deletion<'_> {
         requires rows { HasRoom (count_touched self.now.rule.now self.now.from self.now.to dest.now + 2) rows }
         ensures mended { IsMending limit (is_lost self.now.rule.now self.now.source.now self.now.from self.now.to)
             (rows_left self.now.rule.now self.now.source.now self.now.from self.now.to dest.now.born) dest.now result }
-        ensures counted { steps.old ≤ steps.new }
-        ensures bounded { steps.new ≤ steps.old + length (between (start_of self.now.rule.now.grid self.now.from) self.now.to (list_of dest.now)) + 5 * reach dest.now }
+        ensures steps { Takes steps.old steps.new (length (between (start_of self.now.rule.now.grid self.now.from) self.now.to (list_of dest.now)) + 5 * reach dest.now) }
     {
         self.rule.grid.known();
         self.source.known();
@@ -61,8 +61,7 @@ impl Deletion<'_> {
         requires shown { HasRoom (length (between first last (list_of dest.now))) shown }
         requires rows { HasRoom (length (between first last (list_of dest.now)) + 2) rows }
         ensures span { result.items ≡ span_left self.now.rule.now self.now.source.now self.now.from self.now.to dest.now.born first last (list_of dest.now) }
-        ensures counted { steps.old ≤ steps.new }
-        ensures bounded { steps.new ≤ steps.old + length (between first last (list_of dest.now)) + 2 * reach dest.now }
+        ensures steps { Takes steps.old steps.new (length (between first last (list_of dest.now)) + 2 * reach dest.now) }
     {
         dest.scan(first, last, &mut shown, steps);
         let shown = shown.into_samples();

@@ -1,6 +1,7 @@
 // The samples of a series from one time to another, one after another.
 ghost use Rattle.std.specs.Prelude.{◌≡◌, ◌≤◌, ◌+◌, drop};
 ghost use Rattle.ts_spec.specs.Sample.{IsAscending, between, first_of};
+ghost use Rattle.ts_sample.specs.Steps.{Takes};
 ghost use Rattle.ts_series.specs.History.{list_of, reach};
 ghost use Rattle.ts_rules.specs.Walks.{first_upto};
 
@@ -39,8 +40,7 @@ impl<'a> Walk<'a> {
         steps: &mut Steps<L>,
     ) -> Walk<'a>
         ensures left { result ≡ between from to (list_of series.now) }
-        ensures counted { steps.old ≤ steps.new }
-        ensures bounded { steps.new ≤ steps.old + reach series.now + 1 }
+        ensures steps { Takes steps.old steps.new (reach series.now + 1) }
     {
         series.known();
         let mut rest = series.read_from(from, steps);
@@ -58,8 +58,7 @@ impl<'a> Walk<'a> {
     // Leaves the first of them behind.
     pub(crate) fn advance<L: Ledger>(&mut self, steps: &mut Steps<L>)
         ensures left { self.new ≡ drop 1 self.old }
-        ensures counted { steps.old ≤ steps.new }
-        ensures bounded { steps.new ≤ steps.old + 1 }
+        ensures steps { Takes steps.old steps.new 1 }
     {
         if self.head.is_none() {
             return;
@@ -72,8 +71,7 @@ impl<'a> Walk<'a> {
 fn next_upto<L: Ledger>(rest: &mut Cursor<'_>, to: u64, steps: &mut Steps<L>) -> Option<Sample>
     ensures next { result ≡ first_upto to rest.old }
     ensures left { rest.new ≡ drop 1 rest.old }
-    ensures counted { steps.old ≤ steps.new }
-    ensures bounded { steps.new ≤ steps.old + 1 }
+    ensures steps { Takes steps.old steps.new 1 }
 {
     let next = rest.next(steps)?;
     if next.time <= to { Some(next) } else { None }

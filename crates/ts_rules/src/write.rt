@@ -5,6 +5,7 @@ ghost use Rattle.ts_spec.specs.Bucket.{start as start_of};
 ghost use Rattle.ts_spec.specs.Aggregate.{nothing, push};
 ghost use Rattle.ts_spec.specs.Rules.{is_append};
 ghost use Rattle.ts_spec.specs.Mending.{counted_anew};
+ghost use Rattle.ts_sample.specs.Steps.{Takes};
 ghost use Rattle.ts_series.specs.History.{list_of};
 ghost use Rattle.ts_rules.specs.Rules.{kept_as, one_of, IsChanged, TakesAppended};
 ghost use Rattle.ts_rules.specs.Shares.{source_share, IsNotClosed};
@@ -30,8 +31,7 @@ pub(crate) fn written<L: Ledger>(
     requires { TakesAppended rule.now source.now wrote.now }
     ensures rule { IsChanged (rule_after source.now wrote.now) rule.now result.0 }
     ensures row { one_of result.1 ≡ row_for_dest source.now wrote.now born rule.now }
-    ensures counted { steps.old ≤ steps.new }
-    ensures bounded { steps.new ≤ steps.old + source_share rule.now source.now wrote.now.time }
+    ensures steps { Takes steps.old steps.new (source_share rule.now source.now wrote.now.time) }
     ensures easy { is_append wrote.now.time source.now.high ≡ true → IsNotClosed rule.now wrote.now.time → steps.new ≡ steps.old }
 {
     rule.grid.known();
@@ -55,8 +55,7 @@ fn grown<L: Ledger>(rule: &Rule, source: &Series, wrote: &Sample, steps: &mut St
     requires { is_append wrote.now.time source.now.high ≡ true → rule.now.running.count < 10 ^ 14 }
     ensures running { result ≡ (if is_append wrote.now.time source.now.high then push rule.now.running wrote.now
         else counted_anew (kept_as [] rule.now) (start_of rule.now.grid wrote.now.time) (put wrote.now (list_of source.now))) }
-    ensures counted { steps.old ≤ steps.new }
-    ensures bounded { steps.new ≤ steps.old + source_share rule.now source.now wrote.now.time }
+    ensures steps { Takes steps.old steps.new (source_share rule.now source.now wrote.now.time) }
     ensures easy { is_append wrote.now.time source.now.high ≡ true → steps.new ≡ steps.old }
 {
     if is_past(wrote.time, source.high()) {

@@ -1,4 +1,5 @@
 pub mod Chunk
 pub mod Gathered
 pub mod Sample
+pub mod Steps
 pub mod Visit

@@ -2,6 +2,7 @@
 ghost use Rattle.std.specs.Prelude.{◌≡◌, ◌+◌, ◌≤◌, ◌<◌, length, map, IfOk, vec_len, vec_capacity};
 ghost use Rattle.ts_spec.specs.Sample.{IsAscending, outside, put};
 ghost use Rattle.ts_sample.specs.Chunk.{IsCut, HaveLimit};
+ghost use Rattle.ts_sample.specs.Steps.{Takes};
 
 use crate::chunk::Chunk;
 use crate::cutting::cut_into;
@@ -21,8 +22,7 @@ pub(crate) fn with_sample<C: Chunk, L: Ledger>(
 ) -> Result<Vec<C>, AllocError>
     ensures cut { IfOk result (λ v. IsCut C.format (C.most chunk.now) (put sample.now (C.list chunk.now)) (map C.list v.items)) }
     ensures limits { IfOk result (λ v. HaveLimit C.most (C.most chunk.now) v.items) }
-    ensures counted { steps.old ≤ steps.new }
-    ensures bounded { steps.new ≤ steps.old + length (C.list chunk.now) }
+    ensures steps { Takes steps.old steps.new (length (C.list chunk.now)) }
 {
     chunk.known();
     if let Some(spliced) = chunk.spliced(alloc, sample, steps)? {
@@ -43,8 +43,7 @@ pub(crate) fn without_interval<C: Chunk, L: Ledger>(
 ) -> Result<Vec<C>, AllocError>
     ensures cut { IfOk result (λ v. IsCut C.format (C.most chunk.now) (outside from to (C.list chunk.now)) (map C.list v.items)) }
     ensures limits { IfOk result (λ v. HaveLimit C.most (C.most chunk.now) v.items) }
-    ensures counted { steps.old ≤ steps.new }
-    ensures bounded { steps.new ≤ steps.old + length (C.list chunk.now) }
+    ensures steps { Takes steps.old steps.new (length (C.list chunk.now)) }
 {
     chunk.known();
     let mut samples = decoded(chunk, alloc, steps)?;
@@ -71,8 +70,7 @@ fn decoded<C: Chunk, L: Ledger>(
     steps: &mut Steps<L>,
 ) -> Result<Vec<Sample>, AllocError>
     ensures list { IfOk result (λ v. v.items ≡ C.list chunk.now) }
-    ensures counted { steps.old ≤ steps.new }
-    ensures bounded { steps.new ≤ steps.old + length (C.list chunk.now) }
+    ensures steps { Takes steps.old steps.new (length (C.list chunk.now)) }
 {
     chunk.known();
     let mut gathered = Gathered::with_room(alloc, chunk.len() + 1)?;

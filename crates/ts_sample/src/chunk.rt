@@ -4,6 +4,7 @@ ghost use Rattle.ts_spec.specs.Sample.{Point, between, at_times, outside, put, f
 ghost use Rattle.ts_sample.specs.Chunk.{IsLimit, IsChunk, IsPast, IsCut, HaveLimit, least_limit};
 ghost use Rattle.ts_sample.specs.Sample.{IsFine};
 ghost use Rattle.ts_sample.specs.Visit.{visited};
+ghost use Rattle.ts_sample.specs.Steps.{Takes};
 
 use crate::changed::{with_sample, without_interval};
 use crate::sample::Sample;
@@ -85,8 +86,7 @@ pub trait Chunk: Drop {
         ensures place { is_place (list self.now) result }
         ensures left { drop (passed result) (list self.now) ≡ at_times (nat_le time) (list self.now) }
         ensures within { passed result ≤ length (list self.now) }
-        ensures counted { steps.old ≤ steps.new }
-        ensures bounded { steps.new ≤ steps.old + length (list self.now) };
+        ensures steps { Takes steps.old steps.new (length (list self.now)) };
 
     /// Reads the sample at a place, which is a step, and moves the place past it. Where no sample is left, there is
     /// none, and the place stays.
@@ -121,8 +121,7 @@ pub trait Chunk: Drop {
         ensures list { IfOk result (λ o. IfSome o (λ c. list c ≡ put sample.now (list self.now))) }
         ensures limit { IfOk result (λ o. IfSome o (λ c. most c ≡ most self.now)) }
         ensures full { IfOk result (λ o. IfNone o (most self.now < length (format (put sample.now (list self.now))))) }
-        ensures counted { steps.old ≤ steps.new }
-        ensures bounded { steps.new ≤ steps.old + length (list self.now) }
+        ensures steps { Takes steps.old steps.new (length (list self.now)) }
         ensures without { IfOk result (λ o. IfNone o (steps.new ≡ steps.old)) };
 
     /// New chunks with the sample at its time, in the place of one there or as a new one.
@@ -134,8 +133,7 @@ pub trait Chunk: Drop {
     ) -> Result<Vec<Self>, AllocError>
         ensures cut { IfOk result (λ v. IsCut format (most self.now) (put sample.now (list self.now)) (map list v.items)) }
         ensures limits { IfOk result (λ v. HaveLimit most (most self.now) v.items) }
-        ensures counted { steps.old ≤ steps.new }
-        ensures bounded { steps.new ≤ steps.old + length (list self.now) }
+        ensures steps { Takes steps.old steps.new (length (list self.now)) }
     {
         with_sample(self, alloc, sample, steps)
     }
@@ -151,8 +149,7 @@ pub trait Chunk: Drop {
     ) -> Result<Vec<Self>, AllocError>
         ensures cut { IfOk result (λ v. IsCut format (most self.now) (outside from to (list self.now)) (map list v.items)) }
         ensures limits { IfOk result (λ v. HaveLimit most (most self.now) v.items) }
-        ensures counted { steps.old ≤ steps.new }
-        ensures bounded { steps.new ≤ steps.old + length (list self.now) }
+        ensures steps { Takes steps.old steps.new (length (list self.now)) }
     {
         without_interval(self, alloc, from, to, steps)
     }

@@ -2,6 +2,7 @@
 ghost use Rattle.std.specs.Prelude.{◌≡◌, ℕ, ◌≤◌, ◌+◌, ◌*◌, nat_le, IfOk};
 ghost use Rattle.ts_spec.specs.Sample.{at_times};
 ghost use Rattle.ts_sample.specs.Chunk.{joined};
+ghost use Rattle.ts_sample.specs.Steps.{Takes};
 ghost use Rattle.ts_series.specs.Held.{longest, pieces_after, IsReady, HasLimits};
 ghost use Rattle.ts_series.specs.History.{list_of, reach};
 ghost use Rattle.ts_series.specs.Plan.{IsForIn, Alters, options_with};
@@ -31,8 +32,7 @@ impl<C: Chunk> Line<C> {
     ) -> Result<LinePlan<C>, AllocError>
         ensures planned { IfOk result (λ plan. IsForIn C.format plan self.now) }
         ensures options { IfOk result (Alters (options_with retention chunk_size policy ignore self.now.options)) }
-        ensures counted { steps.old ≤ steps.new }
-        ensures bounded { steps.new ≤ steps.old + 2 * reach self.now }
+        ensures steps { Takes steps.old steps.new (2 * reach self.now) }
     {
         let old = self.options;
         let options = Options {
@@ -64,8 +64,7 @@ impl<C: Chunk> Line<C> {
         ensures ready { IfOk result (λ c. IsReady C.format self.now.held c) }
         ensures limits { (one : ℕ) → IfOk result (λ c. HasLimits one self.now.held.limits c) }
         ensures list { IfOk result (λ c. at_times (nat_le edge) (joined (pieces_after c self.now.held.pieces)) ≡ at_times (nat_le edge) (list_of self.now)) }
-        ensures counted { steps.old ≤ steps.new }
-        ensures bounded { steps.new ≤ steps.old + 2 * longest self.now.held.pieces }
+        ensures steps { Takes steps.old steps.new (2 * longest self.now.held.pieces) }
     {
         let old = self.edge();
         if edge < old {

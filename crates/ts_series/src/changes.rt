@@ -3,6 +3,7 @@ ghost use Rattle.std.specs.Prelude.{◌≡◌, ◌≤◌, ◌<◌, ◌+◌, ◌*
 ghost use Rattle.ts_spec.specs.Sample.{MAX_TIME, IsAscending, between, last_of};
 ghost use Rattle.ts_spec.specs.declared.series.Merge.{Merge as TheMerge};
 ghost use Rattle.ts_sample.specs.Chunk.{IsPast};
+ghost use Rattle.ts_sample.specs.Steps.{Takes};
 ghost use Rattle.ts_series.specs.History.{list_of, reach, IsKept, KeepsLimits};
 ghost use Rattle.ts_series.specs.Plan.{IsFor, after, Cuts, Alters, AreWithin, AreMade, options_with};
 ghost use Rattle.ts_series.specs.Put.{met, Answers};
@@ -30,8 +31,7 @@ impl Series {
         requires { time ≤ MAX_TIME }
         ensures planned { IfOk result (λ plan. IsFor plan self.now) }
         ensures answer { Answers (met how time value self.now) limit time self.now result }
-        ensures counted { steps.old ≤ steps.new }
-        ensures bounded { steps.new ≤ steps.old + 3 * reach self.now }
+        ensures steps { Takes steps.old steps.new (3 * reach self.now) }
         ensures easy { length (list_of self.now) + reach self.now < limit → IsPast (last_of (list_of self.now)) time → steps.new ≡ steps.old }
     {
         match &self.lines {
@@ -84,8 +84,7 @@ impl Series {
     ) -> Result<SeriesPlan, AllocError>
         ensures planned { IfOk result (λ plan. IsFor plan self.now) }
         ensures cut { IfOk result (Cuts from to (length (between from to (list_of self.now)))) }
-        ensures counted { steps.old ≤ steps.new }
-        ensures bounded { steps.new ≤ steps.old + 3 * reach self.now }
+        ensures steps { Takes steps.old steps.new (3 * reach self.now) }
     {
         match &self.lines {
             Lines::Plain(line) => {
@@ -112,8 +111,7 @@ impl Series {
     ) -> Result<SeriesPlan, AllocError>
         ensures planned { IfOk result (λ plan. IsFor plan self.now) }
         ensures options { IfOk result (Alters (options_with retention chunk_size policy ignore self.now.options)) }
-        ensures counted { steps.old ≤ steps.new }
-        ensures bounded { steps.new ≤ steps.old + 2 * reach self.now }
+        ensures steps { Takes steps.old steps.new (2 * reach self.now) }
     {
         match &self.lines {
             Lines::Plain(line) => {
@@ -142,8 +140,7 @@ impl Series {
         requires made { AreMade self.now.born rows.now }
         ensures planned { IfOk result (λ plan. IsFor plan self.now) }
         ensures answer { IsMend from to rows.now limit self.now result }
-        ensures counted { steps.old ≤ steps.new }
-        ensures bounded { steps.new ≤ steps.old + 3 * reach self.now }
+        ensures steps { Takes steps.old steps.new (3 * reach self.now) }
         ensures easy { IsRowPast from to rows.now limit self.now → steps.new ≡ steps.old }
     {
         match &self.lines {

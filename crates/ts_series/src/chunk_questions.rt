@@ -3,6 +3,7 @@ ghost use Rattle.std.specs.Prelude.{◌≡◌, ◌+◌, ◌*◌, ◌≤◌, nat_
 ghost use Rattle.ts_spec.specs.Sample.{at, at_times, between, first_of, last_of};
 ghost use Rattle.ts_sample.specs.Chunk.{joined};
 ghost use Rattle.ts_sample.specs.Visit.{visited};
+ghost use Rattle.ts_sample.specs.Steps.{Takes};
 ghost use Rattle.ts_series.specs.Held.{points, longest};
 ghost use Rattle.ts_series.specs.Seams.{IsSeamed};
 
@@ -36,8 +37,7 @@ impl<C: Chunk> Chunks<C> {
     // The sample at this time.
     pub(crate) fn at<L: Ledger>(&self, time: u64, steps: &mut Steps<L>) -> Option<Sample>
         ensures at { result ≡ at time (points self.now) }
-        ensures counted { steps.old ≤ steps.new }
-        ensures bounded { steps.new ≤ steps.old + longest self.now.pieces }
+        ensures steps { Takes steps.old steps.new (longest self.now.pieces) }
     {
         let chunk = self.chunks.get(self.before(time))?;
         let mut ends = Ends::new();
@@ -48,8 +48,7 @@ impl<C: Chunk> Chunks<C> {
     // The last sample before this time.
     pub(crate) fn last_before<L: Ledger>(&self, time: u64, steps: &mut Steps<L>) -> Option<Sample>
         ensures before { result ≡ last_of (at_times (λ t. nat_lt t time) (points self.now)) }
-        ensures counted { steps.old ≤ steps.new }
-        ensures bounded { steps.new ≤ steps.old + longest self.now.pieces }
+        ensures steps { Takes steps.old steps.new (longest self.now.pieces) }
     {
         // Does nothing: where a field is read, the order of the chunks is known.
         let _ = &self.chunks;
@@ -63,8 +62,7 @@ impl<C: Chunk> Chunks<C> {
     // The first sample from this time on.
     pub(crate) fn first_from<L: Ledger>(&self, time: u64, steps: &mut Steps<L>) -> Option<Sample>
         ensures first { result ≡ first_of (at_times (nat_le time) (points self.now)) }
-        ensures counted { steps.old ≤ steps.new }
-        ensures bounded { steps.new ≤ steps.old + longest self.now.pieces }
+        ensures steps { Takes steps.old steps.new (longest self.now.pieces) }
     {
         let chunk = self.chunks.get(self.before(time))?;
         let first = chunk.first()?;
@@ -79,8 +77,7 @@ impl<C: Chunk> Chunks<C> {
     // How many samples are before this time. Where the first is not, that costs nothing.
     pub(crate) fn count_before<L: Ledger>(&self, time: u64, steps: &mut Steps<L>) -> usize
         ensures count { result ≡ length (at_times (λ t. nat_lt t time) (points self.now)) }
-        ensures counted { steps.old ≤ steps.new }
-        ensures bounded { steps.new ≤ steps.old + longest self.now.pieces }
+        ensures steps { Takes steps.old steps.new (longest self.now.pieces) }
     {
         let all = self.len();
         let place = self.before(time);
@@ -98,8 +95,7 @@ impl<C: Chunk> Chunks<C> {
     fn earlier_at<L: Ledger>(&self, place: usize, time: u64, steps: &mut Steps<L>) -> Ends
         ensures last { result.last ≡ last_of (at_times (λ t. nat_lt t time) (slice_index_or self.now.pieces place [])) }
         ensures count { result.count ≡ length (at_times (λ t. nat_lt t time) (slice_index_or self.now.pieces place [])) }
-        ensures counted { steps.old ≤ steps.new }
-        ensures bounded { steps.new ≤ steps.old + longest self.now.pieces }
+        ensures steps { Takes steps.old steps.new (longest self.now.pieces) }
     {
         match self.chunks.get(place) {
             None => Ends::new(),
@@ -123,8 +119,7 @@ impl<C: Chunk> Chunks<C> {
 fn earlier_in<C: Chunk, L: Ledger>(chunk: &C, time: u64, steps: &mut Steps<L>) -> Ends
     ensures last { result.last ≡ last_of (at_times (λ t. nat_lt t time) (C.list chunk.now)) }
     ensures count { result.count ≡ length (at_times (λ t. nat_lt t time) (C.list chunk.now)) }
-    ensures counted { steps.old ≤ steps.new }
-    ensures bounded { steps.new ≤ steps.old + length (C.list chunk.now) }
+    ensures steps { Takes steps.old steps.new (length (C.list chunk.now)) }
 {
     chunk.known();
     let mut ends = Ends::new();

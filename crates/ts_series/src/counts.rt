@@ -2,6 +2,7 @@
 ghost use Rattle.std.specs.Prelude.{◌≡◌, ◌≤◌, ◌<◌, ◌+◌, ◌*◌, ◌^◌, length, map, slice_range};
 ghost use Rattle.ts_spec.specs.Sample.{between};
 ghost use Rattle.ts_sample.specs.Chunk.{joined};
+ghost use Rattle.ts_sample.specs.Steps.{Takes};
 ghost use Rattle.ts_series.specs.Held.{points, longest};
 
 use crate::chunks::Chunks;
@@ -21,8 +22,7 @@ impl<C: Chunk> Chunks<C> {
     // How many samples an interval has. That takes no memory.
     pub(crate) fn count_between<L: Ledger>(&self, from: u64, to: u64, steps: &mut Steps<L>) -> usize
         ensures count { result ≡ length (between from to (points self.now)) }
-        ensures counted { steps.old ≤ steps.new }
-        ensures bounded { steps.new ≤ steps.old + 2 * longest self.now.pieces }
+        ensures steps { Takes steps.old steps.new (2 * longest self.now.pieces) }
     {
         // Does nothing: where a field is read, the bounds of the samples are known.
         let _ = &self.chunks;

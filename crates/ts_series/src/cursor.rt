@@ -1,6 +1,7 @@
 // Reading on over the samples of a series, of either encoding.
 ghost use Rattle.std.specs.Prelude.{◌≡◌, ◌≤◌, ◌+◌, nat_le, length, drop};
 ghost use Rattle.ts_spec.specs.Sample.{at_times, first_of};
+ghost use Rattle.ts_sample.specs.Steps.{Takes};
 ghost use Rattle.ts_series.specs.History.{list_of, reach};
 
 use crate::line_cursor::LineCursor;
@@ -39,8 +40,7 @@ impl<'a> Cursor<'a> {
     pub fn next<L: Ledger>(&mut self, steps: &mut Steps<L>) -> Option<Sample>
         ensures next { result ≡ first_of self.old }
         ensures left { self.new ≡ drop 1 self.old }
-        ensures counted { steps.old ≤ steps.new }
-        ensures bounded { steps.new ≤ steps.old + 1 }
+        ensures steps { Takes steps.old steps.new 1 }
     {
         match &mut self.cursors {
             Cursors::Plain(line) => line.next(steps),
@@ -53,8 +53,7 @@ impl Series {
     /// Begins to read its samples from a time on, in milliseconds. It takes no memory.
     pub fn read_from<L: Ledger>(&self, from: u64, steps: &mut Steps<L>) -> Cursor<'_>
         ensures left { result ≡ at_times (nat_le from) (list_of self.now) }
-        ensures counted { steps.old ≤ steps.new }
-        ensures bounded { steps.new ≤ steps.old + reach self.now }
+        ensures steps { Takes steps.old steps.new (reach self.now) }
     {
         let cursors = match &self.lines {
             Lines::Plain(line) => Cursors::Plain(line.read_from(from, steps)),
@@ -66,8 +65,7 @@ impl Series {
     /// How many samples it has from a time on, in milliseconds.
     pub fn count_from<L: Ledger>(&self, time: u64, steps: &mut Steps<L>) -> usize
         ensures count { result ≡ length (at_times (nat_le time) (list_of self.now)) }
-        ensures counted { steps.old ≤ steps.new }
-        ensures bounded { steps.new ≤ steps.old + reach self.now }
+        ensures steps { Takes steps.old steps.new (reach self.now) }
     {
         match &self.lines {
             Lines::Plain(line) => line.count_from(time, steps),

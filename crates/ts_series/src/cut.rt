@@ -1,6 +1,7 @@
 // A deletion of an interval.
 ghost use Rattle.std.specs.Prelude.{◌≤◌, ◌+◌, ◌*◌, IfOk, length};
 ghost use Rattle.ts_spec.specs.Sample.{between};
+ghost use Rattle.ts_sample.specs.Steps.{Takes};
 ghost use Rattle.ts_series.specs.History.{list_of, reach};
 ghost use Rattle.ts_series.specs.Plan.{IsForIn, Cuts};
 
@@ -23,8 +24,7 @@ impl<C: Chunk> Line<C> {
     ) -> Result<LinePlan<C>, AllocError>
         ensures planned { IfOk result (λ plan. IsForIn C.format plan self.now) }
         ensures cut { IfOk result (Cuts from to (length (between from to (list_of self.now)))) }
-        ensures counted { steps.old ≤ steps.new }
-        ensures bounded { steps.new ≤ steps.old + 3 * reach self.now }
+        ensures steps { Takes steps.old steps.new (3 * reach self.now) }
     {
         let (change, removed) = self
             .chunks

@@ -2,6 +2,7 @@
 ghost use Rattle.std.specs.Prelude.{◌≡◌, ◌≤◌, ◌+◌, ◌*◌, ◌++◌, nat_le, length, IfOk, IfErr, slice_range};
 ghost use Rattle.ts_spec.specs.Sample.{IsAfter, IsAscending, at_times, outside, put_all};
 ghost use Rattle.ts_sample.specs.Chunk.{joined};
+ghost use Rattle.ts_sample.specs.Steps.{Takes};
 ghost use Rattle.ts_series.specs.Held.{longest, IsMeeting};
 ghost use Rattle.ts_series.specs.Plan.{AreWithin};
 
@@ -25,8 +26,7 @@ impl<C: Chunk> Chunks<C> {
         requires { IsMeeting from to self.now.pieces start end }
         ensures list { IfOk result (λ v. v.items ≡ outside from to (joined (slice_range self.now.pieces start end))) }
         ensures unread { IfErr result (λ _. steps.new ≡ steps.old) }
-        ensures counted { steps.old ≤ steps.new }
-        ensures bounded { steps.new ≤ steps.old + 2 * longest self.now.pieces }
+        ensures steps { Takes steps.old steps.new (2 * longest self.now.pieces) }
     {
         if start == end {
             return Ok(Vec::new(alloc));
@@ -49,8 +49,7 @@ fn left_of<C: Chunk, L: Ledger>(
 ) -> Result<Vec<Sample>, AllocError>
     ensures list { IfOk result (λ v. v.items ≡ outside from to (C.list chunk.now)) }
     ensures unread { IfErr result (λ _. steps.new ≡ steps.old) }
-    ensures counted { steps.old ≤ steps.new }
-    ensures bounded { steps.new ≤ steps.old + length (C.list chunk.now) }
+    ensures steps { Takes steps.old steps.new (length (C.list chunk.now)) }
 {
     chunk.known();
     let mut gathered = Gathered::with_room(alloc, chunk.len())?;
@@ -72,8 +71,7 @@ fn left_of_both<C: Chunk, L: Ledger>(
     requires { IsAscending (C.list first.now ++ C.list last.now) }
     ensures list { IfOk result (λ v. v.items ≡ outside from to (C.list first.now ++ C.list last.now)) }
     ensures unread { IfErr result (λ _. steps.new ≡ steps.old) }
-    ensures counted { steps.old ≤ steps.new }
-    ensures bounded { steps.new ≤ steps.old + length (C.list first.now) + length (C.list last.now) }
+    ensures steps { Takes steps.old steps.new (length (C.list first.now) + length (C.list last.now)) }
 {
     first.known();
     last.known();

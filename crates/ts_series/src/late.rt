@@ -3,6 +3,7 @@ ghost use Rattle.std.specs.Prelude.{◌≡◌, ◌≢◌, ℕ, ◌≤◌, ◌+�
 ghost use Rattle.ts_spec.specs.Sample.{at};
 ghost use Rattle.ts_spec.specs.Rules.{merge};
 ghost use Rattle.ts_spec.specs.Step.{value_at};
+ghost use Rattle.ts_sample.specs.Steps.{Takes};
 ghost use Rattle.ts_series.specs.Held.{longest};
 ghost use Rattle.ts_series.specs.History.{list_of, low};
 ghost use Rattle.ts_series.specs.Plan.{IsForIn};
@@ -29,8 +30,7 @@ impl<C: Chunk> Line<C> {
         requires made { sample.made ≡ self.now.born }
         ensures planned { IfOk result (λ plan. IsForIn C.format plan self.now) }
         ensures answer { Answers (merge how (value_at sample.time (list_of self.now)) sample.value) limit sample.time self.now result }
-        ensures counted { steps.old ≤ steps.new }
-        ensures bounded { steps.new ≤ steps.old + 3 * longest self.now.held.pieces }
+        ensures steps { Takes steps.old steps.new (3 * longest self.now.held.pieces) }
     {
         if always_writes(how) && self.chunks.len() < limit as usize {
             return self.written(sample, steps);
@@ -53,8 +53,7 @@ impl<C: Chunk> Line<C> {
         requires made { sample.made ≡ self.now.born }
         ensures planned { IfOk result (λ plan. IsForIn C.format plan self.now) }
         ensures answer { (limit : ℕ) → Answers (merge how (Some old) sample.value) limit sample.time self.now result }
-        ensures counted { steps.old ≤ steps.new }
-        ensures bounded { steps.new ≤ steps.old + longest self.now.held.pieces }
+        ensures steps { Takes steps.old steps.new (longest self.now.held.pieces) }
     {
         let (time, made) = (sample.time, sample.made);
         match merged(how, old, sample.value)? {

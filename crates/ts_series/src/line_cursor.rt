@@ -1,6 +1,7 @@
 // Reading on over the samples of chunks. Each sample that is read is decoded once for it.
 ghost use Rattle.std.specs.Prelude.{◌≡◌, ◌≢◌, ◌+◌, ◌<◌, ◌≤◌, nat_le, [], length, take, drop, slice_index_or};
 ghost use Rattle.ts_spec.specs.Sample.{at_times, first_of};
+ghost use Rattle.ts_sample.specs.Steps.{Takes};
 ghost use Rattle.ts_series.specs.Held.{points, longest};
 
 use crate::chunks::Chunks;
@@ -35,8 +36,7 @@ impl<'a, C: Chunk> LineCursor<'a, C> {
     pub(crate) fn next<L: Ledger>(&mut self, steps: &mut Steps<L>) -> Option<Sample>
         ensures next { result ≡ first_of self.old }
         ensures left { self.new ≡ drop 1 self.old }
-        ensures counted { steps.old ≤ steps.new }
-        ensures bounded { steps.new ≤ steps.old + 1 }
+        ensures steps { Takes steps.old steps.new 1 }
     {
         let next = self.chunks.read_at(self.at, &mut self.place, steps);
         if next.is_some() {
@@ -55,8 +55,7 @@ impl<C: Chunk> Chunks<C> {
     // Begins to read the samples from a time on.
     pub(crate) fn read_from<L: Ledger>(&self, time: u64, steps: &mut Steps<L>) -> LineCursor<'_, C>
         ensures left { result ≡ at_times (nat_le time) (points self.now) }
-        ensures counted { steps.old ≤ steps.new }
-        ensures bounded { steps.new ≤ steps.old + longest self.now.pieces }
+        ensures steps { Takes steps.old steps.new (longest self.now.pieces) }
     {
         // Does nothing: where a field is read, the order of the chunks is known.
         let _ = &self.chunks;
@@ -74,8 +73,7 @@ impl<C: Chunk> Chunks<C> {
         ensures place { C.is_place (slice_index_or self.now.pieces at []) result }
         ensures left { drop (C.passed result) (slice_index_or self.now.pieces at []) ≡ at_times (nat_le time) (slice_index_or self.now.pieces at []) }
         ensures within { C.passed result ≤ length (slice_index_or self.now.pieces at []) }
-        ensures counted { steps.old ≤ steps.new }
-        ensures bounded { steps.new ≤ steps.old + longest self.now.pieces }
+        ensures steps { Takes steps.old steps.new (longest self.now.pieces) }
     {
         match self.chunks.get(at) {
             None => C::start(),

@@ -3,6 +3,7 @@ ghost use Rattle.std.specs.Prelude.{◌≡◌, ◌≤◌, ◌+◌, ◌*◌, ℕ,
 ghost use Rattle.ts_spec.specs.Sample.{MAX_TIME, at, at_times, between, first_of, last_of};
 ghost use Rattle.ts_sample.specs.Visit.{visited};
 ghost use Rattle.ts_spec.specs.Valid.{Every};
+ghost use Rattle.ts_sample.specs.Steps.{Takes};
 ghost use Rattle.ts_series.specs.History.{list_of, reach, IsKeptIn};
 ghost use Rattle.ts_series.specs.Seams.{IsSeamed, Around};
 
@@ -48,8 +49,7 @@ impl<C: Chunk> Line<C> {
     // Its first sample.
     pub(crate) fn first<L: Ledger>(&self, steps: &mut Steps<L>) -> Option<Sample>
         ensures first { result ≡ first_of (list_of self.now) }
-        ensures counted { steps.old ≤ steps.new }
-        ensures bounded { steps.new ≤ steps.old + reach self.now }
+        ensures steps { Takes steps.old steps.new (reach self.now) }
     {
         self.chunks.first_from(self.edge(), steps)
     }
@@ -57,8 +57,7 @@ impl<C: Chunk> Line<C> {
     // How many samples it has.
     pub(crate) fn len<L: Ledger>(&self, steps: &mut Steps<L>) -> usize
         ensures len { result ≡ length (list_of self.now) }
-        ensures counted { steps.old ≤ steps.new }
-        ensures bounded { steps.new ≤ steps.old + reach self.now }
+        ensures steps { Takes steps.old steps.new (reach self.now) }
     {
         self.chunks.len() - self.chunks.count_before(self.edge(), steps)
     }
@@ -66,8 +65,7 @@ impl<C: Chunk> Line<C> {
     // How many samples it has from a time on, in milliseconds.
     pub(crate) fn count_from<L: Ledger>(&self, time: u64, steps: &mut Steps<L>) -> usize
         ensures count { result ≡ length (at_times (nat_le time) (list_of self.now)) }
-        ensures counted { steps.old ≤ steps.new }
-        ensures bounded { steps.new ≤ steps.old + reach self.now }
+        ensures steps { Takes steps.old steps.new (reach self.now) }
     {
         self.chunks.len() - self.chunks.count_before(time.max(self.edge()), steps)
     }
@@ -75,8 +73,7 @@ impl<C: Chunk> Line<C> {
     // Begins to read its samples from a time on, in milliseconds.
     pub(crate) fn read_from<L: Ledger>(&self, from: u64, steps: &mut Steps<L>) -> LineCursor<'_, C>
         ensures left { result ≡ at_times (nat_le from) (list_of self.now) }
-        ensures counted { steps.old ≤ steps.new }
-        ensures bounded { steps.new ≤ steps.old + reach self.now }
+        ensures steps { Takes steps.old steps.new (reach self.now) }
     {
         self.chunks.read_from(from.max(self.edge()), steps)
     }
@@ -84,8 +81,7 @@ impl<C: Chunk> Line<C> {
     // Its sample at this time, in milliseconds.
     pub(crate) fn at<L: Ledger>(&self, t: u64, steps: &mut Steps<L>) -> Option<Sample>
         ensures at { result ≡ at t (list_of self.now) }
-        ensures counted { steps.old ≤ steps.new }
-        ensures bounded { steps.new ≤ steps.old + reach self.now }
+        ensures steps { Takes steps.old steps.new (reach self.now) }
     {
         if t < self.edge() {
             None
@@ -97,8 +93,7 @@ impl<C: Chunk> Line<C> {
     // Its last sample before this time, in milliseconds.
     pub(crate) fn before<L: Ledger>(&self, t: u64, steps: &mut Steps<L>) -> Option<Sample>
         ensures before { result ≡ last_of (at_times (λ u. nat_lt u t) (list_of self.now)) }
-        ensures counted { steps.old ≤ steps.new }
-        ensures bounded { steps.new ≤ steps.old + reach self.now }
+        ensures steps { Takes steps.old steps.new (reach self.now) }
     {
         let last = self.chunks.last_before(t, steps)?;
         if last.time < self.edge() {

@@ -3,6 +3,7 @@ ghost use Rattle.std.specs.Prelude.{◌≡◌, ◌≤◌, ◌+◌, ◌*◌, nat_
 ghost use Rattle.ts_spec.specs.Sample.{IsAscending, at_times, between, outside, put_all};
 ghost use Rattle.ts_spec.specs.Mending.{high_with};
 ghost use Rattle.ts_sample.specs.Chunk.{joined};
+ghost use Rattle.ts_sample.specs.Steps.{Takes};
 ghost use Rattle.ts_series.specs.Held.{points, pieces_after, IsReady, HasLimits};
 ghost use Rattle.ts_series.specs.History.{list_of, limit_for, reach};
 ghost use Rattle.ts_series.specs.Plan.{AreWithin, AreMade, IsForIn, after};
@@ -37,8 +38,7 @@ impl<C: Chunk> Line<C> {
         requires made { AreMade self.now.born rows.now }
         ensures planned { IfOk result (λ plan. IsForIn C.format plan self.now) }
         ensures answer { IsMend from to rows.now limit self.now result }
-        ensures counted { steps.old ≤ steps.new }
-        ensures bounded { steps.new ≤ steps.old + 3 * reach self.now }
+        ensures steps { Takes steps.old steps.new (3 * reach self.now) }
         ensures easy { IsRowPast from to rows.now limit self.now → steps.new ≡ steps.old }
     {
         let size = new_limit(self.options.chunk_size);
@@ -102,8 +102,7 @@ impl<C: Chunk> Line<C> {
         requires within { AreWithin from to rows.now }
         requires removed { removed ≡ length (between from to (points self.now.held)) }
         ensures exceeds { result ≡ nat_lt limit (length (mended_list from to rows.now self.now)) }
-        ensures counted { steps.old ≤ steps.new }
-        ensures bounded { steps.new ≤ steps.old + reach self.now }
+        ensures steps { Takes steps.old steps.new (reach self.now) }
         ensures easy { IsRowPast from to rows.now limit self.now → steps.new ≡ steps.old }
     {
         if self.chunks.len().saturating_add(rows.len()) <= limit as usize {
@@ -127,8 +126,7 @@ impl<C: Chunk> Line<C> {
     ) -> usize
         requires removed { removed ≡ length (between from to (points self.now.held)) }
         ensures left { result ≡ length (at_times (nat_le edge) (outside from to (points self.now.held))) }
-        ensures counted { steps.old ≤ steps.new }
-        ensures bounded { steps.new ≤ steps.old + reach self.now }
+        ensures steps { Takes steps.old steps.new (reach self.now) }
     {
         let all = self.chunks.len();
         if to < edge {

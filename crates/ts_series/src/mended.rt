@@ -2,6 +2,7 @@
 ghost use Rattle.std.specs.Prelude.{◌≡◌, ◌≤◌, ◌+◌, ◌*◌, ◌∷◌, [], length, IfOk};
 ghost use Rattle.ts_spec.specs.Sample.{IsAscending, between, last_of, outside, put_all};
 ghost use Rattle.ts_sample.specs.Chunk.{IsLimit, IsPast, joined};
+ghost use Rattle.ts_sample.specs.Steps.{Takes};
 ghost use Rattle.ts_series.specs.Held.{points, longest, pieces_after, replaced, IsMeeting, IsReady, HasLimits};
 ghost use Rattle.ts_series.specs.Plan.{AreWithin};
 
@@ -33,8 +34,7 @@ impl<C: Chunk> Chunks<C> {
         ensures limits { IfOk result.0 (λ c. HasLimits chunk_size self.now.limits c) }
         ensures list { IfOk result.0 (λ c. joined (pieces_after c self.now.pieces) ≡ put_all rows.now (outside from to (points self.now))) }
         ensures removed { result.1 ≡ length (between from to (points self.now)) }
-        ensures counted { steps.old ≤ steps.new }
-        ensures bounded { steps.new ≤ steps.old + 2 * longest self.now.pieces }
+        ensures steps { Takes steps.old steps.new (2 * longest self.now.pieces) }
         ensures easy { from ≡ to → length rows.now ≡ 1 → IsPast (last_of (points self.now)) from → steps.new ≡ steps.old }
     {
         if from == to {
@@ -62,8 +62,7 @@ impl<C: Chunk> Chunks<C> {
         ensures limits { IfOk result.0 (λ c. HasLimits chunk_size self.now.limits c) }
         ensures list { IfOk result.0 (λ c. joined (pieces_after c self.now.pieces) ≡ put_all rows.now (outside from to (points self.now))) }
         ensures removed { result.1 ≡ length (between from to (points self.now)) }
-        ensures counted { steps.old ≤ steps.new }
-        ensures bounded { steps.new ≤ steps.old + 2 * longest self.now.pieces }
+        ensures steps { Takes steps.old steps.new (2 * longest self.now.pieces) }
     {
         // Does nothing: where a field is read, the order of the chunks is known.
         let _ = &self.chunks;

@@ -2,6 +2,7 @@
 ghost use Rattle.std.specs.Prelude.{◌≡◌, ℕ, ◌≤◌, ◌<◌, ◌+◌, ◌*◌, [], ◌∷◌, length, IfOk, map, take, slice_range, None};
 ghost use Rattle.ts_spec.specs.Sample.{between, last_of, outside, put};
 ghost use Rattle.ts_sample.specs.Chunk.{IsLimit, IsChunk, IsPast, joined};
+ghost use Rattle.ts_sample.specs.Steps.{Takes};
 ghost use Rattle.ts_series.specs.Held.{points, longest, pieces_after, IsMeeting, IsReady, AreChunks, AreAmong, HasLimits, IsUpTo};
 
 use crate::change::Change;
@@ -75,8 +76,7 @@ impl<C: Chunk> Chunks<C> {
         ensures nothing_appended { IfOk result (λ c. c.appended ≡ None) }
         ensures limits { (one : ℕ) → IfOk result (λ c. HasLimits one self.now.limits c) }
         ensures list { IfOk result (λ c. joined (pieces_after c self.now.pieces) ≡ put sample.now (points self.now)) }
-        ensures counted { steps.old ≤ steps.new }
-        ensures bounded { steps.new ≤ steps.old + longest self.now.pieces }
+        ensures steps { Takes steps.old steps.new (longest self.now.pieces) }
     {
         sample.known();
         let place = self.before(sample.time);
@@ -104,8 +104,7 @@ impl<C: Chunk> Chunks<C> {
         ensures place { IfOk result (λ r. IsMeeting from to self.now.pieces r.0.start r.0.end) }
         ensures nothing_appended { IfOk result (λ r. r.0.appended ≡ None) }
         ensures lengths { IfOk result (λ r. longest r.0.pieces ≤ longest self.now.pieces) }
-        ensures counted { steps.old ≤ steps.new }
-        ensures bounded { steps.new ≤ steps.old + 2 * longest self.now.pieces }
+        ensures steps { Takes steps.old steps.new (2 * longest self.now.pieces) }
     {
         // Does nothing: where a field is read, the order of the chunks is known.
         let _ = &self.chunks;
@@ -139,8 +138,7 @@ impl<C: Chunk> Chunks<C> {
         ensures chunks { IfOk result (λ v. AreChunks C.format (map C.list v.items) (map C.most v.items)) }
         ensures limits { (one : ℕ) → IfOk result (λ v. AreAmong one (slice_range self.now.limits start end) (map C.most v.items)) }
         ensures lengths { IfOk result (λ v. longest (map C.list v.items) ≤ longest self.now.pieces) }
-        ensures counted { steps.old ≤ steps.new }
-        ensures bounded { steps.new ≤ steps.old + 2 * longest self.now.pieces }
+        ensures steps { Takes steps.old steps.new (2 * longest self.now.pieces) }
     {
         if start == end {
             return Ok(Vec::new(alloc));

@@ -2,6 +2,7 @@
 ghost use Rattle.std.specs.Prelude.{◌≡◌, ℕ, ◌≤◌, ◌<◌, ◌+◌, ◌*◌, true, false, nat_lt, None, Some, IfOk, length};
 ghost use Rattle.ts_spec.specs.Sample.{MAX_TIME, at, last_of, put};
 ghost use Rattle.ts_sample.specs.Chunk.{IsPast, joined};
+ghost use Rattle.ts_sample.specs.Steps.{Takes};
 ghost use Rattle.ts_series.specs.Held.{points, longest, pieces_after, IsReady, HasLimits, IsUpTo};
 ghost use Rattle.ts_series.specs.History.{list_of, low, limit_for, reach};
 ghost use Rattle.ts_series.specs.Plan.{IsForIn};
@@ -34,8 +35,7 @@ impl<C: Chunk> Line<C> {
         requires { time ≤ MAX_TIME }
         ensures planned { IfOk result (λ plan. IsForIn C.format plan self.now) }
         ensures answer { Answers (met how time value self.now) limit time self.now result }
-        ensures counted { steps.old ≤ steps.new }
-        ensures bounded { steps.new ≤ steps.old + 3 * reach self.now }
+        ensures steps { Takes steps.old steps.new (3 * reach self.now) }
         ensures easy { length (list_of self.now) + reach self.now < limit → IsPast (last_of (list_of self.now)) time → steps.new ≡ steps.old }
     {
         if time < self.edge() {
@@ -69,8 +69,7 @@ impl<C: Chunk> Line<C> {
         requires made { sample.made ≡ self.now.born }
         ensures planned { IfOk result (λ plan. IsForIn C.format plan self.now) }
         ensures answer { IsWrite limit sample self.now result }
-        ensures counted { steps.old ≤ steps.new }
-        ensures bounded { steps.new ≤ steps.old + 2 * longest self.now.held.pieces }
+        ensures steps { Takes steps.old steps.new (2 * longest self.now.held.pieces) }
         ensures easy { length (points self.now.held) < limit → IsPast (last_of (points self.now.held)) sample.time → steps.new ≡ steps.old }
     {
         if self.is_full(sample, limit, steps) {
@@ -85,8 +84,7 @@ impl<C: Chunk> Line<C> {
         requires absent { at sample.time (list_of self.now) ≡ None }
         requires kept { low self.now ≤ sample.time }
         ensures full { result ≡ nat_lt limit (length (list_after sample self.now)) }
-        ensures counted { steps.old ≤ steps.new }
-        ensures bounded { steps.new ≤ steps.old + longest self.now.held.pieces }
+        ensures steps { Takes steps.old steps.new (longest self.now.held.pieces) }
         ensures easy { length (points self.now.held) < limit → steps.new ≡ steps.old }
     {
         if self.chunks.len() < limit as usize {
@@ -105,8 +103,7 @@ impl<C: Chunk> Line<C> {
         requires made { sample.made ≡ self.now.born }
         ensures planned { IfOk result (λ plan. IsForIn C.format plan self.now) }
         ensures answer { (limit : ℕ) → Fits limit sample self.now → IsWrite limit sample self.now result }
-        ensures counted { steps.old ≤ steps.new }
-        ensures bounded { steps.new ≤ steps.old + longest self.now.held.pieces }
+        ensures steps { Takes steps.old steps.new (longest self.now.held.pieces) }
         ensures easy { IsPast (last_of (points self.now.held)) sample.time → steps.new ≡ steps.old }
     {
         match self.with_sample(sample, steps) {
@@ -123,8 +120,7 @@ impl<C: Chunk> Line<C> {
         requires made { sample.made ≡ self.now.born }
         ensures planned { IfOk result (λ plan. IsForIn C.format plan self.now) }
         ensures writes { IfOk result (Writes sample) }
-        ensures counted { steps.old ≤ steps.new }
-        ensures bounded { steps.new ≤ steps.old + longest self.now.held.pieces }
+        ensures steps { Takes steps.old steps.new (longest self.now.held.pieces) }
         ensures easy { IsPast (last_of (points self.now.held)) sample.time → steps.new ≡ steps.old }
     {
         let change = self.put_change(&sample, steps)?;
@@ -149,8 +145,7 @@ impl<C: Chunk> Line<C> {
         ensures ready { IfOk result (λ c. IsReady C.format self.now.held c) }
         ensures limits { IfOk result (λ c. HasLimits (limit_for self.now.options.chunk_size) self.now.held.limits c) }
         ensures list { IfOk result (λ c. joined (pieces_after c self.now.held.pieces) ≡ put sample.now (points self.now.held)) }
-        ensures counted { steps.old ≤ steps.new }
-        ensures bounded { steps.new ≤ steps.old + longest self.now.held.pieces }
+        ensures steps { Takes steps.old steps.new (longest self.now.held.pieces) }
         ensures easy { IsPast (last_of (points self.now.held)) sample.now.time → steps.new ≡ steps.old }
     {
         let size = new_limit(self.options.chunk_size);

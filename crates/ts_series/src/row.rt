@@ -2,6 +2,7 @@
 ghost use Rattle.std.specs.Prelude.{◌≡◌, ◌≤◌, ◌+◌, ◌*◌, true, false, None, length, IfOk};
 ghost use Rattle.ts_spec.specs.Sample.{between, last_of, put};
 ghost use Rattle.ts_sample.specs.Chunk.{IsLimit, IsPast, joined};
+ghost use Rattle.ts_sample.specs.Steps.{Takes};
 ghost use Rattle.ts_series.specs.Held.{points, longest, pieces_after, IsReady, HasLimits, IsUpTo};
 
 use crate::change::Change;
@@ -26,8 +27,7 @@ impl<C: Chunk> Chunks<C> {
         ensures limits { IfOk result.0 (λ c. HasLimits chunk_size self.now.limits c) }
         ensures list { IfOk result.0 (λ c. joined (pieces_after c self.now.pieces) ≡ put row.now (points self.now)) }
         ensures removed { result.1 ≡ length (between row.now.time row.now.time (points self.now)) }
-        ensures counted { steps.old ≤ steps.new }
-        ensures bounded { steps.new ≤ steps.old + 2 * longest self.now.pieces }
+        ensures steps { Takes steps.old steps.new (2 * longest self.now.pieces) }
         ensures easy { IsPast (last_of (points self.now)) row.now.time → steps.new ≡ steps.old }
     {
         // Does nothing: where a field is read, the order of the chunks is known.
@@ -56,8 +56,7 @@ impl<C: Chunk> Chunks<C> {
         ensures ready { IfOk result (λ c. IsReady C.format self.now c) }
         ensures limits { IfOk result (λ c. HasLimits chunk_size self.now.limits c) }
         ensures list { IfOk result (λ c. joined (pieces_after c self.now.pieces) ≡ put sample.now (points self.now)) }
-        ensures counted { steps.old ≤ steps.new }
-        ensures bounded { steps.new ≤ steps.old + longest self.now.pieces }
+        ensures steps { Takes steps.old steps.new (longest self.now.pieces) }
         ensures easy { IsPast (last_of (points self.now)) sample.now.time → steps.new ≡ steps.old }
     {
         if self.is_late(sample.time) {
@@ -80,8 +79,7 @@ impl<C: Chunk> Chunks<C> {
     // How many samples there are at a time: one or none.
     fn count_at<L: Ledger>(&self, time: u64, steps: &mut Steps<L>) -> usize
         ensures count { result ≡ length (between time time (points self.now)) }
-        ensures counted { steps.old ≤ steps.new }
-        ensures bounded { steps.new ≤ steps.old + longest self.now.pieces }
+        ensures steps { Takes steps.old steps.new (longest self.now.pieces) }
     {
         // Does nothing: where a field is read, the order of the chunks is known.
         let _ = &self.chunks;

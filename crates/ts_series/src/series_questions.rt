@@ -3,6 +3,7 @@ ghost use Rattle.std.specs.Prelude.{◌≡◌, ◌≤◌, ◌+◌, ◌*◌, ◌�
 ghost use Rattle.ts_spec.specs.Sample.{MAX_TIME, at, at_times, between, first_of, last_of};
 ghost use Rattle.ts_sample.specs.Visit.{visited};
 ghost use Rattle.ts_spec.specs.Valid.{Every};
+ghost use Rattle.ts_sample.specs.Steps.{Takes};
 ghost use Rattle.ts_series.specs.History.{list_of, reach, IsKept};
 ghost use Rattle.ts_series.specs.Seams.{IsSeam, IsSeamed, Around};
 
@@ -55,8 +56,7 @@ impl Series {
     /// Its first sample.
     pub fn first<L: Ledger>(&self, steps: &mut Steps<L>) -> Option<Sample>
         ensures first { result ≡ first_of (list_of self.now) }
-        ensures counted { steps.old ≤ steps.new }
-        ensures bounded { steps.new ≤ steps.old + reach self.now }
+        ensures steps { Takes steps.old steps.new (reach self.now) }
     {
         match &self.lines {
             Lines::Plain(line) => line.first(steps),
@@ -67,8 +67,7 @@ impl Series {
     /// How many samples it has.
     pub fn len<L: Ledger>(&self, steps: &mut Steps<L>) -> usize
         ensures len { result ≡ length (list_of self.now) }
-        ensures counted { steps.old ≤ steps.new }
-        ensures bounded { steps.new ≤ steps.old + reach self.now }
+        ensures steps { Takes steps.old steps.new (reach self.now) }
     {
         match &self.lines {
             Lines::Plain(line) => line.len(steps),
@@ -79,8 +78,7 @@ impl Series {
     /// Its sample at this time, in milliseconds.
     pub fn at<L: Ledger>(&self, t: u64, steps: &mut Steps<L>) -> Option<Sample>
         ensures at { result ≡ at t (list_of self.now) }
-        ensures counted { steps.old ≤ steps.new }
-        ensures bounded { steps.new ≤ steps.old + reach self.now }
+        ensures steps { Takes steps.old steps.new (reach self.now) }
     {
         match &self.lines {
             Lines::Plain(line) => line.at(t, steps),
@@ -91,8 +89,7 @@ impl Series {
     /// Its last sample before this time, in milliseconds.
     pub fn before<L: Ledger>(&self, t: u64, steps: &mut Steps<L>) -> Option<Sample>
         ensures before { result ≡ last_of (at_times (λ u. nat_lt u t) (list_of self.now)) }
-        ensures counted { steps.old ≤ steps.new }
-        ensures bounded { steps.new ≤ steps.old + reach self.now }
+        ensures steps { Takes steps.old steps.new (reach self.now) }
     {
         match &self.lines {
             Lines::Plain(line) => line.before(t, steps),
@@ -161,8 +158,7 @@ impl Series {
     /// Whether it has a sample from one time to another, in milliseconds, both included.
     pub fn has_between<L: Ledger>(&self, from: u64, to: u64, steps: &mut Steps<L>) -> bool
         ensures has { result ≡ nat_lt 0 (length (between from to (list_of self.now))) }
-        ensures counted { steps.old ≤ steps.new }
-        ensures bounded { steps.new ≤ steps.old + reach self.now }
+        ensures steps { Takes steps.old steps.new (reach self.now) }
     {
         match &self.lines {
             Lines::Plain(line) => line.has_between(from, to, steps),
