@@ -16,6 +16,9 @@ returns-clause-left g c =
     let of = times_passed c.args.self.now.list c.rest_from-rest.result c.pass_before.new.self c.rest_from-rest.ensures.rest c.args.time c.known.ensures.ascending c.pass_before.ensures.list c.pass_before.ensures.state in
     left_past c.args.self.now.list c.pass_before.new.self of _ c.place_before.ensures.passed ∙ c.pass_before.ensures.list ∙ rest_reach c.args.time c.args.self.now.list c.rest_from-rest.result c.rest_from-rest.ensures
 
-pub returns-clause-bounded : goal.returns-clause-bounded
-returns-clause-bounded g c =
-    omega (arith, c.add.ensures, c.len-count.ensures, shorter c.args.self.now.list c.rest_from-rest.result c.rest_from-rest.result c.rest_from-rest.ensures.rest)
+pub returns-clause-steps : goal.returns-clause-steps
+returns-clause-steps g c =
+    record {
+      counted = omega (arith, c.add.ensures);
+      bounded = omega (arith, c.add.ensures, c.len-count.ensures, shorter c.args.self.now.list c.rest_from-rest.result c.rest_from-rest.result c.rest_from-rest.ensures.rest);
+    }
