@@ -16,8 +16,10 @@ returns-then-first-time g c =
     record {
       last = ap (λ (e : Ends). e.last) c.scan.ensures.visited ∙ ends-last c.new-ends.result (between 0 (c.args.time - 1) ps) c.new-ends.ensures.last ∙ ap last_of before;
       count = ap (λ (e : Ends). e.count) c.scan.ensures.visited ∙ ends-count c.new-ends.result (between 0 (c.args.time - 1) ps) c.new-ends.ensures.count ∙ ap length before;
-      counted = omega (arith, c.scan.ensures.counted);
-      bounded = c.scan.ensures.bounded;
+      steps = record {
+        counted = omega (arith, c.scan.ensures.counted);
+        bounded = c.scan.ensures.bounded;
+      };
     }
 
 pub returns-else-first-time : goal.returns-else-first-time
@@ -27,6 +29,8 @@ returns-else-first-time g c =
     record {
       last = c.new-ends.ensures.last ∙ sym (ap last_of none);
       count = c.new-ends.ensures.count ∙ sym (ap length none);
-      counted = omega arith;
-      bounded = omega arith;
+      steps = record {
+        counted = omega arith;
+        bounded = omega arith;
+      };
     }

@@ -43,6 +43,8 @@ returns g c =
     record {
       at = ap (λ (e : Ends). e.last) c.scan.ensures.visited ∙ ends-last c.new-ends.result (between c.args.time c.args.time ps) c.new-ends.ensures.last
           ∙ at-last c.args.time ps it.chunk.ascending ∙ ap (at c.args.time) it.here ∙ sym (there g goes.After-before-2);
-      counted = omega (arith, c.scan.ensures.counted);
-      bounded = omega (arith, c.scan.ensures.bounded, ap length it.here, longest-at c.before-2.result c.args.self.now.pieces);
+      steps = record {
+        counted = omega (arith, c.scan.ensures.counted);
+        bounded = omega (arith, c.scan.ensures.bounded, ap length it.here, longest-at c.before-2.result c.args.self.now.pieces);
+      };
     }

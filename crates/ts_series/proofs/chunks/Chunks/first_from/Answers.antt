@@ -62,6 +62,8 @@ returns g c =
     record {
       first = ap (λ (e : Ends). e.first) c.scan.ensures.visited ∙ ends-first c.new-ends.result (between c.args.time 18446744073709551615 ps) c.new-ends.ensures.first
           ∙ ap first_of (late-is c.args.time ps it.chunk.fine) ∙ sym (there g at);
-      counted = omega (arith, c.scan.ensures.counted);
-      bounded = omega (arith, c.scan.ensures.bounded, ap length it.here, longest-at c.before-2.result c.args.self.now.pieces);
+      steps = record {
+        counted = omega (arith, c.scan.ensures.counted);
+        bounded = omega (arith, c.scan.ensures.bounded, ap length it.here, longest-at c.before-2.result c.args.self.now.pieces);
+      };
     }

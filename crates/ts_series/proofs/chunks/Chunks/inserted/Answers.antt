@@ -22,10 +22,13 @@ one g c =
     c.requires.late b.within b.earlier b.reached in
     one-at g.C.Chunk.list g.C.Chunk.most c.self.inside.chunks.items c.args.self.now c.self.view_is c.self.invariant c.before-place.result c.index.result.now inside c.index.ensures
 
-pub returns-in_err-chunks-clause-bounded : goal.returns-in_err-chunks-clause-bounded
-returns-in_err-chunks-clause-bounded g c =
-    let at = goal.at.returns-in_err-chunks-clause-bounded g c in
-    omega (arith, c.upsert.ensures.bounded, piece-short (one g at.After-upsert))
+pub returns-in_err-chunks-clause-steps : goal.returns-in_err-chunks-clause-steps
+returns-in_err-chunks-clause-steps g c =
+    let at = goal.at.returns-in_err-chunks-clause-steps g c in
+    record {
+      counted = c.upsert.ensures.steps.counted;
+      bounded = omega (arith, c.upsert.ensures.steps.bounded, piece-short (one g at.After-upsert));
+    }
 
 pub invariant_of-result : goal.invariant_of-result
 invariant_of-result g c =
@@ -48,6 +51,8 @@ returns g c =
       nothing_appended = refl;
       limits = new.among;
       list = inserted-list now kept p time c.requires.late b.within b.earlier b.reached (map g.C.Chunk.list cs) (omega arith) new.list;
-      counted = c.upsert.ensures.counted;
-      bounded = omega (arith, c.upsert.ensures.bounded, piece-short here);
+      steps = record {
+        counted = c.upsert.ensures.steps.counted;
+        bounded = omega (arith, c.upsert.ensures.steps.bounded, piece-short here);
+      };
     }

@@ -17,18 +17,28 @@ last g c =
     let within : c.args.end ≤ length c.args.self.now.pieces = c.requires.within in
     one-at g.C.Chunk.list g.C.Chunk.most c.self.inside.chunks.items c.args.self.now c.self.view_is c.self.invariant (c.args.end - 1) c.index-2.result.now (omega arith) c.index-2.ensures
 
-pub returns-in_err-chunks-clause-bounded : goal.returns-in_err-chunks-clause-bounded
-returns-in_err-chunks-clause-bounded g c = omega (arith, c.without.ensures.bounded, piece-short (first g (goal.at.returns-in_err-chunks-clause-bounded g c).After-without))
+pub returns-in_err-chunks-clause-steps : goal.returns-in_err-chunks-clause-steps
+returns-in_err-chunks-clause-steps g c =
+    record {
+      counted = c.without.ensures.steps.counted;
+      bounded = omega (arith, c.without.ensures.steps.bounded, piece-short (first g (goal.at.returns-in_err-chunks-clause-steps g c).After-without));
+    }
 
-pub returns-in_err-rest-clause-bounded : goal.returns-in_err-rest-clause-bounded
-returns-in_err-rest-clause-bounded g c =
-    let at = goal.at.returns-in_err-rest-clause-bounded g c in
-    omega (arith, c.without.ensures.bounded, c.without-2.ensures.bounded, piece-short (first g at.After-without), piece-short (last g at.After-without-2))
+pub returns-in_err-rest-clause-steps : goal.returns-in_err-rest-clause-steps
+returns-in_err-rest-clause-steps g c =
+    let at = goal.at.returns-in_err-rest-clause-steps g c in
+    record {
+      counted = omega (arith, c.without.ensures.steps.counted, c.without-2.ensures.steps.counted);
+      bounded = omega (arith, c.without.ensures.steps.bounded, c.without-2.ensures.steps.bounded, piece-short (first g at.After-without), piece-short (last g at.After-without-2));
+    }
 
-pub returns-in_err-append-clause-bounded : goal.returns-in_err-append-clause-bounded
-returns-in_err-append-clause-bounded g c =
-    let at = goal.at.returns-in_err-append-clause-bounded g c in
-    omega (arith, c.without.ensures.bounded, c.without-2.ensures.bounded, piece-short (first g at.After-without), piece-short (last g at.After-without-2))
+pub returns-in_err-append-clause-steps : goal.returns-in_err-append-clause-steps
+returns-in_err-append-clause-steps g c =
+    let at = goal.at.returns-in_err-append-clause-steps g c in
+    record {
+      counted = omega (arith, c.without.ensures.steps.counted, c.without-2.ensures.steps.counted);
+      bounded = omega (arith, c.without.ensures.steps.bounded, c.without-2.ensures.steps.bounded, piece-short (first g at.After-without), piece-short (last g at.After-without-2));
+    }
 
 pub returns-then-start-end-2 : goal.returns-then-start-end-2
 returns-then-start-end-2 g c =
@@ -40,8 +50,10 @@ returns-then-start-end-2 g c =
       chunks = new.chunks;
       limits = new.among;
       lengths = longest-cut c.args.start now.pieces (map g.C.Chunk.list c.in_ok-chunks.chunks.items) c.args.from c.args.to new.list;
-      counted = c.without.ensures.counted;
-      bounded = omega (arith, c.without.ensures.bounded, piece-short one);
+      steps = record {
+        counted = c.without.ensures.steps.counted;
+        bounded = omega (arith, c.without.ensures.steps.bounded, piece-short one);
+      };
     }
 
 pub returns : goal.returns
@@ -64,6 +76,8 @@ returns g c =
       limits = both.among;
       lengths = both-short g.C.Chunk.list g.C.Chunk.most cs ds all c.in_ok-append.ensures.items (longest now.pieces)
           (longest-cut c.args.start now.pieces (map g.C.Chunk.list cs) from to front.list) (longest-cut (c.args.end - 1) now.pieces (map g.C.Chunk.list ds) from to back.list);
-      counted = omega (arith, c.without.ensures.counted, c.without-2.ensures.counted);
-      bounded = omega (arith, c.without.ensures.bounded, c.without-2.ensures.bounded, piece-short one, piece-short two);
+      steps = record {
+        counted = omega (arith, c.without.ensures.steps.counted, c.without-2.ensures.steps.counted);
+        bounded = omega (arith, c.without.ensures.steps.bounded, c.without-2.ensures.steps.bounded, piece-short one, piece-short two);
+      };
     }

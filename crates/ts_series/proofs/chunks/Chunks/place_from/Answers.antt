@@ -3,9 +3,12 @@ use Rattle.ts_series.proofs.Joined.{longest-at}
 use Rattle.ts_series.proofs.Answering.{piece}
 use Rattle.ts_series.proofs.chunks.Chunks.place_from.Goals as goal
 
-pub returns-in-Some-clause-bounded : goal.returns-in-Some-clause-bounded
-returns-in-Some-clause-bounded g c =
+pub returns-in-Some-clause-steps : goal.returns-in-Some-clause-steps
+returns-in-Some-clause-steps g c =
     let h = c.in-Some.ensures in
     let it = piece g.C.Chunk.format g.C.Chunk.list g.C.Chunk.most c.self.inside.chunks.items _ c.self.inside.count c.args.self.now c.self.view_is c.self.invariant
     c.args.at c.in-Some.chunk.now (omega (arith, h.variant.0)) h.lookup in
-    omega (arith, c.place_from.ensures.bounded, ap length it.here, longest-at c.args.at c.args.self.now.pieces)
+    record {
+      counted = c.place_from.ensures.steps.counted;
+      bounded = omega (arith, c.place_from.ensures.steps.bounded, ap length it.here, longest-at c.args.at c.args.self.now.pieces);
+    }

@@ -41,8 +41,10 @@ returns-then-start-end-2 g c =
           (ap (outside c.args.from c.args.to) one.piece ∙ sym (left-one c.args.from c.args.to c.args.start c.args.end c.args.self.now.pieces c.if-start-end-2.true c.requires.within))
           c.left_of.ensures.list;
       unread = c.left_of.ensures.unread;
-      counted = c.left_of.ensures.counted;
-      bounded = omega (arith, c.left_of.ensures.bounded, piece-short one);
+      steps = record {
+        counted = c.left_of.ensures.steps.counted;
+        bounded = omega (arith, c.left_of.ensures.steps.bounded, piece-short one);
+      };
     }
 
 pub returns : goal.returns
@@ -60,6 +62,8 @@ returns g c =
           ∙ sym (left-two from to c.args.start c.args.end now.pieces c.requires more))
           c.left_of_both.ensures.list;
       unread = c.left_of_both.ensures.unread;
-      counted = c.left_of_both.ensures.counted;
-      bounded = omega (arith, c.left_of_both.ensures.bounded, piece-short one, piece-short (last g at.After-index-2));
+      steps = record {
+        counted = c.left_of_both.ensures.steps.counted;
+        bounded = omega (arith, c.left_of_both.ensures.steps.bounded, piece-short one, piece-short (last g at.After-index-2));
+      };
     }
