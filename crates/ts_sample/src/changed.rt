@@ -1,5 +1,5 @@
 // New chunks for a chunk whose samples change, by the one rule for all formats.
-ghost use Rattle.std.specs.Prelude.{◌≡◌, ◌+◌, ◌≤◌, ◌<◌, length, map, IfOk, vec_len, vec_capacity};
+ghost use Rattle.std.specs.Prelude.{◌≡◌, ◌<◌, length, map, IfOk, vec_len, vec_capacity};
 ghost use Rattle.ts_spec.specs.Sample.{IsAscending, outside, put};
 ghost use Rattle.ts_sample.specs.Chunk.{IsCut, HaveLimit};
 ghost use Rattle.ts_sample.specs.Steps.{Takes};

@@ -1,5 +1,5 @@
 // New options of a series, and the samples that a new retention drops.
-ghost use Rattle.std.specs.Prelude.{◌≡◌, ℕ, ◌≤◌, ◌+◌, ◌*◌, nat_le, IfOk};
+ghost use Rattle.std.specs.Prelude.{◌≡◌, ℕ, ◌*◌, nat_le, IfOk};
 ghost use Rattle.ts_spec.specs.Sample.{at_times};
 ghost use Rattle.ts_sample.specs.Chunk.{joined};
 ghost use Rattle.ts_sample.specs.Steps.{Takes};

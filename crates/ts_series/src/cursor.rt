@@ -1,5 +1,5 @@
 // Reading on over the samples of a series, of either encoding.
-ghost use Rattle.std.specs.Prelude.{◌≡◌, ◌≤◌, ◌+◌, nat_le, length, drop};
+ghost use Rattle.std.specs.Prelude.{◌≡◌, nat_le, length, drop};
 ghost use Rattle.ts_spec.specs.Sample.{at_times, first_of};
 ghost use Rattle.ts_sample.specs.Steps.{Takes};
 ghost use Rattle.ts_series.specs.History.{list_of, reach};

@@ -1,5 +1,5 @@
 // A deletion of an interval.
-ghost use Rattle.std.specs.Prelude.{◌≤◌, ◌+◌, ◌*◌, IfOk, length};
+ghost use Rattle.std.specs.Prelude.{◌*◌, IfOk, length};
 ghost use Rattle.ts_spec.specs.Sample.{between};
 ghost use Rattle.ts_sample.specs.Steps.{Takes};
 ghost use Rattle.ts_series.specs.History.{list_of, reach};

@@ -1,5 +1,5 @@
 // Plans of a write at a time that is not past the last sample.
-ghost use Rattle.std.specs.Prelude.{◌≡◌, ◌≢◌, ℕ, ◌≤◌, ◌+◌, ◌*◌, None, Some, IfOk};
+ghost use Rattle.std.specs.Prelude.{◌≡◌, ◌≢◌, ℕ, ◌≤◌, ◌*◌, None, Some, IfOk};
 ghost use Rattle.ts_spec.specs.Sample.{at};
 ghost use Rattle.ts_spec.specs.Rules.{merge};
 ghost use Rattle.ts_spec.specs.Step.{value_at};

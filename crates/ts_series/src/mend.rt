@@ -1,5 +1,5 @@
 // Rows in the place of the samples of an interval, by which rules mend their destinations.
-ghost use Rattle.std.specs.Prelude.{◌≡◌, ◌≤◌, ◌+◌, ◌*◌, nat_lt, nat_le, length, IfOk};
+ghost use Rattle.std.specs.Prelude.{◌≡◌, ◌*◌, nat_lt, nat_le, length, IfOk};
 ghost use Rattle.ts_spec.specs.Sample.{IsAscending, at_times, between, outside, put_all};
 ghost use Rattle.ts_spec.specs.Mending.{high_with};
 ghost use Rattle.ts_sample.specs.Chunk.{joined};

@@ -1,5 +1,5 @@
 // Rows that take the place of the samples of an interval, in chunks.
-ghost use Rattle.std.specs.Prelude.{◌≡◌, ◌≤◌, ◌+◌, ◌*◌, ◌∷◌, [], length, IfOk};
+ghost use Rattle.std.specs.Prelude.{◌≡◌, ◌≤◌, ◌*◌, ◌∷◌, [], length, IfOk};
 ghost use Rattle.ts_spec.specs.Sample.{IsAscending, between, last_of, outside, put_all};
 ghost use Rattle.ts_sample.specs.Chunk.{IsLimit, IsPast, joined};
 ghost use Rattle.ts_sample.specs.Steps.{Takes};

@@ -1,5 +1,5 @@
 // One row at its time, among chunks.
-ghost use Rattle.std.specs.Prelude.{◌≡◌, ◌≤◌, ◌+◌, ◌*◌, true, false, None, length, IfOk};
+ghost use Rattle.std.specs.Prelude.{◌≡◌, ◌*◌, true, false, None, length, IfOk};
 ghost use Rattle.ts_spec.specs.Sample.{between, last_of, put};
 ghost use Rattle.ts_sample.specs.Chunk.{IsLimit, IsPast, joined};
 ghost use Rattle.ts_sample.specs.Steps.{Takes};
