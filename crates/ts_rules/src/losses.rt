@@ -1,5 +1,5 @@
 // How many samples of a destination stand for buckets that lose a sample, told without memory.
-ghost use Rattle.std.specs.Prelude.{◌≡◌, ◌<◌, ◌≤◌, ◌+◌, ◌^◌, ◌&&◌, ◌==◌, if◌then◌else◌, length};
+ghost use Rattle.std.specs.Prelude.{◌≡◌, ◌<◌, ◌+◌, ◌^◌, ◌&&◌, ◌==◌, if◌then◌else◌, length};
 ghost use Rattle.ts_spec.specs.Sample.{IsAscending, at_times};
 ghost use Rattle.ts_spec.specs.Rules.{is_past};
 ghost use Rattle.ts_spec.specs.Mending.{lies_in};

@@ -1,5 +1,5 @@
 // The starts of the buckets that hold one of some samples, which go.
-ghost use Rattle.std.specs.Prelude.{◌≡◌, ℕ, ◌≤◌, ◌+◌, ◌*◌, length, IfOk};
+ghost use Rattle.std.specs.Prelude.{◌≡◌, ℕ, ◌+◌, ◌*◌, length, IfOk};
 ghost use Rattle.std.specs.List.Sorted.{IsNonDecreasing};
 ghost use Rattle.ts_spec.specs.Sample.{between};
 ghost use Rattle.ts_spec.specs.Answer.{is_listed};

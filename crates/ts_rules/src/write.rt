@@ -1,5 +1,5 @@
 // What a write to a source comes to for a rule of it.
-ghost use Rattle.std.specs.Prelude.{◌≡◌, ◌≤◌, ◌+◌, ◌^◌, ◌<◌, true, [], if◌then◌else◌};
+ghost use Rattle.std.specs.Prelude.{◌≡◌, ◌^◌, ◌<◌, true, [], if◌then◌else◌};
 ghost use Rattle.ts_spec.specs.Sample.{put};
 ghost use Rattle.ts_spec.specs.Bucket.{start as start_of};
 ghost use Rattle.ts_spec.specs.Aggregate.{nothing, push};

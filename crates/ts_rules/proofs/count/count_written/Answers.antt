@@ -32,14 +32,17 @@ returns-clause-running g c =
     c.known-3.ensures c.known.ensures.kept.ascending c.known.ensures.times c.known-2.ensures.time (ap (λ (p : Point). p.time) c.wrote.view_is) c.start_of-first.ensures c.last_of-last.ensures c.new-counted.ensures.empty
     c.scan_until.new.visit c.sample.new.self c.scan_until.ensures.visited c.sample.ensures c.scan.new.visit c.scan.ensures.visited c.new-counted.ensures.visited
 
-pub returns-clause-bounded : goal.returns-clause-bounded
-returns-clause-bounded g c =
+pub returns-clause-steps : goal.returns-clause-steps
+returns-clause-steps g c =
     let grid = c.args.rule.now.grid in
     let ps = list_of c.args.source.now in
-    omega (
-      arith,
-      c.scan_until.ensures.bounded,
-      c.scan.ensures.bounded,
-      around grid c.known-3.ensures c.wrote.inside.time c.start_of-first.result c.last_of-last.result ps c.start_of-first.ensures c.last_of-last.ensures,
-      ap (λ (p : Point). length (members grid (start grid p.time) ps)) c.wrote.view_is,
-    )
+    record {
+      counted = omega (arith, c.scan_until.ensures.steps.counted, c.scan.ensures.counted);
+      bounded = omega (
+        arith,
+        c.scan_until.ensures.steps.bounded,
+        c.scan.ensures.bounded,
+        around grid c.known-3.ensures c.wrote.inside.time c.start_of-first.result c.last_of-last.result ps c.start_of-first.ensures c.last_of-last.ensures,
+        ap (λ (p : Point). length (members grid (start grid p.time) ps)) c.wrote.view_is,
+      );
+    }

@@ -40,7 +40,7 @@ pub returns-then-first-start_of-clause-bounded : goal.returns-then-first-start_o
 returns-then-first-start_of-clause-bounded g c =
     omega (
       arith,
-      c.scan_until.ensures.bounded,
+      c.scan_until.ensures.steps.bounded,
       c.scan.ensures.bounded,
       around-span c.args.rule.now.grid c.known-2.ensures c.args.from c.args.to c.start_of-first.result c.last_of-last.result (list_of c.args.source.now) c.requires.order c.start_of-first.ensures c.last_of-last.ensures,
     )
@@ -67,7 +67,7 @@ pub returns-clause-bounded : goal.returns-clause-bounded
 returns-clause-bounded g c =
     omega (
       arith,
-      c.scan_until.ensures.bounded,
+      c.scan_until.ensures.steps.bounded,
       c.scan-2.ensures.bounded,
       around-span c.args.rule.now.grid c.known-2.ensures c.args.from c.args.to c.start_of-first.result c.last_of-last.result (list_of c.args.source.now) c.requires.order c.start_of-first.ensures c.last_of-last.ensures,
     )

@@ -66,17 +66,19 @@ returns g c =
     record {
       full = full-after c.args.rule.now c.args.source.now c.args.dest.now c.args.from c.args.to c.known.ensures.kept.ascending
           (rows g at) c.edge-edge.ensures c.start_of.ensures c.start_of-last.ensures (shown g at) (removed g at) c.count_from.ensures.count c.count_from-2.ensures.count c.args.limit;
-      counted = omega (arith, c.new-gone.ensures.counted, c.new-ends.ensures.counted, c.new-shown.ensures.counted, c.count_lost-removed.ensures.counted, c.count_from.ensures.counted);
-      bounded = omega (
-        arith,
-        c.new-gone.ensures.bounded,
-        c.new-ends.ensures.bounded,
-        c.new-shown.ensures.bounded,
-        c.count_lost-removed.ensures.bounded,
-        c.count_from.ensures.bounded,
-        ap (λ (ps : List Point). length ps) c.new-gone.ensures.left,
-        few,
-        between-longer (start grid c.args.from) (start grid c.args.to) c.args.to (list_of c.args.dest.now) (start-le grid c.args.to c.known-3.ensures.some),
-        some-reach c.args.dest.now,
-      );
+      steps = record {
+        counted = omega (arith, c.new-gone.ensures.steps.counted, c.new-ends.ensures.counted, c.new-shown.ensures.steps.counted, c.count_lost-removed.ensures.steps.counted, c.count_from.ensures.steps.counted);
+        bounded = omega (
+          arith,
+          c.new-gone.ensures.steps.bounded,
+          c.new-ends.ensures.bounded,
+          c.new-shown.ensures.steps.bounded,
+          c.count_lost-removed.ensures.steps.bounded,
+          c.count_from.ensures.steps.bounded,
+          ap (λ (ps : List Point). length ps) c.new-gone.ensures.left,
+          few,
+          between-longer (start grid c.args.from) (start grid c.args.to) c.args.to (list_of c.args.dest.now) (start-le grid c.args.to c.known-3.ensures.some),
+          some-reach c.args.dest.now,
+        );
+      };
     }

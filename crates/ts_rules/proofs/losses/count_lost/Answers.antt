@@ -18,8 +18,8 @@ loop-lost-preserved-then-start-sample g c =
       shown = c.loop-lost.invariant.shown;
       met = ap (λ n. c.loop-lost.count + n) same ∙ c.loop-lost.invariant.met;
       few = c.loop-lost.invariant.few;
-      counted = omega (arith, c.loop-lost.invariant.counted, c.advance.ensures.counted);
-      bounded = omega (arith, c.loop-lost.invariant.bounded, c.advance.ensures.bounded, shorter, left);
+      counted = omega (arith, c.loop-lost.invariant.counted, c.advance.ensures.steps.counted);
+      bounded = omega (arith, c.loop-lost.invariant.bounded, c.advance.ensures.steps.bounded, shorter, left);
     }
 
 pub loop-lost-preserved : goal.loop-lost-preserved
@@ -37,8 +37,8 @@ loop-lost-preserved g c =
       shown = subst IsAscending (sym c.advance-else-start-sample.ensures.left) (ascending-rest c.loop-lost.shown c.loop-lost.invariant.shown);
       met = omega (arith, same, c.loop-lost.invariant.met);
       few = omega (arith, c.loop-lost.invariant.few, most, shorter, left);
-      counted = omega (arith, c.loop-lost.invariant.counted, c.advance-else-start-sample.ensures.counted);
-      bounded = omega (arith, c.loop-lost.invariant.bounded, c.advance-else-start-sample.ensures.bounded, shorter, left);
+      counted = omega (arith, c.loop-lost.invariant.counted, c.advance-else-start-sample.ensures.steps.counted);
+      bounded = omega (arith, c.loop-lost.invariant.bounded, c.advance-else-start-sample.ensures.steps.bounded, shorter, left);
     }
 
 pub returns-clause-count : goal.returns-clause-count

@@ -41,8 +41,10 @@ returns-in-Ok g c =
     let at = (goal.at.returns-in-Ok g c).After-min-to in
     record {
       planned = clamped g at c.planned_in.result c.planned_in.ensures.planned;
-      counted = c.planned_in.ensures.counted;
-      bounded = omega (arith, c.planned_in.ensures.bounded, fewer g at);
+      steps = record {
+        counted = c.planned_in.ensures.steps.counted;
+        bounded = omega (arith, c.planned_in.ensures.steps.bounded, fewer g at);
+      };
     }
 
 pub returns-then-is_full : goal.returns-then-is_full
@@ -50,8 +52,10 @@ returns-then-is_full g c =
     let at = (goal.at.returns-then-is_full g c).After-min-to in
     record {
       planned = clamped g at (Err Full) (ltb-true c.args.limit _ (sym c.is_full.ensures.full ∙ c.if-is_full.true));
-      counted = c.is_full.ensures.counted;
-      bounded = omega (arith, c.is_full.ensures.bounded, fewer g at);
+      steps = record {
+        counted = c.is_full.ensures.steps.counted;
+        bounded = omega (arith, c.is_full.ensures.steps.bounded, fewer g at);
+      };
     }
 
 pub returns-else-is_full : goal.returns-else-is_full
@@ -59,6 +63,8 @@ returns-else-is_full g c =
     let at = (goal.at.returns-else-is_full g c).After-min-to in
     record {
       planned = clamped g at (Err (Memory c.in-Err.fault)) (not-past c.args.limit _ (sym c.is_full.ensures.full ∙ c.if-is_full.false));
-      counted = c.is_full.ensures.counted;
-      bounded = omega (arith, c.is_full.ensures.bounded, fewer g at);
+      steps = record {
+        counted = c.is_full.ensures.steps.counted;
+        bounded = omega (arith, c.is_full.ensures.steps.bounded, fewer g at);
+      };
     }

@@ -14,9 +14,12 @@ returns-then-is_empty-clause-planned g c =
     (none-lies c.args.rule.now.grid gone c.starts-lost.result.items (λ b. c.starts-lost.ensures.lies b ∙ ap (λ g. lies_in g gone b) c.requires.lost.grid) (omega (arith, none, c.starts-lost.result.ok.0)))
     c.known.ensures.kept c.requires.fits c.unchanged.result c.unchanged.ensures.rule c.unchanged.ensures.dest
 
-pub returns-then-is_empty-clause-bounded : goal.returns-then-is_empty-clause-bounded
-returns-then-is_empty-clause-bounded g c =
-    omega (arith, c.starts-lost.ensures.bounded, between-in-buckets c.args.rule.now.grid c.args.from c.args.to c.args.to (list_of c.args.source.now) (omega arith))
+pub returns-then-is_empty-clause-steps : goal.returns-then-is_empty-clause-steps
+returns-then-is_empty-clause-steps g c =
+    record {
+      counted = c.starts-lost.ensures.steps.counted;
+      bounded = omega (arith, c.starts-lost.ensures.steps.bounded, between-in-buckets c.args.rule.now.grid c.args.from c.args.to c.args.to (list_of c.args.source.now) (omega arith));
+    }
 
 pub returns-clause-planned : goal.returns-clause-planned
 returns-clause-planned g c = (c.rule_left-rule.ensures, c.in_ok-dest.ensures.mended)

@@ -72,14 +72,17 @@ returns-clause-mended g c =
     dest-mended d.rule.now d.source.now c.args.dest.now d.from d.to d.in_order c.known-2.ensures.kept.ascending c.known-3.ensures.kept c.args.limit c.mended.result
     (subst (λ (s : ℕ × ℕ × List Point). IsMending c.args.limit (is_within s.0 s.1) s.2 c.args.dest.now c.mended.result) (span g (goal.at.returns-clause-mended g c).After-deref) c.mended.ensures.mended)
 
-pub returns-clause-bounded : goal.returns-clause-bounded
-returns-clause-bounded g c =
+pub returns-clause-steps : goal.returns-clause-steps
+returns-clause-steps g c =
     let grid = c.args.self.now.rule.now.grid in
     let upto : c.start_of-last.result ≤ c.args.self.now.to = omega (arith, c.start_of-last.ensures, start-le grid c.args.self.now.to c.known.ensures.some) in
-    omega (
-      arith,
-      c.span_left-rows.ensures.bounded,
-      c.mended.ensures.bounded,
-      ap (λ n. length (between n c.start_of-last.result (list_of c.args.dest.now))) c.start_of-first.ensures,
-      between-longer (start grid c.args.self.now.from) c.start_of-last.result c.args.self.now.to (list_of c.args.dest.now) upto,
-    )
+    record {
+      counted = omega (arith, c.span_left-rows.ensures.steps.counted, c.mended.ensures.steps.counted);
+      bounded = omega (
+        arith,
+        c.span_left-rows.ensures.steps.bounded,
+        c.mended.ensures.steps.bounded,
+        ap (λ n. length (between n c.start_of-last.result (list_of c.args.dest.now))) c.start_of-first.ensures,
+        between-longer (start grid c.args.self.now.from) c.start_of-last.result c.args.self.now.to (list_of c.args.dest.now) upto,
+      );
+    }
