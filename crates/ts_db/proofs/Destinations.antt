@@ -19,7 +19,7 @@ use Rattle.ts_db.specs.Faults.{key_among, key_with, full_refusal, refusal_of}
 use Rattle.ts_db.specs.Feeding.{Rows, Gone}
 use Rattle.ts_db.specs.Held.{IsLive as IsLiveNumber, YieldsToMemory, IsFullAt, IsOwn}
 use Rattle.ts_db.specs.Planning.{fed_list, first_full, IsUnplanned}
-use Rattle.ts_db.specs.Store.{key_at, key_in, stock_of, IsLive, AreLive, IsInOrder}
+use Rattle.ts_db.specs.Store.{key_at, key_in, number_of, stock_of, IsLive, AreLive, IsInOrder, Holds}
 use Rattle.ts_db.specs.Answering.{IsKeptAnswer}
 use Rattle.ts_db.proofs.Collecting.{get-ids, id-same}
 
@@ -54,6 +54,13 @@ module _ (s : Store) (store : IsInOrder s) (i : Id) (live : IsLive s.nodes i) wh
       among (stock_of s).ids.entries (stock_of s).ids.sorted live.node.key i numbered
       (λ j is. sym (store.named j i live.node (sym (get-ids j s.keys.entries) ∙ is) live.there))
       ∙ sym (ap key_at live.there)
+
+  -- it has that number, and no other key has it
+  pub key-holds : Holds s (key_in s.nodes i) i live.node
+  key-holds = record { number = ap (λ (k : Key). number_of k s.keys.entries) (ap key_at live.there) ∙ store.owned i.0 live.node live.there; node = live.there }
+
+  pub only-key : (k : Key) → number_of k s.keys.entries ≡ Some i → key_in s.nodes i ≡ k
+  only-key k is = ap key_at live.there ∙ store.named k i live.node is live.there
 
   pub live-number : IsLiveNumber (stock_of s).ids i
   live-number = record { key = live.node.key; is = numbered }

@@ -43,13 +43,13 @@ rows_by_work (Write p) source = written_row p (put p (list_of source))
 rows_by_work (Delete from to) source = deleted_rows (between from to (list_of source)) (outside from to (list_of source))
 
 -- a rule has room for what it takes
-abbrev pub Takes : Work → (source : History) → Rule → Type 0
-Takes (Write p) source r = TakesAppended r source p
-Takes (Delete from to) source r = ⊤
+abbrev pub TakesWork : Work → (source : History) → Rule → Type 0
+TakesWork (Write p) source r = TakesAppended r source p
+TakesWork (Delete from to) source r = ⊤
 
 abbrev pub AllTake : Work → (source : History) → List Rule → Type 0
 AllTake work source [] = ⊤
-AllTake work source (r ∷ rs) = Takes work source r × AllTake work source rs
+AllTake work source (r ∷ rs) = TakesWork work source r × AllTake work source rs
 
 -- ---- plans
 

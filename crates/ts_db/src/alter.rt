@@ -1,5 +1,5 @@
 // TS.ALTER on the store: new options and labels, and what a new retention comes to for rules and destinations.
-ghost use Rattle.std.specs.Prelude.{◌≡◌, ◌≤◌, None, IfOk, IfErr, OnErr, ◌+◌, ◌*◌};
+ghost use Rattle.std.specs.Prelude.{◌≡◌, None, IfOk, IfErr, OnErr, ◌*◌};
 ghost use Rattle.ts_spec.specs.Keyed.{get};
 ghost use Rattle.ts_spec.specs.KeptStep.{kept_alter_at};
 ghost use Rattle.ts_sample.specs.Steps.{Takes};

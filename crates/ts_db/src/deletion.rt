@@ -1,5 +1,5 @@
 // TS.DEL on the store: samples are taken out, and the destinations of rules are mended.
-ghost use Rattle.std.specs.Prelude.{◌≡◌, ◌≤◌, [], length, Some, IfOk, IfErr, ◌+◌};
+ghost use Rattle.std.specs.Prelude.{◌≡◌, ◌≤◌, [], length, Some, IfOk, IfErr};
 ghost use Rattle.ts_spec.specs.Key.{Key};
 ghost use Rattle.ts_spec.specs.Keyed.{get};
 ghost use Rattle.ts_spec.specs.Mending.{keep_deleted};
@@ -10,7 +10,7 @@ ghost use Rattle.ts_sample.specs.Steps.{Takes};
 ghost use Rattle.ts_series.specs.History.{list_of};
 ghost use Rattle.ts_db.specs.declared.node.Node.{Node as TheNode};
 ghost use Rattle.ts_db.specs.Held.{IsOwn};
-ghost use Rattle.ts_db.specs.Store.{rules_by, stock_of, number_of, IsInOrder, IsDb, IsThere, Holds};
+ghost use Rattle.ts_db.specs.Store.{key_in, rules_by, stock_of, number_of, IsInOrder, IsDb, IsThere, Holds};
 ghost use Rattle.ts_db.specs.Answering.{KeptNumber};
 ghost use Rattle.ts_db.specs.Bounds.{deletion_steps};
 
@@ -72,8 +72,7 @@ impl Store {
         ensures bounded { IfOk result (λ n. n ≤ MAX_TIME) }
         ensures own { (key : Key) → number_of key self.old.keys.entries ≡ Some id → IfErr result (IsOwn (stock_of self.old) key) }
         ensures store { IsInOrder self.new }
-        ensures counted { steps.old ≤ steps.new }
-        ensures steps { (key : Key) → number_of key self.old.keys.entries ≡ Some id → steps.new ≤ steps.old + deletion_steps (stock_of self.old) key from to }
+        ensures steps { Takes steps.old steps.new (deletion_steps (stock_of self.old) (key_in self.old.nodes id) from to) }
     {
         let Some(node) = self.nodes.get(id.0) else {
             unreachable!();

@@ -1,5 +1,5 @@
 // What is told of a series and of how it is kept.
-ghost use Rattle.std.specs.Prelude.{◌≡◌, ◌≤◌, map, option_map, Some, IfOk, ◌+◌, ◌*◌};
+ghost use Rattle.std.specs.Prelude.{◌≡◌, map, option_map, Some, IfOk, ◌*◌};
 ghost use Rattle.ts_spec.specs.KeptQuestions.{kept_rule_info, kept_info_response};
 ghost use Rattle.ts_spec.specs.Questions.{time_or_0};
 ghost use Rattle.ts_spec.specs.Response.{Told};

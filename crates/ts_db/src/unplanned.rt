@@ -1,9 +1,9 @@
 // Work for which there was no memory: whether the destination of a rule would be full is told all the same.
-ghost use Rattle.std.specs.Prelude.{◌≡◌, ◌≤◌, false, nat_lt, length, ◌+◌};
+ghost use Rattle.std.specs.Prelude.{◌≡◌, false, nat_lt, length};
 ghost use Rattle.ts_sample.specs.Steps.{Takes};
 ghost use Rattle.slab.specs.Slab as slab;
 ghost use Rattle.ts_db.specs.declared.fault.DbFault.TheVariants.{SamplesFull};
-ghost use Rattle.ts_db.specs.Planning.{gone_by, rows_by_work, Takes, AllTake, fed_list, first_full, IsUnplanned, share_at, shares_of, IsEasyAt, AreEasyOf};
+ghost use Rattle.ts_db.specs.Planning.{gone_by, rows_by_work, TakesWork, AllTake, fed_list, first_full, IsUnplanned, share_at, shares_of, IsEasyAt, AreEasyOf};
 ghost use Rattle.ts_db.specs.Store.{IsInOrder, IsLive, AreLive};
 
 use crate::fault::DbFault;
@@ -50,7 +50,7 @@ impl Store {
     ) -> bool
         requires store { IsInOrder self.now }
         requires live { IsLive self.now.nodes rule.now.dest }
-        requires room { Takes work.now source.now rule.now }
+        requires room { TakesWork work.now source.now rule.now }
         ensures full { result ≡ nat_lt self.now.limits.samples (length (fed_list self.now.nodes (rows_by_work work.now source.now) (gone_by work.now source.now) rule.now)) }
         ensures steps { Takes steps.old steps.new (share_at work.now source.now rule.now (slab.get self.now.nodes rule.now.dest.0)) }
         ensures easy { IsEasyAt self.now.limits.samples work.now source.now rule.now (slab.get self.now.nodes rule.now.dest.0) → steps.new ≡ steps.old }

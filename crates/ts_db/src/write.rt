@@ -1,5 +1,5 @@
 // Writes of one sample on the store, by which destinations are mended too.
-ghost use Rattle.std.specs.Prelude.{◌≡◌, ◌≤◌, Some, IfOk, IfErr, ◌+◌};
+ghost use Rattle.std.specs.Prelude.{◌≡◌, ◌≤◌, Some, IfOk, IfErr};
 ghost use Rattle.ts_spec.specs.Sample.{MAX_TIME};
 ghost use Rattle.ts_spec.specs.Key.{Key};
 ghost use Rattle.ts_spec.specs.Keyed.{get};
@@ -9,7 +9,7 @@ ghost use Rattle.ts_labels.specs.Spec.{spec_of};
 ghost use Rattle.ts_series.specs.Put.{met};
 ghost use Rattle.ts_db.specs.declared.node.Node.{Node as TheNode};
 ghost use Rattle.ts_db.specs.Held.{IsOwn};
-ghost use Rattle.ts_db.specs.Store.{stock_of, number_of, IsInOrder, IsDb, IsThere, Holds};
+ghost use Rattle.ts_db.specs.Store.{key_in, stock_of, number_of, IsInOrder, IsDb, IsThere, Holds};
 ghost use Rattle.ts_db.specs.Answering.{KeptNumber};
 ghost use Rattle.ts_db.specs.Bounds.{write_steps, IsEasyAppend, IsIgnored};
 
@@ -67,8 +67,7 @@ impl Store {
         ensures time { IfOk result (λ t. t ≡ time) }
         ensures own { (key : Key) → number_of key self.old.keys.entries ≡ Some id → IfErr result (IsOwn (stock_of self.old) key) }
         ensures store { IsInOrder self.new }
-        ensures counted { steps.old ≤ steps.new }
-        ensures steps { (key : Key) → number_of key self.old.keys.entries ≡ Some id → steps.new ≤ steps.old + write_steps (stock_of self.old) key time }
+        ensures steps { Takes steps.old steps.new (write_steps (stock_of self.old) (key_in self.old.nodes id) time) }
         ensures easy { (key : Key) → number_of key self.old.keys.entries ≡ Some id → IsEasyAppend (stock_of self.old) key time → steps.new ≡ steps.old }
     {
         let Some(node) = self.nodes.get(id.0) else {

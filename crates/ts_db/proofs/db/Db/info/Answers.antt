@@ -60,8 +60,14 @@ returns-in-Err-clause-info g c =
 
 pub returns-in-Ok-clause-steps : goal.returns-in-Ok-clause-steps
 returns-in-Ok-clause-steps g c =
-    omega (arith, c.info_of.ensures.steps, far c.self.inside.store c.self.invariant.store c.args.self.now c.self.view_is c.args.key.now c.in-Some.id c.in-Some.ensures.id c.in-Some-get.node.now c.in-Some-get.ensures)
+    record {
+      counted = c.info_of.ensures.steps.counted;
+      bounded = omega (arith, c.info_of.ensures.steps.bounded, far c.self.inside.store c.self.invariant.store c.args.self.now c.self.view_is c.args.key.now c.in-Some.id c.in-Some.ensures.id c.in-Some-get.node.now c.in-Some-get.ensures);
+    }
 
 pub returns-in-Err-clause-steps : goal.returns-in-Err-clause-steps
 returns-in-Err-clause-steps g c =
-    omega (arith, c.info_of.ensures.steps, far c.self.inside.store c.self.invariant.store c.args.self.now c.self.view_is c.args.key.now c.in-Some.id c.in-Some.ensures.id c.in-Some-get.node.now c.in-Some-get.ensures)
+    record {
+      counted = c.info_of.ensures.steps.counted;
+      bounded = omega (arith, c.info_of.ensures.steps.bounded, far c.self.inside.store c.self.invariant.store c.args.self.now c.self.view_is c.args.key.now c.in-Some.id c.in-Some.ensures.id c.in-Some-get.node.now c.in-Some-get.ensures);
+    }

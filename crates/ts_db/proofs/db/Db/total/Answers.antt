@@ -54,4 +54,4 @@ returns-clause-steps g c =
     let there : HaveNodes nodes es = all-there nodes es es c.self.invariant.store.stored c.iter-key-items.ensures.found in
     let all : reach_of_all (stock_of c.self.inside.store) ≡ reaches nodes es =
     ap (sum_by (λ (e : Entry Kept). reach_at (stock_of c.self.inside.store) e.key)) (listing-entries nodes es c.iter-key-items.ensures.ordered there) ∙ reaches-listing nodes es es there c.iter-key-items.ensures.found in
-    rw (← c.self.view_is) (omega (arith, c.loop-key.invariant.steps, all))
+    rw (← c.self.view_is) (record { counted = c.loop-key.invariant.counted; bounded = omega (arith, c.loop-key.invariant.steps, all) })

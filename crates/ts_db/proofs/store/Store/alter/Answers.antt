@@ -49,12 +49,18 @@ returns-in-Err-clause-altered g c =
 pub returns-in-Ok-relabel-clause-steps : goal.returns-in-Ok-relabel-clause-steps
 returns-in-Ok-relabel-clause-steps g c =
     let holds : Holds c.args.self.now c.args.key.now c.in-Some.id c.in-Some-get.node.now = record { number = sym (c.in-Some.ensures ∙ c.get.ensures.value); node = sym c.in-Some-get.ensures } in
-    omega (arith, c.alter.ensures.bounded, reach-held c.args.self.now c.args.key.now c.in-Some.id c.in-Some-get.node.now holds)
+    record {
+      counted = c.alter.ensures.steps.counted;
+      bounded = omega (arith, c.alter.ensures.steps.bounded, reach-held c.args.self.now c.args.key.now c.in-Some.id c.in-Some-get.node.now holds);
+    }
 
 pub returns-in-Err-clause-steps : goal.returns-in-Err-clause-steps
 returns-in-Err-clause-steps g c =
     let holds : Holds c.args.self.now c.args.key.now c.in-Some.id c.in-Some-get.node.now = record { number = sym (c.in-Some.ensures ∙ c.get.ensures.value); node = sym c.in-Some-get.ensures } in
-    omega (arith, c.alter.ensures.bounded, reach-held c.args.self.now c.args.key.now c.in-Some.id c.in-Some-get.node.now holds)
+    record {
+      counted = c.alter.ensures.steps.counted;
+      bounded = omega (arith, c.alter.ensures.steps.bounded, reach-held c.args.self.now c.args.key.now c.in-Some.id c.in-Some-get.node.now holds);
+    }
 
 pub returns-in-Err-relabel-clause-altered : goal.returns-in-Err-relabel-clause-altered
 returns-in-Err-relabel-clause-altered g c =
@@ -66,4 +72,7 @@ returns-in-Err-relabel-clause-altered g c =
 pub returns-in-Err-relabel-clause-steps : goal.returns-in-Err-relabel-clause-steps
 returns-in-Err-relabel-clause-steps g c =
     let holds : Holds c.args.self.now c.args.key.now c.in-Some.id c.in-Some-get.node.now = record { number = sym (c.in-Some.ensures ∙ c.get.ensures.value); node = sym c.in-Some-get.ensures } in
-    omega (arith, c.alter.ensures.bounded, reach-held c.args.self.now c.args.key.now c.in-Some.id c.in-Some-get.node.now holds)
+    record {
+      counted = c.alter.ensures.steps.counted;
+      bounded = omega (arith, c.alter.ensures.steps.bounded, reach-held c.args.self.now c.args.key.now c.in-Some.id c.in-Some-get.node.now holds);
+    }

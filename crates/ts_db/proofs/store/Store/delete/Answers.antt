@@ -8,10 +8,10 @@ use Rattle.ts_series.proofs.Effects.{cuts-is}
 use Rattle.ts_db.specs.declared.node.Node.{Node}
 use Rattle.ts_db.specs.declared.work.Work.TheVariants.{Delete}
 use Rattle.ts_db.specs.Planning.{changed_by, gone_by, rows_by_work, shares_of}
-use Rattle.ts_db.specs.Store.{kept_at, contents_of, Contents, IsNode, Holds}
+use Rattle.ts_db.specs.Store.{key_in, kept_at, contents_of, Contents, IsNode, Holds}
 use Rattle.ts_db.specs.Answering.{node_after}
 use Rattle.ts_db.proofs.Known.{distinct, links}
-use Rattle.ts_db.proofs.Destinations.{destination-own}
+use Rattle.ts_db.proofs.Destinations.{key-holds, destination-own}
 use Rattle.ts_db.proofs.Working.{ArePlanned, planned-for, unplanned-for, changed-live, changed-grids, takes-deleted, is-feed, still-fed, worked}
 use Rattle.ts_db.proofs.Deleting.{cut-within, deleted-few, deleted-answers, undeleted-answers}
 use Rattle.ts_db.proofs.EasyWrites.{deletion-total}
@@ -115,19 +115,31 @@ returns-clause-bounded g c =
 -- ---- how much is decoded
 
 pub returns-in-Err-clause-steps : goal.returns-in-Err-clause-steps
-returns-in-Err-clause-steps g c key number =
-    let holds : Holds c.args.self.now key c.args.id c.in-Some.node.now = record { number = number; node = sym c.in-Some.ensures } in
+returns-in-Err-clause-steps g c =
+    let key = key_in c.args.self.now.nodes c.args.id in
+    let holds = key-holds c.args.self.now c.requires.db.store c.args.id (record { node = c.in-Some.node.now; there = sym c.in-Some.ensures }) in
     let rules = ap (shares_of c.args.self.now.nodes (Delete c.args.from c.args.to) c.in-Some.node.now.series) c.deref.ensures.value in
-    omega (arith, c.cut.ensures.bounded, c.unplanned.ensures.steps, rules, deletion-total c.args.self.now c.requires.db key c.args.id c.in-Some.node.now holds c.args.from c.args.to)
+    record {
+      counted = omega (arith, c.cut.ensures.steps.counted, c.unplanned.ensures.steps.counted);
+      bounded = omega (arith, c.cut.ensures.steps.bounded, c.unplanned.ensures.steps.bounded, rules, deletion-total c.args.self.now c.requires.db key c.args.id c.in-Some.node.now holds c.args.from c.args.to);
+    }
 
 pub returns-in-Err-plan_rules-clause-steps : goal.returns-in-Err-plan_rules-clause-steps
-returns-in-Err-plan_rules-clause-steps g c key number =
-    let holds : Holds c.args.self.now key c.args.id c.in-Some.node.now = record { number = number; node = sym c.in-Some.ensures } in
+returns-in-Err-plan_rules-clause-steps g c =
+    let key = key_in c.args.self.now.nodes c.args.id in
+    let holds = key-holds c.args.self.now c.requires.db.store c.args.id (record { node = c.in-Some.node.now; there = sym c.in-Some.ensures }) in
     let rules = ap (shares_of c.args.self.now.nodes (Delete c.args.from c.args.to) c.in-Some.node.now.series) c.deref-2.ensures.value in
-    omega (arith, c.cut.ensures.bounded, c.plan_rules.ensures.steps, rules, deletion-total c.args.self.now c.requires.db key c.args.id c.in-Some.node.now holds c.args.from c.args.to)
+    record {
+      counted = omega (arith, c.cut.ensures.steps.counted, c.plan_rules.ensures.steps.counted);
+      bounded = omega (arith, c.cut.ensures.steps.bounded, c.plan_rules.ensures.steps.bounded, rules, deletion-total c.args.self.now c.requires.db key c.args.id c.in-Some.node.now holds c.args.from c.args.to);
+    }
 
 pub returns-clause-steps : goal.returns-clause-steps
-returns-clause-steps g c key number =
-    let holds : Holds c.args.self.now key c.args.id c.in-Some.node.now = record { number = number; node = sym c.in-Some.ensures } in
+returns-clause-steps g c =
+    let key = key_in c.args.self.now.nodes c.args.id in
+    let holds = key-holds c.args.self.now c.requires.db.store c.args.id (record { node = c.in-Some.node.now; there = sym c.in-Some.ensures }) in
     let rules = ap (shares_of c.args.self.now.nodes (Delete c.args.from c.args.to) c.in-Some.node.now.series) c.deref-2.ensures.value in
-    omega (arith, c.cut.ensures.bounded, c.plan_rules.ensures.steps, rules, deletion-total c.args.self.now c.requires.db key c.args.id c.in-Some.node.now holds c.args.from c.args.to)
+    record {
+      counted = omega (arith, c.cut.ensures.steps.counted, c.plan_rules.ensures.steps.counted);
+      bounded = omega (arith, c.cut.ensures.steps.bounded, c.plan_rules.ensures.steps.bounded, rules, deletion-total c.args.self.now c.requires.db key c.args.id c.in-Some.node.now holds c.args.from c.args.to);
+    }

@@ -1,7 +1,11 @@
 use Rattle.std.proofs.Common.{true, false, refl, sym, ◌∙◌, ap, subst, lt-ltb, le-ltb}
 use Rattle.ts_spec.specs.KeptStep.{KeptOutcome, kept_delete_at}
+use Rattle.ts_spec.specs.Key.{Key}
+use Rattle.ts_sample.specs.Steps.{Takes}
 use Rattle.ts_db.specs.Store.{stock_of, Holds}
 use Rattle.ts_db.specs.Answering.{KeptNumber}
+use Rattle.ts_db.specs.Bounds.{deletion_steps}
+use Rattle.ts_db.proofs.Destinations.{only-key}
 use Rattle.ts_db.proofs.Storing.{missing}
 use Rattle.ts_db.proofs.Deleting.{expired-at, delete-crossed, delete-expired, delete-done}
 use Rattle.ts_db.proofs.store.Store.delete_range.Goals as goal
@@ -40,3 +44,8 @@ returns-clause-deleted g c =
     (sym (delete-done c.args.self.now c.requires.db.store c.args.key.now c.in-Some.id n holds c.args.from c.args.to (le-ltb c.args.to c.args.from c.if-to-from.false)
     (expired-at c.args.self.now n c.args.from c.edge.result c.deref.result.now c.meet_expired.result false c.edge.ensures c.deref.ensures.value c.meet_expired.ensures c.if-meet_expired.false)))
     (c.delete.ensures.deleted c.args.key.now n holds)
+
+pub returns-clause-steps : goal.returns-clause-steps
+returns-clause-steps g c =
+    subst (λ (key : Key). Takes c.args.steps.now c.delete.new.steps (deletion_steps (stock_of c.args.self.now) key c.args.from c.args.to))
+    (only-key c.args.self.now c.requires.db.store c.in-Some.id (record { node = c.in-Some-get.node.now; there = sym c.in-Some-get.ensures }) c.args.key.now (sym (c.in-Some.ensures ∙ c.get.ensures.value))) c.delete.ensures.steps

@@ -1,12 +1,16 @@
 use Rattle.std.proofs.Common.{◌≡◌, ◌≤◌, false, refl, sym, ◌∙◌, ap, subst, arith, lt-ltb, le-ltb}
 use Rattle.std.proofs.lemmas.Bool.{false≢true}
 use Rattle.std.specs.Prelude.{nat_lt, Option}
+use Rattle.ts_spec.specs.Key.{Key}
 use Rattle.ts_spec.specs.Kept.{Kept}
 use Rattle.ts_spec.specs.KeptStep.{KeptOutcome, kept_incr_at}
+use Rattle.ts_sample.specs.Steps.{Takes}
 use Rattle.ts_labels.specs.Spec.{spec_of}
 use Rattle.ts_series.specs.History.{low}
 use Rattle.ts_db.specs.Store.{stock_of, Holds}
 use Rattle.ts_db.specs.Answering.{KeptNumber}
+use Rattle.ts_db.specs.Bounds.{write_steps}
+use Rattle.ts_db.proofs.Destinations.{only-key}
 use Rattle.ts_db.proofs.Storing.{missing}
 use Rattle.ts_db.proofs.Ignoring.{ignored-upto}
 use Rattle.ts_db.proofs.Increasing.{incr-before, incr-old, incr-out, incr-write, incr-ignored, incr-not-ignored}
@@ -50,7 +54,9 @@ write-requires-clause-there g c =
     record { key = c.args.key; node = c.in-Some-get.node.now; holds = record { number = sym (c.in-Some.ensures ∙ c.get.ensures.value); node = sym c.in-Some-get.ensures } }
 
 pub returns-clause-steps : goal.returns-clause-steps
-returns-clause-steps g c = c.write.ensures.steps c.args.key (sym (c.in-Some.ensures ∙ c.get.ensures.value))
+returns-clause-steps g c =
+    subst (λ (key : Key). Takes c.args.steps.now c.write.new.steps (write_steps (stock_of c.args.self.now) key c.args.time))
+    (only-key c.args.self.now c.requires.db.store c.in-Some.id (record { node = c.in-Some-get.node.now; there = sym c.in-Some-get.ensures }) c.args.key (sym (c.in-Some.ensures ∙ c.get.ensures.value))) c.write.ensures.steps
 
 pub returns-clause-easy : goal.returns-clause-easy
 returns-clause-easy g c = c.write.ensures.easy c.args.key (sym (c.in-Some.ensures ∙ c.get.ensures.value))

@@ -1,5 +1,6 @@
-use Rattle.std.proofs.Common.{sym, subst, ◌≤◌, ◌+◌}
+use Rattle.std.proofs.Common.{sym, subst}
 use Rattle.std.specs.Prelude.{Option}
+use Rattle.ts_sample.specs.Steps.{Takes}
 use Rattle.ts_db.specs.Planning.{share_at}
 use Rattle.ts_db.proofs.Planned.{planned-changed, planned-fed, planned-fits, planned-refused}
 use Rattle.ts_db.specs.declared.node.Node.{Node}
@@ -25,4 +26,4 @@ pub made_plan-requires-clause-fits : goal.made_plan-requires-clause-fits
 made_plan-requires-clause-fits g c = (c.requires.store.each c.args.rule.now.dest.0 c.in-Some.dest.now (sym c.in-Some.ensures)).within
 
 pub returns-clause-steps : goal.returns-clause-steps
-returns-clause-steps g c = subst (λ (o : Option Node). c.made_plan.new.steps ≤ c.args.steps.now + share_at c.args.work c.args.source.now c.args.rule.now o) c.in-Some.ensures c.made_plan.ensures.steps
+returns-clause-steps g c = subst (λ (o : Option Node). Takes c.args.steps.now c.made_plan.new.steps (share_at c.args.work c.args.source.now c.args.rule.now o)) c.in-Some.ensures c.made_plan.ensures.steps

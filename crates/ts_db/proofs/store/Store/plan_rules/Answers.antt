@@ -42,8 +42,8 @@ loop-rule-preserved g c =
       many = omega (arith, c.push_reserved-in-Ok-plan_rule.ensures.len, c.loop-rule.invariant.many);
       room_changed = omega (arith, c.push_reserved.ensures.capacity, c.loop-rule.invariant.room_changed);
       room = omega (arith, c.push_reserved-in-Ok-plan_rule.ensures.capacity, c.loop-rule.invariant.room);
-      counted = omega (arith, c.plan_rule.ensures.counted, c.loop-rule.invariant.counted);
-      steps = omega (arith, c.plan_rule.ensures.steps, c.loop-rule.invariant.steps, ap (shares_of nodes work source) left);
+      counted = omega (arith, c.plan_rule.ensures.steps.counted, c.loop-rule.invariant.counted);
+      steps = omega (arith, c.plan_rule.ensures.steps.bounded, c.loop-rule.invariant.steps, ap (shares_of nodes work source) left);
       easy = λ all_easy. (
         c.plan_rule.ensures.easy (subst (AreEasyOf limit nodes work source) left (c.loop-rule.invariant.easy all_easy).1).0 ∙ (c.loop-rule.invariant.easy all_easy).0,
         (subst (AreEasyOf limit nodes work source) left (c.loop-rule.invariant.easy all_easy).1).1,

@@ -1,6 +1,10 @@
-use Rattle.std.proofs.Common.{refl, sym, ◌∙◌, ap}
+use Rattle.std.proofs.Common.{refl, sym, ◌∙◌, ap, subst}
+use Rattle.ts_spec.specs.Key.{Key}
+use Rattle.ts_sample.specs.Steps.{Takes}
 use Rattle.ts_db.specs.Store.{stock_of}
 use Rattle.ts_db.specs.PutBy.{kept_put_by}
+use Rattle.ts_db.specs.Bounds.{write_steps}
+use Rattle.ts_db.proofs.Destinations.{only-key}
 use Rattle.ts_db.proofs.Storing.{missing}
 use Rattle.ts_db.proofs.store.Store.put_by.Goals as goal
 
@@ -23,7 +27,11 @@ pub returns-clause-own : goal.returns-clause-own
 returns-clause-own g c = c.put_to.ensures.own c.args.key.now (sym (c.in-Some.ensures ∙ c.get.ensures.value))
 
 pub returns-clause-steps : goal.returns-clause-steps
-returns-clause-steps g c = c.put_to.ensures.steps c.args.key.now (sym (c.in-Some.ensures ∙ c.get.ensures.value))
+returns-clause-steps g c =
+    let number = sym (c.in-Some.ensures ∙ c.get.ensures.value) in
+    let found = c.requires.db.store.stored c.args.key.now c.in-Some.id number in
+    subst (λ (key : Key). Takes c.args.steps.now c.put_to.new.steps (write_steps (stock_of c.args.self.now) key c.args.time))
+    (only-key c.args.self.now c.requires.db.store c.in-Some.id (record { node = found.0; there = found.1 }) c.args.key.now number) c.put_to.ensures.steps
 
 pub returns-clause-easy : goal.returns-clause-easy
 returns-clause-easy g c = c.put_to.ensures.easy c.args.key.now (sym (c.in-Some.ensures ∙ c.get.ensures.value))

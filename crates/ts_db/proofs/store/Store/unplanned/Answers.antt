@@ -29,8 +29,8 @@ loop-rule-preserved g c =
           ∙ c.loop-rule.invariant.fit;
       live = (subst (AreLive nodes) left c.loop-rule.invariant.live).1;
       takes = (subst (AllTake work source) left c.loop-rule.invariant.takes).1;
-      counted = omega (arith, c.overfills.ensures.counted, c.loop-rule.invariant.counted);
-      steps = omega (arith, c.overfills.ensures.steps, c.loop-rule.invariant.steps, ap (shares_of nodes work source) left);
+      counted = omega (arith, c.overfills.ensures.steps.counted, c.loop-rule.invariant.counted);
+      steps = omega (arith, c.overfills.ensures.steps.bounded, c.loop-rule.invariant.steps, ap (shares_of nodes work source) left);
       easy = λ all_easy. (
         c.overfills.ensures.easy (subst (AreEasyOf limit nodes work source) left (c.loop-rule.invariant.easy all_easy).1).0 ∙ (c.loop-rule.invariant.easy all_easy).0,
         (subst (AreEasyOf limit nodes work source) left (c.loop-rule.invariant.easy all_easy).1).1,

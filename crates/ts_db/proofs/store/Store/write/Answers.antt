@@ -18,7 +18,7 @@ use Rattle.ts_db.specs.Answering.{node_after, IsKeptAnswer}
 use Rattle.ts_db.proofs.Known.{takes, distinct, links}
 use Rattle.ts_db.proofs.Owning.{own-fault}
 use Rattle.ts_db.proofs.StayingOpen.{open-for, open-room, no_plans, none-fed, none-full, fed-nothing, grown-after}
-use Rattle.ts_db.proofs.Destinations.{destination-own}
+use Rattle.ts_db.proofs.Destinations.{key-holds, destination-own}
 use Rattle.ts_db.proofs.Working.{ArePlanned, planned-for, unplanned-for, changed-live, changed-grids, is-feed, still-fed, worked}
 use Rattle.ts_db.proofs.Writing.{IsWritten, IsUnwritten, unwritten-sample, writes-after, within-planned, written-sample, planned-answers, unplanned-answers, refused-answers}
 use Rattle.ts_spec.specs.Key.{Key}
@@ -213,9 +213,13 @@ least : (s : Store) (key : Key) (id : Id) (n : Node) → Holds s key id n → (t
 least s key id n holds time = omega (arith, reach-held s key id n holds)
 
 pub returns-in_default-sample-clause-steps : goal.returns-in_default-sample-clause-steps
-returns-in_default-sample-clause-steps g c key number =
-    let holds : Holds c.args.self.now key c.args.id c.in-Some.node.now = record { number = number; node = sym c.in-Some.ensures } in
-    omega (arith, c.put.ensures.bounded, least c.args.self.now key c.args.id c.in-Some.node.now holds c.args.time)
+returns-in_default-sample-clause-steps g c =
+    let key = key_in c.args.self.now.nodes c.args.id in
+    let holds = key-holds c.args.self.now c.requires.db.store c.args.id (record { node = c.in-Some.node.now; there = sym c.in-Some.ensures }) in
+    record {
+      counted = c.put.ensures.steps.counted;
+      bounded = omega (arith, c.put.ensures.steps.bounded, least c.args.self.now key c.args.id c.in-Some.node.now holds c.args.time);
+    }
 
 pub returns-in_default-sample-clause-easy : goal.returns-in_default-sample-clause-easy
 returns-in_default-sample-clause-easy g c key number e =
@@ -223,13 +227,17 @@ returns-in_default-sample-clause-easy g c key number e =
     c.put.ensures.easy (few-own c.args.self.now c.requires.db key c.args.id c.in-Some.node.now holds c.args.time e) (last-own c.args.self.now c.requires.db key c.args.id c.in-Some.node.now holds c.args.time e)
 
 pub returns-in-Err-clause-steps : goal.returns-in-Err-clause-steps
-returns-in-Err-clause-steps g c key number =
+returns-in-Err-clause-steps g c =
     let node : Node = c.in-Some.node.now in
-    let holds : Holds c.args.self.now key c.args.id node = record { number = number; node = sym c.in-Some.ensures } in
+    let key = key_in c.args.self.now.nodes c.args.id in
+    let holds = key-holds c.args.self.now c.requires.db.store c.args.id (record { node = c.in-Some.node.now; there = sym c.in-Some.ensures }) in
     let lost = c.in-Some-sample.lost in
     let time : lost.time ≡ c.args.time =
     ap (λ (q : Point). q.time) (unwritten-sample c.in-Err.fault (met c.args.how c.args.time c.args.value node.series) c.args.self.now.limits.samples c.args.time node.series lost c.in-Err.ensures.answer (sym c.in-Some-sample.ensures)).sample in
-    omega (arith, c.put.ensures.bounded, c.unplanned.ensures.steps, total c.args.self.now c.requires.db key c.args.id node holds lost c.args.time time c.deref-in-Err.result.now c.deref-in-Err.ensures.value)
+    record {
+      counted = omega (arith, c.put.ensures.steps.counted, c.unplanned.ensures.steps.counted);
+      bounded = omega (arith, c.put.ensures.steps.bounded, c.unplanned.ensures.steps.bounded, total c.args.self.now c.requires.db key c.args.id node holds lost c.args.time time c.deref-in-Err.result.now c.deref-in-Err.ensures.value);
+    }
 
 pub returns-in-Err-clause-easy : goal.returns-in-Err-clause-easy
 returns-in-Err-clause-easy g c key number e =
@@ -242,9 +250,13 @@ returns-in-Err-clause-easy g c key number e =
     ∙ c.put.ensures.easy (few-own c.args.self.now c.requires.db key c.args.id node holds c.args.time e) (last-own c.args.self.now c.requires.db key c.args.id node holds c.args.time e)
 
 pub returns-in_default-wrote-clause-steps : goal.returns-in_default-wrote-clause-steps
-returns-in_default-wrote-clause-steps g c key number =
-    let holds : Holds c.args.self.now key c.args.id c.in-Some.node.now = record { number = number; node = sym c.in-Some.ensures } in
-    omega (arith, c.put.ensures.bounded, least c.args.self.now key c.args.id c.in-Some.node.now holds c.args.time)
+returns-in_default-wrote-clause-steps g c =
+    let key = key_in c.args.self.now.nodes c.args.id in
+    let holds = key-holds c.args.self.now c.requires.db.store c.args.id (record { node = c.in-Some.node.now; there = sym c.in-Some.ensures }) in
+    record {
+      counted = c.put.ensures.steps.counted;
+      bounded = omega (arith, c.put.ensures.steps.bounded, least c.args.self.now key c.args.id c.in-Some.node.now holds c.args.time);
+    }
 
 pub returns-in_default-wrote-clause-easy : goal.returns-in_default-wrote-clause-easy
 returns-in_default-wrote-clause-easy g c key number e =
@@ -252,11 +264,15 @@ returns-in_default-wrote-clause-easy g c key number e =
     c.put.ensures.easy (few-own c.args.self.now c.requires.db key c.args.id c.in-Some.node.now holds c.args.time e) (last-own c.args.self.now c.requires.db key c.args.id c.in-Some.node.now holds c.args.time e)
 
 pub returns-in-Err-plan_rules-clause-steps : goal.returns-in-Err-plan_rules-clause-steps
-returns-in-Err-plan_rules-clause-steps g c key number =
-    let holds : Holds c.args.self.now key c.args.id c.in-Some.node.now = record { number = number; node = sym c.in-Some.ensures } in
+returns-in-Err-plan_rules-clause-steps g c =
+    let key = key_in c.args.self.now.nodes c.args.id in
+    let holds = key-holds c.args.self.now c.requires.db.store c.args.id (record { node = c.in-Some.node.now; there = sym c.in-Some.ensures }) in
     let time : c.in-Some-wrote.wrote.time ≡ c.args.time =
     ap (λ (q : Point). q.time) (written-sample c.in-Ok.plan (met c.args.how c.args.time c.args.value c.in-Some.node.now.series) c.args.self.now.limits.samples c.args.time c.in-Some.node.now.series c.in-Some-wrote.wrote c.in-Ok.ensures.answer c.in-Some-wrote.ensures).sample in
-    omega (arith, c.put.ensures.bounded, c.plan_rules.ensures.steps, total c.args.self.now c.requires.db key c.args.id c.in-Some.node.now holds c.in-Some-wrote.wrote c.args.time time c.deref-2.result.now c.deref-2.ensures.value)
+    record {
+      counted = omega (arith, c.put.ensures.steps.counted, c.plan_rules.ensures.steps.counted);
+      bounded = omega (arith, c.put.ensures.steps.bounded, c.plan_rules.ensures.steps.bounded, total c.args.self.now c.requires.db key c.args.id c.in-Some.node.now holds c.in-Some-wrote.wrote c.args.time time c.deref-2.result.now c.deref-2.ensures.value);
+    }
 
 pub returns-in-Err-plan_rules-clause-easy : goal.returns-in-Err-plan_rules-clause-easy
 returns-in-Err-plan_rules-clause-easy g c key number e =
@@ -267,11 +283,15 @@ returns-in-Err-plan_rules-clause-easy g c key number e =
     ∙ c.put.ensures.easy (few-own c.args.self.now c.requires.db key c.args.id c.in-Some.node.now holds c.args.time e) (last-own c.args.self.now c.requires.db key c.args.id c.in-Some.node.now holds c.args.time e)
 
 pub returns-clause-steps : goal.returns-clause-steps
-returns-clause-steps g c key number =
-    let holds : Holds c.args.self.now key c.args.id c.in-Some.node.now = record { number = number; node = sym c.in-Some.ensures } in
+returns-clause-steps g c =
+    let key = key_in c.args.self.now.nodes c.args.id in
+    let holds = key-holds c.args.self.now c.requires.db.store c.args.id (record { node = c.in-Some.node.now; there = sym c.in-Some.ensures }) in
     let time : c.in-Some-wrote.wrote.time ≡ c.args.time =
     ap (λ (q : Point). q.time) (written-sample c.in-Ok.plan (met c.args.how c.args.time c.args.value c.in-Some.node.now.series) c.args.self.now.limits.samples c.args.time c.in-Some.node.now.series c.in-Some-wrote.wrote c.in-Ok.ensures.answer c.in-Some-wrote.ensures).sample in
-    omega (arith, c.put.ensures.bounded, c.plan_rules.ensures.steps, total c.args.self.now c.requires.db key c.args.id c.in-Some.node.now holds c.in-Some-wrote.wrote c.args.time time c.deref-2.result.now c.deref-2.ensures.value)
+    record {
+      counted = omega (arith, c.put.ensures.steps.counted, c.plan_rules.ensures.steps.counted);
+      bounded = omega (arith, c.put.ensures.steps.bounded, c.plan_rules.ensures.steps.bounded, total c.args.self.now c.requires.db key c.args.id c.in-Some.node.now holds c.in-Some-wrote.wrote c.args.time time c.deref-2.result.now c.deref-2.ensures.value);
+    }
 
 pub returns-clause-easy : goal.returns-clause-easy
 returns-clause-easy g c key number e =
