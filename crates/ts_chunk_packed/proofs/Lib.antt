@@ -3,6 +3,7 @@ pub mod Coded
 pub mod Decoding
 pub mod Examples
 pub mod Grouping
+pub mod Halving
 pub mod Joining
 pub mod Late
 pub mod Listing

@@ -3,12 +3,14 @@ ghost use Rattle.std.specs.Prelude.{◌≡◌, Some};
 ghost use Rattle.std.specs.Option.{unwrap_or};
 
 mod fields;
+mod halves;
 mod parts;
+mod splice;
 
+use crate::chunk::halves::are_halves;
 use crate::coding::{WIDEST, encode, width_of};
 use crate::late_marks::LateMarks;
 use crate::mark::{Mark, Offset};
-use crate::splicing::take_over;
 use crate::walk::walk;
 use std::alloc::{AllocError, Global};
 use std::marker::Model;
@@ -157,20 +159,27 @@ impl Chunk for PackedChunk {
         sample: &Sample,
         steps: &mut Steps<L>,
     ) -> Result<Option<PackedChunk>, AllocError> {
-        self.known();
-        sample.known();
-        let mut rest = self.rest_from(sample.time);
-        let count = rest.len();
-        let mut chunk = self.front(alloc, sample.time, &mut rest)?;
-        if !chunk.try_append(sample) {
+        let Some((chunk, decoded)) = self.with_sample(alloc, sample)? else {
             return Ok(None);
-        }
-        rest.pass_before(sample.time + 1);
-        if !take_over(&mut chunk, &mut rest, self) {
-            return Ok(None);
-        }
-        steps.add((count - rest.len()) as u64);
+        };
+        steps.add(decoded as u64);
         Ok(Some(chunk))
+    }
+
+    fn halved<L: Ledger>(
+        &self,
+        alloc: Global,
+        sample: &Sample,
+        steps: &mut Steps<L>,
+    ) -> Result<Option<(PackedChunk, PackedChunk)>, AllocError> {
+        let Some((first, second)) = self.split_with(alloc, sample)? else {
+            return Ok(None);
+        };
+        if !are_halves(first.len(), second.len()) {
+            return Ok(None);
+        }
+        steps.add(self.count as u64);
+        Ok(Some((first, second)))
     }
 
     ghost at_least = { three_or_more };

@@ -145,6 +145,16 @@ impl Chunk for PlainChunk {
         }))
     }
 
+    // Samples of 28 bytes are made anew about as fast as they are moved.
+    fn halved<L: Ledger>(
+        &self,
+        _alloc: Global,
+        _sample: &Sample,
+        _steps: &mut Steps<L>,
+    ) -> Result<Option<(PlainChunk, PlainChunk)>, AllocError> {
+        Ok(None)
+    }
+
     ghost at_least = { three_or_more };
 
     ghost grows = { no_fewer };

@@ -1,6 +1,6 @@
 // New chunks for a chunk whose samples change, by the one rule for all formats.
-ghost use Rattle.std.specs.Prelude.{◌≡◌, ◌<◌, length, map, IfOk, vec_len, vec_capacity};
-ghost use Rattle.ts_spec.specs.Sample.{IsAscending, outside, put};
+ghost use Rattle.std.specs.Prelude.{◌≡◌, ◌/◌, ◌<◌, List, length, map, take, drop, IfOk, vec_len, vec_capacity};
+ghost use Rattle.ts_spec.specs.Sample.{Point, IsAscending, outside, put};
 ghost use Rattle.ts_sample.specs.Chunk.{IsCut, HaveLimit};
 ghost use Rattle.ts_sample.specs.Steps.{Takes};
 
@@ -27,6 +27,10 @@ pub(crate) fn with_sample<C: Chunk, L: Ledger>(
     chunk.known();
     if let Some(spliced) = chunk.spliced(alloc, sample, steps)? {
         return alone(alloc, spliced);
+    }
+    sample.known();
+    if let Some((first, second)) = chunk.halved(alloc, sample, steps)? {
+        return both(alloc, first, second);
     }
     let mut samples = decoded(chunk, alloc, steps)?;
     put_at_its_time(&mut samples, sample)?;
@@ -60,6 +64,20 @@ fn alone<C: Chunk>(alloc: Global, chunk: C) -> Result<Vec<C>, AllocError>
     chunk.known();
     let mut chunks = Vec::new(alloc);
     chunks.push(chunk)?;
+    Ok(chunks)
+}
+
+// A list of these two chunks, which have the halves of the samples that one chunk has no room for.
+fn both<C: Chunk>(alloc: Global, first: C, second: C) -> Result<Vec<C>, AllocError>
+    requires first { 0 < length (C.list first) }
+    requires second { 0 < length (C.list second) }
+    requires alike { C.most second ≡ C.most first }
+    ensures cut { (ps : List Point) → C.most first < length (C.format ps) → C.list first ≡ take (length ps / 2) ps → C.list second ≡ drop (length ps / 2) ps → IfOk result (λ v. IsCut C.format (C.most first) ps (map C.list v.items)) }
+    ensures limits { IfOk result (λ v. HaveLimit C.most (C.most first) v.items) }
+{
+    let mut chunks = alone(alloc, first)?;
+    let mut seconds = alone(alloc, second)?;
+    chunks.append(&mut seconds)?;
     Ok(chunks)
 }
 

@@ -1,5 +1,5 @@
 // What every kind of chunk can do, and what holds of it.
-ghost use Rattle.std.specs.Prelude.{◌≡◌, ℕ, ◌+◌, ◌*◌, ◌<◌, ◌≤◌, nat_le, if◌then◌else◌, List, [], ◌∷◌, ◌++◌, take, drop, length, map, IfOk, IfSome, IfNone};
+ghost use Rattle.std.specs.Prelude.{◌≡◌, ℕ, ◌+◌, ◌*◌, ◌/◌, ◌<◌, ◌≤◌, nat_le, if◌then◌else◌, List, [], ◌∷◌, ◌++◌, take, drop, length, map, IfOk, IfSome, IfNone};
 ghost use Rattle.ts_spec.specs.Sample.{Point, between, at_times, outside, put, first_of, last_of};
 ghost use Rattle.ts_sample.specs.Chunk.{IsLimit, IsChunk, IsPast, IsCut, HaveLimit, least_limit};
 ghost use Rattle.ts_sample.specs.Sample.{IsFine};
@@ -121,6 +121,21 @@ pub trait Chunk: Drop {
         ensures list { IfOk result (λ o. IfSome o (λ c. list c ≡ put sample.now (list self.now))) }
         ensures limit { IfOk result (λ o. IfSome o (λ c. most c ≡ most self.now)) }
         ensures full { IfOk result (λ o. IfNone o (most self.now < length (format (put sample.now (list self.now))))) }
+        ensures steps { Takes steps.old steps.new (length (list self.now)) }
+        ensures without { IfOk result (λ o. IfNone o (steps.new ≡ steps.old)) };
+
+    /// Two new chunks of the same limit with the sample at its time, in the place of one there or as a new one: the first
+    /// has the first half of the samples, rounded down. None where that takes as long as to make both of all the samples.
+    /// Each sample of the chunk is a step.
+    fn halved<L: Ledger>(
+        &self,
+        alloc: Global,
+        sample: &Sample,
+        steps: &mut Steps<L>,
+    ) -> Result<Option<(Self, Self)>, AllocError>
+        ensures first { IfOk result (λ o. IfSome o (λ r. list r.0 ≡ take (length (put sample.now (list self.now)) / 2) (put sample.now (list self.now)))) }
+        ensures second { IfOk result (λ o. IfSome o (λ r. list r.1 ≡ drop (length (put sample.now (list self.now)) / 2) (put sample.now (list self.now)))) }
+        ensures limits { IfOk result (λ o. IfSome o (λ r. (most r.0 ≡ most self.now) × (most r.1 ≡ most self.now))) }
         ensures steps { Takes steps.old steps.new (length (list self.now)) }
         ensures without { IfOk result (λ o. IfNone o (steps.new ≡ steps.old)) };
 
