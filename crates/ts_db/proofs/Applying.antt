@@ -1,6 +1,6 @@
 -- What a change of one node is to the store.
 use Rattle.std.proofs.Common.{◌≡◌, ◌≤◌, cond, List, length, refl, sym, ◌∙◌, ap, subst, arith}
-use Rattle.std.specs.Prelude.{Vec, Option, None, Some, is_some, IsSome, Result, Ok, Err, IfOk, OnErr}
+use Rattle.std.specs.Prelude.{Vec, Option, None, Some, is_some, Result, Ok, Err, IfOk, OnErr}
 use Rattle.std.specs.declared.alloc.Global.{Global}
 use Rattle.std.specs.declared.alloc.AllocError.{AllocError}
 use Rattle.std.specs.Option.{unwrap_or}
@@ -22,6 +22,7 @@ use Rattle.ts_db.specs.Store.{key_in, kept_at, collected, stock_of, contents_of,
 use Rattle.ts_db.specs.Answering.{node_after, IsReady, IsApplied, IsElsewhere}
 use Rattle.ts_db.specs.Turned.{HasSuch, IsTurned, IsAfter}
 use Rattle.ts_db.proofs.Collecting.{same-names, collected-written}
+use Rattle.ts_db.proofs.Indexing.{contains}
 use Rattle.ts_db.proofs.Storing as storing
 use Rattle.ts_db.proofs.Storing.{names-written, store-written}
 
@@ -32,16 +33,13 @@ there s store key id n holds = storing.there s.limits s.nodes s.keys.entries sto
 -- ---- another node under the number and the key of one
 
 module _ (s : Store) (store : IsInOrder s) (key : Key) (id : Id) (n changed : Node) (holds : Holds s key id n) (name : changed.key ≡ n.key) where
-  contains : slab.ContainsKey s.nodes id.0
-  contains = subst (λ (o : Option Node). IsSome o) (sym holds.node) refl
-
   change : slab.Updates s.nodes (slab.with_value s.nodes id.0 changed) id.0 (Some changed)
-  change = Updates-with_value s.nodes id.0 changed contains
+  change = Updates-with_value s.nodes id.0 changed (contains s.nodes id n holds.node)
 
   as_many : slab.slab_len (slab.with_value s.nodes id.0 changed) ≡ slab.slab_len s.nodes
   as_many =
       let one = λ (o : Option Node). cond (is_some o) 1 0 in
-      let counts = sum_by-set one s.nodes.slots id.0 (Some changed) None (ContainsKey-within s.nodes id.0 contains) in
+      let counts = sum_by-set one s.nodes.slots id.0 (Some changed) None (ContainsKey-within s.nodes id.0 (contains s.nodes id n holds.node)) in
       let was : one (slab.get s.nodes id.0) ≡ 1 = ap one holds.node in
       omega (arith, counts, was)
 

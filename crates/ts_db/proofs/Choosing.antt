@@ -103,9 +103,9 @@ pub record IsTold (nodes : Nodes) (es : Numbers) (told_by : Labelled) : Type 0 w
   pub indexed : IsIndexed nodes told_by
   pub once : IsDistinct at (keys_of told_by)
 
-pub is-told : (s : Store) → IsInOrder s → IsStrictlySortedBy (slice_cmp nat_cmp) (keys_of s.keys.entries) → All (λ e. number_of e.0 s.keys.entries ≡ Some e.1) s.keys.entries
-    → (told_by : Labelled) → IsIndexed s.nodes told_by → AreInOrder told_by → IsTold s.nodes s.keys.entries told_by
-is-told s store sorted found told_by indexed ordered =
+pub is-told : (s : Store) → IsInOrder s → (told_by : Labelled) → IsIndexed s.nodes told_by → AreInOrder told_by → IsStrictlySortedBy (slice_cmp nat_cmp) (keys_of s.keys.entries)
+    → All (λ e. number_of e.0 s.keys.entries ≡ Some e.1) s.keys.entries → IsTold s.nodes s.keys.entries told_by
+is-told s store told_by indexed ordered sorted found =
     record { stored = store.stored; named = store.named; owned = store.owned; sorted = sorted; found = found; indexed = indexed; once = distinct-ordered told_by ordered }
 
 module _ (nodes : Nodes) (es : Numbers) (told_by : Labelled) (is : IsTold nodes es told_by) where

@@ -186,6 +186,3 @@ reach-small h kept = omega (arith, small-limits (format_of h.options.encoding) (
 -- an empty series with this much room takes a sample without steps
 pub few-new : (h : History) → IsKept h → list_of h ≡ [] → length (list_of h) + reach h < 2 ^ 32 - 1
 few-new h kept empty = omega (arith, reach-small h kept, ap (λ (ps : List Point). length ps) empty)
-
-pub past-new : (h : History) (t : ℕ) → list_of h ≡ [] → IsPast (last_of (list_of h)) t
-past-new h t empty = subst (λ (ps : List Point). IsPast (last_of ps) t) (sym empty) tt

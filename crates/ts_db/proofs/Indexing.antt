@@ -1,6 +1,6 @@
 -- That the index has the labels of the nodes after a change of one of them.
-use Rattle.std.proofs.Common.{◌≡◌, ◌≢◌, List, [], refl, sym, ◌∙◌, ap, subst, ◌⊎◌, inl, inr}
-use Rattle.std.specs.Prelude.{slice_index_or, Vec, Option, None, Some, IsSome, option_map}
+use Rattle.std.proofs.Common.{◌≡◌, ◌≢◌, List, refl, sym, ◌∙◌, ap, subst, ◌⊎◌, inl, inr}
+use Rattle.std.specs.Prelude.{Vec, Option, Some, IsSome, option_map}
 use Rattle.std.specs.declared.alloc.Global.{Global}
 use Rattle.std.specs.Option.{unwrap_or}
 use Rattle.std.proofs.lemmas.Bool.{cases_eq}
@@ -21,14 +21,6 @@ use Rattle.ts_db.specs.Turned.{IsTurned, IsAfter}
 abbrev pub node_labels : Option Node → Option (List Label)
 node_labels o = option_map (λ n. n.labels) o
 
--- no nodes, and an index without numbers
-pub indexed-empty : (nodes : Nodes) (index : Labelled) → nodes.slots ≡ [] → index ≡ [] → IsIndexed nodes index
-indexed-empty nodes index none empty i = ap (labels_of i) empty ∙ sym (ap (λ (s : List (Option Node)). node_labels (slice_index_or s i None)) none)
-
--- with more room alone
-pub indexed-slots : (nodes new : Nodes) (index : Labelled) → new.slots ≡ nodes.slots → IsIndexed nodes index → IsIndexed new index
-indexed-slots nodes new index same is i = is i ∙ sym (ap (λ (s : List (Option Node)). node_labels (slice_index_or s i None)) same)
-
 -- a number has other labels in both
 pub indexed-updates : (nodes new : Nodes) (index fresh : Labelled) (id : Id) (o : Option Node) → slab.Updates nodes new id.0 o → Gives id (node_labels o) index fresh → IsIndexed nodes index → IsIndexed new fresh
 indexed-updates nodes new index fresh id o change gives is i = pick (cases_eq i id.0)
@@ -37,19 +29,8 @@ indexed-updates nodes new index fresh id o change gives is i = pick (cases_eq i 
     pick (inl here) = ap (λ j. labels_of j fresh) here ∙ gives.here ∙ sym (ap node_labels (ap (slab.get new) here ∙ change.changed))
     pick (inr other) = gives.others i other ∙ is i ∙ sym (ap node_labels (change.others i other))
 
--- a number was taken up, and taken away again
-pub indexed-undone : (nodes new : Nodes) (index fresh undone : Labelled) (id : Id) (labels : List Label) → new.slots ≡ nodes.slots → slab.get new id.0 ≡ None → Gives id (Some labels) index fresh → Gives id None fresh undone
-    → IsIndexed nodes index → IsIndexed new undone
-indexed-undone nodes new index fresh undone id labels same none taken gone is i = pick (cases_eq i id.0)
-  where
-    now : IsIndexed new index
-    now = indexed-slots nodes new index same is
-
-    pick : (i ≡ id.0) ⊎ (i ≢ id.0) → labels_of i undone ≡ node_labels (slab.get new i)
-    pick (inl here) = ap (λ j. labels_of j undone) here ∙ gone.here ∙ sym (ap node_labels (ap (slab.get new) here ∙ none))
-    pick (inr other) = gone.others i other ∙ taken.others i other ∙ now i
-
-contains : (nodes : Nodes) (id : Id) (n : Node) → slab.get nodes id.0 ≡ Some n → slab.ContainsKey nodes id.0
+-- a number with a node
+pub contains : (nodes : Nodes) (id : Id) (n : Node) → slab.get nodes id.0 ≡ Some n → slab.ContainsKey nodes id.0
 contains nodes id n there = subst (λ (o : Option Node). IsSome o) (sym there) refl
 
 -- a node has other labels in both
@@ -58,19 +39,13 @@ pub indexed-altered : (nodes : Nodes) (index fresh : Labelled) (id : Id) (n chan
 indexed-altered nodes index fresh id n changed there gives is =
     indexed-updates nodes (slab.with_value nodes id.0 changed) index fresh id (Some changed) (Updates-with_value nodes id.0 changed (contains nodes id n there)) gives is
 
--- a node changes and keeps its labels
-pub indexed-turned : (nodes : Nodes) (index : Labelled) (id : Id) (n changed : Node) → slab.get nodes id.0 ≡ Some n → changed.labels ≡ n.labels → IsIndexed nodes index
-    → IsIndexed (slab.with_value nodes id.0 changed) index
-indexed-turned nodes index id n changed there same is =
-    indexed-altered nodes index index id n changed there (record { here = is id.0 ∙ ap node_labels there ∙ sym (ap (λ (ls : List Label). Some ls) same); others = λ i other. refl }) is
-
 -- ---- how one node changed
 
-pub turned : {by : (was now : Node) → Type 0} (inside old : Nodes) (id : Id) (was now : Node) → inside ≡ old → Some was ≡ slab.get inside id.0 → by was now → IsTurned old (slab.with_value inside id.0 now) id by
+pub turned : {by : (was now : Node) → Type 0} (inside old : Nodes) (id : Id) (was now : Node) → inside ≡ old → slab.get inside id.0 ≡ Some was → by was now → IsTurned old (slab.with_value inside id.0 now) id by
 turned inside old id was now is value so = record {
   was = was;
   now = now;
-  there = sym (ap (λ (s : Nodes). slab.get s id.0) is) ∙ sym value;
+  there = sym (ap (λ (s : Nodes). slab.get s id.0) is) ∙ value;
   turned = ap (λ (s : Nodes). slab.with_value s id.0 now) is;
   so = so;
 }

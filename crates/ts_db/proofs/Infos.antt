@@ -1,30 +1,14 @@
 -- What is told of a series.
 use Rattle.std.proofs.Common.{◌≡◌, ◌+◌, ℕ, List, [], ◌∷◌, ◌++◌, map, take, refl, sym, ◌∙◌, ap}
-use Rattle.std.specs.Prelude.{Some, option_map, length}
-use Rattle.ts_spec.specs.Sample.{first_of, last_of}
 use Rattle.ts_spec.specs.Key.{Key}
 use Rattle.ts_spec.specs.Response as response
-use Rattle.ts_spec.specs.Response.{Told}
-use Rattle.ts_spec.specs.Questions.{time_or_0}
-use Rattle.ts_spec.specs.KeptQuestions.{kept_rule_info, kept_info_response}
+use Rattle.ts_spec.specs.KeptQuestions.{kept_rule_info}
 use Rattle.ts_sample.specs.declared.id.Id.{Id}
-use Rattle.ts_series.specs.History.{list_of}
 use Rattle.ts_rules.specs.declared.rule.Rule.{Rule}
 use Rattle.ts_rules.specs.Rules.{kept_as}
-use Rattle.ts_db.specs.declared.info.Info.{Info}
 use Rattle.ts_db.specs.declared.info.RuleInfo.{RuleInfo}
-use Rattle.ts_db.specs.declared.node.Node.{Node}
-use Rattle.ts_db.specs.declared.store.Store.{Store}
-use Rattle.ts_db.specs.Information.{rule_info_of, info_of}
-use Rattle.ts_db.specs.Store.{rules_by, key_in, kept_at}
-
--- what is told of a node: of each part what is kept
-pub told-kept : (s : Store) (n : Node) (i : Info)
-    → i.total ≡ length (list_of n.series) → i.first ≡ time_or_0 (first_of (list_of n.series)) → i.last ≡ time_or_0 (last_of (list_of n.series)) → i.options ≡ n.series.options
-    → i.labels ≡ n.labels → i.source ≡ option_map (key_in s.nodes) n.source → map rule_info_of i.rules.items ≡ map kept_rule_info (rules_by (key_in s.nodes) n.rules.items)
-    → Told (info_of i) ≡ kept_info_response (Some (kept_at s.nodes n))
-told-kept s n i total first last options labels source rules =
-    λ j. Told (record { total = total j; first = first j; last = last j; options = options j; labels = labels j; source = source j; rules = rules j })
+use Rattle.ts_db.specs.Information.{rule_info_of}
+use Rattle.ts_db.specs.Store.{rules_by}
 
 -- one rule more is told
 pub told-more : (names : Id → Key) (rs : List Rule) (told : List RuleInfo) (i : ℕ) (r : Rule) (x : RuleInfo) → take (i + 1) rs ≡ take i rs ++ r ∷ []

@@ -18,6 +18,7 @@ use Rattle.ts_sample.specs.declared.id.Id.{Id}
 use Rattle.ts_index.specs.Index.{Labelled, labels_of, numbers_where}
 use Rattle.ts_index.specs.Numbers.{has_number}
 use Rattle.ts_index.specs.Candidates.{AreApart, AreLive, Covers as IndexCovers}
+use Rattle.ts_index.proofs.ApartLemmas.{neither}
 use Rattle.ts_db.specs.Indexed.{IsIndexed}
 use Rattle.ts_db.specs.declared.node.Node.{Node}
 use Rattle.ts_db.specs.Held.{Stock, IsLive, AreNumbersOf}
@@ -115,10 +116,6 @@ same-number q j = unsigned_tied q j
 among : (i : ℕ) (cs : List Id) → has_number i cs ≡ list_any (at i) (numbers cs)
 among i [] = refl
 among i (c ∷ cs) = λ k. sym (same-number i c.0) k || among i cs k
-
-neither : (a b : Bool) → (a || b) ≡ false → (a ≡ false) × (b ≡ false)
-neither true b n = absurd (cc n)
-neither false b n = (refl, n)
 
 either : (a b : Bool) → b ≡ true → (a || b) ≡ true
 either true b e = refl

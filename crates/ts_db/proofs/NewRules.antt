@@ -13,6 +13,7 @@ use Rattle.ts_spec.specs.Response.{Done}
 use Rattle.ts_spec.specs.Kept.{Kept, Keeping}
 use Rattle.ts_spec.specs.Keeping.{keep_changed, keep_ruled, kept_with_rule}
 use Rattle.ts_spec.specs.KeptStep.{KeptOutcome, kept_refused, any_rules, kept_create_rule, kept_create_rule_at}
+use Rattle.ts_spec.proofs.KeptMaps.{some-mapped}
 use Rattle.ts_sample.specs.declared.id.Id.{Id}
 use Rattle.ts_rules.specs.declared.rule.Rule.{Rule}
 use Rattle.ts_db.specs.declared.fault.DbFault.{DbFault}
@@ -30,10 +31,6 @@ use Rattle.ts_db.proofs.Known.{named}
 -- keys that are told apart by their bytes
 pub keys-apart : (j k : Key) (b : Bool) → b ≡ pointwise nat_eq j k → b ≡ false → same j k ≡ false
 keys-apart j k b is apart = same-at j k ∙ is_eq-slice_cmp j k ∙ sym is ∙ apart
-
-some-mapped : {X Y : Type 0} (f : X → Y) (o : Option X) → is_some (option_map f o) ≡ is_some o
-some-mapped f None = refl
-some-mapped f (Some x) = refl
 
 any-by : (names : Id → Key) (rs : List Rule) → any_rules (rules_by names rs) ≡ any_rule rs
 any-by names [] = refl

@@ -1,5 +1,5 @@
 -- A walk of a visitor that takes a row among the samples.
-use Rattle.std.proofs.Common.{◌≡◌, ◌≤◌, ◌<◌, ◌+◌, ℕ, Bool, true, false, cond, List, [], ◌∷◌, ◌++◌, length, refl, sym, ◌∙◌, ap, subst, arith, MutBor, ltb-true, le-ltb}
+use Rattle.std.proofs.Common.{◌≡◌, ◌≤◌, ◌+◌, ℕ, Bool, true, false, cond, List, [], ◌∷◌, ◌++◌, length, refl, sym, ◌∙◌, ap, subst, arith, MutBor, ltb-true, le-ltb}
 use Rattle.std.specs.Prelude.{nat_lt, if◌then◌else◌, Option, None, Some}
 use Rattle.std.proofs.lemmas.Bool.Decides.{nat_tests}
 use Rattle.ts_spec.specs.Sample.{Point, IsAfter, IsAscending, at_times, put}
@@ -7,10 +7,7 @@ use Rattle.ts_sample.specs.Visit.{visited}
 use Rattle.ts_sample.proofs.Replacing.{none-before, all-past}
 use Rattle.ts_db.specs.declared.row_among.RowAmong.{RowAmong}
 use Rattle.ts_db.specs.RowAmong.{with_sample, finished, room_beside}
-
-later : (t u : ℕ) (l : List Point) → t ≤ u → IsAfter u l → IsAfter t l
-later t u [] le a = tt
-later t u (r ∷ l) le a = (let up : u < r.time = a.0 in omega arith, later t u l le a.1)
+use Rattle.ts_db.proofs.Rows.{later}
 
 -- ---- a row put into a list
 

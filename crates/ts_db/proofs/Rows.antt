@@ -42,6 +42,11 @@ pub put-within : (from to : ℕ) (asked inside : Option Point) (row : Point) (ps
 put-within from to asked inside row ps up is there =
     ap (λ (o : Option Point). put_all (one_of o) (between from to ps)) (sym there) ∙ within-put from to asked inside ps up is
 
+-- samples after a time are after an earlier one
+pub later : (t u : ℕ) (l : List Point) → t ≤ u → IsAfter u l → IsAfter t l
+later t u [] le a = tt
+later t u (r ∷ l) le a = (let up : u < r.time = a.0 in omega arith, later t u l le a.1)
+
 -- ---- the first and the last
 
 -- the first of a list with p put in
@@ -54,10 +59,6 @@ first-put p q ps h = go (nat_lt q.time p.time) refl
       where
         at_least : nat_lt q.time p.time ≡ false → p.time ≤ q.time
         at_least y = grind (arith, nat_tests)
-
-        later : (t u : ℕ) (l : List Point) → t ≤ u → IsAfter u l → IsAfter t l
-        later t u [] le a = tt
-        later t u (r ∷ l) le a = (let up : u < r.time = a.0 in omega arith, later t u l le a.1)
 
 last-join : (ps : List Point) (p : Point) (qs : List Point) → last_of (ps ++ p ∷ qs) ≡ Some (later_or p (last_of qs))
 last-join [] p qs = refl
@@ -81,10 +82,6 @@ last-past t q (r ∷ ps) h = go (nat_lt t q.time) refl (last-past t r ps h.1)
         ap (λ (l : List Point). last_of (q ∷ l)) (all-past t (r ∷ ps) (omega arith, later t r.time ps (omega arith) h.1.0))
         ∙ sym (ap (λ b. if b then Some (later_or r (last_of ps)) else None) (lt-ltb t (later_or r (last_of ps)).time (up t r ps h.1 (omega arith))))
       where
-        later : (t u : ℕ) (l : List Point) → t ≤ u → IsAfter u l → IsAfter t l
-        later t u [] le a = tt
-        later t u (y ∷ l) le a = (let up : u < y.time = a.0 in omega arith, later t u l le a.1)
-
         up : (t : ℕ) (y : Point) (l : List Point) → IsAscending (y ∷ l) → t < y.time → t < (later_or y (last_of l)).time
         up t y [] a lt = lt
         up t y (z ∷ l) a lt = up t z l a.1 (let next : y.time < z.time = a.0.0 in omega arith)

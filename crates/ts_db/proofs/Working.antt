@@ -16,7 +16,7 @@ use Rattle.ts_db.specs.declared.store.Store.{Store}
 use Rattle.ts_db.specs.declared.work.Work.{Work}
 use Rattle.ts_db.specs.declared.work.Work.TheVariants.{Write, Delete}
 use Rattle.ts_db.specs.Feeding.{Rows, Gone, keep_fed}
-use Rattle.ts_db.specs.Planning.{changed_by, gone_by, rows_by_work, AllTake, AreChanged, AreFedBy, first_full, IsUnplanned, IsFeed}
+use Rattle.ts_db.specs.Planning.{changed_by, gone_by, rows_by_work, AllTake, AreChanged, AreFedBy, first_full, IsUnplanned, AreDestinationPlans}
 use Rattle.ts_db.specs.Store.{rules_by, key_in, stock_of, contents_of, Contents, IsLive, AreLive, HaveGrids, IsDb, Holds}
 use Rattle.ts_db.specs.Answering.{IsElsewhere}
 use Rattle.ts_db.proofs.Feeds.{fed-elsewhere, names-same}
@@ -82,8 +82,8 @@ module _ (s : Store) (db : IsDb s) (key : Key) (id : Id) (n : Node) (holds : Hol
   still-fed rows gone xs fed =
       fed-elsewhere s mid id rows gone n.rules.items xs else (none-own s db.store key id n holds (rules_by (key_in s.nodes) n.rules.items) n.rules.items (links s db key id n holds).links) fed
 
-  pub is-feed : (rows : Rows) (gone : Gone) (xs : List RulePlan) → AreFedBy s.limits.samples s.nodes rows gone n.rules.items xs → IsFeed mid xs
-  is-feed rows gone xs fed = record {
+  pub for-destinations : (rows : Rows) (gone : Gone) (xs : List RulePlan) → AreFedBy s.limits.samples s.nodes rows gone n.rules.items xs → AreDestinationPlans mid xs
+  for-destinations rows gone xs fed = record {
     rows = rows;
     gone = gone;
     rules = n.rules.items;

@@ -108,7 +108,7 @@ IsUnplanned full fault = ⊥
 -- ---- the plans of destinations, for a store
 
 -- They were made for rules of different destinations, one for each.
-pub record IsFeed (s : Store) (xs : List RulePlan) : Type 0 where
+pub record AreDestinationPlans (s : Store) (xs : List RulePlan) : Type 0 where
   pub rows : Rows
   pub gone : Gone
   pub rules : List Rule

@@ -35,9 +35,7 @@ impl Store {
         let Some(id) = self.keys.get(key).copied() else {
             return Err(DbFault::NoKey);
         };
-        let Some(node) = self.nodes.get(id.0) else {
-            unreachable!();
-        };
+        let node = self.nodes.node(id);
         if are_too_many(self.limits.labels, &change.labels) {
             return Err(DbFault::LabelsFull);
         }

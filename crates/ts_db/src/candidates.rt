@@ -17,10 +17,6 @@ impl Db {
         ensures covers { Covers self.now filters.now result }
         ensures few { length result ≤ fewest self.now filters.now }
     {
-        // These two do nothing: they tell that keys and numbers are in order.
-        let _keys = self.store.keys.iter();
-        let index = self.store.nodes.index();
-        index.known();
-        index.candidates(filters)
+        self.store.index().candidates(filters)
     }
 }

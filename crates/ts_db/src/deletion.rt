@@ -46,9 +46,7 @@ impl Store {
         if to < from {
             return Ok(0);
         }
-        let Some(node) = self.nodes.get(id.0) else {
-            unreachable!();
-        };
+        let node = self.nodes.node(id);
         if meet_expired(&node.rules, from, node.series.edge()) {
             return Err(DbFault::DeleteBeyondRetention);
         }
@@ -74,9 +72,7 @@ impl Store {
         ensures store { IsInOrder self.new }
         ensures steps { Takes steps.old steps.new (deletion_steps (stock_of self.old) (key_in self.old.nodes id) from to) }
     {
-        let Some(node) = self.nodes.get(id.0) else {
-            unreachable!();
-        };
+        let node = self.nodes.node(id);
         let work = Work::Delete(from, to);
         let plan = match node.series.cut(from, to, steps) {
             Ok(plan) => plan,

@@ -36,9 +36,7 @@ impl Store {
         ensures store { IsInOrder self.new }
         ensures alone { (key : Key) (n : TheNode) → Holds self.old key id n → IsAlone self.old self.new key }
     {
-        let Some(node) = self.nodes.get(id.0) else {
-            unreachable!();
-        };
+        let node = self.nodes.node(id);
         let source = node.source;
         let rules = self.take_rules(id);
         self.end_source(source, id);

@@ -2,7 +2,7 @@
 ghost use Rattle.std.specs.Prelude.{List};
 ghost use Rattle.ts_rules.specs.declared.rule.Rule.{Rule as TheRule};
 ghost use Rattle.ts_db.specs.Feeding.{Rows, Gone};
-ghost use Rattle.ts_db.specs.Planning.{AreFedBy, AreDistinct, IsFeed, IsFed};
+ghost use Rattle.ts_db.specs.Planning.{AreFedBy, AreDistinct, AreDestinationPlans, IsFed};
 ghost use Rattle.ts_db.specs.Store.{IsInOrder};
 
 use crate::store::Store;
@@ -12,7 +12,7 @@ impl Store {
     // Does what was planned for the destinations of rules. It can't fail, and takes no memory.
     pub(crate) fn feed(&mut self, plans: Vec<RulePlan>)
         requires store { IsInOrder self.old }
-        requires planned { IsFeed self.old plans.items }
+        requires planned { AreDestinationPlans self.old plans.items }
         ensures store { IsInOrder self.new }
         ensures fed { (rows : Rows) (gone : Gone) (rs : List TheRule) → AreFedBy self.old.limits.samples self.old.nodes rows gone rs plans.items → AreDistinct rs → IsFed self.old rows gone rs self.new }
     {

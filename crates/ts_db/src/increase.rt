@@ -49,9 +49,7 @@ impl Store {
         let Some(id) = self.keys.get(&key).copied() else {
             return self.begin(key, spec, time, change, steps);
         };
-        let Some(node) = self.nodes.get(id.0) else {
-            unreachable!();
-        };
+        let node = self.nodes.node(id);
         if is_before(&node.series, time) {
             return Err(DbFault::BeforeLast);
         }

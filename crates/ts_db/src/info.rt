@@ -114,10 +114,7 @@ impl Store {
         requires live { IsLive self.now.nodes id }
         ensures { IfOk result (λ key. key ≡ key_in self.now.nodes id) }
     {
-        let Some(node) = self.nodes.get(id.0) else {
-            unreachable!();
-        };
-        node.key.copy()
+        self.nodes.node(id).key.copy()
     }
 }
 

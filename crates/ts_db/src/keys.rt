@@ -38,11 +38,7 @@ impl Db {
         ensures unspent { OnErr result (steps.new ≡ steps.old) }
         ensures steps { steps.new ≤ steps.old + selection_steps self.now filters.now }
     {
-        // These two do nothing: they tell that keys and numbers are in order.
-        let _keys = self.store.keys.iter();
-        let index = self.store.nodes.index();
-        index.known();
-        let mut ids = index.select(filters, steps)?;
+        let mut ids = self.store.index().select(filters, steps)?;
         if let Some(found) = walked_if_many(self.store.alloc, &self.store.keys, &ids) {
             return Ok(found);
         }
@@ -59,10 +55,7 @@ impl Db {
         let _samples = self.store.limits.samples;
         let mut total = 0;
         for (_key, id) in self.store.keys.iter() {
-            let Some(node) = self.store.nodes.get(id.0) else {
-                unreachable!();
-            };
-            total += node.series.len(steps) as u64;
+            total += self.store.nodes.node(*id).series.len(steps) as u64;
         }
         total
     }

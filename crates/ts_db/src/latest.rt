@@ -34,8 +34,8 @@ impl Db {
         ensures { (key : Key) → get key self.now.ids ≡ Some id
             → kept_asked self.now.keys true key ≡ put_all (one_of result) (list_at (get key self.now.keys)) }
     {
-        let node = self.store.nodes.get(id.0)?;
-        let source = self.store.nodes.get(node.source?.0)?;
+        let node = self.store.nodes.node(id);
+        let source = self.store.nodes.node(node.source?);
         let rule = rule_to(&source.rules, id)?;
         row_for(&rule, &node.series)
     }

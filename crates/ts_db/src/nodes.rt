@@ -53,6 +53,14 @@ impl Nodes {
         self.slab.get(number)
     }
 
+    // The node of a number that has one.
+    pub(crate) fn node(&self, id: Id) -> &Node
+        requires { slab.ContainsKey self.now id.0 }
+        ensures { slab.get self.now id.0 ≡ Some result.now }
+    {
+        &self.slab[id.0]
+    }
+
     // The labels of the nodes by their numbers.
     pub(crate) fn index(&self) -> &Index
         ensures { IsIndexed self.now result.now }

@@ -31,10 +31,7 @@ impl Db {
         ensures kept { IsKept result.now.series }
         ensures within { length (list_of result.now.series) ≤ self.now.limits.samples }
     {
-        let Some(node) = self.store.nodes.get(id.0) else {
-            unreachable!();
-        };
-        node
+        self.store.nodes.node(id)
     }
 
     /// The key of a number. Takes no memory.

@@ -92,9 +92,7 @@ impl Store {
         ensures steps { Takes steps.old steps.new (share_at work source.now rule.now (slab.get self.now.nodes rule.now.dest.0)) }
         ensures easy { IsEasyAt self.now.limits.samples work source.now rule.now (slab.get self.now.nodes rule.now.dest.0) → steps.new ≡ steps.old }
     {
-        let Some(dest) = self.nodes.get(rule.dest.0) else {
-            unreachable!();
-        };
+        let dest = self.nodes.node(rule.dest);
         made_plan(
             self.alloc,
             work,

@@ -66,9 +66,7 @@ impl Store {
         ensures easy { (key : Key) → number_of key self.old.keys.entries ≡ Some id → IsEasyAppend (stock_of self.old) key time → steps.new ≡ steps.old }
         ensures spared { (key : Key) → number_of key self.old.keys.entries ≡ Some id → IsIgnored (stock_of self.old) key time value → steps.new ≡ steps.old }
     {
-        let Some(node) = self.nodes.get(id.0) else {
-            unreachable!();
-        };
+        let node = self.nodes.node(id);
         if let Some(last) = ignored(node, time, value) {
             return Ok(last);
         }

@@ -113,9 +113,7 @@ impl Db {
         let Some(id) = self.id_of(key) else {
             return Err(DbFault::NoKey);
         };
-        let Some(node) = self.store.nodes.get(id.0) else {
-            unreachable!();
-        };
+        let node = self.store.nodes.node(id);
         match self.store.info_of(node, steps) {
             Ok(info) => Ok(info),
             Err(fault) => Err(DbFault::Memory(fault)),

@@ -56,10 +56,7 @@ impl Store {
         requires dest { IsLive self.now.nodes dest }
         ensures barred { (n d : TheNode) → slab.get self.now.nodes id.0 ≡ Some n → slab.get self.now.nodes dest.0 ≡ Some d → IsReason self.now.limits n d result }
     {
-        let (Some(node), Some(other)) = (self.nodes.get(id.0), self.nodes.get(dest.0)) else {
-            unreachable!();
-        };
-        barred(&self.limits, node, other)
+        barred(&self.limits, self.nodes.node(id), self.nodes.node(dest))
     }
 
     // Ends the rule from one key to another, without memory.
@@ -88,9 +85,6 @@ impl Store {
         requires { IsLive self.now.nodes id }
         ensures { (n : TheNode) → slab.get self.now.nodes id.0 ≡ Some n → result ≡ any_to dest.0 n.rules.items }
     {
-        let Some(node) = self.nodes.get(id.0) else {
-            unreachable!();
-        };
-        node.has_rule(dest)
+        self.nodes.node(id).has_rule(dest)
     }
 }

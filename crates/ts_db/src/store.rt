@@ -1,12 +1,20 @@
 // Where series and keys are kept, and how a plan for one of them is done.
-ghost use Rattle.std.specs.Prelude.{◌≡◌, nat_lt, nat_le, length, is_some, None};
+ghost use Rattle.std.specs.Prelude.{◌≡◌, nat_lt, nat_le, length, is_some, None, Some};
+ghost use Rattle.std.specs.Cmp.Lexicographic.{slice_cmp};
+ghost use Rattle.std.specs.List.{All};
+ghost use Rattle.std.specs.List.Sorted.{IsStrictlySortedBy};
+ghost use Rattle.std.specs.Map.{keys_of};
+ghost use Rattle.std.specs.Ordering.{nat_cmp};
 ghost use Rattle.ts_spec.specs.Keyed.{get, count_keys};
-ghost use Rattle.ts_db.specs.Store.{stock_of, IsInOrder};
+ghost use Rattle.ts_index.specs.Numbers.{AreInOrder};
+ghost use Rattle.ts_db.specs.Indexed.{IsIndexed};
+ghost use Rattle.ts_db.specs.Store.{stock_of, number_of, IsInOrder};
 ghost use Rattle.ts_db.specs.Answering.{IsReady, IsApplied, IsElsewhere};
 
 use crate::nodes::Nodes;
 use std::alloc::Global;
 use std::collections::BTreeMap;
+use ts_index::Index;
 use ts_labels::Labels;
 use ts_resp::Word;
 use ts_rules::Rule;
@@ -34,6 +42,19 @@ impl Store {
         ensures elsewhere { IsElsewhere self.old self.new id }
     {
         self.nodes.apply(id, plan, rules);
+    }
+
+    // The labels of the nodes by their numbers, and that they and the keys are in order.
+    pub(crate) fn index(&self) -> &Index
+        ensures indexed { IsIndexed self.now.nodes result.now }
+        ensures order { AreInOrder result.now }
+        ensures sorted { IsStrictlySortedBy (slice_cmp nat_cmp) (keys_of self.now.keys.entries) }
+        ensures found { All (λ e. number_of e.0 self.now.keys.entries ≡ Some e.1) self.now.keys.entries }
+    {
+        let _keys = self.keys.iter();
+        let index = self.nodes.index();
+        index.known();
+        index
     }
 
     // Whether the key is there.

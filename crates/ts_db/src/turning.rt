@@ -26,9 +26,7 @@ impl Nodes {
         requires { HasSuch self.old id (λ n. IsFor plan n.series) }
         ensures { IsTurned self.old self.new id (IsAfter plan None rules) }
     {
-        let Some(node) = self.slab.get_mut(id.0) else {
-            unreachable!();
-        };
+        let node = &mut self.slab[id.0];
         node.series.commit(plan);
         node.change(None, rules);
     }
@@ -45,13 +43,8 @@ impl Nodes {
         ensures altered { IfOk result (λ _. IsTurned self.old self.new id (IsAfter plan labels None)) }
         ensures unchanged { OnErr result (self.new ≡ self.old) }
     {
-        let Some(node) = self.slab.get(id.0) else {
-            unreachable!();
-        };
-        take_up(&mut self.index, id, &node.labels, &labels)?;
-        let Some(node) = self.slab.get_mut(id.0) else {
-            unreachable!();
-        };
+        take_up(&mut self.index, id, &self.slab[id.0].labels, &labels)?;
+        let node = &mut self.slab[id.0];
         node.series.commit(plan);
         node.change(labels, None);
         Ok(())
@@ -63,9 +56,7 @@ impl Nodes {
         requires room { (n : TheNode) → slab.get self.old id.0 ≡ Some n → HaveRoom n.rules.items }
         ensures { IsTurned self.old self.new id (IsGrown plan wrote.now) }
     {
-        let Some(node) = self.slab.get_mut(id.0) else {
-            unreachable!();
-        };
+        let node = &mut self.slab[id.0];
         node.series.commit_append(plan);
         count_in_all(&mut node.rules, wrote);
     }
@@ -81,9 +72,7 @@ impl Nodes {
         requires { HasSuch self.old id (λ n. n.series.born < 2 ^ 32 - 1) }
         ensures { IsTurned self.old self.new id (TakesRule dest agg grid result) }
     {
-        let Some(node) = self.slab.get_mut(id.0) else {
-            unreachable!();
-        };
+        let node = &mut self.slab[id.0];
         node.add_rule(dest, agg, grid)
     }
 
@@ -92,9 +81,7 @@ impl Nodes {
         requires { slab.ContainsKey self.old id.0 }
         ensures { IsTurned self.old self.new id (λ n m. HasRules (filter (λ r. not (r.dest.0 == dest.0)) n.rules.items) n m) }
     {
-        let Some(node) = self.slab.get_mut(id.0) else {
-            unreachable!();
-        };
+        let node = &mut self.slab[id.0];
         node.remove_rule(dest);
     }
 
@@ -103,9 +90,7 @@ impl Nodes {
         requires { slab.ContainsKey self.old id.0 }
         ensures { IsTurned self.old self.new id (λ n m. (result.items ≡ n.rules.items) × HasRules [] n m) }
     {
-        let Some(node) = self.slab.get_mut(id.0) else {
-            unreachable!();
-        };
+        let node = &mut self.slab[id.0];
         node.take_rules(alloc)
     }
 
@@ -114,9 +99,7 @@ impl Nodes {
         requires { slab.ContainsKey self.old id.0 }
         ensures { IsTurned self.old self.new id (λ n m. m ≡ record n { source = source }) }
     {
-        let Some(node) = self.slab.get_mut(id.0) else {
-            unreachable!();
-        };
+        let node = &mut self.slab[id.0];
         node.source = source;
     }
 }

@@ -70,9 +70,7 @@ impl Store {
         ensures steps { Takes steps.old steps.new (write_steps (stock_of self.old) (key_in self.old.nodes id) time) }
         ensures easy { (key : Key) → number_of key self.old.keys.entries ≡ Some id → IsEasyAppend (stock_of self.old) key time → steps.new ≡ steps.old }
     {
-        let Some(node) = self.nodes.get(id.0) else {
-            unreachable!();
-        };
+        let node = self.nodes.node(id);
         let limit = self.limits.samples;
         if let Some(plan) = node.series.plan_append(time, value, limit) {
             let wrote = plan.sample();

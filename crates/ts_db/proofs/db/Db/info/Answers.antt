@@ -17,6 +17,7 @@ use Rattle.ts_db.specs.Information.{info_of}
 use Rattle.ts_db.specs.Store.{kept_at, stock_of, IsInOrder, Holds}
 use Rattle.ts_db.proofs.Applying.{there}
 use Rattle.ts_db.proofs.Asking.{numbered-holds, node-live, finds-no-key, finds-there}
+use Rattle.ts_db.proofs.Indexing.{contains}
 use Rattle.ts_db.proofs.Laws.{told-law}
 use Rattle.ts_db.proofs.Reaches.{reach-held}
 use Rattle.ts_db.proofs.db.Db.info.Goals as goal
@@ -40,17 +41,17 @@ pub returns-in_default-clause-info : goal.returns-in_default-clause-info
 returns-in_default-clause-info g c =
     finds-no-key {T = Info} c.args.self.now c.args.key.now (λ held info. Told (info_of info) ≡ info_response held.state c.args.key.now (get c.args.key.now held.state)) c.in_default.ensures.there
 
-pub unreachable-requires : goal.unreachable-requires
-unreachable-requires g c =
+pub node-node-requires : goal.node-node-requires
+node-node-requires g c =
     let s = c.self.inside.store in
     let of = node-live s c.self.invariant.store c.in-Some.id (record { key = c.args.key.now; is = number s c.self.invariant.store c.args.self.now c.self.view_is c.args.key.now c.in-Some.id c.in-Some.ensures.id }) in
-    absurd (cc (c.in_default-get.ensures ∙ of.1))
+    contains s.nodes c.in-Some.id of.0 of.1
 
 pub returns-in-Ok-clause-info : goal.returns-in-Ok-clause-info
 returns-in-Ok-clause-info g c =
     finds-there c.args.self.now c.args.key.now (λ held info. Told (info_of info) ≡ info_response held.state c.args.key.now (get c.args.key.now held.state)) (Ok c.in-Ok.info) c.in-Some.ensures.there
     (λ held st. c.in-Ok.ensures.info
-    ∙ told c.self.inside.store c.self.invariant.store c.args.self.now c.self.view_is c.args.key.now c.in-Some.id c.in-Some.ensures.id c.in-Some-get.node.now c.in-Some-get.ensures
+    ∙ told c.self.inside.store c.self.invariant.store c.args.self.now c.self.view_is c.args.key.now c.in-Some.id c.in-Some.ensures.id c.node-node.result.now (sym c.node-node.ensures)
     ∙ told-law c.args.self.now c.args.key.now held st)
 
 pub returns-in-Err-clause-info : goal.returns-in-Err-clause-info
@@ -62,12 +63,12 @@ pub returns-in-Ok-clause-steps : goal.returns-in-Ok-clause-steps
 returns-in-Ok-clause-steps g c =
     record {
       counted = c.info_of.ensures.steps.counted;
-      bounded = omega (arith, c.info_of.ensures.steps.bounded, far c.self.inside.store c.self.invariant.store c.args.self.now c.self.view_is c.args.key.now c.in-Some.id c.in-Some.ensures.id c.in-Some-get.node.now c.in-Some-get.ensures);
+      bounded = omega (arith, c.info_of.ensures.steps.bounded, far c.self.inside.store c.self.invariant.store c.args.self.now c.self.view_is c.args.key.now c.in-Some.id c.in-Some.ensures.id c.node-node.result.now (sym c.node-node.ensures));
     }
 
 pub returns-in-Err-clause-steps : goal.returns-in-Err-clause-steps
 returns-in-Err-clause-steps g c =
     record {
       counted = c.info_of.ensures.steps.counted;
-      bounded = omega (arith, c.info_of.ensures.steps.bounded, far c.self.inside.store c.self.invariant.store c.args.self.now c.self.view_is c.args.key.now c.in-Some.id c.in-Some.ensures.id c.in-Some-get.node.now c.in-Some-get.ensures);
+      bounded = omega (arith, c.info_of.ensures.steps.bounded, far c.self.inside.store c.self.invariant.store c.args.self.now c.self.view_is c.args.key.now c.in-Some.id c.in-Some.ensures.id c.node-node.result.now (sym c.node-node.ensures));
     }

@@ -34,8 +34,8 @@ overflow_add-total g c =
     let samples : c.self.inside.store.limits.samples < 2 ^ 32 = search rules in
     let all : samples_in (listing nodes es) < 2 ^ 64 =
     total-fits c.self.inside.store.limits nodes es c.self.invariant.store.each (all-there nodes es es c.self.invariant.store.stored c.iter-key-items.ensures.found) c.self.invariant.store.few keys samples in
-    let one : samples_in (listing nodes c.loop-key._key-iterator) ≡ length (list_of c.in-Some-get.node.now.series) + samples_in (listing nodes c.next.new.self) =
-    total-next nodes c.in-Some._key.now c.in-Some.id.now c.in-Some-get.node.now c.loop-key._key-iterator c.next.new.self c.in-Some.ensures.steps (sym c.in-Some-get.ensures) in
+    let one : samples_in (listing nodes c.loop-key._key-iterator) ≡ length (list_of c.node.result.now.series) + samples_in (listing nodes c.next.new.self) =
+    total-next nodes c.in-Some._key.now c.in-Some.id.now c.node.result.now c.loop-key._key-iterator c.next.new.self c.in-Some.ensures.steps (c.node.ensures) in
     omega (arith, all, one, c.loop-key.invariant.sum, c.len.ensures.len)
 
 pub returns-clause-each : goal.returns-clause-each

@@ -3,5 +3,5 @@ use Rattle.ts_db.proofs.nodes.Nodes.add_rule.Goals as goal
 
 pub returns : goal.returns
 returns c =
-    turned c.self.inside.slab c.args.self.now c.args.id c.in-Some.node.now c.add_rule.new.self c.self.view_is c.in-Some.ensures.value
+    turned c.self.inside.slab c.args.self.now c.args.id c.index_mut-node.result.now c.add_rule.new.self c.self.view_is c.index_mut-node.ensures.value
     (record { added = c.add_rule.ensures.added; kept = c.add_rule.ensures.kept; unchanged = c.add_rule.ensures.unchanged })

@@ -10,13 +10,13 @@ use Rattle.ts_db.proofs.nodes.Nodes.alter.Goals as goal
 
 pub invariant_of-self-2 : goal.invariant_of-self-2
 invariant_of-self-2 c =
-    let one : c.in-Some.node.now ≡ c.in-Some-get_mut.node.now = some-same c.in-Some.node.now c.in-Some-get_mut.node.now (c.in-Some.ensures ∙ sym c.in-Some-get_mut.ensures.value) in
-    let labels : unwrap_or c.args.labels c.in-Some.node.now.labels ≡ c.change.new.self.labels =
+    let one : c.index.result.now ≡ c.index_mut-node.result.now = some-same c.index.result.now c.index_mut-node.result.now (sym c.index.ensures ∙ c.index_mut-node.ensures.value) in
+    let labels : unwrap_or c.args.labels c.index.result.now.labels ≡ c.change.new.self.labels =
     ap (λ (n : Node). unwrap_or c.args.labels n.labels) one ∙ sym (ap (λ (n : Node). n.labels) c.change.ensures) in
-    indexed-altered c.self.inside.slab c.self.inside.index c.take_up.new.index c.args.id c.in-Some-get_mut.node.now c.change.new.self (sym c.in-Some-get_mut.ensures.value)
+    indexed-altered c.self.inside.slab c.self.inside.index c.take_up.new.index c.args.id c.index_mut-node.result.now c.change.new.self (c.index_mut-node.ensures.value)
     (subst (λ (ls : List Label). Gives c.args.id (Some ls) c.self.inside.index c.take_up.new.index) labels c.in_ok-take_up.ensures.ok) c.self.invariant
 
 pub returns-clause-altered : goal.returns-clause-altered
 returns-clause-altered c =
-    turned c.self.inside.slab c.args.self.now c.args.id c.in-Some-get_mut.node.now c.change.new.self c.self.view_is c.in-Some-get_mut.ensures.value
-    (is-after c.args.plan c.args.labels None c.in-Some-get_mut.node.now c.change.new.self c.commit.new.self c.commit.ensures.kept c.commit.ensures.done c.change.ensures)
+    turned c.self.inside.slab c.args.self.now c.args.id c.index_mut-node.result.now c.change.new.self c.self.view_is c.index_mut-node.ensures.value
+    (is-after c.args.plan c.args.labels None c.index_mut-node.result.now c.change.new.self c.commit.new.self c.commit.ensures.kept c.commit.ensures.done c.change.ensures)

@@ -12,89 +12,89 @@ use Rattle.ts_db.specs.Store.{key_in, kept_at, contents_of, Contents, IsNode, Ho
 use Rattle.ts_db.specs.Answering.{node_after}
 use Rattle.ts_db.proofs.Known.{distinct, links}
 use Rattle.ts_db.proofs.Destinations.{key-holds, destination-own}
-use Rattle.ts_db.proofs.Working.{ArePlanned, planned-for, unplanned-for, changed-live, changed-grids, takes-deleted, is-feed, still-fed, worked}
+use Rattle.ts_db.proofs.Working.{ArePlanned, planned-for, unplanned-for, changed-live, changed-grids, takes-deleted, for-destinations, still-fed, worked}
 use Rattle.ts_db.proofs.Deleting.{cut-within, deleted-few, deleted-answers, undeleted-answers}
 use Rattle.ts_db.proofs.EasyWrites.{deletion-total}
 use Rattle.ts_db.proofs.store.Store.delete.Goals as goal
 
 pub plan_rules-requires-clause-room : goal.plan_rules-requires-clause-room
-plan_rules-requires-clause-room g c = takes-deleted c.args.from c.args.to c.in-Some.node.now.series c.deref-2.result.now
+plan_rules-requires-clause-room g c = takes-deleted c.args.from c.args.to c.node-node.result.now.series c.deref-2.result.now
 
 pub unplanned-requires-clause-room : goal.unplanned-requires-clause-room
-unplanned-requires-clause-room g c = takes-deleted c.args.from c.args.to c.in-Some.node.now.series c.deref.result.now
+unplanned-requires-clause-room g c = takes-deleted c.args.from c.args.to c.node-node.result.now.series c.deref.result.now
 
 pub returns-in-Err-clause-deleted : goal.returns-in-Err-clause-deleted
 returns-in-Err-clause-deleted g c key n holds =
-    let it : c.in-Some.node.now ≡ n = some-same c.in-Some.node.now n (c.in-Some.ensures ∙ holds.node) in
+    let it : c.node-node.result.now ≡ n = some-same c.node-node.result.now n (sym c.node-node.ensures ∙ holds.node) in
     let work = Delete c.args.from c.args.to in (
       undeleted-answers c.args.self.now c.requires.db key c.args.id n holds c.args.from c.args.to c.unplanned.result
-          (unplanned-for c.args.self.now work work c.in-Some.node.now n c.deref.result.now c.unplanned.result refl it c.deref.ensures.value c.unplanned.ensures.refused),
+          (unplanned-for c.args.self.now work work c.node-node.result.now n c.deref.result.now c.unplanned.result refl it c.deref.ensures.value c.unplanned.ensures.refused),
       refl,
     )
 
 pub returns-in-Err-clause-own : goal.returns-in-Err-clause-own
 returns-in-Err-clause-own g c key is =
-    let node : Node = c.in-Some.node.now in
+    let node : Node = c.node-node.result.now in
     let work = Delete c.args.from c.args.to in
-    destination-own c.args.self.now c.requires.db.store node.rules.items (rows_by_work work node.series) (gone_by work node.series) (c.requires.db.store.live c.args.id.0 node (sym c.in-Some.ensures)).rules key c.unplanned.result
+    destination-own c.args.self.now c.requires.db.store node.rules.items (rows_by_work work node.series) (gone_by work node.series) (c.requires.db.store.live c.args.id.0 node c.node-node.ensures).rules key c.unplanned.result
     (unplanned-for c.args.self.now work work node node c.deref.result.now c.unplanned.result refl refl c.deref.ensures.value c.unplanned.ensures.refused)
 
 pub returns-in-Err-plan_rules-clause-deleted : goal.returns-in-Err-plan_rules-clause-deleted
 returns-in-Err-plan_rules-clause-deleted g c key n holds =
-    let it : c.in-Some.node.now ≡ n = some-same c.in-Some.node.now n (c.in-Some.ensures ∙ holds.node) in
+    let it : c.node-node.result.now ≡ n = some-same c.node-node.result.now n (sym c.node-node.ensures ∙ holds.node) in
     let work = Delete c.args.from c.args.to in (
       undeleted-answers c.args.self.now c.requires.db key c.args.id n holds c.args.from c.args.to c.in-Err-plan_rules.fault
-          (unplanned-for c.args.self.now work work c.in-Some.node.now n c.deref-2.result.now c.in-Err-plan_rules.fault refl it c.deref-2.ensures.value c.in-Err-plan_rules.ensures.refused),
+          (unplanned-for c.args.self.now work work c.node-node.result.now n c.deref-2.result.now c.in-Err-plan_rules.fault refl it c.deref-2.ensures.value c.in-Err-plan_rules.ensures.refused),
       refl,
     )
 
 pub returns-in-Err-plan_rules-clause-own : goal.returns-in-Err-plan_rules-clause-own
 returns-in-Err-plan_rules-clause-own g c key is =
-    let node : Node = c.in-Some.node.now in
+    let node : Node = c.node-node.result.now in
     let work = Delete c.args.from c.args.to in
-    destination-own c.args.self.now c.requires.db.store node.rules.items (rows_by_work work node.series) (gone_by work node.series) (c.requires.db.store.live c.args.id.0 node (sym c.in-Some.ensures)).rules key c.in-Err-plan_rules.fault
+    destination-own c.args.self.now c.requires.db.store node.rules.items (rows_by_work work node.series) (gone_by work node.series) (c.requires.db.store.live c.args.id.0 node c.node-node.ensures).rules key c.in-Err-plan_rules.fault
     (unplanned-for c.args.self.now work work node node c.deref-2.result.now c.in-Err-plan_rules.fault refl refl c.deref-2.ensures.value c.in-Err-plan_rules.ensures.refused)
 
 pub apply-requires-clause-ready : goal.apply-requires-clause-ready
 apply-requires-clause-ready g c =
-    let node : Node = c.in-Some.node.now in
+    let node : Node = c.node-node.result.now in
     let work = Delete c.args.from c.args.to in
-    let fits : IsNode c.args.self.now.limits node = c.requires.db.store.each c.args.id.0 node (sym c.in-Some.ensures) in
+    let fits : IsNode c.args.self.now.limits node = c.requires.db.store.each c.args.id.0 node c.node-node.ensures in
     let planned : ArePlanned c.args.self.now work node.series node.rules.items c.in-Ok-plan_rules.planned.rules.items c.in-Ok-plan_rules.planned.plans.items =
     planned-for c.args.self.now work work node node c.deref-2.result.now c.in-Ok-plan_rules.planned.rules.items c.in-Ok-plan_rules.planned.plans.items refl refl c.deref-2.ensures.value
     (record { changed = c.in-Ok-plan_rules.ensures.rules; fed = c.in-Ok-plan_rules.ensures.fed; fit = c.in-Ok-plan_rules.ensures.fit }) in
     record {
       key = c.requires.there.key;
       node = node;
-      holds = record { number = c.requires.there.holds.number; node = sym c.in-Some.ensures };
+      holds = record { number = c.requires.there.holds.number; node = c.node-node.ensures };
       ready = c.in-Ok.ensures.planned;
       within = cut-within node.series c.in-Ok.plan c.args.from c.args.to (length (between c.args.from c.args.to (list_of node.series))) c.args.self.now.limits.samples fits.kept (cuts-is c.args.from c.args.to (length (between c.args.from c.args.to (list_of node.series))) c.in-Ok.plan c.in-Ok.ensures.cut) fits.within;
       few = fits.labels;
       live = changed-live c.args.self.now (changed_by work node.series) node.rules.items c.in-Ok-plan_rules.planned.rules.items planned.changed
-          (c.requires.db.store.live c.args.id.0 node (sym c.in-Some.ensures)).rules;
+          (c.requires.db.store.live c.args.id.0 node c.node-node.ensures).rules;
       grids = changed-grids work node.series node.rules.items c.in-Ok-plan_rules.planned.rules.items planned.changed fits.grids;
     }
 
 pub feed-requires-clause-planned : goal.feed-requires-clause-planned
 feed-requires-clause-planned g c =
-    let node : Node = c.in-Some.node.now in
+    let node : Node = c.node-node.result.now in
     let work = Delete c.args.from c.args.to in
     let planned : ArePlanned c.args.self.now work node.series node.rules.items c.in-Ok-plan_rules.planned.rules.items c.in-Ok-plan_rules.planned.plans.items =
     planned-for c.args.self.now work work node node c.deref-2.result.now c.in-Ok-plan_rules.planned.rules.items c.in-Ok-plan_rules.planned.plans.items refl refl c.deref-2.ensures.value
     (record { changed = c.in-Ok-plan_rules.ensures.rules; fed = c.in-Ok-plan_rules.ensures.fed; fit = c.in-Ok-plan_rules.ensures.fit }) in
-    is-feed c.args.self.now c.requires.db c.requires.there.key c.args.id node (record { number = c.requires.there.holds.number; node = sym c.in-Some.ensures }) c.apply.new.self c.apply.ensures.elsewhere
+    for-destinations c.args.self.now c.requires.db c.requires.there.key c.args.id node (record { number = c.requires.there.holds.number; node = c.node-node.ensures }) c.apply.new.self c.apply.ensures.elsewhere
     (rows_by_work work node.series) (gone_by work node.series) c.in-Ok-plan_rules.planned.plans.items planned.fed
 
 pub returns-clause-deleted : goal.returns-clause-deleted
 returns-clause-deleted g c key n holds =
-    let it : c.in-Some.node.now ≡ n = some-same c.in-Some.node.now n (c.in-Some.ensures ∙ holds.node) in
+    let it : c.node-node.result.now ≡ n = some-same c.node-node.result.now n (sym c.node-node.ensures ∙ holds.node) in
     let work = Delete c.args.from c.args.to in
     let planned : ArePlanned c.args.self.now work n.series n.rules.items c.in-Ok-plan_rules.planned.rules.items c.in-Ok-plan_rules.planned.plans.items =
-    planned-for c.args.self.now work work c.in-Some.node.now n c.deref-2.result.now c.in-Ok-plan_rules.planned.rules.items c.in-Ok-plan_rules.planned.plans.items refl it c.deref-2.ensures.value
+    planned-for c.args.self.now work work c.node-node.result.now n c.deref-2.result.now c.in-Ok-plan_rules.planned.rules.items c.in-Ok-plan_rules.planned.plans.items refl it c.deref-2.ensures.value
     (record { changed = c.in-Ok-plan_rules.ensures.rules; fed = c.in-Ok-plan_rules.ensures.fed; fit = c.in-Ok-plan_rules.ensures.fit }) in
     let cut : c.in-Ok.plan ≡ with_change c.in-Ok.plan (cuts c.args.from c.args.to (length (between c.args.from c.args.to (list_of n.series)))) =
     subst (λ (x : Node). c.in-Ok.plan ≡ with_change c.in-Ok.plan (cuts c.args.from c.args.to (length (between c.args.from c.args.to (list_of x.series))))) it
-    (cuts-is c.args.from c.args.to (length (between c.args.from c.args.to (list_of c.in-Some.node.now.series))) c.in-Ok.plan c.in-Ok.ensures.cut) in
+    (cuts-is c.args.from c.args.to (length (between c.args.from c.args.to (list_of c.node-node.result.now.series))) c.in-Ok.plan c.in-Ok.ensures.cut) in
     let done = worked c.args.self.now c.requires.db key c.args.id n holds c.apply.new.self c.apply.ensures.elsewhere (rows_by_work work n.series) (gone_by work n.series)
     (kept_at c.args.self.now.nodes (node_after c.in-Ok.plan None (Some c.in-Ok-plan_rules.planned.rules) n)) (contents_of c.feed.new.self) (c.apply.ensures.applied key n holds)
     (c.feed.ensures.fed (rows_by_work work n.series) (gone_by work n.series) n.rules.items
@@ -106,10 +106,10 @@ returns-clause-deleted g c key n holds =
 
 pub returns-clause-bounded : goal.returns-clause-bounded
 returns-clause-bounded g c =
-    let fits : IsNode c.args.self.now.limits c.in-Some.node.now = c.requires.db.store.each c.args.id.0 c.in-Some.node.now (sym c.in-Some.ensures) in
+    let fits : IsNode c.args.self.now.limits c.node-node.result.now = c.requires.db.store.each c.args.id.0 c.node-node.result.now c.node-node.ensures in
     let few : c.removed-removed.result ≤ c.args.self.now.limits.samples =
-    deleted-few c.in-Some.node.now.series c.in-Ok.plan c.args.from c.args.to c.removed-removed.result c.args.self.now.limits.samples
-    (cuts-is c.args.from c.args.to (length (between c.args.from c.args.to (list_of c.in-Some.node.now.series))) c.in-Ok.plan c.in-Ok.ensures.cut) c.removed-removed.ensures fits.within in
+    deleted-few c.node-node.result.now.series c.in-Ok.plan c.args.from c.args.to c.removed-removed.result c.args.self.now.limits.samples
+    (cuts-is c.args.from c.args.to (length (between c.args.from c.args.to (list_of c.node-node.result.now.series))) c.in-Ok.plan c.in-Ok.ensures.cut) c.removed-removed.ensures fits.within in
     omega (arith, few, c.requires.db.store.bounded)
 
 -- ---- how much is decoded
@@ -117,29 +117,29 @@ returns-clause-bounded g c =
 pub returns-in-Err-clause-steps : goal.returns-in-Err-clause-steps
 returns-in-Err-clause-steps g c =
     let key = key_in c.args.self.now.nodes c.args.id in
-    let holds = key-holds c.args.self.now c.requires.db.store c.args.id (record { node = c.in-Some.node.now; there = sym c.in-Some.ensures }) in
-    let rules = ap (shares_of c.args.self.now.nodes (Delete c.args.from c.args.to) c.in-Some.node.now.series) c.deref.ensures.value in
+    let holds = key-holds c.args.self.now c.requires.db.store c.args.id (record { node = c.node-node.result.now; there = c.node-node.ensures }) in
+    let rules = ap (shares_of c.args.self.now.nodes (Delete c.args.from c.args.to) c.node-node.result.now.series) c.deref.ensures.value in
     record {
       counted = omega (arith, c.cut.ensures.steps.counted, c.unplanned.ensures.steps.counted);
-      bounded = omega (arith, c.cut.ensures.steps.bounded, c.unplanned.ensures.steps.bounded, rules, deletion-total c.args.self.now c.requires.db key c.args.id c.in-Some.node.now holds c.args.from c.args.to);
+      bounded = omega (arith, c.cut.ensures.steps.bounded, c.unplanned.ensures.steps.bounded, rules, deletion-total c.args.self.now c.requires.db key c.args.id c.node-node.result.now holds c.args.from c.args.to);
     }
 
 pub returns-in-Err-plan_rules-clause-steps : goal.returns-in-Err-plan_rules-clause-steps
 returns-in-Err-plan_rules-clause-steps g c =
     let key = key_in c.args.self.now.nodes c.args.id in
-    let holds = key-holds c.args.self.now c.requires.db.store c.args.id (record { node = c.in-Some.node.now; there = sym c.in-Some.ensures }) in
-    let rules = ap (shares_of c.args.self.now.nodes (Delete c.args.from c.args.to) c.in-Some.node.now.series) c.deref-2.ensures.value in
+    let holds = key-holds c.args.self.now c.requires.db.store c.args.id (record { node = c.node-node.result.now; there = c.node-node.ensures }) in
+    let rules = ap (shares_of c.args.self.now.nodes (Delete c.args.from c.args.to) c.node-node.result.now.series) c.deref-2.ensures.value in
     record {
       counted = omega (arith, c.cut.ensures.steps.counted, c.plan_rules.ensures.steps.counted);
-      bounded = omega (arith, c.cut.ensures.steps.bounded, c.plan_rules.ensures.steps.bounded, rules, deletion-total c.args.self.now c.requires.db key c.args.id c.in-Some.node.now holds c.args.from c.args.to);
+      bounded = omega (arith, c.cut.ensures.steps.bounded, c.plan_rules.ensures.steps.bounded, rules, deletion-total c.args.self.now c.requires.db key c.args.id c.node-node.result.now holds c.args.from c.args.to);
     }
 
 pub returns-clause-steps : goal.returns-clause-steps
 returns-clause-steps g c =
     let key = key_in c.args.self.now.nodes c.args.id in
-    let holds = key-holds c.args.self.now c.requires.db.store c.args.id (record { node = c.in-Some.node.now; there = sym c.in-Some.ensures }) in
-    let rules = ap (shares_of c.args.self.now.nodes (Delete c.args.from c.args.to) c.in-Some.node.now.series) c.deref-2.ensures.value in
+    let holds = key-holds c.args.self.now c.requires.db.store c.args.id (record { node = c.node-node.result.now; there = c.node-node.ensures }) in
+    let rules = ap (shares_of c.args.self.now.nodes (Delete c.args.from c.args.to) c.node-node.result.now.series) c.deref-2.ensures.value in
     record {
       counted = omega (arith, c.cut.ensures.steps.counted, c.plan_rules.ensures.steps.counted);
-      bounded = omega (arith, c.cut.ensures.steps.bounded, c.plan_rules.ensures.steps.bounded, rules, deletion-total c.args.self.now c.requires.db key c.args.id c.in-Some.node.now holds c.args.from c.args.to);
+      bounded = omega (arith, c.cut.ensures.steps.bounded, c.plan_rules.ensures.steps.bounded, rules, deletion-total c.args.self.now c.requires.db key c.args.id c.node-node.result.now holds c.args.from c.args.to);
     }

@@ -25,8 +25,8 @@ returns-then-to-from-clause-deleted g c =
 
 pub returns-then-meet_expired-clause-deleted : goal.returns-then-meet_expired-clause-deleted
 returns-then-meet_expired-clause-deleted g c =
-    let n = c.in-Some-get.node.now in
-    let holds : Holds c.args.self.now c.args.key.now c.in-Some.id n = record { number = sym (c.in-Some.ensures ∙ c.get.ensures.value); node = sym c.in-Some-get.ensures } in (
+    let n = c.node-node.result.now in
+    let holds : Holds c.args.self.now c.args.key.now c.in-Some.id n = record { number = sym (c.in-Some.ensures ∙ c.get.ensures.value); node = c.node-node.ensures } in (
       delete-expired c.args.self.now c.requires.db.store c.args.key.now c.in-Some.id n holds c.args.from c.args.to (le-ltb c.args.to c.args.from c.if-to-from.false)
           (expired-at c.args.self.now n c.args.from c.edge.result c.deref.result.now c.meet_expired.result true c.edge.ensures c.deref.ensures.value c.meet_expired.ensures c.if-meet_expired.true),
       refl,
@@ -34,12 +34,12 @@ returns-then-meet_expired-clause-deleted g c =
 
 pub delete-requires-clause-there : goal.delete-requires-clause-there
 delete-requires-clause-there g c =
-    record { key = c.args.key.now; node = c.in-Some-get.node.now; holds = record { number = sym (c.in-Some.ensures ∙ c.get.ensures.value); node = sym c.in-Some-get.ensures } }
+    record { key = c.args.key.now; node = c.node-node.result.now; holds = record { number = sym (c.in-Some.ensures ∙ c.get.ensures.value); node = c.node-node.ensures } }
 
 pub returns-clause-deleted : goal.returns-clause-deleted
 returns-clause-deleted g c =
-    let n = c.in-Some-get.node.now in
-    let holds : Holds c.args.self.now c.args.key.now c.in-Some.id n = record { number = sym (c.in-Some.ensures ∙ c.get.ensures.value); node = sym c.in-Some-get.ensures } in
+    let n = c.node-node.result.now in
+    let holds : Holds c.args.self.now c.args.key.now c.in-Some.id n = record { number = sym (c.in-Some.ensures ∙ c.get.ensures.value); node = c.node-node.ensures } in
     subst (λ (step : KeptOutcome). KeptNumber (stock_of c.args.self.now) step c.delete.result (stock_of c.delete.new.self))
     (sym (delete-done c.args.self.now c.requires.db.store c.args.key.now c.in-Some.id n holds c.args.from c.args.to (le-ltb c.args.to c.args.from c.if-to-from.false)
     (expired-at c.args.self.now n c.args.from c.edge.result c.deref.result.now c.meet_expired.result false c.edge.ensures c.deref.ensures.value c.meet_expired.ensures c.if-meet_expired.false)))
@@ -48,4 +48,4 @@ returns-clause-deleted g c =
 pub returns-clause-steps : goal.returns-clause-steps
 returns-clause-steps g c =
     subst (λ (key : Key). Takes c.args.steps.now c.delete.new.steps (deletion_steps (stock_of c.args.self.now) key c.args.from c.args.to))
-    (only-key c.args.self.now c.requires.db.store c.in-Some.id (record { node = c.in-Some-get.node.now; there = sym c.in-Some-get.ensures }) c.args.key.now (sym (c.in-Some.ensures ∙ c.get.ensures.value))) c.delete.ensures.steps
+    (only-key c.args.self.now c.requires.db.store c.in-Some.id (record { node = c.node-node.result.now; there = c.node-node.ensures }) c.args.key.now (sym (c.in-Some.ensures ∙ c.get.ensures.value))) c.delete.ensures.steps

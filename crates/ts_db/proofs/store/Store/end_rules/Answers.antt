@@ -14,18 +14,18 @@ end_source-requires-clause-live c =
 
 pub end_source-requires-clause-source : goal.end_source-requires-clause-source
 end_source-requires-clause-source c =
-    source-live-after c.args.self.now c.take_rules-rules.new.self c.requires.db.store c.take_rules-rules.ensures.store c.take_rules-rules.ensures.elsewhere.entries c.in-Some.node.now.source
-    (c.requires.db.store.live c.args.id.0 c.in-Some.node.now (sym c.in-Some.ensures)).source
+    source-live-after c.args.self.now c.take_rules-rules.new.self c.requires.db.store c.take_rules-rules.ensures.store c.take_rules-rules.ensures.elsewhere.entries c.node-node.result.now.source
+    (c.requires.db.store.live c.args.id.0 c.node-node.result.now c.node-node.ensures).source
 
 pub free-requires-clause-live : goal.free-requires-clause-live
 free-requires-clause-live c =
     all-live-after c.take_rules-rules.new.self c.end_source.new.self c.take_rules-rules.ensures.store c.end_source.ensures.store c.end_source.ensures.names.entries c.take_rules-rules.result.items
     (all-live-after c.args.self.now c.take_rules-rules.new.self c.requires.db.store c.take_rules-rules.ensures.store c.take_rules-rules.ensures.elsewhere.entries c.take_rules-rules.result.items
-    (subst (λ (rs : List Rule). AreLive c.args.self.now.nodes rs) (sym (c.take_rules-rules.ensures.rules c.in-Some.node.now (sym c.in-Some.ensures)))
-    (c.requires.db.store.live c.args.id.0 c.in-Some.node.now (sym c.in-Some.ensures)).rules))
+    (subst (λ (rs : List Rule). AreLive c.args.self.now.nodes rs) (sym (c.take_rules-rules.ensures.rules c.node-node.result.now c.node-node.ensures))
+    (c.requires.db.store.live c.args.id.0 c.node-node.result.now c.node-node.ensures).rules))
 
 pub returns-clause-alone : goal.returns-clause-alone
 returns-clause-alone c key n holds =
-    all-alone c.args.self.now c.requires.db key c.args.id n holds c.take_rules-rules.new.self c.end_source.new.self c.free.new.self c.in-Some.node.now.source c.take_rules-rules.result.items
-    (ap (λ (x : Node). x.source) (some-same c.in-Some.node.now n (c.in-Some.ensures ∙ holds.node))) (c.take_rules-rules.ensures.rules n holds.node) c.take_rules-rules.ensures.elsewhere c.take_rules-rules.ensures.taken
+    all-alone c.args.self.now c.requires.db key c.args.id n holds c.take_rules-rules.new.self c.end_source.new.self c.free.new.self c.node-node.result.now.source c.take_rules-rules.result.items
+    (ap (λ (x : Node). x.source) (some-same c.node-node.result.now n (sym c.node-node.ensures ∙ holds.node))) (c.take_rules-rules.ensures.rules n holds.node) c.take_rules-rules.ensures.elsewhere c.take_rules-rules.ensures.taken
     c.end_source.ensures.names c.end_source.ensures.ended c.free.ensures.freed

@@ -26,37 +26,37 @@ returns-in_default-clause-changed g c =
 
 pub returns-then-is_before-clause-changed : goal.returns-then-is_before-clause-changed
 returns-then-is_before-clause-changed g c =
-    let holds : Holds c.args.self.now c.args.key c.in-Some.id c.in-Some-get.node.now = record { number = sym (c.in-Some.ensures ∙ c.get.ensures.value); node = sym c.in-Some-get.ensures } in
-    (incr-before c.args.self.now c.requires.db.store c.args.key c.in-Some.id c.in-Some-get.node.now holds c.args.change c.args.time (spec_of c.args.spec) (sym c.is_before.ensures ∙ c.if-is_before.true), refl)
+    let holds : Holds c.args.self.now c.args.key c.in-Some.id c.node-node.result.now = record { number = sym (c.in-Some.ensures ∙ c.get.ensures.value); node = c.node-node.ensures } in
+    (incr-before c.args.self.now c.requires.db.store c.args.key c.in-Some.id c.node-node.result.now holds c.args.change c.args.time (spec_of c.args.spec) (sym c.is_before.ensures ∙ c.if-is_before.true), refl)
 
 pub returns-then-time-edge-clause-changed : goal.returns-then-time-edge-clause-changed
 returns-then-time-edge-clause-changed g c =
-    let holds : Holds c.args.self.now c.args.key c.in-Some.id c.in-Some-get.node.now = record { number = sym (c.in-Some.ensures ∙ c.get.ensures.value); node = sym c.in-Some-get.ensures } in
-    (incr-old c.args.self.now c.requires.db.store c.args.key c.in-Some.id c.in-Some-get.node.now holds c.args.change c.args.time (spec_of c.args.spec) (sym c.is_before.ensures ∙ c.if-is_before.false) (ap (nat_lt c.args.time) (sym c.edge.ensures) ∙ lt-ltb c.args.time c.edge.result c.if-time-edge.true), refl)
+    let holds : Holds c.args.self.now c.args.key c.in-Some.id c.node-node.result.now = record { number = sym (c.in-Some.ensures ∙ c.get.ensures.value); node = c.node-node.ensures } in
+    (incr-old c.args.self.now c.requires.db.store c.args.key c.in-Some.id c.node-node.result.now holds c.args.change c.args.time (spec_of c.args.spec) (sym c.is_before.ensures ∙ c.if-is_before.false) (ap (nat_lt c.args.time) (sym c.edge.ensures) ∙ lt-ltb c.args.time c.edge.result c.if-time-edge.true), refl)
 
 pub returns-clause-changed : goal.returns-clause-changed
 returns-clause-changed g c =
-    let holds : Holds c.args.self.now c.args.key c.in-Some.id c.in-Some-get.node.now = record { number = sym (c.in-Some.ensures ∙ c.get.ensures.value); node = sym c.in-Some-get.ensures } in
-    let late : nat_lt c.args.time (low c.in-Some-get.node.now.series) ≡ false = ap (nat_lt c.args.time) (sym c.edge.ensures) ∙ le-ltb c.args.time c.edge.result c.if-time-edge.false in
+    let holds : Holds c.args.self.now c.args.key c.in-Some.id c.node-node.result.now = record { number = sym (c.in-Some.ensures ∙ c.get.ensures.value); node = c.node-node.ensures } in
+    let late : nat_lt c.args.time (low c.node-node.result.now.series) ≡ false = ap (nat_lt c.args.time) (sym c.edge.ensures) ∙ le-ltb c.args.time c.edge.result c.if-time-edge.false in
     subst (λ (step : KeptOutcome). KeptNumber (stock_of c.args.self.now) step c.write.result (stock_of c.write.new.self))
-    (sym (incr-write c.args.self.now c.requires.db.store c.args.key c.in-Some.id c.in-Some-get.node.now holds c.args.change c.args.time (spec_of c.args.spec) c.in-Some-changed.value (sym c.is_before.ensures ∙ c.if-is_before.false) late c.in-Some-changed.ensures
+    (sym (incr-write c.args.self.now c.requires.db.store c.args.key c.in-Some.id c.node-node.result.now holds c.args.change c.args.time (spec_of c.args.spec) c.in-Some-changed.value (sym c.is_before.ensures ∙ c.if-is_before.false) late c.in-Some-changed.ensures
     c.in_default-ignored.ensures))
-    (c.write.ensures.written c.args.key c.in-Some-get.node.now holds)
+    (c.write.ensures.written c.args.key c.node-node.result.now holds)
 
 pub returns-in_default-changed-clause-changed : goal.returns-in_default-changed-clause-changed
 returns-in_default-changed-clause-changed g c =
-    let holds : Holds c.args.self.now c.args.key c.in-Some.id c.in-Some-get.node.now = record { number = sym (c.in-Some.ensures ∙ c.get.ensures.value); node = sym c.in-Some-get.ensures } in
-    let late : nat_lt c.args.time (low c.in-Some-get.node.now.series) ≡ false = ap (nat_lt c.args.time) (sym c.edge.ensures) ∙ le-ltb c.args.time c.edge.result c.if-time-edge.false in
-    (incr-out c.args.self.now c.requires.db.store c.args.key c.in-Some.id c.in-Some-get.node.now holds c.args.change c.args.time (spec_of c.args.spec) (sym c.is_before.ensures ∙ c.if-is_before.false) late c.in_default-changed.ensures, refl)
+    let holds : Holds c.args.self.now c.args.key c.in-Some.id c.node-node.result.now = record { number = sym (c.in-Some.ensures ∙ c.get.ensures.value); node = c.node-node.ensures } in
+    let late : nat_lt c.args.time (low c.node-node.result.now.series) ≡ false = ap (nat_lt c.args.time) (sym c.edge.ensures) ∙ le-ltb c.args.time c.edge.result c.if-time-edge.false in
+    (incr-out c.args.self.now c.requires.db.store c.args.key c.in-Some.id c.node-node.result.now holds c.args.change c.args.time (spec_of c.args.spec) (sym c.is_before.ensures ∙ c.if-is_before.false) late c.in_default-changed.ensures, refl)
 
 pub write-requires-clause-there : goal.write-requires-clause-there
 write-requires-clause-there g c =
-    record { key = c.args.key; node = c.in-Some-get.node.now; holds = record { number = sym (c.in-Some.ensures ∙ c.get.ensures.value); node = sym c.in-Some-get.ensures } }
+    record { key = c.args.key; node = c.node-node.result.now; holds = record { number = sym (c.in-Some.ensures ∙ c.get.ensures.value); node = c.node-node.ensures } }
 
 pub returns-clause-steps : goal.returns-clause-steps
 returns-clause-steps g c =
     subst (λ (key : Key). Takes c.args.steps.now c.write.new.steps (write_steps (stock_of c.args.self.now) key c.args.time))
-    (only-key c.args.self.now c.requires.db.store c.in-Some.id (record { node = c.in-Some-get.node.now; there = sym c.in-Some-get.ensures }) c.args.key (sym (c.in-Some.ensures ∙ c.get.ensures.value))) c.write.ensures.steps
+    (only-key c.args.self.now c.requires.db.store c.in-Some.id (record { node = c.node-node.result.now; there = c.node-node.ensures }) c.args.key (sym (c.in-Some.ensures ∙ c.get.ensures.value))) c.write.ensures.steps
 
 pub returns-clause-easy : goal.returns-clause-easy
 returns-clause-easy g c = c.write.ensures.easy c.args.key (sym (c.in-Some.ensures ∙ c.get.ensures.value))
@@ -65,21 +65,21 @@ returns-clause-easy g c = c.write.ensures.easy c.args.key (sym (c.in-Some.ensure
 
 pub returns-in-Some-ignored-clause-changed : goal.returns-in-Some-ignored-clause-changed
 returns-in-Some-ignored-clause-changed g c =
-    let holds : Holds c.args.self.now c.args.key c.in-Some.id c.in-Some-get.node.now = record { number = sym (c.in-Some.ensures ∙ c.get.ensures.value); node = sym c.in-Some-get.ensures } in
-    let late : nat_lt c.args.time (low c.in-Some-get.node.now.series) ≡ false = ap (nat_lt c.args.time) (sym c.edge.ensures) ∙ le-ltb c.args.time c.edge.result c.if-time-edge.false in (
-      incr-ignored c.args.self.now c.requires.db.store c.args.key c.in-Some.id c.in-Some-get.node.now holds c.args.change c.args.time (spec_of c.args.spec) c.in-Some-changed.value c.in-Some-ignored.last
+    let holds : Holds c.args.self.now c.args.key c.in-Some.id c.node-node.result.now = record { number = sym (c.in-Some.ensures ∙ c.get.ensures.value); node = c.node-node.ensures } in
+    let late : nat_lt c.args.time (low c.node-node.result.now.series) ≡ false = ap (nat_lt c.args.time) (sym c.edge.ensures) ∙ le-ltb c.args.time c.edge.result c.if-time-edge.false in (
+      incr-ignored c.args.self.now c.requires.db.store c.args.key c.in-Some.id c.node-node.result.now holds c.args.change c.args.time (spec_of c.args.spec) c.in-Some-changed.value c.in-Some-ignored.last
           (sym c.is_before.ensures ∙ c.if-is_before.false) late c.in-Some-changed.ensures c.in-Some-ignored.ensures,
       refl,
     )
 
 pub returns-in-Some-ignored-clause-bounded : goal.returns-in-Some-ignored-clause-bounded
 returns-in-Some-ignored-clause-bounded g c =
-    let holds : Holds c.args.self.now c.args.key c.in-Some.id c.in-Some-get.node.now = record { number = sym (c.in-Some.ensures ∙ c.get.ensures.value); node = sym c.in-Some-get.ensures } in
+    let holds : Holds c.args.self.now c.args.key c.in-Some.id c.node-node.result.now = record { number = sym (c.in-Some.ensures ∙ c.get.ensures.value); node = c.node-node.ensures } in
     let upto : c.in-Some-ignored.last ≤ c.args.time =
-    ignored-upto c.args.self.now c.requires.db.store c.args.key c.in-Some.id c.in-Some-get.node.now holds c.args.time c.in-Some-changed.value c.in-Some-ignored.last c.in-Some-ignored.ensures in
+    ignored-upto c.args.self.now c.requires.db.store c.args.key c.in-Some.id c.node-node.result.now holds c.args.time c.in-Some-changed.value c.in-Some-ignored.last c.in-Some-ignored.ensures in
     omega (arith, c.requires.time)
 
 pub returns-clause-spared : goal.returns-clause-spared
 returns-clause-spared g c told =
-    let holds : Holds c.args.self.now c.args.key c.in-Some.id c.in-Some-get.node.now = record { number = sym (c.in-Some.ensures ∙ c.get.ensures.value); node = sym c.in-Some-get.ensures } in
-    absurd (false≢true (incr-not-ignored c.args.self.now c.requires.db.store c.args.key c.in-Some.id c.in-Some-get.node.now holds c.args.change c.args.time (spec_of c.args.spec) c.in-Some-changed.value c.in-Some-changed.ensures c.in_default-ignored.ensures told))
+    let holds : Holds c.args.self.now c.args.key c.in-Some.id c.node-node.result.now = record { number = sym (c.in-Some.ensures ∙ c.get.ensures.value); node = c.node-node.ensures } in
+    absurd (false≢true (incr-not-ignored c.args.self.now c.requires.db.store c.args.key c.in-Some.id c.node-node.result.now holds c.args.change c.args.time (spec_of c.args.spec) c.in-Some-changed.value c.in-Some-changed.ensures c.in_default-ignored.ensures told))
