@@ -1,17 +1,22 @@
 -- Labels of a series, one after another.
-use Rattle.std.proofs.Common.{◌≡◌, ℕ, zero, suc, List, [], ◌∷◌, ◌+◌, map, drop, slice_get, option_map, Some, refl}
-use native.Mathlib.Numerals.{unary_clauses}
+use Rattle.std.proofs.Common.{◌≡◌, ℕ, zero, suc, List, [], ◌∷◌, ◌+◌, map, drop, slice_get, option_map, Some, ap, ◌∙◌, add-one}
+use Rattle.std.proofs.Math.Seq.{drop-cons}
+use Rattle.std.proofs.lemmas.Option.{slice_get_within, get_or_from_slice_get}
 use Rattle.ts_spec.specs.State.{Label}
 use Rattle.ts_spec.specs.Questions.{shown_label}
-use Rattle.ts_multi.specs.Members.{valued}
 
--- the next label of those that are left
-pub next_label : (ls : List Label) (i : ℕ) (name value : List ℕ)
+-- the label at a place is shown with its name and its value
+pub shown-at : (ls : List Label) (i : ℕ) (name value : List ℕ)
     → option_map (λ l. l.name) (slice_get ls i) ≡ Some name → option_map (λ l. l.value) (slice_get ls i) ≡ Some value
-    → map shown_label (drop i ls) ≡ valued name (Some value) ∷ map shown_label (drop (i + 1) ls)
-next_label [] i name value e f = cc
-next_label (l ∷ ls) zero name value e f =
+    → slice_get (map shown_label ls) i ≡ Some (record { name = name; value = Some value })
+shown-at [] i name value e f = cc
+shown-at (l ∷ ls) zero name value e f =
     let n : l.name ≡ name = cc in
     let v : l.value ≡ value = cc in
-    rw (n, v) refl
-next_label (l ∷ ls) (suc i) name value e f = simp unary_clauses (simp unary_clauses at (next_label ls i name value e f))
+    ap (λ (x : List ℕ). Some (record { name = x; value = Some l.value })) n ∙ ap (λ (x : List ℕ). Some (record { name = name; value = Some x })) v
+shown-at (l ∷ ls) (suc i) name value e f = shown-at ls i name value e f
+
+-- the first of what is left of a list
+pub drop-next : {X : Type 0} (xs : List X) (i : ℕ) (x : X) → slice_get xs i ≡ Some x → drop i xs ≡ x ∷ drop (i + 1) xs
+drop-next {X = X} xs i x e =
+    rw add-one (drop-cons xs i x (slice_get_within xs i x e) ∙ ap (λ (y : X). y ∷ drop (suc i) xs) (get_or_from_slice_get xs i x x e))

@@ -43,7 +43,3 @@ whole {X = X} shown before start now n rest all so_far none begun count =
     ∙ append_assoc before (line_text 42 (decimal n)) (item_texts shown all)
     ∙ ap (λ (k : ℕ). before ++ (line_text 42 (decimal k) ++ item_texts shown all)) count
     ∙ ap (λ (l : List ℕ). before ++ l) (array-text shown all)
-
-pub three-parts : (a h x y z : List ℕ) → (((a ++ h) ++ x) ++ y) ++ z ≡ a ++ (h ++ (x ++ (y ++ (z ++ []))))
-three-parts a h x y z = append_assoc ((a ++ h) ++ x) y z ∙ append_assoc (a ++ h) x (y ++ z) ∙ append_assoc a h (x ++ (y ++ z))
-    ∙ ap (λ (l : List ℕ). a ++ (h ++ (x ++ (y ++ l)))) (sym (append-nil z))

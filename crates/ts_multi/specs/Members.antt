@@ -1,21 +1,34 @@
 -- The members of an answer, as the definitions have them.
-use Rattle.std.specs.Prelude.{◌≤◌, ℕ, List, length, map, Option}
+use Rattle.std.specs.Prelude.{◌≤◌, ◌++◌, ℕ, List, length, map}
+use Rattle.std.specs.Option.{option_copied}
+use Rattle.std.specs.Fmt.{decimal}
 use Rattle.ts_spec.specs.State.{Label}
 use Rattle.ts_spec.specs.Answer.{Row}
 use Rattle.ts_spec.specs.Questions.{labels_shown}
+use Rattle.ts_spec.specs.Replies.{labels_reply}
 use Rattle.ts_spec.specs.Response as spec
+use Rattle.ts_spec.specs.Text.{Bulk, line_text, text}
 use Rattle.ts_labels.specs.declared.show.Show.{Show}
 use Rattle.ts_labels.specs.Show.{show_of}
 use Rattle.ts_range.specs.Query.{row_of}
 use Rattle.ts_multi.specs.declared.member.Member.{Member}
+use Rattle.ts_multi.specs.declared.shown.Shown.{Shown}
 
--- a label with its value, if it has one
-abbrev pub valued : List ℕ → Option (List ℕ) → spec.ShownLabel
-valued name value = record { name = name; value = value }
+-- a label that is shown
+abbrev pub label_of : Shown → spec.ShownLabel
+label_of s = record { name = s.name.now; value = option_copied s.value }
+
+-- a member with this key, these labels shown, and these rows
+abbrev pub member_showing : (key : List ℕ) → List spec.ShownLabel → List Row → spec.Member
+member_showing key labels rows = record { key = key; labels = labels; rows = rows }
+
+-- what stands before the rows in the text of such a member
+abbrev pub head_text : (key : List ℕ) → List spec.ShownLabel → List ℕ
+head_text key labels = line_text 42 (decimal 3) ++ text (Bulk key) ++ text (labels_reply labels)
 
 -- a member with this key, those of its labels that are asked for, and these rows
 abbrev pub member_with : Show → (key : List ℕ) → List Label → List Row → spec.Member
-member_with show key labels rows = record { key = key; labels = labels_shown (show_of show) labels; rows = rows }
+member_with show key labels rows = member_showing key (labels_shown (show_of show) labels) rows
 
 -- a member with the labels that are asked for
 abbrev pub member_of : Show → Member → spec.Member

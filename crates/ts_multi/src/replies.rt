@@ -4,8 +4,9 @@ ghost use Rattle.ts_spec.specs.Replies.{array as array_of, member_reply as shown
 ghost use Rattle.ts_resp.specs.Replies.{reply_of};
 ghost use Rattle.ts_multi.specs.Members.{members_of, HasAtMostOneRow};
 
-use crate::arrays::array;
-use crate::member::{Member, last_member_reply, member_reply};
+use crate::member::Member;
+use crate::member_replies::{array, last_member_reply, member_reply};
+use crate::shown::SeriesLabels;
 use std::alloc::{AllocError, Global};
 use ts_labels::Show;
 use ts_resp::Reply;
@@ -19,7 +20,11 @@ pub fn multi(alloc: Global, members: &[Member], show: &Show) -> Result<Reply, Al
 {
     let mut replies = Vec::with_capacity(alloc, members.len())?;
     for member in members {
-        replies.push_reserved(member_reply(alloc, member, show)?);
+        let labels = SeriesLabels {
+            labels: &member.labels,
+            show,
+        };
+        replies.push_reserved(member_reply(alloc, member.key.bytes(), &labels, &member.rows)?);
     }
     Ok(array(replies))
 }
@@ -33,7 +38,11 @@ pub fn multi_last(alloc: Global, members: &[Member], show: &Show) -> Result<Repl
 {
     let mut replies = Vec::with_capacity(alloc, members.len())?;
     for member in members {
-        replies.push_reserved(last_member_reply(alloc, member, show)?);
+        let labels = SeriesLabels {
+            labels: &member.labels,
+            show,
+        };
+        replies.push_reserved(last_member_reply(alloc, member.key.bytes(), &labels, &member.rows)?);
     }
     Ok(array(replies))
 }

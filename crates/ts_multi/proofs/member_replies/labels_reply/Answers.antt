@@ -1,0 +1,15 @@
+use Rattle.std.proofs.Common.{map, ap, arith}
+use Rattle.std.proofs.lemmas.Grind.{common_steps}
+use Rattle.ts_spec.specs.Replies.{shown_label_reply}
+use Rattle.ts_multi.specs.Members.{label_of}
+use Rattle.ts_multi.proofs.LabelLists.{drop-next}
+use Rattle.ts_multi.proofs.member_replies.labels_reply.Goals as goal
+
+pub loop-place-preserved : goal.loop-place-preserved
+loop-place-preserved g c =
+    let next = ap (map shown_label_reply) (drop-next (g.S.ShowsLabels.shown c.args.labels.now) c.loop-place.place (label_of c.label.result) c.label.ensures) in
+    record {
+      so_far = grind (arith, common_steps, next, c.in_ok-label_reply.ensures);
+      count = omega arith;
+      room = omega arith;
+    }

@@ -1,0 +1,115 @@
+// The replies of members, and of their parts.
+ghost use Rattle.std.specs.Prelude.{◌≡◌, [], ◌∷◌, pos, map, IfOk};
+ghost use Rattle.std.specs.Option.{option_copied};
+ghost use Rattle.ts_spec.specs.Replies as spec;
+ghost use Rattle.ts_spec.specs.Text.{Bulk};
+ghost use Rattle.ts_resp.specs.Replies.{reply_of};
+ghost use Rattle.ts_range.specs.Query.{row_of};
+ghost use Rattle.ts_multi.specs.Members.{label_of, member_showing};
+
+use crate::shown::{Shown, ShowsLabels};
+use std::alloc::{AllocError, Global};
+use ts_range::Row;
+use ts_resp::{Reply, Word};
+
+/// `[key, labels, rows]`.
+pub fn member_reply<S: ShowsLabels>(
+    alloc: Global,
+    key: &[u8],
+    labels: &S,
+    rows: &[Row],
+) -> Result<Reply, AllocError>
+    ensures { IfOk result (λ reply. reply_of reply
+        ≡ spec.member_reply (member_showing key.now (S.shown labels.now) (map row_of rows.now))) }
+{
+    let mut replies = Vec::with_capacity(alloc, rows.len())?;
+    for row in rows {
+        replies.push_reserved(row_reply(alloc, *row)?);
+    }
+    reply_with(alloc, key, labels, array(replies))
+}
+
+// `[key, labels, row]`, of the first row.
+pub(crate) fn last_member_reply<S: ShowsLabels>(
+    alloc: Global,
+    key: &[u8],
+    labels: &S,
+    rows: &[Row],
+) -> Result<Reply, AllocError>
+    ensures { IfOk result (λ reply. reply_of reply
+        ≡ spec.last_member_reply (member_showing key.now (S.shown labels.now) (map row_of rows.now))) }
+{
+    let row = match rows.first() {
+        None => array(Vec::new(alloc)),
+        Some(row) => row_reply(alloc, *row)?,
+    };
+    reply_with(alloc, key, labels, row)
+}
+
+// A key, an array of labels, and what stands behind them.
+fn reply_with<S: ShowsLabels>(
+    alloc: Global,
+    key: &[u8],
+    labels: &S,
+    last: Reply,
+) -> Result<Reply, AllocError>
+    ensures { IfOk result (λ reply. reply_of reply
+        ≡ spec.array (Bulk key.now ∷ spec.labels_reply (S.shown labels.now) ∷ reply_of last ∷ [])) }
+{
+    let key = Reply::Bulk(Word::from_slice(alloc, key)?);
+    let labels = labels_reply(alloc, labels)?;
+    Ok(array(vec![in alloc; key, labels, last]?))
+}
+
+// An array of the labels that are shown.
+fn labels_reply<S: ShowsLabels>(alloc: Global, labels: &S) -> Result<Reply, AllocError>
+    ensures { IfOk result (λ reply. reply_of reply ≡ spec.labels_reply (S.shown labels.now)) }
+{
+    let count = labels.count();
+    let mut replies = Vec::with_capacity(alloc, count)?;
+    for place in 0..count {
+        replies.push_reserved(label_reply(alloc, labels.label(place))?);
+    }
+    Ok(array(replies))
+}
+
+// `[label, value]`, where a value that is absent is nil.
+fn label_reply(alloc: Global, label: Shown<'_>) -> Result<Reply, AllocError>
+    ensures { IfOk result (λ reply. reply_of reply ≡ spec.shown_label_reply (label_of label.entry)) }
+{
+    let name = Reply::Bulk(Word::from_slice(alloc, label.name)?);
+    let value = bulk_or_nil(alloc, label.value)?;
+    Ok(array(vec![in alloc; name, value]?))
+}
+
+// Bytes, or nil.
+fn bulk_or_nil(alloc: Global, value: Option<&[u8]>) -> Result<Reply, AllocError>
+    ensures { IfOk result (λ reply. reply_of reply ≡ spec.bulk_or_nil (option_copied value.entry)) }
+{
+    match value {
+        None => Ok(Reply::Nil),
+        Some(value) => Ok(Reply::Bulk(Word::from_slice(alloc, value)?)),
+    }
+}
+
+// `[time, value]`.
+fn row_reply(alloc: Global, row: Row) -> Result<Reply, AllocError>
+    ensures { IfOk result (λ reply. reply_of reply ≡ spec.row_reply (row_of row)) }
+{
+    let value = Reply::Value(row.value);
+    Ok(array(vec![in alloc; Reply::Int(signed_time(row)), value]?))
+}
+
+// The time of a row as the integer that a reply shows.
+fn signed_time(row: Row) -> i64
+    ensures { result ≡ pos row.time }
+{
+    row.time as i64
+}
+
+// The array of these replies.
+pub(crate) fn array(replies: Vec<Reply>) -> Reply
+    ensures { reply_of result ≡ spec.array (map reply_of replies.items) }
+{
+    Reply::Array(replies)
+}
