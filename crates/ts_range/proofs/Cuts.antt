@@ -8,6 +8,7 @@ use Rattle.ts_spec.specs.Sample.{Point, MAX_TIME, IsAfter, IsAscending}
 use Rattle.ts_spec.specs.Bucket.{Grid, start}
 use Rattle.ts_spec.specs.Answer.{Row}
 use Rattle.ts_spec.proofs.Buckets.{start-le}
+use Rattle.ts_sample.proofs.Lists.{ascending-left, ascending-right}
 use Rattle.ts_agg.specs.Tally.{Tells}
 use Rattle.ts_range.specs.declared.query.Buckets.{Buckets}
 use Rattle.ts_range.specs.declared.bucket.Bucket.{Bucket}
@@ -22,10 +23,6 @@ use Rattle.ts_range.proofs.Spans.{late, inside}
 past-others : (t : ℕ) (qs : List Point) (p : Point) → IsAfter t (qs ++ p ∷ []) → t < p.time
 past-others t [] p h = h.0
 past-others t (q ∷ qs) p h = past-others t qs p h.1
-
-pub back-ascends : (qs ps : List Point) → IsAscending (qs ++ ps) → IsAscending ps
-back-ascends [] ps h = h
-back-ascends (q ∷ qs) ps h = back-ascends qs ps h.1
 
 -- a sample past those of a bucket is not before it
 not-before : (g : Grid) → 0 < g.duration → (b : ℕ) (here : List Point) (p : Point) → 0 < length here → All (λ q. start g q.time ≡ b) here → IsAscending (here ++ p ∷ []) → b ≤ p.time
@@ -58,7 +55,7 @@ module _ (has : List Row → Type 0) (bs : Buckets) (o : Bucket) (ps : List Poin
 
   module _ (p : Point) (rises : IsAscending (ps ++ p ∷ [])) where
     here-rises : IsAscending (is.here ++ p ∷ [])
-    here-rises = back-ascends is.early (is.here ++ p ∷ []) (subst IsAscending (ap (λ (l : List Point). l ++ p ∷ []) is.parts ∙ append_assoc is.early is.here (p ∷ [])) rises)
+    here-rises = ascending-right is.early (is.here ++ p ∷ []) (subst IsAscending (ap (λ (l : List Point). l ++ p ∷ []) is.parts ∙ append_assoc is.early is.here (p ∷ [])) rises)
 
     from : o.start ≤ p.time
     from = not-before bs.grid some o.start is.here p is.tells.some is.inside here-rises
@@ -119,14 +116,9 @@ first has bs ps p none empty new span at tells = record {
 
 -- ---- the samples that are let through
 
-after-front : (t : ℕ) (qs ps : List Point) → IsAfter t (qs ++ ps) → IsAfter t qs
-after-front t [] ps h = tt
-after-front t (q ∷ qs) ps h = (h.0, after-front t qs ps h.1)
-
 -- the first ones of an ascending list ascend
 pub front-ascends : (qs ps : List Point) → IsAscending (qs ++ ps) → IsAscending qs
-front-ascends [] ps h = tt
-front-ascends (q ∷ qs) ps h = (after-front q.time qs ps h.0, front-ascends qs ps h.1)
+front-ascends = ascending-left
 
 -- one that passes is kept
 pub one-passes : (test : Point → Bool) (seen : List Point) (p : Point) → test p ≡ true → filter test (seen ++ p ∷ []) ≡ filter test seen ++ p ∷ []

@@ -4,10 +4,11 @@ use Rattle.std.specs.Prelude.{Option, None, Some, option_map}
 use Rattle.std.specs.List.{All}
 use Rattle.std.proofs.lemmas.List.{map-append}
 use Rattle.std.proofs.lemmas.List.Elements.{All-head, All-weaker, All-append}
-use Rattle.ts_spec.specs.Sample.{Point, IsAfter, IsAscending}
+use Rattle.ts_spec.specs.Sample.{Point, IsAscending}
 use Rattle.ts_spec.specs.Bucket.{Grid, start}
 use Rattle.ts_spec.specs.Answer.{Row, row_of}
 use Rattle.ts_spec.proofs.Buckets.{start-mono}
+use Rattle.ts_sample.proofs.Lists.{after-right, ascending-right}
 use Rattle.ts_range.specs.declared.cutter.Cutter.{Cutter}
 use Rattle.ts_range.specs.declared.query.Buckets.{Buckets}
 use Rattle.ts_range.specs.declared.bucket.Bucket.{Bucket}
@@ -15,20 +16,15 @@ use Rattle.ts_range.specs.Query.{buckets_of}
 use Rattle.ts_range.specs.BucketRows.{bucket_rows}
 use Rattle.ts_range.specs.Cutting.{IsCut}
 use Rattle.ts_range.specs.Walking.{AreWalked, rows_chosen}
-use Rattle.ts_range.proofs.Cuts.{back-ascends}
 use Rattle.ts_range.proofs.Filtered.{after-all}
 use Rattle.ts_range.proofs.Groups.{rows-append}
-
-after-back : (t : ℕ) (ps qs : List Point) → IsAfter t (ps ++ qs) → IsAfter t qs
-after-back t [] qs h = h
-after-back t (p ∷ ps) qs h = after-back t ps qs h.1
 
 -- samples past those of a bucket are in it, or in later ones
 later : (g : Grid) → 0 < g.duration → (b : ℕ) (here more : List Point) → 0 < length here → All (λ p. start g p.time ≡ b) here → IsAscending (here ++ more) → All (λ p. b ≤ start g p.time) more
 later g some b [] more few all rises = absurd (omega arith)
 later g some b (p ∷ ps) more few all rises =
     let first : start g p.time ≡ b = All-head (λ q. start g q.time ≡ b) p ps all in
-    All-weaker (λ q. p.time < q.time) (λ q. b ≤ start g q.time) (λ q less. omega (arith, start-mono g p.time q.time some (omega arith))) more (after-all p.time more (after-back p.time ps more rises.0))
+    All-weaker (λ q. p.time < q.time) (λ q. b ≤ start g q.time) (λ q less. omega (arith, start-mono g p.time q.time some (omega arith))) more (after-all p.time more (after-right p.time ps more rises.0))
 
 module _ (has : List Row → Type 0) (full : (rows more : List Row) → has rows → has (rows ++ more)) where
   cut-full : (bs : Buckets) (current : Option Bucket) (ps more asked : List Point) → IsAscending (ps ++ more) → IsCut has bs current ps → has (bucket_rows (buckets_of bs) asked (ps ++ more))
@@ -36,7 +32,7 @@ module _ (has : List Row → Type 0) (full : (rows more : List Row) → has rows
   cut-full bs (Some o) ps more asked rises is =
       let told = bucket_rows (buckets_of bs) asked in
       let up : IsAscending (is.here ++ more) =
-      back-ascends is.early (is.here ++ more) (subst IsAscending (ap (λ (l : List Point). l ++ more) is.parts ∙ append_assoc is.early is.here more) rises) in
+      ascending-right is.early (is.here ++ more) (subst IsAscending (ap (λ (l : List Point). l ++ more) is.parts ∙ append_assoc is.early is.here more) rises) in
       let all : told (ps ++ more) ≡ told is.early ++ told (is.here ++ more) =
       ap (λ (l : List Point). told (l ++ more)) is.parts ∙ ap told (append_assoc is.early is.here more)
       ∙ rows-append (buckets_of bs) asked o.start is.early (is.here ++ more) is.before

@@ -17,7 +17,7 @@ use Rattle.ts_range.specs.LastValues.{LastValues, with_one, counts, value_of, is
 use Rattle.ts_range.specs.Query.{cell_of}
 use Rattle.ts_range.specs.Walk.{last_before}
 use Rattle.ts_range.proofs.Around.{last-append}
-use Rattle.ts_range.proofs.Cuts.{front-ascends}
+use Rattle.ts_sample.proofs.Lists.{ascending-left}
 use Rattle.ts_range.proofs.Filtered.{filter-none, filter-all, map-same, after-all}
 use Rattle.ts_range.proofs.Gaps.{begin-mono}
 use Rattle.ts_range.proofs.Later.{begin-start, begin-later}
@@ -283,7 +283,7 @@ front-line lo hi v p line = record {
   some = line.some;
   ordered = line.ordered;
   are = line.are;
-  rises = front-ascends v.seen (p ∷ []) line.rises;
+  rises = ascending-left v.seen (p ∷ []) line.rises;
   from = front-all (λ q. lo ≤ q.time) v.seen (p ∷ []) line.from;
   upto = front-all (λ q. start v.filling.buckets.grid q.time ≤ start v.filling.buckets.grid hi) v.seen (p ∷ []) line.upto;
 }

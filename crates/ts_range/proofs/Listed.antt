@@ -1,12 +1,11 @@
 -- Whether a time is among given ones, in whichever order these stand.
-use Rattle.std.proofs.Common.{◌≡◌, ℕ, ◌-◌, ◌<◌, ◌≤◌, true, false, nat_lt, nat_le, List, [], ◌∷◌, length, get_or, refl, sym, ◌∙◌, ap, eqb, arith, inl, inr, ne_eqb, eq-eqb}
+use Rattle.std.proofs.Common.{◌≡◌, ℕ, ◌-◌, ◌<◌, ◌≤◌, true, false, nat_lt, nat_le, List, [], ◌∷◌, length, get_or, refl, sym, ◌∙◌, ap, eqb, arith, inl, inr, ne_eqb}
 use Rattle.std.specs.List.{list_any, All}
-use Rattle.std.specs.List.Sorted.{IsPermutation, IsNonDecreasing, IsBinarySearchResult, IsPartitionPoint}
-use Rattle.std.specs.Ordering.{nat_cmp}
-use Rattle.std.specs.Prelude.{Result, Ok, Err, is_ok, ◌||◌, MatchResult}
+use Rattle.std.specs.List.Sorted.{IsPermutation, IsNonDecreasing, IsPartitionPoint}
+use Rattle.std.specs.Prelude.{◌||◌}
 use Rattle.std.proofs.lemmas.List.{get_or_default}
-use Rattle.std.proofs.lemmas.List.Sorted.{list_any-IsPermutation, searched}
-use Rattle.std.proofs.lemmas.List.Folds.{list_any_at, list_any_none}
+use Rattle.std.proofs.lemmas.List.Sorted.{list_any-IsPermutation}
+use Rattle.std.proofs.lemmas.List.Folds.{list_any_none}
 use Rattle.std.proofs.lemmas.Bool.{cases_lt}
 use Rattle.std.proofs.lemmas.Bool.Decides.{nat_tests}
 use Rattle.ts_spec.specs.Answer.{is_listed}
@@ -19,12 +18,6 @@ listed-any (u ∷ us) t = ap (λ b. eqb u t || b) (listed-any us t)
 pub listed_alike : (us vs : List ℕ) (t : ℕ) → IsPermutation us vs → is_listed vs t ≡ is_listed us t
 listed_alike us vs t moved = listed-any vs t ∙ sym (list_any-IsPermutation (λ u. eqb u t) us vs moved) ∙ sym (listed-any us t)
 
--- where a time stands among the others, or would stand
-abbrev Found : List ℕ → ℕ → Result ℕ ℕ → Type 0
-Found us t r =
-    MatchResult r (λ i. (i < length us) × (get_or us i 0 ≡ t))
-    (λ i. (i ≤ length us) × ((k : ℕ) → k < i → get_or us k 0 < t) × ((k : ℕ) → i ≤ k → k < length us → t < get_or us k 0))
-
 other : (us : List ℕ) (t i : ℕ) → ((k : ℕ) → k < i → get_or us k 0 < t) → ((k : ℕ) → i ≤ k → k < length us → t < get_or us k 0) → All (λ u. eqb u t ≡ false) us
 other us t i below above k d within =
     let same = get_or_default us k d 0 within in
@@ -32,14 +25,6 @@ other us t i below above k d within =
       | inl less ↦ ne_eqb (get_or us k d) t (λ is. absurd (omega (arith, below k less, same, is)))
       | inr more ↦ ne_eqb (get_or us k d) t (λ is. absurd (omega (arith, above k more within, same, is)))
     ]
-
-told : (us : List ℕ) (t : ℕ) (r : Result ℕ ℕ) → Found us t r → is_ok r ≡ is_listed us t
-told us t (Ok i) found = sym (listed-any us t ∙ list_any_at (λ u. eqb u t) us i 0 found.0 (eq-eqb (get_or us i 0) t found.1))
-told us t (Err i) found = sym (listed-any us t ∙ list_any_none (λ u. eqb u t) us (other us t i found.1 found.2))
-
--- a search among rising times tells it
-pub listed_by_search : (us : List ℕ) (t : ℕ) (r : Result ℕ ℕ) → IsNonDecreasing us → IsBinarySearchResult (λ u. nat_cmp u t) us r → is_ok r ≡ is_listed us t
-listed_by_search us t r rising found = told us t r (searched us t r found (λ i j le within. rising i j 0 le within))
 
 -- a time between two of them that stand side by side is not among them
 unlisted : (us : List ℕ) (t i : ℕ) → ((k : ℕ) → k < i → get_or us k 0 < t) → ((k : ℕ) → i ≤ k → k < length us → t < get_or us k 0) → is_listed us t ≡ false

@@ -68,20 +68,7 @@ module _ (has has' : List Row → Type 0) (f : Filling) (all : List Row) (row : 
         ∙ ap (λ (rs : List Row). row ∷ rs) (ap (λ (x : Cell). filled f.buckets x x (drop (place.told + 1) f.starts) more) (sym last) ∙ sym (rest-is more)))
         filled-so
 
--- no bucket is left
-pub none-left : (has : List Row → Type 0) (f : Filling) (place : Place) (all : List Row) (coming coming' : List Row) → length f.starts ≤ place.told → IsFilled has f place all coming → IsFilled has f place all coming'
-none-left has f place all coming coming' end is =
-    let said = said_of f.others (option_map cell_of place.last) in
-    let now = said_now place.told f.first said in
-    let none : drop place.told f.starts ≡ [] = drop_all place.told f.starts end in
-    record {
-      done = is.done;
-      taken = is.taken;
-      rest = ap (λ (xs : List ℕ). is.done ++ filled f.buckets now said xs coming') none
-          ∙ sym (ap (λ (xs : List ℕ). is.done ++ filled f.buckets now said xs coming) none) ∙ is.rest;
-    }
-
--- so that all are told
+-- no bucket is left, so that all are told
 pub all-told : (has : List Row → Type 0) (f : Filling) (place : Place) (all coming : List Row) → length f.starts ≤ place.told → IsFilled has f place all coming → has (filled_line f all)
 all-told has f place all coming end is =
     let said = said_of f.others (option_map cell_of place.last) in

@@ -1,5 +1,5 @@
 -- The first rows of a line of buckets, or the last ones, are those of a part of the line.
-use Rattle.std.proofs.Common.{◌≡◌, ℕ, zero, suc, ◌+◌, ◌-◌, ◌<◌, ◌≤◌, max, min, Bool, true, false, List, [], map, take, drop, length, length-drop, reverse, refl, sym, ◌∙◌, ap, arith, inl, inr}
+use Rattle.std.proofs.Common.{◌≡◌, ℕ, zero, suc, ◌+◌, ◌-◌, ◌<◌, ◌≤◌, max, min, Bool, true, false, List, map, take, drop, length, length-drop, reverse, refl, sym, ◌∙◌, ap, arith, inl, inr}
 use Rattle.std.specs.Prelude.{Option, None, Some, slice_get}
 use Rattle.std.specs.List.{range_with_len}
 use Rattle.std.proofs.lemmas.Bool.{cases_lt}
@@ -37,11 +37,6 @@ last-ones rows w k parts =
     ∙ ap (take w) (reverse-append (take k rows) (drop k rows))
     ∙ take-append-le w (reverse (drop k rows)) (reverse (take k rows)) (omega arith)
     ∙ take_all w (reverse (drop k rows)) (omega arith)
-
--- none are wanted
-pub none-wanted : (count : Option ℕ) (n : ℕ) (rows : List Row) → 1 ≤ n → most_of count n ≡ 0 → first_ones count rows ≡ []
-none-wanted None n rows some none = absurd (omega arith)
-none-wanted (Some c) n rows some none = ap (λ (k : ℕ). take k rows) (let e : c ≡ 0 = omega arith in e)
 
 pub most-within : (count : Option ℕ) (n : ℕ) → most_of count n ≤ n
 most-within None n = omega arith

@@ -1,15 +1,28 @@
 -- The rows of a question, by what it asks of buckets.
 use Rattle.std.proofs.Common.{◌≡◌, ℕ, Bool, true, false, if◌then◌else◌, List, map, refl, sym, ◌∙◌, ap}
-use Rattle.std.specs.Prelude.{◌&&◌, nat_lt, length, filter, reverse, Option, None, Some}
+use Rattle.std.specs.Prelude.{◌&&◌, nat_lt, length, filter, reverse, Option, None, Some, option_map}
 use Rattle.std.proofs.lemmas.List.Elements.{filter_agree}
 use Rattle.ts_spec.specs.Sample.{Point, between, first_of, last_of}
 use Rattle.ts_spec.specs.Bucket.{Grid, starts}
 use Rattle.ts_spec.specs.Command.{Query, Buckets}
 use Rattle.ts_spec.specs.Answer.{row_of, is_let_through, selected, bucket_row, ends_between, turned, first_ones, rows, rows_of, tells_empty, answer}
+use Rattle.ts_range.specs.declared.query.Buckets.{Buckets as Grouped}
+use Rattle.ts_range.specs.declared.query.Query.{Query as Question}
+use Rattle.ts_range.specs.Query.{buckets_of}
 use Rattle.ts_range.specs.Starts.{starts_within}
+use Rattle.ts_range.specs.Stretches.{IsFilledIn}
 use Rattle.ts_range.specs.BucketRows.{bucket_rows}
 use Rattle.ts_range.specs.Walk.{times_of}
 use Rattle.ts_range.specs.Walking.{rows_chosen}
+
+-- where no buckets are filled in, no empty ones are told
+pub none-filled : (q : Question) → ((bs : Grouped) → IsFilledIn q bs → ⊥) → (o : Option Grouped) → q.buckets ≡ o → tells_empty (option_map buckets_of o) ≡ false
+none-filled q none None is = refl
+none-filled q none (Some bs) is = go bs.empty refl
+  where
+    go : (b : Bool) → bs.empty ≡ b → bs.empty ≡ false
+    go true e = absurd (none bs (record { told = is; empty = e }))
+    go false e = e
 
 ends-within : (g : Grid) (from to : ℕ) (first last : Option Point) → ends_between g from to first last ≡ starts_within g from to (times_of first last)
 ends-within g from to None last = refl
@@ -41,7 +54,7 @@ module _ (q : Query) (l : List Point) where
         (ends-within bs.grid q.from q.to (first_of l) (last_of l) ∙ ap (starts_within bs.grid q.from q.to) (sym around))
 
   -- of each sample, or of the buckets with samples
-  chosen-rows : (o : Option Buckets) → q.buckets ≡ o → tells_empty o ≡ false → rows q l ≡ first_ones q.count (turned q.reverse (rows_chosen o l (selected q l)))
+  pub chosen-rows : (o : Option Buckets) → q.buckets ≡ o → tells_empty o ≡ false → rows q l ≡ first_ones q.count (turned q.reverse (rows_chosen o l (selected q l)))
   chosen-rows None is full = rows-single is
   chosen-rows (Some bs) is full = rows-told bs is full
 

@@ -1,16 +1,10 @@
 -- What is told of the samples of buckets.
-use Rattle.std.specs.Prelude.{ℕ, ℤ, List, [], ◌∷◌, map, Option, None, Some}
-use Rattle.ts_spec.specs.declared.bucket.Aggregator.{Aggregator}
+use Rattle.std.specs.Prelude.{ℕ, List, map}
 use Rattle.ts_spec.specs.Sample.{Point}
 use Rattle.ts_spec.specs.Bucket.{starts, stamp}
 use Rattle.ts_spec.specs.Aggregate.{aggregate}
 use Rattle.ts_spec.specs.Command.{Buckets}
 use Rattle.ts_spec.specs.Answer.{Row, Number, bucket_row}
-
--- what an aggregator tells of these samples, if there are any
-abbrev pub value_of_bucket : Aggregator → List Point → Option ℤ
-value_of_bucket a [] = None
-value_of_bucket a (p ∷ ps) = Some (aggregate a (p ∷ ps))
 
 -- the row of a bucket that begins there and has these samples
 abbrev pub row_with : Buckets → ℕ → List Point → Row

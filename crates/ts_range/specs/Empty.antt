@@ -1,10 +1,9 @@
 -- What is told of buckets, of those without samples too.
-use Rattle.std.specs.Prelude.{ℕ, pos, Bool, true, false, List, [], ◌∷◌, Option}
+use Rattle.std.specs.Prelude.{ℕ, pos, Bool, true, false, Option}
 use Rattle.std.specs.Option.{option_or}
 use Rattle.ts_spec.specs.declared.bucket.Aggregator.{Aggregator}
 use Rattle.ts_spec.specs.declared.bucket.Aggregator.TheVariants.{Sum, Count, Last}
 use Rattle.ts_spec.specs.Sample.{Point}
-use Rattle.ts_spec.specs.Aggregate.{aggregate}
 use Rattle.ts_spec.specs.Answer.{Cell, Number, Nan, last_value}
 use Rattle.ts_range.specs.declared.row.Asked.{Asked}
 use Rattle.ts_range.specs.Walk.{last_before}
@@ -20,8 +19,3 @@ empty_cell_of Sum before = Number (pos 0)
 empty_cell_of Count before = Number (pos 0)
 empty_cell_of Last before = last_value before
 empty_cell_of other before = Nan
-
--- what is told of a bucket with these samples, where this is the last one before it
-abbrev pub cell_of_bucket : Aggregator → List Point → Option Point → Cell
-cell_of_bucket a [] before = empty_cell_of a before
-cell_of_bucket a (p ∷ ps) before = Number (aggregate a (p ∷ ps))

@@ -1,19 +1,26 @@
 // The answer to a question whose samples were gathered.
-ghost use Rattle.std.specs.Prelude.{◌≡◌, ◌≢◌, List, map, Some, None, IfOk, IfErr};
+ghost use Rattle.std.specs.Prelude.{◌≡◌, ◌≢◌, ◌++◌, ℕ, List, [], map, Some, None, IfOk, IfErr};
 ghost use Rattle.ts_spec.specs.Sample.{Point, IsAscending, between};
 ghost use Rattle.ts_spec.specs.Answer as spec;
+ghost use Rattle.ts_range.specs.Filters.{passes};
+ghost use Rattle.ts_range.specs.LastValues.{last_rows, IsLine};
 ghost use Rattle.ts_range.specs.Query.{query_of, row_of};
+ghost use Rattle.ts_range.specs.Stretches.{IsFilledIn, IsStretchOf};
 ghost use Rattle.ts_range.specs.Walk.{IsAskedOf};
 
-use crate::empty::are_too_many;
+use crate::empty::{are_too_many, before};
 use crate::fault::RangeFault;
 use crate::fillable::filled_buckets;
-use crate::filled_rows::filled_rows;
 use crate::filters::Filters;
-use crate::query::Query;
+use crate::last_values::LastValues;
+use crate::list::RowList;
+use crate::query::{Buckets, Query};
 use crate::row::{Asked, Row};
-use crate::walked::walked_rows;
+use crate::stretch::Stretch;
+use crate::take::Take;
+use crate::walked::{MOST, turned, walked, walked_rows};
 use std::alloc::{AllocError, Global};
+use ts_sample::{Sample, Visit, places_between};
 
 /// The rows of a question over a series, of what the series holds of it. `empty_rows` is the limit on the rows
 /// of a question that tells of empty buckets.
@@ -54,8 +61,65 @@ fn rows(alloc: Global, query: &Query, asked: &Asked) -> Result<Vec<Row>, AllocEr
         → IfOk result (λ rows. map row_of rows.items ≡ spec.rows (query_of query.now) l) }
 {
     let filters = Filters::of(query)?;
-    if let Some(buckets) = filled_buckets(query) {
-        return filled_rows(alloc, query, &buckets, &filters, asked);
+    let Some(buckets) = filled_buckets(query) else {
+        return walked_rows(alloc, query, &filters, &asked.rows);
+    };
+    let Some(stretch) = Stretch::of(query, &buckets, asked.ends) else {
+        return Ok(Vec::new(alloc));
+    };
+    let rows = stretch_rows(alloc, query, &stretch, &filters, asked)?;
+    if query.reverse {
+        return Ok(turned(rows, None));
     }
-    walked_rows(alloc, query, &filters, &asked.rows)
+    Ok(rows)
+}
+
+// The rows of a stretch of buckets, the first one first.
+fn stretch_rows(
+    alloc: Global,
+    query: &Query,
+    stretch: &Stretch,
+    filters: &Filters,
+    asked: &Asked,
+) -> Result<Vec<Row>, AllocError>
+    requires lets { (p : Point) → passes filters.now p ≡ spec.is_let_through (query_of query.now) p }
+    requires ascending { IsAscending asked.now.rows.items }
+    ensures { (l : List Point) (buckets : Buckets) → IsAscending l → IsAskedOf query.now asked.now l → IsFilledIn query.now buckets
+        → IsStretchOf query.now buckets asked.now.ends stretch.now
+        → IfOk result (λ rows. spec.turned query.now.reverse (map row_of rows.items) ≡ spec.rows (query_of query.now) l) }
+{
+    let first = stretch.first();
+    let ahead = before(asked, first, first < query.from);
+    let prior = before(asked, stretch.from, false);
+    let samples = asked.rows.as_slice();
+    let samples = &samples[places_between(samples, stretch.from, stretch.to)];
+    if samples.len() > MOST {
+        return Err(AllocError);
+    }
+    let taker = RowList::with_room(alloc, 0)?;
+    if stretch.says_hidden(filters) {
+        let line = stretch.last_values(filters, ahead, prior, taker);
+        return seen_by(samples, line).into_rows();
+    }
+    walked(samples, stretch.walk(filters, ahead, prior, taker))
+        .into_taker()
+        .into_rows()
+}
+
+// The taker of a line that has not begun, after all samples.
+fn seen_by<T: Take>(samples: &[Sample], mut line: LastValues<'_, T>) -> T
+    requires { line.seen ≡ [] }
+    ensures { (lo hi : ℕ) → IsLine lo hi (record line.entry { seen = samples.now }) → T.has result (last_rows (record line.entry { seen = samples.now })) }
+{
+    show_all(samples, &mut line);
+    line.finish()
+}
+
+// Gives all samples to a line.
+fn show_all<T: Take>(samples: &[Sample], line: &mut LastValues<'_, T>)
+    ensures { line.new ≡ record line.old { seen = line.old.seen ++ samples.now } }
+{
+    for sample in samples {
+        line.sample(sample);
+    }
 }

@@ -8,7 +8,6 @@ mod empty;
 mod fault;
 mod fillable;
 mod filled;
-mod filled_rows;
 mod filling;
 mod filters;
 mod last_values;

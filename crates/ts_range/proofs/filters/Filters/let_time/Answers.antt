@@ -1,7 +1,7 @@
 use Rattle.std.proofs.Common.{ℕ, ◌∙◌, ap, sym, subst, List, Option, Vec, Global, option_map}
 use Rattle.std.specs.List.Sorted.{IsNonDecreasing}
 use Rattle.ts_spec.specs.Answer.{is_listed, lets_time}
-use Rattle.ts_range.proofs.Listed.{listed_by_search}
+use Rattle.ts_sample.proofs.Listed.{listed-by-search}
 use Rattle.ts_range.proofs.filters.Filters.let_time.Goals as goal
 
 pub returns-in-Some : goal.returns-in-Some
@@ -9,6 +9,6 @@ returns-in-Some c =
     let rising : IsNonDecreasing c.in-Some.times.items = c.args.self.now.times_rise c.in-Some.times c.in-Some.is in
     let items = c.deref.ensures.value in
     c.is_ok.ensures.value
-    ∙ listed_by_search c.deref.result.now c.args.time c.binary_search.result (subst IsNonDecreasing (sym items) rising) c.binary_search.ensures.position
+    ∙ listed-by-search c.deref.result.now c.args.time c.binary_search.result (subst IsNonDecreasing (sym items) rising) c.binary_search.ensures.position
     ∙ ap (λ (us : List ℕ). is_listed us c.args.time) items
     ∙ ap (λ (o : Option (Vec ℕ Global)). lets_time (option_map (λ times. times.items) o) c.args.time) (sym c.in-Some.is)

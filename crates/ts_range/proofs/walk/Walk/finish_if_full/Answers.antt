@@ -6,7 +6,7 @@ use Rattle.ts_spec.proofs.Samples.{ascending-filter}
 use Rattle.ts_range.specs.Filters.{passes}
 use Rattle.ts_range.specs.Query.{buckets_of}
 use Rattle.ts_range.specs.Walking.{Walking, rows_chosen, rows_of_walk}
-use Rattle.ts_range.proofs.Cuts.{front-ascends}
+use Rattle.ts_sample.proofs.Lists.{ascending-left}
 use Rattle.ts_range.proofs.Full.{walk-full}
 use Rattle.ts_range.proofs.walk.Walk.finish_if_full.Goals as goal
 
@@ -21,4 +21,4 @@ returns-clause-rows g c = λ more asked rises.
     subst (λ (w : Walking). has (rows_of_walk (record w { seen = w.seen ++ more }) asked)) c.self.view_is
     (subst (λ (ps : List Point). has (rows_chosen (option_map (λ k. buckets_of k.buckets) c.self.inside.cut) asked ps)) (sym parts)
     (walk-full has (c.is_full.ensures c.if-not-is_full.false) c.self.inside.cut (filter lets seen) (filter lets more) asked
-    (subst IsAscending parts (ascending-filter lets (seen ++ more) up)) (c.self.invariant.walked (front-ascends seen more up))))
+    (subst IsAscending parts (ascending-filter lets (seen ++ more) up)) (c.self.invariant.walked (ascending-left seen more up))))

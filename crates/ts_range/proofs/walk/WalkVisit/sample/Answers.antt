@@ -4,7 +4,7 @@ use Rattle.std.proofs.lemmas.List.{length-append}
 use Rattle.ts_spec.specs.Sample.{Point}
 use Rattle.ts_range.specs.Filters.{passes}
 use Rattle.ts_range.specs.Walking.{HasFew, IsWalk}
-use Rattle.ts_range.proofs.Cuts.{front-ascends}
+use Rattle.ts_sample.proofs.Lists.{ascending-left}
 use Rattle.ts_range.proofs.walk.WalkVisit.sample.Goals as goal
 
 pub invariant_of-self : goal.invariant_of-self
@@ -16,5 +16,5 @@ invariant_of-self g c =
     subst (λ (ps : List Point). IsWalk (g.T.Take.has c.take_sample.new.taker) c.take_sample.new.cut ps (filter lets ps)) (sym c.with-self-inside.ensures)
     (record {
       few = subst (λ (n : ℕ). HasFew n c.take_sample.new.cut) (sym longer) (c.take_sample.ensures.few (length old) c.self.invariant.few);
-      walked = λ rises. c.take_sample.ensures.walked old rises (c.self.invariant.walked (front-ascends old (p ∷ []) rises));
+      walked = λ rises. c.take_sample.ensures.walked old rises (c.self.invariant.walked (ascending-left old (p ∷ []) rises));
     })
