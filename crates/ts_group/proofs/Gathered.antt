@@ -1,36 +1,21 @@
 -- The groups of series, with one more series at their end.
-use Rattle.std.proofs.Common.{◌≡◌, ℕ, Bool, List, [], ◌∷◌, ◌++◌, map, flat_map, Option, None, Some, refl, sym, ap, ◌∙◌, append-nil, append_assoc, subst}
-use Rattle.std.proofs.lemmas.List.{map-append}
-use Rattle.std.proofs.lemmas.Grind.{flat_map-append}
+use Rattle.std.proofs.Common.{◌≡◌, ℕ, Bool, List, [], ◌∷◌, ◌++◌, map, Option, None, Some, refl, sym, ap, ◌∙◌, append-nil, append_assoc, subst}
 use Rattle.std.specs.Cmp.Lexicographic.{slice_cmp}
 use Rattle.std.specs.Ordering.{nat_cmp}
 use Rattle.std.specs.BTreeMap.{is_at, insert_entry}
 use Rattle.std.specs.Map.{lookup, set_value}
 use Rattle.ts_spec.specs.Filter.{value_of}
-use Rattle.ts_spec.specs.Answer.{Row}
 use Rattle.ts_spec.specs.Command.{GroupBy, Show}
 use Rattle.ts_spec.specs.Replies.{member_reply}
 use Rattle.ts_spec.specs.Text.{Reply}
 use Rattle.ts_spec.specs.Groups.{Labelled, with_value_of, values, having, group, groups}
-use Rattle.ts_group.specs.Sources.{Joined, joining}
-use Rattle.ts_group.specs.Summaries.{Kept}
-use Rattle.ts_group.specs.Grouped.{kept_of, grouped, by_values}
+use Rattle.ts_group.specs.Grouped.{grouped, by_values}
 use Rattle.ts_group.specs.declared.one_group.Group.{Group}
 use Rattle.ts_group.proofs.Ordered.{each, each-none, each-some, each-alike, each-inserted, each-set}
 use Rattle.ts_group.proofs.Values.{in_bytes, rising-values, values-more, none_having, having-here, having-elsewhere, having-nowhere}
 
 abbrev pub Groups : Type 0
 Groups = List (List ℕ × Group)
-
--- what a group keeps with one more series
-pub grouped-more : (keys : Joined) (rows : Kept) (ms : List Labelled) (m : Labelled) → keys ≡ joining (map (λ n. n.key) ms ++ m.key ∷ [])
-    → rows ≡ kept_of (flat_map (λ n. n.rows) ms ++ m.rows) → record { sources = keys; reduction = rows } ≡ grouped (ms ++ m ∷ [])
-grouped-more keys rows ms m a b =
-    let all_keys : map (λ (n : Labelled). n.key) ms ++ m.key ∷ [] ≡ map (λ (n : Labelled). n.key) (ms ++ m ∷ []) = sym (map-append (λ (n : Labelled). n.key) ms (m ∷ [])) in
-    let all_rows : flat_map (λ (n : Labelled). n.rows) ms ++ m.rows ≡ flat_map (λ (n : Labelled). n.rows) (ms ++ m ∷ []) =
-    ap (λ (l : List Row). flat_map (λ (n : Labelled). n.rows) ms ++ l) (sym (append-nil m.rows)) ∙ sym (flat_map-append (λ (n : Labelled). n.rows) ms (m ∷ [])) in
-    ap (λ (j : Joined). record { sources = j; reduction = rows }) (a ∙ ap joining all_keys)
-    ∙ ap (λ (k : Kept). record { sources = joining (map (λ (n : Labelled). n.key) (ms ++ m ∷ [])); reduction = k }) (b ∙ ap kept_of all_rows)
 
 -- a series that lacks the label
 pub groups-kept : (label : List ℕ) (es : Groups) (ms : List Labelled) (m : Labelled) → value_of label m.labels ≡ None → es ≡ by_values label ms → es ≡ by_values label (ms ++ m ∷ [])

@@ -2,7 +2,6 @@ pub mod Gathered
 pub mod Joining
 pub mod OneGroup
 pub mod Ordered
-pub mod Parts
 pub mod Placed
 pub mod Shares
 pub mod Sorted
@@ -10,4 +9,3 @@ pub mod Summed
 pub mod Times
 pub mod Told
 pub mod Values
-pub mod Writing

@@ -282,11 +282,5 @@ row-inserted old x es rows r placed none time counted is =
 
 -- ---- those that are left
 
-pub all-within : (slots : List Slot) (es : List (ℕ × ℕ)) → All (IsPlaced slots) es → AreWithin slots es
-all-within slots es placed = All-weaker (IsPlaced slots) (λ e. e.1 < length slots) (λ e. λ h. h.within) es placed
-
 pub within-first : (slots : List Slot) (es rest : List (ℕ × ℕ)) (e : ℕ × ℕ) → es ≡ e ∷ rest → AreWithin slots es → AreWithin slots rest
 within-first slots es rest e is h = All-rest (λ d. d.1 < length slots) e rest es is h
-
-pub within-last : (slots : List Slot) (es rest : List (ℕ × ℕ)) (e : ℕ × ℕ) → es ≡ rest ++ e ∷ [] → AreWithin slots es → AreWithin slots rest × (e.1 < length slots)
-within-last slots es rest e is h = All-pop (λ d. d.1 < length slots) es rest (Some e) is h

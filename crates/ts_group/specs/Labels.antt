@@ -1,6 +1,5 @@
 -- The labels that a group shows.
 use Rattle.std.specs.Prelude.{ℕ, List, [], ◌∷◌, ◌++◌, codes}
-use Rattle.std.specs.Option.{option_copied}
 use Rattle.ts_spec.specs.Aggregate.{aggregator_of}
 use Rattle.ts_spec.specs.State.{Label}
 use Rattle.ts_spec.specs.Answer.{Row}
@@ -9,8 +8,8 @@ use Rattle.ts_spec.specs.Replies.{aggregator_name}
 use Rattle.ts_spec.specs.Response as spec
 use Rattle.ts_labels.specs.declared.show.Show.{Show}
 use Rattle.ts_labels.specs.Show.{show_of}
+use Rattle.ts_multi.specs.Members.{member_showing}
 use Rattle.ts_group.specs.declared.labels.GroupLabels.{GroupLabels}
-use Rattle.ts_group.specs.declared.labels.Shown.{Shown}
 
 -- the labels of a group: its own, how it was reduced, and of which series
 abbrev pub labels_of : GroupLabels → List Label
@@ -24,14 +23,10 @@ labels_of g =
 abbrev pub shown_of : Show → GroupLabels → List spec.ShownLabel
 shown_of show g = labels_shown (show_of show) (labels_of g)
 
--- a label that is shown
-abbrev pub label_of : Shown → spec.ShownLabel
-label_of s = record { name = s.name.now; value = option_copied s.value }
-
 -- what stands for a key in the answer
 abbrev pub key_of : GroupLabels → List ℕ
 key_of g = g.label.now ++ codes "=" ++ g.value.now
 
 -- a group in the answer, with these rows
 abbrev pub member_with : Show → GroupLabels → List Row → spec.Member
-member_with show g rows = record { key = key_of g; labels = shown_of show g; rows = rows }
+member_with show g rows = member_showing (key_of g) (shown_of show g) rows

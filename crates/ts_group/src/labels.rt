@@ -1,15 +1,17 @@
 // The labels that a group shows.
-ghost use Rattle.std.specs.Prelude.{◌≡◌, ◌<◌, length, slice_get, option_map, Some};
+ghost use Rattle.std.specs.Prelude.{◌≡◌, ◌<◌, slice_get, option_map, Some};
 ghost use Rattle.std.specs.Option.{option_copied};
 ghost use Rattle.ts_spec.specs.Aggregate.{aggregator_of};
 ghost use Rattle.ts_spec.specs.Filter.{value_of};
 ghost use Rattle.ts_spec.specs.Questions.{picked_label};
 ghost use Rattle.ts_spec.specs.Replies.{aggregator_name};
 ghost use Rattle.ts_labels.specs.declared.show.Show.TheVariants as which;
-ghost use Rattle.ts_group.specs.Labels.{label_of, labels_of, shown_of};
+ghost use Rattle.ts_multi.specs.Members.{label_of};
+ghost use Rattle.ts_group.specs.Labels.{labels_of, shown_of};
 
 use ts_agg::{Reducer, aggregator_of, name};
 use ts_labels::Show;
+use ts_multi::{Shown, ShowsLabels};
 
 // The names of the labels that tell how a group was reduced, and of which series.
 const REDUCER: &[u8] = b"__reducer__";
@@ -27,37 +29,34 @@ pub struct GroupLabels<'a> {
     pub sources: &'a [u8],
 }
 
-// A label that is shown, with its value if the group has it.
+// The labels of a group, and which of them are shown.
 #[derive(Clone, Copy)]
-pub(crate) struct Shown<'a> {
-    pub(crate) name: &'a [u8],
-    pub(crate) value: Option<&'a [u8]>,
+pub(crate) struct LabelsShown<'a> {
+    pub(crate) labels: GroupLabels<'a>,
+    pub(crate) show: &'a Show,
 }
 
-impl<'a> GroupLabels<'a> {
-    // How many labels are shown.
-    pub(crate) fn shown(&self, show: &Show) -> usize
-        ensures { result ≡ length (shown_of show.now self.now) }
-    {
-        match show {
+impl ShowsLabels for LabelsShown<'_> {
+    ghost shown = { λ s. shown_of s.show.now s.labels };
+
+    fn count(&self) -> usize {
+        match self.show {
             Show::Nothing => 0,
             Show::All => 3,
             Show::Selected(names) => names.len(),
         }
     }
 
-    // The label that is shown at this place.
-    pub(crate) fn shown_at(&self, show: &'a Show, place: usize) -> Shown<'a>
-        requires { place < length (shown_of show.now self.now) }
-        ensures { slice_get (shown_of show.now self.now) place ≡ Some (label_of result) }
-    {
-        match show {
+    fn label(&self, place: usize) -> Shown<'_> {
+        match self.show {
             Show::Nothing => unreachable!(),
-            Show::All => self.label_at(place),
-            Show::Selected(names) => self.labelled(names[place].bytes()),
+            Show::All => self.labels.label_at(place),
+            Show::Selected(names) => self.labels.labelled(names[place].bytes()),
         }
     }
+}
 
+impl<'a> GroupLabels<'a> {
     // One of its own.
     fn label_at(&self, place: usize) -> Shown<'a>
         requires { place < 3 }

@@ -4,7 +4,6 @@
 mod by_value;
 mod group_replies;
 mod group_texts;
-mod groups_texts;
 mod labels;
 mod one_group;
 mod reduction;
@@ -14,9 +13,8 @@ mod slots;
 mod sources;
 mod summaries;
 
-pub use group_replies::group;
-pub use group_texts::encode_group;
-pub use groups_texts::{encode_groups, encode_one};
+pub use group_replies::{encode_groups, group};
+pub use group_texts::{encode_group, encode_one};
 pub use labels::GroupLabels;
 pub use one_group::Group;
 pub use reduction::Reduction;

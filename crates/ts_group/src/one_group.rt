@@ -1,15 +1,23 @@
 // What is kept of a group while its series come.
 ghost use Rattle.std.specs.Prelude.{◌≡◌, ◌++◌, List, [], ◌∷◌, map, OnOk};
 ghost use Rattle.ts_spec.specs.Answer.{Row as TheRow};
-ghost use Rattle.ts_spec.specs.Groups.{Labelled};
+ghost use Rattle.ts_spec.specs.Groups.{Labelled, group};
+ghost use Rattle.ts_labels.specs.Show.{show_of};
 ghost use Rattle.ts_range.specs.Query.{row_of};
+ghost use Rattle.ts_command.specs.GroupBy.{group_of};
 ghost use Rattle.ts_group.specs.Grouped.{grouped, kept_of, labelled_of};
+ghost use Rattle.ts_group.specs.Labels.{member_with};
 
+use crate::labels::GroupLabels;
 use crate::reduction::Reduction;
+use crate::rows::GroupRows;
 use crate::sources::Sources;
 use std::alloc::{AllocError, Global};
+use ts_command::GroupBy;
+use ts_labels::Show;
 use ts_multi::Member;
 use ts_range::{Row, Take};
+use ts_resp::Word;
 
 /// The keys of the series of a group so far, and what their rows come to, time by time.
 #[derive(Drop)]
@@ -44,6 +52,26 @@ impl Group {
     {
         self.sources.add(key)?;
         take_rows(&mut self.reduction, rows)
+    }
+
+    // What is told of it where its series have this value of the label: its labels, and its rows.
+    pub(crate) fn told<'a>(
+        &'a self,
+        by: &'a GroupBy,
+        value: &'a Word,
+        count: Option<u64>,
+        reverse: bool,
+    ) -> (GroupLabels<'a>, GroupRows<'a>)
+        ensures { (show : Show) (ms : List Labelled) → self.now ≡ grouped ms
+            → member_with show result.0 result.1 ≡ group (group_of by.now) (show_of show) count reverse value.now ms }
+    {
+        let labels = GroupLabels {
+            label: by.label.bytes(),
+            value: value.bytes(),
+            reducer: by.reducer,
+            sources: self.sources.bytes(),
+        };
+        (labels, self.reduction.rows(by.reducer, count, reverse))
     }
 }
 
