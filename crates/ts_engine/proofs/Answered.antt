@@ -2,13 +2,13 @@
 use Rattle.std.specs.Prelude.{Option, Some}
 use Rattle.std.proofs.Common.{◌≡◌, ℕ, List, [], refl, subst}
 use Rattle.ts_spec.specs.declared.wire.WireLimits.{WireLimits}
+use Rattle.ts_execution.specs.Turn.{World, plain}
+use Rattle.ts_execution.specs.Turns.{Turns}
 use Rattle.ts_engine.specs.declared.piped.Outcome.{Outcome}
 use Rattle.ts_engine.specs.Answered.{InputAnswered}
 use Rattle.ts_engine.specs.Headline.{Exchange}
 use Rattle.ts_engine.specs.Piping.{PipedBy, Piped, HasCauses}
 use Rattle.ts_engine.specs.Serving.{Link, StreamViews, IsServed, link_exchange}
-use Rattle.ts_engine.specs.Turn.{World, plain}
-use Rattle.ts_engine.specs.Turns.{Turns}
 use Rattle.ts_engine.proofs.Spending.{by_budget}
 use Rattle.ts_engine.proofs.Taking.{piped_alone, writes_of, executed_of, near_of}
 use Rattle.ts_engine.proofs.Tops.{by_grammar}

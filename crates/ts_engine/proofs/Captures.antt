@@ -13,6 +13,7 @@ use Rattle.ts_mux.specs.Order.{Item}
 use Rattle.ts_words.specs.declared.mode.Mode.TheVariants as mode
 use Rattle.ts_words.specs.declared.status.Status.{Status}
 use Rattle.ts_words.specs.declared.status.Status.TheVariants as status
+use Rattle.ts_execution.specs.Turn.{World, plain}
 use Rattle.ts_engine.specs.declared.replayed.CaptureEnd.{CaptureEnd}
 use Rattle.ts_engine.specs.declared.replayed.CaptureEnd.TheVariants as end
 use Rattle.ts_engine.specs.Captured.{items, ending, SomeReplied, FrameCut, EndReplied, Writes, Captured, status_of, place_of, status_by, status_captured}
@@ -20,7 +21,6 @@ use Rattle.ts_engine.specs.Headline.{Exchange, Seen, exchange_of}
 use Rattle.ts_engine.specs.Replaying.{Spot, beginning, Went, WentSome, LastFrame, IsUpToDate, Ends, is_of_input, Replayed, HasCauses}
 use Rattle.ts_engine.specs.Replies.{IsReply, Replies}
 use Rattle.ts_engine.specs.Top.{ReportsIn}
-use Rattle.ts_engine.specs.Turn.{World, plain}
 use Rattle.ts_engine.proofs.Headlines.{Splits, splits}
 use Rattle.ts_engine.proofs.Spending.{first_bytes}
 

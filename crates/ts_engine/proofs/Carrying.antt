@@ -4,10 +4,10 @@ use Rattle.std.specs.Prelude.{Option, None, IfNone}
 use Rattle.ts_resp.specs.Reading.{Reading}
 use Rattle.ts_spec.specs.Wire.{Request}
 use Rattle.ts_db.specs.Held.{Held, Stock, Carries}
+use Rattle.ts_execution.specs.Turns.{Turns}
+use Rattle.ts_execution.proofs.Carried.{carries_as}
 use Rattle.ts_engine.specs.declared.go.Go.{Go}
 use Rattle.ts_engine.specs.Session.{Spot, TurnedBy, IsEndBy, Replied}
-use Rattle.ts_engine.specs.Turns.{Turns}
-use Rattle.ts_engine.proofs.Carried.{carries_as}
 
 -- what holds of a session that goes on
 pub if_none : {T P : Type 0} (o : Option T) → o ≡ None → IfNone o P → P

@@ -1,11 +1,11 @@
 -- Counts of faults over several calls.
 use Rattle.std.proofs.Common.{ℕ, inl, inr, refl, subst}
 use Rattle.std.specs.Prelude.{Option, None, Some}
+use Rattle.ts_execution.specs.Turn.{plain}
+use Rattle.ts_execution.specs.Turns.{Turns, NoFault}
 use Rattle.ts_engine.specs.declared.go.Go.{Go}
 use Rattle.ts_engine.specs.declared.go.Go.TheVariants as go
 use Rattle.ts_engine.specs.Session.{HasCauseBy, WroteOrFault}
-use Rattle.ts_engine.specs.Turn.{plain}
-use Rattle.ts_engine.specs.Turns.{Turns, NoFault}
 
 -- counts that were as they are have the same cause
 pub cause_after : (turns : Turns) (answer : Option Go) (first before now : ℕ) (known own own' : turns.Faults) → NoFault turns first before known own

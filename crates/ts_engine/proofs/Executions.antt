@@ -13,7 +13,7 @@ use Rattle.ts_db.specs.Held.{Held}
 use Rattle.ts_journal.specs.Record.{is_number, items_of}
 use Rattle.ts_journal.specs.Replay.{IsTaken, DoesOne, DoAll, IsDone}
 use Rattle.ts_journal.specs.Replay as journal
-use Rattle.ts_engine.specs.Turn.{IsStep, HasItem, HaveItems, IsAnswered}
+use Rattle.ts_execution.specs.Turn.{IsStep, HasItem, HaveItems, IsAnswered}
 
 -- what is told of one item is the reply of that
 only-reply : (items : List Answer) (item : Answer) (reply : Reply) → items ≡ item ∷ [] → map item_reply items ≡ reply ∷ [] → item_reply item ≡ reply

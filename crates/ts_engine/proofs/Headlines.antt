@@ -7,9 +7,9 @@ use Rattle.ts_resp.specs.Reading.{stream_of, ended_at, unfinished}
 use Rattle.ts_spec.specs.Run.{Placed, Runs, then_all, requests_in, is_quit, has_quit, until_quit}
 use Rattle.ts_spec.specs.Wire.{Request, Stream, Ended, Inside, Broken, stream_at, requests_of, ending_of}
 use Rattle.ts_spec.proofs.Runs.{Runs-append, Runs-one, requests_of-then_all, ending_of-then_all, requests_in-append}
+use Rattle.ts_execution.specs.Turns.{Turns, OfLast}
 use Rattle.ts_engine.specs.declared.piped.End.{End}
 use Rattle.ts_engine.specs.declared.piped.End.TheVariants as end
-use Rattle.ts_engine.specs.Turns.{Turns, OfLast}
 use Rattle.ts_engine.specs.Session.{Spot, Went, WentSome, LastReply, Quitted, CutFault, IsUpToDate}
 use Rattle.ts_engine.specs.Piping.{beginning_of, Ends}
 use Rattle.ts_engine.specs.Headline.{requests, asks_to_quit, ending, Exchange, AllAnswered, WholeAnswered, SomeAnswered, LastCut, FaultCut, FrontAnswered, Writes, count_done}

@@ -15,10 +15,10 @@ use Rattle.ts_spec.proofs.Runs.{Runs-append, Runs-one}
 use Rattle.ts_spec.proofs.Within.{requests-within}
 use Rattle.ts_journal.specs.Limits.{IsBounded}
 use Rattle.ts_journal.specs.Loading.{load, LoadsTo}
+use Rattle.ts_execution.specs.Keeping.{Kept, kept, served, IsKept, IsTorn, journaled}
 use Rattle.ts_engine.specs.declared.piped.End.{End}
 use Rattle.ts_engine.specs.declared.piped.End.TheVariants as end
 use Rattle.ts_engine.specs.Headline.{Exchange, requests, asks_to_quit, FrontAnswered, Writes}
-use Rattle.ts_engine.specs.Keeping.{Kept, kept, served, IsKept, IsTorn, journaled}
 use Rattle.ts_engine.specs.Unkept.{Unkept}
 use Rattle.ts_engine.proofs.Quits.{until_quit-append}
 use Rattle.ts_engine.proofs.Restorings.{GrowsOn, RunFront, none-done, added-to, run-restores, grows_by_turn}

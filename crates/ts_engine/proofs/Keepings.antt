@@ -7,9 +7,9 @@ use Rattle.ts_io.specs.Sinks.{Grows, GrowsByFront}
 use Rattle.ts_io.proofs.Growth.{grows_none}
 use Rattle.ts_spec.specs.Wire.{Request}
 use Rattle.ts_db.specs.Held.{Stock, Carries}
-use Rattle.ts_engine.specs.Keeping.{kept, Recorded, IsKept, keeping}
-use Rattle.ts_engine.specs.Turns.{CutShort}
-use Rattle.ts_engine.proofs.Carried.{carries_as}
+use Rattle.ts_execution.specs.Keeping.{kept, Recorded, IsKept, keeping}
+use Rattle.ts_execution.specs.Turns.{CutShort}
+use Rattle.ts_execution.proofs.Carried.{carries_as}
 
 module _ (words : Request) (written record_ : List ℕ) (readings left content content' : Option (List ℕ)) (failed : Bool) (old new : Stock)
     (recorded : Carries old new (λ from to. Recorded words (record { held = from; readings = readings }) written record_ (record { held = to; readings = left }))) where

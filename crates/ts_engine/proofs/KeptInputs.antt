@@ -7,19 +7,19 @@ use Rattle.ts_spec.specs.declared.wire.WireLimits.{WireLimits}
 use Rattle.ts_db.specs.Held.{Stock, Carries}
 use Rattle.ts_words.specs.declared.status.Status.{Status}
 use Rattle.ts_words.specs.declared.status.Status.TheVariants as status
-use Rattle.ts_engine.specs.declared.keep.JournalEnd.{JournalEnd}
-use Rattle.ts_engine.specs.declared.keep.JournalEnd.TheVariants as ended
+use Rattle.ts_execution.specs.Keeping.{Kept, kept, JournalFaults, keeping, journaled}
+use Rattle.ts_execution.proofs.Carried.{carries_as}
+use Rattle.ts_engine.specs.declared.journal_end.JournalEnd.{JournalEnd}
+use Rattle.ts_engine.specs.declared.journal_end.JournalEnd.TheVariants as ended
 use Rattle.ts_engine.specs.declared.piped.End.{End}
 use Rattle.ts_engine.specs.declared.piped.End.TheVariants as end
 use Rattle.ts_engine.specs.declared.piped.Outcome.{Outcome}
 use Rattle.ts_engine.specs.Answered.{IsMemoryOr}
 use Rattle.ts_engine.specs.Headline.{Exchange, asks_to_quit, ending}
 use Rattle.ts_engine.specs.Journaled.{IsAnswered, HasJournalCauses, status_piped}
-use Rattle.ts_engine.specs.Keeping.{Kept, kept, JournalFaults, keeping, journaled}
 use Rattle.ts_engine.specs.Piping.{PipedBy, HasCausesBy}
 use Rattle.ts_engine.specs.Status.{status_of}
 use Rattle.ts_engine.specs.Top.{status_by, status_cut}
-use Rattle.ts_engine.proofs.Carried.{carries_as}
 use Rattle.ts_engine.proofs.Unfailed.{unfailed_causes, unfailed_answered, unfailed_taken}
 use Rattle.ts_engine.proofs.Unkepts.{unkept_of, failed_causes}
 

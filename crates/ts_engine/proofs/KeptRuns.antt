@@ -12,14 +12,14 @@ use Rattle.ts_journal.proofs.FrontsLoad.{whole-loads}
 use Rattle.ts_journal.proofs.Loads.{load-within}
 use Rattle.ts_words.specs.declared.status.Status.{Status}
 use Rattle.ts_words.specs.declared.status.Status.TheVariants as status
-use Rattle.ts_engine.specs.declared.keep.JournalEnd.{JournalEnd}
-use Rattle.ts_engine.specs.declared.keep.JournalEnd.TheVariants as ended
+use Rattle.ts_execution.specs.Keeping.{kept, journaled}
+use Rattle.ts_engine.specs.declared.journal_end.JournalEnd.{JournalEnd}
+use Rattle.ts_engine.specs.declared.journal_end.JournalEnd.TheVariants as ended
 use Rattle.ts_engine.specs.declared.piped.End.{End}
 use Rattle.ts_engine.specs.declared.piped.End.TheVariants as end
 use Rattle.ts_engine.specs.Answered.{IsMemoryOr}
 use Rattle.ts_engine.specs.Headline.{Exchange, requests}
 use Rattle.ts_engine.specs.Journaled.{Journals, exchange_over, FrontRestores, GoesOn, Did, IsOpened, IsUnopened, is_unloaded, Wrote, IsAnswered, HasJournalCauses, status_of, status_piped, status_loaded, status_kept}
-use Rattle.ts_engine.specs.Keeping.{kept, journaled}
 use Rattle.ts_engine.specs.Status as input
 use Rattle.ts_engine.proofs.Journalings.{Told, first-run, told-first, told-torn}
 use Rattle.ts_engine.proofs.Restorings.{RunFront}

@@ -13,10 +13,10 @@ use Rattle.ts_engine.specs.declared.serving.Served.TheVariants.{Done, AcceptFaul
 use Rattle.ts_words.specs.declared.mode.Mode.{Mode}
 use Rattle.ts_words.specs.declared.mode.Mode.TheVariants.{Serve}
 use Rattle.ts_words.specs.declared.status.Status.{Status}
+use Rattle.ts_execution.specs.Turn.{World}
 use Rattle.ts_engine.specs.Asked.{AllServed}
 use Rattle.ts_engine.specs.Headline.{Seen}
 use Rattle.ts_engine.specs.Serving.{line_at, Link, lines_from, StreamViews, Handed, IsServed, AreServed, Lines, Serves}
-use Rattle.ts_engine.specs.Turn.{World}
 
 -- the lines of two lists of links
 lines_append : {I O : Type 0} (number : ℕ) (xs ys : List (Link I O)) → lines_from number (xs ++ ys) ≡ lines_from number xs ++ lines_from (number + length xs) ys

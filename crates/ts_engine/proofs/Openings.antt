@@ -4,13 +4,13 @@ use Rattle.std.proofs.Common.{◌≡◌, ◌≤◌, ◌<◌, ℕ, List, length, 
 use Rattle.ts_io.specs.Logs.{front}
 use Rattle.ts_spec.specs.declared.wire.WireLimits.{WireLimits}
 use Rattle.ts_db.specs.Held.{Stock, Carries}
-use Rattle.ts_engine.specs.declared.keep.JournalEnd.{JournalEnd}
-use Rattle.ts_engine.specs.declared.keep.JournalEnd.TheVariants as ended
-use Rattle.ts_engine.specs.declared.loading.Loaded.{Loaded}
-use Rattle.ts_engine.specs.declared.loading.Loaded.TheVariants as loaded
+use Rattle.ts_execution.specs.declared.loading.Loaded.{Loaded}
+use Rattle.ts_execution.specs.declared.loading.Loaded.TheVariants as loaded
+use Rattle.ts_execution.specs.Restoring.{IsLoaded}
+use Rattle.ts_execution.proofs.Carried.{carries_as}
+use Rattle.ts_engine.specs.declared.journal_end.JournalEnd.{JournalEnd}
+use Rattle.ts_engine.specs.declared.journal_end.JournalEnd.TheVariants as ended
 use Rattle.ts_engine.specs.Journaled.{IsOpened}
-use Rattle.ts_engine.specs.Restoring.{IsLoaded}
-use Rattle.ts_engine.proofs.Carried.{carries_as}
 
 module _ (old new : Stock) (limits : WireLimits) (budget : ℕ) (before : Option (List ℕ)) where
   -- what was loaded of a journal that was told

@@ -6,8 +6,8 @@ use Rattle.ts_spec.specs.Wire.{Stream, Then, Ended, Inside, Broken, Mode, Start,
 use Rattle.ts_spec.specs.declared.wire.Kind.{Kind}
 use Rattle.ts_spec.specs.declared.wire.WireLimits.{WireLimits}
 use Rattle.ts_spec.proofs.Streams.{read_on-nil, read_on-byte}
+use Rattle.ts_execution.specs.Turns.{Turns, OfLast}
 use Rattle.ts_engine.specs.Session.{Spot, Went, LastReply, IsBroken, IsUpToDate}
-use Rattle.ts_engine.specs.Turns.{Turns, OfLast}
 use Rattle.ts_resp.specs.declared.protocol.Protocol.{Protocol}
 
 -- each request ends past this place, and a fault is not before it

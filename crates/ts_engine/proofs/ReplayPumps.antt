@@ -10,6 +10,7 @@ use Rattle.ts_mux.specs.Capture.{Capture, capture, frames_of, ending_of}
 use Rattle.ts_mux.specs.Framing.{unfinished, ended_at}
 use Rattle.ts_mux.specs.Order.{closing}
 use Rattle.ts_mux.proofs.FramesWithin.{frames-within}
+use Rattle.ts_execution.specs.Turn.{World}
 use Rattle.ts_engine.specs.declared.course.Course.{Course}
 use Rattle.ts_engine.specs.declared.course.Course.TheVariants as course
 use Rattle.ts_engine.specs.declared.replay.Replay.{Replay as Kept}
@@ -18,7 +19,6 @@ use Rattle.ts_engine.specs.declared.replayed.CaptureEnd.TheVariants as end
 use Rattle.ts_engine.specs.declared.replayed.Read.{Read}
 use Rattle.ts_engine.specs.Replaying.{Spot, beginning, Went, Answers, IsAt, IsUpToDate, Ends, EndsOr, has_ended, Pumped, Replayed, HasCauses, end_at, end_by}
 use Rattle.ts_engine.specs.Replays.{coming, standing, HasAnswered, Begins}
-use Rattle.ts_engine.specs.Turn.{World}
 use Rattle.ts_engine.proofs.ReplaysOn.{went_none, not_answered, went_on, answers_on}
 use Rattle.ts_engine.proofs.ReplaySteps.{no_frames, its_own_ending}
 

@@ -2,8 +2,8 @@
 use Rattle.std.proofs.Common.{ℕ, List, [], ◌∷◌, ◌++◌, refl, sym, ap, subst}
 use Rattle.ts_mux.specs.declared.frame.Frame.{Frame}
 use Rattle.ts_mux.specs.Order.{Item}
+use Rattle.ts_execution.specs.Turn.{World}
 use Rattle.ts_engine.specs.Replies.{IsReply, Replies, reply_frame}
-use Rattle.ts_engine.specs.Turn.{World}
 
 pub Replies-append : (from mid to : World) (before after : List Item) (some others : List Frame)
     → Replies from before some mid → Replies mid after others to → Replies from (before ++ after) (some ++ others) to

@@ -21,8 +21,8 @@ use Rattle.ts_journal.specs.Record.{record_of}
 use Rattle.ts_journal.specs.Replay.{IsDone}
 use Rattle.ts_journal.proofs.Grown.{Grows, record-grown}
 use Rattle.ts_journal.proofs.Unrecorded.{unrecorded-stays}
-use Rattle.ts_engine.specs.Keeping.{Kept, served, IsUnrecorded, IsRecorded, RecordedBy, Recorded, IsKept}
-use Rattle.ts_engine.specs.Turn.{World, IsAnswered, IsLost, IsOutOfMemory}
+use Rattle.ts_execution.specs.Keeping.{Kept, served, IsUnrecorded, IsRecorded, RecordedBy, Recorded, IsKept}
+use Rattle.ts_execution.specs.Turn.{World, IsAnswered, IsLost, IsOutOfMemory}
 use Rattle.ts_engine.proofs.Executions.{is-done, limits-stay}
 
 -- ---- one turn

@@ -11,10 +11,10 @@ use Rattle.ts_engine.specs.declared.piped.End.{End}
 use Rattle.ts_engine.specs.declared.piped.End.TheVariants as end
 use Rattle.ts_engine.specs.declared.piped.Outcome.{Outcome}
 use Rattle.ts_words.specs.declared.status.Status.TheVariants as status
+use Rattle.ts_execution.specs.Turns.{Turns}
 use Rattle.ts_engine.specs.Headline.{Exchange, ending, asks_to_quit}
 use Rattle.ts_engine.specs.Piping.{beginning_of, Ends, is_of_input, PipedBy, HasCauses}
 use Rattle.ts_engine.specs.Session.{Spot}
-use Rattle.ts_engine.specs.Turns.{Turns}
 use Rattle.ts_engine.specs.Status.{status_of}
 use Rattle.ts_engine.specs.Top.{status_cut}
 use Rattle.ts_engine.proofs.Headlines.{splits, no_quit, ends_as, front_answered, quitted_all}

@@ -11,13 +11,13 @@ use Rattle.ts_spec.specs.declared.limits.Limits.{Limits}
 use Rattle.ts_spec.specs.declared.wire.WireLimits.{WireLimits}
 use Rattle.ts_gen.specs.Workload.{script}
 use Rattle.ts_db.specs.Held.{Held}
+use Rattle.ts_execution.specs.Turn.{World, turn, plain}
 use Rattle.ts_engine.specs.declared.piped.End.{End}
 use Rattle.ts_engine.specs.declared.piped.End.TheVariants as end
 use Rattle.ts_engine.specs.declared.piped.Outcome.{Outcome}
 use Rattle.ts_engine.specs.Generated.{with_usual_wire, IsSummary}
 use Rattle.ts_engine.specs.Headline.{requests, start, Exchange, AllAnswered, Writes, count_done}
 use Rattle.ts_engine.specs.Piping.{Piped}
-use Rattle.ts_engine.specs.Turn.{World, turn, plain}
 use Rattle.ts_engine.proofs.Taking.{writes_of, executed_of}
 use Rattle.ts_engine.proofs.Sessions.{grows_as}
 

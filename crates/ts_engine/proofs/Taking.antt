@@ -12,13 +12,13 @@ use Rattle.ts_engine.specs.declared.piped.End.TheVariants as end
 use Rattle.ts_engine.specs.declared.piped.Outcome.{Outcome}
 use Rattle.ts_words.specs.declared.status.Status.{Status}
 use Rattle.ts_words.specs.declared.status.Status.TheVariants as status
+use Rattle.ts_execution.specs.Turns.{Turns}
 use Rattle.ts_engine.specs.Headline.{Exchange, Seen, exchange_of, Writes, count_done}
 use Rattle.ts_engine.specs.Piping.{beginning_of, PIECE, ReadAll, Ends, shown_at, is_of_input, PipedBy, Piped}
 use Rattle.ts_engine.specs.Session.{Spot, Quitted}
 use Rattle.ts_engine.specs.Status.{status_of, place_of}
 use Rattle.ts_engine.specs.Taken.{quit_place, place_after, Near, FrontTaken, TakenBy, Taken}
 use Rattle.ts_engine.specs.Top.{Reports}
-use Rattle.ts_engine.specs.Turns.{Turns}
 use Rattle.ts_engine.proofs.Headlines.{Splits, splits, writes, executed_writes}
 use Rattle.ts_engine.proofs.Quits.{neither}
 

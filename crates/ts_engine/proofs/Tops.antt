@@ -9,11 +9,11 @@ use Rattle.ts_words.specs.Modes.{same, mode_of}
 use Rattle.ts_words.specs.declared.mode.Mode.TheVariants as mode
 use Rattle.ts_words.specs.declared.status.Status.{Status}
 use Rattle.ts_words.specs.declared.status.Status.TheVariants as status
+use Rattle.ts_execution.specs.Turns.{Turns}
 use Rattle.ts_engine.specs.Piping.{HasCauses}
 use Rattle.ts_engine.specs.Status.{status_of}
 use Rattle.ts_engine.specs.Top.{status_by, status_at}
 use Rattle.ts_engine.specs.Headline.{Exchange, Writes, ending, asks_to_quit}
-use Rattle.ts_engine.specs.Turns.{Turns}
 
 -- without QUIT the status is that of the ending
 by_ending : (quits : Bool) (stream end : Stream) → quits ≡ false → stream ≡ end → status_at end ≡ status_by quits stream

@@ -5,15 +5,15 @@ use Rattle.ts_io.specs.Causes.{Rose}
 use Rattle.ts_spec.specs.Run.{Runs}
 use Rattle.ts_spec.specs.Wire.{Request}
 use Rattle.ts_spec.specs.declared.wire.WireLimits.{WireLimits}
+use Rattle.ts_execution.specs.Keeping.{Kept, IsKept, IsCut, JournalFaults, keeping, journaled}
+use Rattle.ts_execution.specs.Turns.{OfLast, is_turn, NoFault, AFault}
 use Rattle.ts_engine.specs.declared.piped.End.{End}
 use Rattle.ts_engine.specs.declared.piped.End.TheVariants as end
 use Rattle.ts_engine.specs.declared.piped.Outcome.{Outcome}
 use Rattle.ts_engine.specs.Answered.{InputAnswered}
 use Rattle.ts_engine.specs.Headline.{Exchange}
-use Rattle.ts_engine.specs.Keeping.{Kept, IsKept, IsCut, JournalFaults, keeping, journaled}
 use Rattle.ts_engine.specs.Piping.{beginning_of, PIECE, ReadAll, Ends, shown_at, is_of_input, PipedBy, HasCauses, HasCausesBy}
 use Rattle.ts_engine.specs.Session.{Spot, Went, WentSome, LastReply, Quitted, CutFault}
-use Rattle.ts_engine.specs.Turns.{OfLast, is_turn, NoFault, AFault}
 use Rattle.ts_engine.specs.Taken.{TakenBy}
 use Rattle.ts_engine.proofs.Answered.{answered_told}
 use Rattle.ts_engine.proofs.Taking.{taken_by}

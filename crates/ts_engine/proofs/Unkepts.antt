@@ -5,14 +5,14 @@ use Rattle.std.proofs.lemmas.List.{append-nil}
 use Rattle.ts_io.specs.Causes.{Rose}
 use Rattle.ts_spec.specs.Run.{Runs}
 use Rattle.ts_spec.specs.Wire.{Request, stream_at}
+use Rattle.ts_execution.specs.Keeping.{IsKept, IsCut, JournalFaults, keeping, journaled}
+use Rattle.ts_execution.specs.Turns.{AFault}
 use Rattle.ts_engine.specs.declared.piped.End.{End}
 use Rattle.ts_engine.specs.declared.piped.End.TheVariants as end
 use Rattle.ts_engine.specs.declared.piped.Outcome.{Outcome}
 use Rattle.ts_engine.specs.Headline.{Exchange, LastCut, Writes, count_done}
-use Rattle.ts_engine.specs.Keeping.{IsKept, IsCut, JournalFaults, keeping, journaled}
 use Rattle.ts_engine.specs.Piping.{PipedBy, HasCausesBy}
 use Rattle.ts_engine.specs.Taken.{IsNear, place_after, Near}
-use Rattle.ts_engine.specs.Turns.{AFault}
 use Rattle.ts_engine.specs.Unkept.{Unkept, UnkeptTaken}
 use Rattle.ts_engine.proofs.Sessions.{grows_as}
 use Rattle.ts_engine.proofs.Taking.{piped_alone, front_taken, writes_of, executed_of, near_of}

@@ -4,11 +4,11 @@ use Rattle.ts_io.specs.Causes.{Rose}
 use Rattle.ts_engine.specs.declared.piped.Outcome.{Outcome}
 use Rattle.ts_words.specs.declared.status.Status.{Status}
 use Rattle.ts_words.specs.declared.status.Status.TheVariants as status
+use Rattle.ts_execution.specs.Turns.{Turns}
 use Rattle.ts_engine.specs.Headline.{Exchange, Writes, count_done, ending, asks_to_quit}
 use Rattle.ts_engine.specs.Status.{status_of}
 use Rattle.ts_engine.specs.Taken.{Near}
 use Rattle.ts_engine.specs.Top.{status_by, status_cut}
-use Rattle.ts_engine.specs.Turns.{Turns}
 
 -- no memory, or this one
 abbrev pub IsMemoryOr : (given wanted : Status) → Type 0

@@ -13,12 +13,12 @@ use Rattle.ts_mux.specs.Order.{Item, order}
 use Rattle.ts_words.specs.declared.mode.Mode.TheVariants as mode
 use Rattle.ts_words.specs.declared.status.Status.{Status}
 use Rattle.ts_words.specs.declared.status.Status.TheVariants as status
+use Rattle.ts_execution.specs.Turn.{World, plain}
 use Rattle.ts_engine.specs.declared.replayed.CaptureEnd.{CaptureEnd}
 use Rattle.ts_engine.specs.declared.replayed.CaptureEnd.TheVariants as end
 use Rattle.ts_engine.specs.Headline.{Exchange, Seen, exchange_of}
 use Rattle.ts_engine.specs.Replies.{Replies, IsReply, reply_frame}
 use Rattle.ts_engine.specs.Top.{ReportsIn}
-use Rattle.ts_engine.specs.Turn.{World, plain}
 
 -- the one word `mux`
 abbrev pub IsMux : List (String Global) → Type 0

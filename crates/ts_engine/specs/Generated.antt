@@ -11,9 +11,9 @@ use Rattle.ts_gen.specs.Workload.{script}
 use Rattle.ts_words.specs.Lines.{summary_of}
 use Rattle.ts_words.specs.declared.status.Status.{Status}
 use Rattle.ts_words.specs.declared.status.Status.TheVariants as status
+use Rattle.ts_execution.specs.Turn.{World, turn}
 use Rattle.ts_engine.specs.Headline.{requests, start}
 use Rattle.ts_engine.specs.Top.{Reports}
-use Rattle.ts_engine.specs.Turn.{World, turn}
 
 -- these limits, under the usual ones of requests
 abbrev pub with_usual_wire : Limits → Limits

@@ -11,10 +11,10 @@ use Rattle.ts_spec.specs.declared.wire.Kind.{Kind}
 use Rattle.ts_spec.specs.declared.limits.Limits.{Limits}
 use Rattle.ts_spec.specs.declared.wire.WireLimits.{WireLimits}
 use Rattle.ts_db.specs.Held.{Held}
+use Rattle.ts_execution.specs.Turn.{World, plain}
+use Rattle.ts_execution.specs.Turns.{Turns}
 use Rattle.ts_engine.specs.declared.piped.End.{End}
 use Rattle.ts_engine.specs.declared.piped.End.TheVariants as end
-use Rattle.ts_engine.specs.Turn.{World, plain}
-use Rattle.ts_engine.specs.Turns.{Turns}
 
 -- the requests in these bytes, up to and with the first QUIT
 abbrev pub requests : WireLimits → List ℕ → List Request

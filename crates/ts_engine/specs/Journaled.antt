@@ -13,13 +13,13 @@ use Rattle.ts_journal.specs.Loading.{Load, Loads, BreaksAt, load, load_from}
 use Rattle.ts_words.specs.declared.mode.Mode.TheVariants as mode
 use Rattle.ts_words.specs.declared.status.Status.{Status}
 use Rattle.ts_words.specs.declared.status.Status.TheVariants as status
-use Rattle.ts_engine.specs.declared.keep.JournalEnd.{JournalEnd}
-use Rattle.ts_engine.specs.declared.keep.JournalEnd.TheVariants as end
+use Rattle.ts_execution.specs.Keeping.{Kept, kept, IsKept, journaled}
+use Rattle.ts_engine.specs.declared.journal_end.JournalEnd.{JournalEnd}
+use Rattle.ts_engine.specs.declared.journal_end.JournalEnd.TheVariants as end
 use Rattle.ts_engine.specs.declared.piped.End.TheVariants as piped
 use Rattle.ts_engine.specs.Answered.{IsMemoryOr}
 use Rattle.ts_engine.specs.Asked.{asked}
 use Rattle.ts_engine.specs.Headline.{Exchange, Seen, requests, asks_to_quit, ending}
-use Rattle.ts_engine.specs.Keeping.{Kept, kept, IsKept, journaled}
 use Rattle.ts_engine.specs.Status as input
 use Rattle.ts_engine.specs.Taken.{TakenBy}
 use Rattle.ts_engine.specs.Top.{ReportsIn, status_by, status_cut}

@@ -6,13 +6,13 @@ use Rattle.ts_io.specs.Causes.{Rose}
 use Rattle.ts_resp.specs.Reading.{stream_of}
 use Rattle.ts_spec.specs.Wire.{Ended, Inside}
 use Rattle.ts_spec.specs.declared.wire.WireLimits.{WireLimits}
+use Rattle.ts_execution.specs.Turn.{World, plain}
+use Rattle.ts_execution.specs.Turns.{Turns, NoFault, AFault}
 use Rattle.ts_engine.specs.declared.piped.End.{End}
 use Rattle.ts_engine.specs.declared.piped.End.TheVariants as end
 use Rattle.ts_engine.specs.declared.piped.Outcome.{Outcome}
 use Rattle.ts_engine.specs.declared.piped.Step.{Step}
 use Rattle.ts_engine.specs.declared.go.Go.TheVariants as go
-use Rattle.ts_engine.specs.Turn.{World, plain}
-use Rattle.ts_engine.specs.Turns.{Turns, NoFault, AFault}
 use Rattle.ts_engine.specs.Session.{Spot, Went, LastReply, Quitted, CutFault, Answers}
 
 -- where a session begins: nothing was read or executed

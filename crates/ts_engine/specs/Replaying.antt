@@ -9,6 +9,7 @@ use Rattle.ts_mux.specs.Capture as capture
 use Rattle.ts_mux.specs.Capture.{Capture, framed, all_framed}
 use Rattle.ts_mux.specs.Framing.{ended_at}
 use Rattle.ts_mux.specs.Order.{Item}
+use Rattle.ts_execution.specs.Turn.{World}
 use Rattle.ts_engine.specs.declared.course.Course.{Course}
 use Rattle.ts_engine.specs.declared.course.Course.TheVariants as course
 use Rattle.ts_engine.specs.declared.replayed.CaptureEnd.{CaptureEnd}
@@ -16,7 +17,6 @@ use Rattle.ts_engine.specs.declared.replayed.CaptureEnd.TheVariants as end
 use Rattle.ts_engine.specs.declared.replayed.Read.{Read}
 use Rattle.ts_engine.specs.Captured as captured
 use Rattle.ts_engine.specs.Replies.{IsReply, Replies, reply_frame}
-use Rattle.ts_engine.specs.Turn.{World}
 
 -- where a replay stands: what is still to be asked and how the capture ends, by the bytes that follow, and the world
 pub record Spot : Type 0 where

@@ -3,7 +3,7 @@ use Rattle.std.specs.Prelude.{◌≡◌, ℕ, List, [], ◌∷◌}
 use Rattle.ts_mux.specs.declared.frame.Frame.{Frame}
 use Rattle.ts_mux.specs.Order.{Event, Asked, Failed, Item}
 use Rattle.ts_spec.specs.Text.{fault_text}
-use Rattle.ts_engine.specs.Turn.{World, turn}
+use Rattle.ts_execution.specs.Turn.{World, turn}
 
 -- the text of a reply: a request has its turn; a fault is told, and changes nothing
 abbrev pub IsReply : World → Event → List ℕ → World → Type 0

@@ -8,6 +8,7 @@ use Rattle.ts_spec.specs.declared.wire.WireLimits.{WireLimits}
 use Rattle.ts_words.specs.Lines.{link_line_of}
 use Rattle.ts_words.specs.declared.link_lines.LinkEnd.{LinkEnd}
 use Rattle.ts_words.specs.declared.link_lines.LinkEnd.TheVariants as word
+use Rattle.ts_execution.specs.Turn.{World, plain}
 use Rattle.ts_engine.specs.declared.piped.End.{End}
 use Rattle.ts_engine.specs.declared.piped.End.TheVariants as end
 use Rattle.ts_engine.specs.declared.piped.Outcome.{Outcome}
@@ -16,7 +17,6 @@ use Rattle.ts_engine.specs.declared.serving.Served.TheVariants.{Done, AcceptFaul
 use Rattle.ts_engine.specs.Answered.{InputAnswered}
 use Rattle.ts_engine.specs.Headline.{Exchange}
 use Rattle.ts_engine.specs.Piping.{HasCauses}
-use Rattle.ts_engine.specs.Turn.{World, plain}
 
 -- ---- lines
 

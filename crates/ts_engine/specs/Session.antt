@@ -7,7 +7,7 @@ use Rattle.ts_resp.specs.declared.protocol.Protocol.{Protocol}
 use Rattle.ts_spec.specs.Run.{Placed, Runs, then_all, requests_in, is_quit, has_quit}
 use Rattle.ts_spec.specs.Text.{fault_text}
 use Rattle.ts_spec.specs.Wire.{Request, Stream, Broken}
-use Rattle.ts_engine.specs.Turns.{Turns, OfLast, is_turn, CutShort, NoFault, AFault}
+use Rattle.ts_execution.specs.Turns.{Turns, OfLast, is_turn, CutShort, NoFault, AFault}
 use Rattle.ts_engine.specs.declared.go.Go.{Go}
 use Rattle.ts_engine.specs.declared.go.Go.TheVariants as go
 

@@ -6,9 +6,9 @@ use Rattle.ts_spec.specs.declared.wire.WireLimits.{WireLimits}
 use Rattle.ts_engine.specs.declared.go.Go.{Go}
 use Rattle.ts_engine.specs.declared.session.Session.{Session as Kept}
 use Rattle.ts_db.specs.Held.{Held}
+use Rattle.ts_execution.specs.Turn.{plain}
+use Rattle.ts_execution.specs.Turns.{Turns}
 use Rattle.ts_engine.specs.Session.{Spot}
-use Rattle.ts_engine.specs.Turn.{plain}
-use Rattle.ts_engine.specs.Turns.{Turns}
 
 abbrev pub reader_of : Kept → Reading
 reader_of s = s.reader

@@ -7,11 +7,11 @@ use Rattle.ts_engine.specs.declared.piped.End.{End}
 use Rattle.ts_engine.specs.declared.piped.End.TheVariants as end
 use Rattle.ts_words.specs.declared.status.Status.{Status}
 use Rattle.ts_words.specs.declared.status.Status.TheVariants as status
+use Rattle.ts_execution.specs.Turns.{Turns}
 use Rattle.ts_engine.specs.Headline.{Exchange, Seen, exchange_of, AllAnswered, WholeAnswered, LastCut, FaultCut, asks_to_quit, Writes}
 use Rattle.ts_engine.specs.Piping.{PIECE}
 use Rattle.ts_engine.specs.Status.{status_of, place_of}
 use Rattle.ts_engine.specs.Top.{Headline, Reports}
-use Rattle.ts_engine.specs.Turns.{Turns}
 
 -- the place after the first QUIT, if there is one
 abbrev pub quit_place : Stream → Option ℕ

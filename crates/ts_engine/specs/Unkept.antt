@@ -3,8 +3,8 @@ use Rattle.std.specs.Prelude.{◌≡◌, ℕ, List, ◌∷◌, ◌++◌, length,
 use Rattle.ts_io.specs.Sinks.{Grows}
 use Rattle.ts_spec.specs.Run.{Runs}
 use Rattle.ts_spec.specs.Wire.{Request, stream_at}
+use Rattle.ts_execution.specs.Keeping.{Kept, IsKept, IsTorn, journaled}
 use Rattle.ts_engine.specs.Headline.{Exchange, requests}
-use Rattle.ts_engine.specs.Keeping.{Kept, IsKept, IsTorn, journaled}
 use Rattle.ts_engine.specs.Taken.{FrontTaken, IsNear, place_after}
 
 module _ (exchange : Exchange journaled) where

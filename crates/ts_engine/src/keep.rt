@@ -3,68 +3,22 @@ ghost use Rattle.std.specs.Prelude.{◌≡◌, ◌≢◌, ◌⊎◌, ◌<◌, �
 ghost use Rattle.ts_io.specs.Causes.{Rose};
 ghost use Rattle.ts_journal.specs.Limits.{IsBounded};
 ghost use Rattle.ts_db.specs.Held.{Carries};
+ghost use Rattle.ts_execution.specs.Keeping.{kept};
+ghost use Rattle.ts_execution.specs.Limits.{CanRead};
 ghost use Rattle.ts_engine.specs.Answered.{IsMemoryOr};
 ghost use Rattle.ts_engine.specs.Journaled as journaled;
 ghost use Rattle.ts_engine.specs.Journaled.{Journaled, HasJournalLine, HasJournalCauses, IsAnswered, Did, status_kept};
-ghost use Rattle.ts_engine.specs.Keeping.{kept};
-ghost use Rattle.ts_engine.specs.Limits.{CanRead};
 ghost use Rattle.ts_engine.specs.Top.{AreUsable, NoneRose};
 
+use crate::journal_end::JournalEnd;
 use crate::kept::pipe_kept;
 use crate::opened::open_journal;
-use crate::piped::End;
 use crate::status::report_in;
 use std::alloc::Global;
 use ts_db::{Db, Limits};
 use ts_io::{Clock, Log, Sink, Source};
 use ts_resp::WireLimits;
 use ts_words::{Mode, Status};
-
-/// How a run with a journal ended.
-#[derive(Clone, Copy, Debug, PartialEq, Eq)]
-pub(crate) enum JournalEnd {
-    /// The journal was loaded, and the input was answered and ended so.
-    Answered(End),
-    /// The journal was loaded, and then the record of a change could not be added to it.
-    NotKept,
-    /// The journal could not be opened, read or cut.
-    NotLoaded,
-    /// It was read to its end, and breaks after this place.
-    Broken(u64),
-    /// As many bytes of it were read as may be.
-    TooLong,
-    /// There was no memory to load it.
-    NoMemory,
-}
-
-impl JournalEnd {
-    // The status of a run that ends so.
-    fn status(self) -> Status
-        ensures { result ≡ journaled.status_of self }
-    {
-        match self {
-            JournalEnd::Answered(end) => end.status(),
-            JournalEnd::NotKept | JournalEnd::NotLoaded => Status::JournalFault,
-            JournalEnd::Broken(_) => Status::JournalBroken,
-            JournalEnd::TooLong => Status::Budget,
-            JournalEnd::NoMemory => Status::Memory,
-        }
-    }
-
-    // The place that the line of that status tells, 0 where it tells none.
-    fn place(self) -> u64
-        ensures { result ≡ journaled.place_of self }
-    {
-        match self {
-            JournalEnd::Answered(end) => end.place(),
-            JournalEnd::Broken(place) => place,
-            JournalEnd::NotKept
-            | JournalEnd::NotLoaded
-            | JournalEnd::TooLong
-            | JournalEnd::NoMemory => 0,
-        }
-    }
-}
 
 // Answers the requests of `input` over what the journal of this name loads to, at most `budget` bytes of either one, and adds
 // the record of each change to the journal before its reply is written. A status other than `Ended` has its line on `err`.

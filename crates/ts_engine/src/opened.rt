@@ -3,13 +3,13 @@ ghost use Rattle.std.specs.Prelude.{◌≡◌, ◌≤◌, ◌<◌, ℕ, List, So
 ghost use Rattle.ts_io.specs.Causes.{Rose};
 ghost use Rattle.ts_db.specs.Held.{Carries};
 ghost use Rattle.ts_journal.specs.Limits.{IsBounded};
+ghost use Rattle.ts_execution.specs.Limits.{CanRead};
 ghost use Rattle.ts_engine.specs.Journaled.{IsOpened, IsUnopened, is_unloaded};
-ghost use Rattle.ts_engine.specs.Limits.{CanRead};
 
-use crate::keep::JournalEnd;
-use crate::loading::{Loaded, load};
+use crate::journal_end::JournalEnd;
 use std::alloc::Global;
 use ts_db::Db;
+use ts_execution::{Loaded, load};
 use ts_io::Log;
 use ts_resp::WireLimits;
 

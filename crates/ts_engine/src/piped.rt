@@ -2,16 +2,16 @@
 ghost use Rattle.std.specs.Prelude.{◌≡◌, ◌+◌, ◌<◌, ◌≤◌, ◌^◌, length, None, Some};
 ghost use Rattle.ts_resp.specs.Reading.{fed, unfinished};
 ghost use Rattle.ts_db.specs.Held.{Carries};
-ghost use Rattle.ts_engine.specs.Limits.{CanRead};
+ghost use Rattle.ts_execution.specs.Limits.{CanRead};
 ghost use Rattle.ts_engine.specs.Standing.{spot_in, reader_of, ended_of, HasAnswered};
 ghost use Rattle.ts_engine.specs.Piping.{Piped, PipedBy, Pumped, HasCauses, HasCausesBy, HasCausesByOr};
 ghost use Rattle.ts_engine.specs.Ending.{end_at, end_by};
 
 use crate::go::Go;
 use crate::session::Session;
-use crate::turns::{Plain, Turns};
 use std::alloc::Global;
 use ts_db::Db;
+use ts_execution::{Plain, Turns};
 use ts_io::{Clock, Sink, Source};
 use ts_resp::{Protocol, WireLimits};
 

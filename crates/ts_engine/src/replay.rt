@@ -1,7 +1,7 @@
 // The frames of one capture.
 ghost use Rattle.std.specs.Prelude.{◌≡◌, ◌+◌, ◌<◌, ◌≤◌, ◌^◌, [], length, None, Some, IfOk};
 ghost use Rattle.ts_mux.specs.Muxing.{ahead, delivered_to};
-ghost use Rattle.ts_engine.specs.Limits.{CanRead};
+ghost use Rattle.ts_execution.specs.Limits.{CanRead};
 
 use crate::course::Course;
 use std::alloc::{AllocError, Global};

@@ -2,8 +2,8 @@
 ghost use Rattle.std.specs.Prelude.{◌≡◌, ◌+◌, ◌<◌, ◌≤◌, ◌^◌, length, None, Some};
 ghost use Rattle.ts_mux.specs.Framing.{fed, unfinished};
 ghost use Rattle.ts_db.specs.Held.{Carries};
+ghost use Rattle.ts_execution.specs.Limits.{CanRead};
 ghost use Rattle.ts_engine.specs.Captured as captured;
-ghost use Rattle.ts_engine.specs.Limits.{CanRead};
 ghost use Rattle.ts_engine.specs.Replaying.{Replayed, Pumped, HasCauses, HasCausesOr, end_at, end_by};
 ghost use Rattle.ts_engine.specs.Replays.{standing, frames_in, HasAnswered};
 

@@ -3,9 +3,9 @@ ghost use Rattle.std.specs.Prelude.{◌≡◌, ◌<◌, ◌^◌, Some};
 
 use crate::go::Go;
 use crate::session::Session;
-use crate::turns::Turns;
 use std::sync::ledger::Ledger;
 use ts_db::Db;
+use ts_execution::Turns;
 use ts_io::{Clock, Sink, write_all_counted};
 use ts_resp::{Protocol, Reply, Word, put};
 use ts_sample::Steps;

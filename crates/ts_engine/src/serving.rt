@@ -3,7 +3,7 @@ ghost use Rattle.std.specs.Prelude.{◌≡◌, ◌≢◌, ◌≤◌, false, OnOk
 ghost use Rattle.ts_io.specs.Causes.{HasCause, Rose};
 ghost use Rattle.ts_io.specs.Sinks.{Grows, GrowsByFront};
 ghost use Rattle.ts_db.specs.Held.{Carries};
-ghost use Rattle.ts_engine.specs.Limits.{CanRead};
+ghost use Rattle.ts_execution.specs.Limits.{CanRead};
 ghost use Rattle.ts_engine.specs.Serving.{Serves, line_at};
 ghost use Rattle.ts_engine.specs.Serving as lines;
 

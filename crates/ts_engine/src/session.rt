@@ -1,14 +1,14 @@
 // The requests of one stream.
 ghost use Rattle.std.specs.Prelude.{◌≡◌, ◌+◌, ◌<◌, ◌≤◌, ◌^◌, [], length, None, Some, IfOk, IfNone, IfSome};
+ghost use Rattle.ts_execution.specs.Limits.{CanRead};
 ghost use Rattle.ts_engine.specs.Going.{end_of};
-ghost use Rattle.ts_engine.specs.Limits.{CanRead};
 
 use crate::go::Go;
-use crate::turns::{Plain, Turns};
 use std::alloc::{AllocError, Global};
 use std::marker::Brand;
 use std::sync::ledger::{Blank, Ledger};
 use ts_db::{Db, Hints};
+use ts_execution::{Plain, Turns};
 use ts_io::{Clock, Sink};
 use ts_resp::{Next, Out, Reader, WireLimits};
 use ts_sample::Steps;

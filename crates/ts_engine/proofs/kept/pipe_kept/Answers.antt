@@ -1,6 +1,6 @@
 use Rattle.std.proofs.Common.{◌≡◌, false, subst, sym, rules}
 use Rattle.ts_db.specs.Held.{Carries}
-use Rattle.ts_engine.specs.Keeping.{keeping, kept}
+use Rattle.ts_execution.specs.Keeping.{keeping, kept}
 use Rattle.ts_engine.specs.Piping.{PipedBy}
 use Rattle.ts_engine.proofs.kept.pipe_kept.Goals as goal
 

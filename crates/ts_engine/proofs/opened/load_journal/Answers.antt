@@ -1,5 +1,5 @@
 use Rattle.std.proofs.Common.{◌∙◌, refl}
-use Rattle.ts_engine.specs.declared.loading.Loaded.TheVariants as loaded
+use Rattle.ts_execution.specs.declared.loading.Loaded.TheVariants as loaded
 use Rattle.ts_engine.proofs.Openings.{opened-whole, opened-broken, opened-long, opened-unloaded, opened-memory}
 use Rattle.ts_engine.proofs.opened.load_journal.Goals as goal
 

@@ -1,6 +1,6 @@
 use Rattle.std.specs.Prelude.{Some, List, ℕ}
 use Rattle.std.proofs.Common.{◌≡◌, ◌∙◌}
-use Rattle.ts_engine.proofs.Carried.{carries_none}
+use Rattle.ts_execution.proofs.Carried.{carries_none}
 use Rattle.ts_engine.proofs.Openings.{opened-as}
 use Rattle.ts_engine.proofs.opened.open_journal.Goals as goal
 

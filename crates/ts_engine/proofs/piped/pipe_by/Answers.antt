@@ -1,7 +1,7 @@
 use Rattle.std.proofs.Common.{refl, ◌∙◌, subst, arith, rules}
+use Rattle.ts_execution.proofs.Carried.{carries_none, carries_as, carries_then}
 use Rattle.ts_engine.specs.Piping.{HasCausesByOr}
 use Rattle.ts_engine.specs.Standing.{spot_in}
-use Rattle.ts_engine.proofs.Carried.{carries_none, carries_as, carries_then}
 use Rattle.ts_engine.proofs.Pipes.{so_far_none, so_far_more, piped_end, piped_budget, piped_none, begins_current, causes_from}
 use Rattle.ts_engine.proofs.piped.pipe_by.Goals as goal
 

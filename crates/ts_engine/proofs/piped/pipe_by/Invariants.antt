@@ -1,8 +1,8 @@
 use Rattle.std.proofs.Common.{◌-◌, ◌≡◌, ◌≤◌, None}
 use Rattle.ts_resp.specs.Reading.{fed}
 use Rattle.ts_db.specs.Held.{Carries}
+use Rattle.ts_execution.specs.Turns.{NoFault}
 use Rattle.ts_engine.specs.Standing.{spot_in, reader_of, ended_of, HasAnswered}
-use Rattle.ts_engine.specs.Turns.{NoFault}
 use Rattle.ts_engine.proofs.Pipes.{SoFar}
 use Rattle.ts_engine.proofs.piped.pipe_by.Given as goal
 

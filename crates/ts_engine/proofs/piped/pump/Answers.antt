@@ -1,7 +1,7 @@
 use Rattle.std.proofs.Common.{◌≡◌, take, sym, arith}
 use Rattle.std.proofs.lemmas.Bool.Decides.{nat_tests}
+use Rattle.ts_execution.proofs.Carried.{carries_none, carries_as}
 use Rattle.ts_engine.specs.Standing.{ended_of}
-use Rattle.ts_engine.proofs.Carried.{carries_none, carries_as}
 use Rattle.ts_engine.proofs.Carrying.{if_none}
 use Rattle.ts_engine.proofs.Pipes.{pumped_end, pumped_piece, pumped_fault, goes_by}
 use Rattle.ts_engine.proofs.piped.pump.Goals as goal

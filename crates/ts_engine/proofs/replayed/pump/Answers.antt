@@ -1,6 +1,6 @@
 use Rattle.std.proofs.Common.{◌≡◌, take, sym, arith}
 use Rattle.std.proofs.lemmas.Bool.Decides.{nat_tests}
-use Rattle.ts_engine.proofs.Carried.{carries_none, carries_as}
+use Rattle.ts_execution.proofs.Carried.{carries_none, carries_as}
 use Rattle.ts_engine.proofs.ReplayPumps.{pumped_end, pumped_piece, pumped_fault, goes_by_end}
 use Rattle.ts_engine.proofs.replayed.pump.Goals as goal
 

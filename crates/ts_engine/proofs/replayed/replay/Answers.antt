@@ -1,6 +1,6 @@
 use Rattle.std.proofs.Common.{refl, ◌∙◌, subst, arith, rules}
+use Rattle.ts_execution.proofs.Carried.{carries_none, carries_as, carries_then}
 use Rattle.ts_engine.specs.Replaying.{HasCausesOr}
-use Rattle.ts_engine.proofs.Carried.{carries_none, carries_as, carries_then}
 use Rattle.ts_engine.proofs.ReplayPumps.{so_far_none, so_far_more, replayed_end, replayed_budget, replayed_none, is_up_to_date, causes_from}
 use Rattle.ts_engine.proofs.replayed.replay.Goals as goal
 

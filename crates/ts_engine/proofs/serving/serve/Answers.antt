@@ -1,6 +1,6 @@
 use Rattle.std.proofs.Common.{◌+◌, refl, ◌∙◌, arith}
+use Rattle.ts_execution.proofs.Carried.{carries_none, carries_as, carries_then}
 use Rattle.ts_engine.specs.declared.serving.Served.TheVariants.{Done}
-use Rattle.ts_engine.proofs.Carried.{carries_none, carries_as, carries_then}
 use Rattle.ts_engine.proofs.Links.{serves_none, serves_both, serves_so_many, serves_within}
 use Rattle.ts_engine.proofs.serving.serve.Goals as goal
 

@@ -2,8 +2,8 @@ use Rattle.std.proofs.Common.{sym, subst, arith}
 use Rattle.std.specs.Prelude.{List, Option}
 use Rattle.ts_io.specs.Links.{TakesFront, AddsAtEnd}
 use Rattle.ts_io.specs.declared.listener.Ends.{Ends}
+use Rattle.ts_execution.proofs.Carried.{carries_none, carries_as}
 use Rattle.ts_engine.proofs.Answered.{is_served}
-use Rattle.ts_engine.proofs.Carried.{carries_none, carries_as}
 use Rattle.ts_engine.proofs.Links.{serves_fault, serves_one, serves_cut}
 use Rattle.ts_engine.proofs.serving.serve_link.Goals as goal
 

@@ -2,7 +2,7 @@ use Rattle.std.proofs.Common.{◌≡◌, ℕ, List, subst}
 use Rattle.std.specs.Io.KnownBytes.{append_known}
 use Rattle.ts_io.specs.Logs.{AddsFront}
 use Rattle.ts_io.specs.Sinks.{Grows, GrowsByFront}
-use Rattle.ts_engine.specs.Recording.{told_by}
+use Rattle.ts_execution.specs.Recording.{told_by}
 use Rattle.ts_engine.proofs.Keepings.{kept-whole, kept-cut, kept-torn}
 use Rattle.ts_engine.proofs.kept.JournaledTurns.answer.Goals as goal
 

@@ -1,9 +1,9 @@
 use Rattle.std.proofs.Common.{if◌then◌else◌, ◌∙◌, ap, subst}
 use Rattle.ts_mux.specs.Capture.{framed}
 use Rattle.ts_mux.specs.Order.{without}
+use Rattle.ts_execution.proofs.Carried.{carries_as}
 use Rattle.ts_engine.specs.Replaying.{Wrote}
 use Rattle.ts_engine.specs.Replays.{coming}
-use Rattle.ts_engine.proofs.Carried.{carries_as}
 use Rattle.ts_engine.proofs.replay.Replay.answer.Goals as goal
 
 pub returns-clause-replied : goal.returns-clause-replied

@@ -1,7 +1,7 @@
 use Rattle.std.proofs.Common.{ℕ, [], refl, ◌∙◌, ap, subst}
 use Rattle.std.specs.Prelude.{Some}
+use Rattle.ts_execution.proofs.Carried.{carries_none, carries_then}
 use Rattle.ts_engine.specs.Replaying.{WroteOrFault}
-use Rattle.ts_engine.proofs.Carried.{carries_none, carries_then}
 use Rattle.ts_engine.proofs.ReplaysOn.{went_none, answers_then, went_then}
 use Rattle.ts_engine.proofs.replay.Replay.answer_all.Goals as goal
 

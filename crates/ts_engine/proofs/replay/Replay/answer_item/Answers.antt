@@ -5,8 +5,8 @@ use Rattle.ts_mux.specs.Capture.{frames_of, ending_of}
 use Rattle.ts_mux.specs.Framing.{capture_of}
 use Rattle.ts_mux.specs.Order.{Asked, Failed, closing}
 use Rattle.ts_mux.specs.Muxing.{ahead}
+use Rattle.ts_execution.proofs.Carried.{carries_none, carries_as}
 use Rattle.ts_engine.specs.Replays.{coming}
-use Rattle.ts_engine.proofs.Carried.{carries_none, carries_as}
 use Rattle.ts_engine.proofs.ReplaysOn.{went_none, not_answered, answered_item}
 use Rattle.ts_engine.proofs.ReplaySteps.{asked_next, failed_next}
 use Rattle.ts_engine.proofs.replay.Replay.answer_item.Goals as goal

@@ -4,7 +4,7 @@ use Rattle.ts_mux.specs.Capture.{frames_of, ending_of}
 use Rattle.ts_mux.specs.Framing.{capture_of}
 use Rattle.ts_mux.specs.Order.{closing}
 use Rattle.ts_mux.specs.Muxing.{ahead}
-use Rattle.ts_engine.proofs.Carried.{carries_none, carries_as}
+use Rattle.ts_execution.proofs.Carried.{carries_none, carries_as}
 use Rattle.ts_engine.proofs.ReplaysOn.{went_none, not_answered, answers_then, goes_on, goes_by}
 use Rattle.ts_engine.proofs.replay.Replay.answer_next.Goals as goal
 

@@ -1,6 +1,6 @@
 use Rattle.std.proofs.Common.{[], refl, ◌∙◌, ap}
 use Rattle.std.specs.Prelude.{Some}
-use Rattle.ts_engine.proofs.Carried.{carries_none, carries_then}
+use Rattle.ts_execution.proofs.Carried.{carries_none, carries_then}
 use Rattle.ts_engine.proofs.Sessions.{fed_only, answers_then, went_then}
 use Rattle.ts_engine.proofs.Causes.{cause_after}
 use Rattle.ts_engine.proofs.session.Session.answer_all.Goals as goal

@@ -1,9 +1,9 @@
 use Rattle.std.proofs.Common.{◌≡◌, ◌-◌, []}
 use Rattle.ts_resp.specs.Reading.{fed}
 use Rattle.ts_db.specs.Held.{Carries}
+use Rattle.ts_execution.specs.Turns.{NoFault}
 use Rattle.ts_engine.specs.Session.{Went}
 use Rattle.ts_engine.specs.Standing.{spot_in, reader_of}
-use Rattle.ts_engine.specs.Turns.{NoFault}
 use Rattle.ts_engine.proofs.session.Session.answer_all.Given as goal
 
 -- what was done so far, and that no byte came

@@ -1,6 +1,6 @@
 use Rattle.std.proofs.Common.{◌<◌, refl, sym, ◌∙◌, ap, subst}
 use Rattle.ts_resp.specs.Reading.{Reading, stream_of}
-use Rattle.ts_engine.proofs.Carried.{carries_none, carries_as}
+use Rattle.ts_execution.proofs.Carried.{carries_none, carries_as}
 use Rattle.ts_engine.proofs.Sessions.{answered_next, refused_next, fed_only, not_fed}
 use Rattle.ts_engine.proofs.session.Session.answer_next.Goals as goal
 

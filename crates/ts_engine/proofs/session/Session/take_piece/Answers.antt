@@ -1,5 +1,5 @@
 use Rattle.std.proofs.Common.{refl}
-use Rattle.ts_engine.proofs.Carried.{carries_none, carries_as}
+use Rattle.ts_execution.proofs.Carried.{carries_none, carries_as}
 use Rattle.ts_engine.proofs.Sessions.{piece_answers, not_fed}
 use Rattle.ts_engine.proofs.session.Session.take_piece.Goals as goal
 

@@ -1,0 +1,133 @@
+-- How what the requests of a journal did is done again, one after another.
+use Rattle.std.specs.Prelude.{Option, None, Some}
+use Rattle.std.proofs.Common.{◌≡◌, Bool, true, false, ℕ, List, [], ◌++◌, refl, sym, ◌∙◌, ap, subst}
+use Rattle.ts_resp.specs.Reading.{Reading, stream_of}
+use Rattle.ts_spec.specs.State.{State}
+use Rattle.ts_spec.specs.Grammar.{command}
+use Rattle.ts_spec.specs.Wire.{Request, Then}
+use Rattle.ts_spec.specs.declared.limits.Limits.{Limits}
+use Rattle.ts_db.specs.Held.{Held, Stock, Carries}
+use Rattle.ts_journal.specs.Loading.{BreaksAt, replayed_by, on_or, load_on}
+use Rattle.ts_execution.specs.Restoring.{RestoresWords, Finds, found_by, IfChange, loads_by, loads, LoadsOn, LoadsIf}
+use Rattle.ts_execution.specs.declared.restored.Restored.{Restored}
+use Rattle.ts_execution.specs.declared.restored.Restored.TheVariants as restored
+use Rattle.ts_execution.specs.declared.next_change.Found.{Found}
+use Rattle.ts_execution.specs.declared.next_change.Found.TheVariants as found
+use Rattle.ts_execution.specs.declared.loading.Loading.{Loading}
+use Rattle.ts_execution.proofs.Carried.{carries_none, carries_as, carries_then}
+
+-- ---- one request
+
+module _ (words : Request) (reader reader' : Reading) (end : ℕ) (stream : (more : List ℕ) → stream_of reader more ≡ Then words reader'.begin (stream_of reader' more)) where
+  -- by what becomes of it
+  goes-by : (limits : Limits) (m : State) (went : Option State) (size : ℕ) (more : List ℕ) → replayed_by limits m (command words) ≡ went
+      → load_on limits m end size (stream_of reader more) ≡ on_or went end (λ n. load_on limits n reader'.begin size (stream_of reader' more))
+  goes-by limits m went size more is =
+      ap (load_on limits m end size) (stream more) ∙ ap (λ (o : Option State). on_or o end (λ n. load_on limits n reader'.begin size (stream_of reader' more))) is
+
+  finds-each : (answer : Restored) (old new : Stock) → Carries old new (λ from to. RestoresWords answer words from to) → Carries old new (λ from to. Finds (found_by answer reader'.begin end) reader reader' end from to)
+  finds-each restored.Accepted old new carries =
+      carries_as old new (λ from to. RestoresWords restored.Accepted words from to) (λ from to. Finds (found.Change reader'.begin) reader reader' end from to)
+      (λ from to done. (done.1, λ size more. goes-by from.limits from.state (Some to.state) size more done.0)) carries
+  finds-each restored.Refused old new carries =
+      carries_as old new (λ from to. RestoresWords restored.Refused words from to) (λ from to. Finds (found.Broken end) reader reader' end from to)
+      (λ from to done. (done.1, λ size more. goes-by from.limits from.state None size more done.0)) carries
+  finds-each restored.Memory old new carries =
+      carries_as old new (λ from to. RestoresWords restored.Memory words from to) (λ from to. Finds found.Memory reader reader' end from to) (λ from to done. tt) carries
+
+  -- by how it went
+  pub finds-by : (answer : Restored) (told : Found) (after : ℕ) (old new : Stock) → told ≡ found_by answer after end → after ≡ reader'.begin → Carries old new (λ from to. RestoresWords answer words from to)
+      → Carries old new (λ from to. Finds told reader reader' end from to)
+  finds-by answer told after old new is begins carries =
+      subst (λ (f : Found). Carries old new (λ from to. Finds f reader reader' end from to)) (sym (is ∙ ap (λ (n : ℕ). found_by answer n end) begins)) (finds-each answer old new carries)
+
+-- what is so, if it is a change
+pub onward-by : (told : Found) (P : Type 0) → P → IfChange told P
+onward-by (found.Change end) P holds = holds
+onward-by found.Nothing P holds = tt
+onward-by (found.Broken place) P holds = tt
+onward-by found.Memory P holds = tt
+
+-- ---- all of them
+
+-- where the journal did not break, it goes by its requests
+pub loads-whole : (limits : Limits) (l : Loading) (m : State) (size : ℕ) (more : List ℕ) → l.broken ≡ None → loads limits l m size more ≡ load_on limits m l.end size (stream_of l.reader more)
+loads-whole limits l m size more none = ap (λ (b : Option ℕ). loads_by b limits l m size more) none
+
+pub loads-none : (l : Loading) (stock : Stock) → Carries stock stock (λ from to. LoadsOn l l [] from to)
+loads-none l stock = carries_none stock (λ from to. LoadsOn l l [] from to) (λ from stands. record { limits = refl; on = λ size more. refl })
+
+module _ (first now : Loading) (none : now.broken ≡ None) (reader' : Reading) (bytes : List ℕ) (a b c : Stock) (before : Carries a b (λ from to. LoadsOn first now bytes from to)) where
+  -- one more was done again
+  pub loads-more : (new : Loading) (end' : ℕ) → new.reader ≡ reader' → new.end ≡ end' → new.broken ≡ None
+      → Carries b c (λ from to. Finds (found.Change end') now.reader reader' now.end from to) → Carries a c (λ from to. LoadsOn first new bytes from to)
+  loads-more new end' reader end whole one =
+      carries_then a b c (λ from to. LoadsOn first now bytes from to) (λ from to. Finds (found.Change end') now.reader reader' now.end from to) (λ from to. LoadsOn first new bytes from to)
+      (λ from mid to was is. record {
+        limits = is.0 ∙ was.limits;
+        on = λ size more. was.on size more ∙ loads-whole from.limits now mid.state size more none
+            ∙ subst (λ (l : Limits). load_on l mid.state now.end size (stream_of now.reader more) ≡ load_on l to.state end' size (stream_of reader' more)) was.limits (is.1 size more)
+            ∙ ap (λ (e : ℕ). load_on from.limits to.state e size (stream_of reader' more)) (sym end)
+            ∙ ap (λ (r : Reading). load_on from.limits to.state new.end size (stream_of r more)) (sym reader)
+            ∙ sym (loads-whole from.limits new to.state size more whole);
+      }) before one
+
+  -- there is no further one
+  pub loads-all : (new : Loading) → new.reader ≡ reader' → new.end ≡ now.end → new.broken ≡ None
+      → Carries b c (λ from to. Finds found.Nothing now.reader reader' now.end from to) → Carries a c (λ from to. LoadsOn first new bytes from to)
+  loads-all new reader end whole one =
+      carries_then a b c (λ from to. LoadsOn first now bytes from to) (λ from to. Finds found.Nothing now.reader reader' now.end from to) (λ from to. LoadsOn first new bytes from to)
+      (λ from mid to was is. record {
+        limits = ap (λ (h : Held). h.limits) is.0 ∙ was.limits;
+        on = λ size more. was.on size more ∙ loads-whole from.limits now mid.state size more none
+            ∙ ap (load_on from.limits mid.state now.end size) (sym (is.1 more))
+            ∙ ap (λ (h : Held). load_on from.limits h.state now.end size (stream_of reader' more)) (sym is.0)
+            ∙ ap (λ (e : ℕ). load_on from.limits to.state e size (stream_of reader' more)) (sym end)
+            ∙ ap (λ (r : Reading). load_on from.limits to.state new.end size (stream_of r more)) (sym reader)
+            ∙ sym (loads-whole from.limits new to.state size more whole);
+      }) before one
+
+  -- the journal breaks
+  pub loads-broken : (new : Loading) (place : ℕ) → new.broken ≡ Some place
+      → Carries b c (λ from to. Finds (found.Broken place) now.reader reader' now.end from to) → Carries a c (λ from to. LoadsOn first new bytes from to)
+  loads-broken new place broken one =
+      carries_then a b c (λ from to. LoadsOn first now bytes from to) (λ from to. Finds (found.Broken place) now.reader reader' now.end from to) (λ from to. LoadsOn first new bytes from to)
+      (λ from mid to was is. record {
+        limits = is.0 ∙ was.limits;
+        on = λ size more. was.on size more ∙ loads-whole from.limits now mid.state size more none
+            ∙ subst (λ (l : Limits). load_on l mid.state now.end size (stream_of now.reader more) ≡ BreaksAt place) was.limits (is.1 size more)
+            ∙ ap (λ (o : Option ℕ). loads_by o from.limits new to.state size more) (sym broken);
+      }) before one
+
+-- ---- pieces
+
+-- a piece was fed, and what was whole with it done again
+pub loads-fed : (old fed new : Loading) (bytes : List ℕ) (a b : Stock) → old.broken ≡ None → fed.broken ≡ None → fed.end ≡ old.end
+    → ((more : List ℕ) → stream_of fed.reader more ≡ stream_of old.reader (bytes ++ more)) → Carries a b (λ from to. LoadsOn fed new [] from to) → Carries a b (λ from to. LoadsOn old new bytes from to)
+loads-fed old fed new bytes a b none whole end stream carries =
+    carries_as a b (λ from to. LoadsOn fed new [] from to) (λ from to. LoadsOn old new bytes from to)
+    (λ from to is. record {
+      limits = is.limits;
+      on = λ size more. loads-whole from.limits old from.state size (bytes ++ more) none
+          ∙ ap (λ (e : ℕ). load_on from.limits from.state e size (stream_of old.reader (bytes ++ more))) (sym end)
+          ∙ ap (load_on from.limits from.state fed.end size) (sym (stream more))
+          ∙ sym (loads-whole from.limits fed from.state size more whole) ∙ is.on size more;
+    }) carries
+
+-- by whether there was memory
+pub loads-fed-if : (done : Bool) (old fed new : Loading) (bytes : List ℕ) (a b : Stock) → old.broken ≡ None → fed.broken ≡ None → fed.end ≡ old.end
+    → ((more : List ℕ) → stream_of fed.reader more ≡ stream_of old.reader (bytes ++ more)) → Carries a b (λ from to. LoadsIf done fed new [] from to) → Carries a b (λ from to. LoadsIf done old new bytes from to)
+loads-fed-if true old fed new bytes a b none whole end stream carries = loads-fed old fed new bytes a b none whole end stream carries
+loads-fed-if false old fed new bytes a b none whole end stream carries =
+    carries_as a b (λ from to. LoadsIf false fed new [] from to) (λ from to. LoadsIf false old new bytes from to) (λ from to lost. tt) carries
+
+pub loads-done : (done : Bool) (old new : Loading) (bytes : List ℕ) (a b : Stock) → done ≡ true → Carries a b (λ from to. LoadsIf done old new bytes from to) → Carries a b (λ from to. LoadsOn old new bytes from to)
+loads-done done old new bytes a b is carries = subst (λ (d : Bool). Carries a b (λ from to. LoadsIf d old new bytes from to)) is carries
+
+-- where the journal broke before, a piece changes nothing
+pub loads-past : (l : Loading) (place : ℕ) (bytes : List ℕ) (stock : Stock) → l.broken ≡ Some place → Carries stock stock (λ from to. LoadsOn l l bytes from to)
+loads-past l place bytes stock broken = carries_none stock (λ from to. LoadsOn l l bytes from to)
+    (λ from stands. record {
+      limits = refl;
+      on = λ size more. ap (λ (o : Option ℕ). loads_by o from.limits l from.state size (bytes ++ more)) broken ∙ ap (λ (o : Option ℕ). loads_by o from.limits l from.state size more) (sym broken);
+    })

@@ -1,0 +1,168 @@
+-- What a journal's request did is done again.
+use Rattle.std.specs.Prelude.{is_some, Option, None, Some, Result, Ok, Err, if◌then◌else◌, ◌&&◌, not}
+use Rattle.std.proofs.Common.{◌≡◌, Bool, true, false, ℕ, ◌+◌, List, [], ◌∷◌, refl, sym, ◌∙◌, ap, subst}
+use Rattle.ts_command.specs.declared.fault.CommandFault.{CommandFault}
+use Rattle.ts_command.specs.declared.fault.CommandFault.TheVariants as spoken
+use Rattle.ts_command.specs.Answers.{IsFaultIn}
+use Rattle.ts_spec.specs.declared.limits.Limits.{Limits}
+use Rattle.ts_spec.specs.Command.{Command, Drop}
+use Rattle.ts_spec.specs.Grammar.{command, needs_clock}
+use Rattle.ts_spec.specs.Key.{Key}
+use Rattle.ts_spec.specs.Keyed.{Keyed, get}
+use Rattle.ts_spec.specs.Replies.{reply_to}
+use Rattle.ts_spec.specs.Response.{Response, Count, Done}
+use Rattle.ts_spec.specs.Rules.{dropped}
+use Rattle.ts_spec.specs.State.{State}
+use Rattle.ts_spec.specs.Step.{Outcome, step, drop_keys}
+use Rattle.ts_spec.specs.Text.{Reply}
+use Rattle.ts_spec.specs.Wire.{Request}
+use Rattle.ts_sample.specs.declared.id.Id.{Id}
+use Rattle.ts_db.specs.Faults.{refusal_of}
+use Rattle.ts_db.specs.Held.{Held, Stock, Stands, Carries, Answers, IsAnswer}
+use Rattle.ts_db.specs.declared.fault.DbFault.{DbFault}
+use Rattle.ts_db.specs.declared.fault.DbFault.TheVariants.{KeyExists, NoKey, KeysFull, LabelsFull, TooOld, Duplicate, OutOfRange, BeforeLast, SamplesFull, DeleteBeyondRetention, SameKey, SourceIsDest, DestIsSource, DestHasSource, RulesSpent, RulesFull, NoRule, Memory}
+use Rattle.ts_journal.specs.Record.{is_change}
+use Rattle.ts_journal.specs.Loading.{is_accepted, accepted_state, replayed, replayed_by}
+use Rattle.ts_execution.specs.Restoring.{restored_of_fault, restored_of, restored_of_words, Restores, RestoresWords}
+use Rattle.ts_execution.specs.declared.restored.Restored.{Restored}
+use Rattle.ts_execution.specs.declared.restored.Restored.TheVariants as restored
+use Rattle.ts_execution.specs.Turn.{IsStep}
+use Rattle.ts_execution.proofs.Carried.{carries_none, carries_as}
+
+-- ---- which commands a journal has
+
+-- a change that does not ask for the time goes by its step
+pub replayed-change : (limits : Limits) (m : State) (c : Command) → is_change c ≡ true → needs_clock c ≡ false → replayed limits m c ≡ accepted_state (step limits m 0 c)
+replayed-change limits m c change clock =
+    ap (λ (b : Bool). if b && not (needs_clock c) then accepted_state (step limits m 0 c) else None) change
+    ∙ ap (λ (b : Bool). if not b then accepted_state (step limits m 0 c) else None) clock
+
+-- no other command is in one
+pub replayed-none : (limits : Limits) (m : State) (c : Command) → is_change c ≡ false → replayed limits m c ≡ None
+replayed-none limits m c h = ap (λ (b : Bool). if b && not (needs_clock c) then accepted_state (step limits m 0 c) else None) h
+
+neither : (b : Bool) (o : Option State) → (if b && false then o else None) ≡ None
+neither true o = refl
+neither false o = refl
+
+pub replayed-clock : (limits : Limits) (m : State) (c : Command) → needs_clock c ≡ true → replayed limits m c ≡ None
+replayed-clock limits m c h =
+    ap (λ (b : Bool). if is_change c && not b then accepted_state (step limits m 0 c) else None) h ∙ neither (is_change c) (accepted_state (step limits m 0 c))
+
+-- ---- what the database answers
+
+accepts : (done : Outcome) (response : Response) → done.response ≡ response → is_accepted (reply_to response) ≡ true → accepted_state done ≡ Some done.state
+accepts done response says good =
+    ap (λ (r : Response). if is_accepted (reply_to r) then Some done.state else None) says ∙ ap (λ (b : Bool). if b then Some done.state else None) good
+
+refuses : (c : Command) (ids : Keyed Id) (fault : DbFault) (from : Held) (o : Outcome) → replayed from.limits from.state c ≡ accepted_state o
+    → IsAnswer (refusal_of ids fault) from.state o → Restores (restored_of_fault fault) c from from
+refuses c ids (Memory e) from o same is = tt
+refuses c ids KeyExists from o same is = (same ∙ ap accepted_state is, refl)
+refuses c ids NoKey from o same is = (same ∙ ap accepted_state is, refl)
+refuses c ids KeysFull from o same is = (same ∙ ap accepted_state is, refl)
+refuses c ids LabelsFull from o same is = (same ∙ ap accepted_state is, refl)
+refuses c ids TooOld from o same is = (same ∙ ap accepted_state is, refl)
+refuses c ids Duplicate from o same is = (same ∙ ap accepted_state is, refl)
+refuses c ids OutOfRange from o same is = (same ∙ ap accepted_state is, refl)
+refuses c ids BeforeLast from o same is = (same ∙ ap accepted_state is, refl)
+refuses c ids (SamplesFull id written) from o same is = (same ∙ ap accepted_state is, refl)
+refuses c ids DeleteBeyondRetention from o same is = (same ∙ ap accepted_state is, refl)
+refuses c ids SameKey from o same is = (same ∙ ap accepted_state is, refl)
+refuses c ids SourceIsDest from o same is = (same ∙ ap accepted_state is, refl)
+refuses c ids DestIsSource from o same is = (same ∙ ap accepted_state is, refl)
+refuses c ids DestHasSource from o same is = (same ∙ ap accepted_state is, refl)
+refuses c ids RulesSpent from o same is = (same ∙ ap accepted_state is, refl)
+refuses c ids RulesFull from o same is = (same ∙ ap accepted_state is, refl)
+refuses c ids NoRule from o same is = (same ∙ ap accepted_state is, refl)
+
+-- a call did what its command does, or told why not
+pub restores : {T : Type 0} (response : T → Response) (c : Command) (one : Held → Outcome) (old new : Stock) (result : Result T DbFault)
+    → ((x : T) → is_accepted (reply_to (response x)) ≡ true) → ((h : Held) → replayed h.limits h.state c ≡ accepted_state (one h))
+    → Answers response old one result new → Carries old new (λ from to. Restores (restored_of result) c from to)
+restores response c one old new (Ok x) good same answers = λ from stands.
+    let a = answers from stands in
+    record {
+      to = record { limits = from.limits; state = (one from).state };
+      done = (same from ∙ accepts (one from) (response x) a.says (good x), refl);
+      stands = a.stands;
+    }
+restores response c one old new (Err fault) good same answers = λ from stands. record {
+  to = from;
+  done = refuses c old.ids fault from (one from) (same from) (answers.0 from stands);
+  stands = subst (λ (s : Stock). Stands s from) (sym answers.1) stands;
+}
+
+-- by the same answer
+pub restores_as : (c : Command) (old new : Stock) (told answer : Restored) → answer ≡ told → Carries old new (λ from to. Restores told c from to) → Carries old new (λ from to. Restores answer c from to)
+restores_as c old new told answer is carries = subst (λ (r : Restored). Carries old new (λ from to. Restores r c from to)) (sym is) carries
+
+-- a call that only gets done, and one that answers how many
+pub restores-done : (c : Command) (one : Held → Outcome) (old new : Stock) (result : Result (Unit {0}) DbFault) (answer : Restored) → answer ≡ restored_of result
+    → ((h : Held) → replayed h.limits h.state c ≡ accepted_state (one h)) → Answers (λ x. Done) old one result new → Carries old new (λ from to. Restores answer c from to)
+restores-done c one old new result answer is same answers = restores_as c old new (restored_of result) answer is (restores (λ x. Done) c one old new result (λ x. refl) same answers)
+
+pub restores-number : (c : Command) (one : Held → Outcome) (old new : Stock) (result : Result ℕ DbFault) (answer : Restored) → answer ≡ restored_of result
+    → ((h : Held) → replayed h.limits h.state c ≡ accepted_state (one h)) → Answers (λ t. Count t) old one result new → Carries old new (λ from to. Restores answer c from to)
+restores-number c one old new result answer is same answers = restores_as c old new (restored_of result) answer is (restores (λ t. Count t) c one old new result (λ t. refl) same answers)
+
+-- DEL is never refused
+drop-accepted : (m : State) (so_far : ℕ) (keys : List Key) → is_accepted (reply_to (drop_keys m so_far keys).response) ≡ true
+drop-accepted m so_far [] = refl
+drop-accepted m so_far (key ∷ keys) =
+    let there : Bool = is_some (get key m) in
+    drop-accepted (if there then dropped key m else m) (if there then so_far + 1 else so_far) keys
+
+pub restores-drop : (keys : List Key) (old new : Stock) (reply : Reply) → Carries old new (λ from to. IsStep (drop_keys from.state 0 keys) from reply to)
+    → Carries old new (λ from to. Restores restored.Accepted (Drop keys) from to)
+restores-drop keys old new reply carries =
+    carries_as old new (λ from to. IsStep (drop_keys from.state 0 keys) from reply to) (λ from to. Restores restored.Accepted (Drop keys) from to)
+    (λ from to is. (
+      replayed-change from.limits from.state (Drop keys) refl refl
+          ∙ ap (λ (b : Bool). if b then Some (drop_keys from.state 0 keys).state else None) (drop-accepted from.state 0 keys)
+          ∙ ap Some (sym is.state),
+      is.limits,
+    )) carries
+
+-- a command that a journal does not have
+pub restores-not : (c : Command) (stock : Stock) → ((h : Held) → replayed h.limits h.state c ≡ None) → Carries stock stock (λ from to. Restores restored.Refused c from to)
+restores-not c stock none = carries_none stock (λ from to. Restores restored.Refused c from to) (λ from stands. (none from, refl))
+
+-- ---- requests
+
+-- words that are a command
+pub words-restore : (words : Request) (c : Command) (answer : Restored) (old new : Stock) → command words ≡ Ok c → Carries old new (λ from to. Restores answer c from to)
+    → Carries old new (λ from to. RestoresWords answer words from to)
+words-restore words c restored.Accepted old new is carries =
+    carries_as old new (λ from to. Restores restored.Accepted c from to) (λ from to. RestoresWords restored.Accepted words from to)
+    (λ from to done. (ap (replayed_by from.limits from.state) is ∙ done.0, done.1)) carries
+words-restore words c restored.Refused old new is carries =
+    carries_as old new (λ from to. Restores restored.Refused c from to) (λ from to. RestoresWords restored.Refused words from to)
+    (λ from to done. (ap (replayed_by from.limits from.state) is ∙ done.0, done.1)) carries
+words-restore words c restored.Memory old new is carries =
+    carries_as old new (λ from to. Restores restored.Memory c from to) (λ from to. RestoresWords restored.Memory words from to) (λ from to done. tt) carries
+
+refuses-words : (words : Request) (fault : CommandFault) (from : Held) → IsFaultIn words fault → RestoresWords (restored_of_words fault) words from from
+refuses-words words (spoken.Memory e) from is = tt
+refuses-words words spoken.UnknownCommand from is = (ap (replayed_by from.limits from.state) is, refl)
+refuses-words words spoken.Arity from is = (ap (replayed_by from.limits from.state) is, refl)
+refuses-words words spoken.BadTimestamp from is = (ap (replayed_by from.limits from.state) is, refl)
+refuses-words words (spoken.BadValue fault) from is = (ap (replayed_by from.limits from.state) is, refl)
+refuses-words words spoken.BadOption from is = (ap (replayed_by from.limits from.state) is, refl)
+refuses-words words spoken.RepeatedOption from is = (ap (replayed_by from.limits from.state) is, refl)
+refuses-words words spoken.BadLabels from is = (ap (replayed_by from.limits from.state) is, refl)
+refuses-words words spoken.BadChunkSize from is = (ap (replayed_by from.limits from.state) is, refl)
+refuses-words words spoken.BadPolicy from is = (ap (replayed_by from.limits from.state) is, refl)
+refuses-words words spoken.BadEncoding from is = (ap (replayed_by from.limits from.state) is, refl)
+refuses-words words spoken.UnknownAggregator from is = (ap (replayed_by from.limits from.state) is, refl)
+refuses-words words spoken.AggregatorNotInProfile from is = (ap (replayed_by from.limits from.state) is, refl)
+refuses-words words spoken.BadDuration from is = (ap (replayed_by from.limits from.state) is, refl)
+refuses-words words spoken.BadFilter from is = (ap (replayed_by from.limits from.state) is, refl)
+refuses-words words spoken.NoPositiveFilter from is = (ap (replayed_by from.limits from.state) is, refl)
+
+-- words that are none, or for which there was no memory
+pub words-refuse : (words : Request) (fault : CommandFault) (stock : Stock) (answer : Restored) → answer ≡ restored_of_words fault → IsFaultIn words fault
+    → Carries stock stock (λ from to. RestoresWords answer words from to)
+words-refuse words fault stock answer told is =
+    carries_none stock (λ from to. RestoresWords answer words from to)
+    (λ from stands. subst (λ (r : Restored). RestoresWords r words from from) (sym told) (refuses-words words fault from is))

@@ -1,0 +1,16 @@
+use Rattle.std.proofs.Common.{◌≡◌, ◌-◌, [], None}
+use Rattle.ts_resp.specs.Reading.{fed}
+use Rattle.ts_db.specs.Held.{Carries}
+use Rattle.ts_execution.specs.Restoring.{LoadsOn}
+use Rattle.ts_execution.proofs.loading.Loading.take_all.Given as goal
+
+-- what was whole so far was done again, and the journal did not break
+abbrev pub invariant-loop-end : goal.invariant-loop-end
+invariant-loop-end g l = record {
+  loads : Carries l.initial.db l.db (λ from to. LoadsOn l.initial.self l.self [] from to);
+  whole : l.self.broken ≡ None;
+  same : fed l.self.reader ≡ fed l.initial.self.reader;
+}
+
+abbrev pub decreases-loop-end : goal.decreases-loop-end
+decreases-loop-end g l = fed l.self.reader - l.self.reader.begin

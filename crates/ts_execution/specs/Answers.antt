@@ -1,0 +1,22 @@
+-- The replies to what the database answers.
+use Rattle.std.specs.Prelude.{ℕ, Result, Ok, Err}
+use Rattle.ts_spec.specs.Keyed.{Keyed}
+use Rattle.ts_spec.specs.Replies.{reply_to}
+use Rattle.ts_spec.specs.Response.{Response, Done, Count}
+use Rattle.ts_spec.specs.Text.{Reply, Error}
+use Rattle.ts_sample.specs.declared.id.Id.{Id}
+use Rattle.ts_db.specs.Faults.{refusal_of}
+use Rattle.ts_db.specs.declared.fault.DbFault.{DbFault}
+use Rattle.ts_questions.specs.Answering.{message_of}
+
+-- the reply to what the database answers, by the numbers of its keys
+abbrev pub reply_of_result : {T : Type 0} → Keyed Id → (T → Response) → Result T DbFault → Reply
+reply_of_result ids response (Ok x) = reply_to (response x)
+reply_of_result ids response (Err fault) = Error (message_of (refusal_of ids fault))
+
+-- where the database answers nothing but that it is done, and where it answers a time or how many
+abbrev pub reply_of_done : Keyed Id → Result (Unit {0}) DbFault → Reply
+reply_of_done ids result = reply_of_result ids (λ x. Done) result
+
+abbrev pub reply_of_number : Keyed Id → Result ℕ DbFault → Reply
+reply_of_number ids result = reply_of_result ids (λ t. Count t) result

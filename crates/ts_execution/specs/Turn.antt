@@ -1,0 +1,177 @@
+-- One turn: what a request is answered, and what it does to the database.
+use Rattle.std.specs.Prelude.{◌≡◌, ◌⊎◌, ◌<◌, ◌^◌, ℕ, nat_lt, Bool, true, false, ◌&&◌, length, List, [], ◌∷◌, map, Option, None, Some, option_map, Result, Ok, Err, IsTrue}
+use Rattle.std.specs.Result.{is_ok}
+use Rattle.ts_io.specs.Clocks.{reading_of, readings_after}
+use Rattle.ts_spec.specs.Command.{Triple, Command, Madd, DeleteRule, Get, Ping, Echo, Quit, Drop, Exists}
+use Rattle.ts_spec.specs.Grammar.{command, makes_list, needs_clock}
+use Rattle.ts_spec.specs.Refusal.{Fault}
+use Rattle.ts_spec.specs.Replies.{array, fault_reply, memory_reply, item_reply, reply_to}
+use Rattle.ts_spec.specs.State.{State}
+use Rattle.ts_spec.specs.Step.{Outcome, step, triple_step, item_of}
+use Rattle.ts_spec.specs.Text.{Reply, text}
+use Rattle.ts_spec.specs.Wire.{Request}
+use Rattle.ts_spec.specs.declared.limits.Limits.{Limits}
+use Rattle.ts_db.specs.Held.{Held, YieldsToMemory}
+use Rattle.ts_execution.specs.Turns.{Turns}
+
+-- the database, and the readings of the clock that are left, where they are told
+pub record World : Type 0 where
+  pub held : Held
+  pub readings : Option (List ℕ)
+
+-- ---- one step
+
+-- the reply is that of a step of the definitions, which leaves the new state; the limits stay
+pub record IsStep (step : Outcome) (old : Held) (reply : Reply) (new : Held) : Type 0 where
+  pub says : reply ≡ reply_to step.response
+  pub state : new.state ≡ step.state
+  pub limits : new.limits ≡ old.limits
+
+-- want of memory is said, and nothing is changed
+pub record IsOutOfMemory (old : Held) (reply : Reply) (new : Held) : Type 0 where
+  pub says : reply ≡ memory_reply
+  pub same : new ≡ old
+
+-- the answer of the definitions, or want of memory, to which that answer yields
+abbrev pub StepOrMemory : Outcome → Held → Reply → Held → Type 0
+StepOrMemory step old reply new = IsStep step old reply new ⊎ (YieldsToMemory step.response × IsOutOfMemory old reply new)
+
+-- ---- TS.MADD
+
+-- whether the time and the value of a triple are a time and a value
+abbrev pub is_well_formed : Triple → Bool
+is_well_formed triple = is_ok triple.at && is_ok triple.value
+
+-- the item is that of a step, which leaves the new state
+pub record IsItem (step : Outcome) (item : Reply) (new : State) : Type 0 where
+  pub reply : map item_reply (item_of step.response) ≡ item ∷ []
+  pub state : new ≡ step.state
+
+-- want of memory is said of a triple that is well formed, whose answer yields to it, and the state stays
+pub record IsItemLost (step : Outcome) (triple : Triple) (old : State) (item : Reply) (new : State) : Type 0 where
+  pub well_formed : IsTrue (is_well_formed triple)
+  pub yields : YieldsToMemory step.response
+  pub reply : item ≡ memory_reply
+  pub same : new ≡ old
+
+-- what is told of a triple, and what it does to the state
+abbrev pub HasItem : Limits → (reading : ℕ) → Triple → State → Reply → State → Type 0
+HasItem limits reading triple old item new =
+    let step : Outcome = triple_step limits old reading triple.key triple.at triple.value in
+    IsItem step item new ⊎ IsItemLost step triple old item new
+
+-- a triple has the first item, and what is told after it is told from there on
+pub record ItemThen (limits : Limits) (reading : ℕ) (triple : Triple) (old : State) (later : State → List Reply → Type 0) (items : List Reply) : Type 0 where
+  pub first : Reply
+  pub others : List Reply
+  pub mid : State
+  pub split : items ≡ first ∷ others
+  pub here : HasItem limits reading triple old first mid
+  pub after : later mid others
+
+-- the items of triples, one after another, with the same reading
+abbrev pub HaveItems : Limits → (reading : ℕ) → List Triple → State → List Reply → State → Type 0
+HaveItems limits reading [] old items new = (items ≡ []) × (new ≡ old)
+HaveItems limits reading (triple ∷ triples) old items new =
+    ItemThen limits reading triple old (λ mid others. HaveItems limits reading triples mid others new) items
+
+-- all triples have their items in the reply
+pub record HasAllItems (reading : ℕ) (triples : List Triple) (old : Held) (reply : Reply) (new : Held) : Type 0 where
+  pub items : List Reply
+  pub each : HaveItems old.limits reading triples old.state items new.state
+  pub says : reply ≡ array items
+  pub limits : new.limits ≡ old.limits
+
+-- the text of all items is written
+pub record WritesAll (reading : ℕ) (triples : List Triple) (old : Held) (written : List ℕ) (new : Held) : Type 0 where
+  pub reply : Reply
+  pub its_text : written ≡ text reply
+  pub all : HasAllItems reading triples old reply new
+
+-- ---- commands
+
+-- what a command is answered, and what it does
+abbrev pub IsAnswered : (reading : ℕ) → Command → Held → Reply → Held → Type 0
+IsAnswered reading (Madd triples) old reply new = HasAllItems reading triples old reply new
+IsAnswered reading other old reply new = IsStep (step old.limits old.state reading other) old reply new
+
+-- a word that may be too long for the room that there is
+abbrev pub is_long : List ℕ → Bool
+is_long word = nat_lt 30 (length word)
+
+-- whether a command may find no memory: the reply of any other fits the room that there is
+abbrev pub takes_memory : Command → Bool
+takes_memory (DeleteRule source dest) = false
+takes_memory (Get key latest) = false
+takes_memory (Ping None) = false
+takes_memory (Ping (Some word)) = is_long word
+takes_memory (Echo word) = is_long word
+takes_memory Quit = false
+takes_memory (Drop keys) = false
+takes_memory (Exists keys) = false
+takes_memory other = true
+
+-- want of memory is said of a command that may find none, in the place of an answer that refuses nothing, and nothing is changed
+pub record IsLost (reading : ℕ) (command : Command) (old : Held) (reply : Reply) (new : Held) : Type 0 where
+  pub may : IsTrue (takes_memory command)
+  pub yields : YieldsToMemory (step old.limits old.state reading command).response
+  pub out_of_memory : IsOutOfMemory old reply new
+
+-- what `execute` writes of a command: the text of its answer, or of want of memory
+pub record Executes (reading : ℕ) (command : Command) (old : Held) (written : List ℕ) (new : Held) : Type 0 where
+  pub reply : Reply
+  pub its_text : written ≡ text reply
+  pub done : IsAnswered reading command old reply new ⊎ IsLost reading command old reply new
+
+-- ---- the clock
+
+-- the reading of a command: the next one that is told, or else any; 0 where it needs none
+abbrev pub IsReading : (needed : Bool) → Option (List ℕ) → ℕ → Type 0
+IsReading false readings reading = reading ≡ 0
+IsReading true None reading = reading < 2 ^ 64
+IsReading true (Some readings) reading = reading ≡ reading_of readings
+
+-- the readings that are left
+abbrev pub left_by : (needed : Bool) → Option (List ℕ) → Option (List ℕ)
+left_by false readings = readings
+left_by true readings = option_map readings_after readings
+
+-- ---- requests
+
+-- a command is executed with its reading
+pub record IsExecuted (command : Command) (from : World) (written : List ℕ) (to : World) : Type 0 where
+  pub reading : ℕ
+  pub read : IsReading (needs_clock command) from.readings reading
+  pub executes : Executes reading command from.held written to.held
+  pub left : to.readings ≡ left_by (needs_clock command) from.readings
+
+-- words that are no command are answered by their fault, and nothing is changed
+pub record IsRefused (fault : Fault) (from : World) (written : List ℕ) (to : World) : Type 0 where
+  pub says : written ≡ text (fault_reply fault)
+  pub same : to ≡ from
+
+-- want of memory is said of words that make a list, and nothing is changed
+pub record IsUnread (request : Request) (from : World) (written : List ℕ) (to : World) : Type 0 where
+  pub may : IsTrue (makes_list request)
+  pub says : written ≡ text memory_reply
+  pub same : to ≡ from
+
+-- by what the words say
+abbrev pub TurnBy : Result Command Fault → World → List ℕ → World → Type 0
+TurnBy (Ok command) from written to = IsExecuted command from written to
+TurnBy (Err fault) from written to = IsRefused fault from written to
+
+abbrev pub turn : World → Request → List ℕ → World → Type 0
+turn from request written to = TurnBy (command request) from written to ⊎ IsUnread request from written to
+
+-- ---- turns that do nothing but this
+
+-- where a reply is cut short, the request had its turn
+abbrev pub plain : Turns
+plain = record {
+  World = World;
+  turn = turn;
+  cut = λ from request reply kept to. turn from request reply to;
+  Faults = Unit {0};
+  rose = λ before now. ⊥;
+}

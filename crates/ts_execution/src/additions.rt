@@ -1,0 +1,88 @@
+// TS.MADD.
+ghost use Rattle.std.specs.Prelude.{◌≡◌, ◌+◌, ◌*◌, ◌≤◌, [], length};
+ghost use Rattle.ts_resp.specs.Replies.{reply_of};
+ghost use Rattle.ts_command.specs.Reading.{triple_of, triples_of};
+ghost use Rattle.ts_db.specs.Held.{Carries};
+ghost use Rattle.ts_questions.specs.Answering.{IsShort};
+ghost use Rattle.ts_execution.specs.Turn.{HasItem, Executes, WritesAll};
+ghost use Rattle.ts_spec.specs.Command.{Madd};
+
+use crate::answers::{fault_reply, number_reply};
+use crate::changes::time_at;
+use std::sync::ledger::Ledger;
+use ts_command::Triple;
+use ts_db::{Db, Hints};
+use ts_questions::put_no_memory;
+use ts_resp::{Out, Reply, begin_array, put, reserve_items};
+use ts_sample::Steps;
+
+/// Writes the reply to TS.MADD: takes the room for it, and then executes the triples one after another.
+pub(crate) fn put_items<L: Ledger>(
+    db: &mut Db,
+    hints: &mut Hints,
+    triples: Vec<Triple>,
+    reading: u64,
+    out: &mut Out,
+    steps: &mut Steps<L>,
+)
+    requires empty { out.old.bytes ≡ [] }
+    requires room { 128 ≤ out.old.spare }
+    ensures executes { Carries db.old db.new (λ from to. Executes reading (Madd (triples_of triples.items)) from out.new.bytes to) }
+    ensures room { 128 ≤ length out.new.bytes + out.new.spare }
+{
+    match reserve_items(triples.len(), out) {
+        Ok(()) => add_all(db, hints, triples, reading, out, steps),
+        Err(_) => put_no_memory(out),
+    }
+}
+
+// Executes the triples, and writes their items as an array into room that was reserved.
+fn add_all<L: Ledger>(
+    db: &mut Db,
+    hints: &mut Hints,
+    triples: Vec<Triple>,
+    reading: u64,
+    out: &mut Out,
+    steps: &mut Steps<L>,
+)
+    requires empty { out.old.bytes ≡ [] }
+    requires room { 128 ≤ out.old.spare }
+    requires items { 64 * length triples.items + 64 ≤ out.old.spare }
+    ensures reply { Carries db.old db.new (λ from to. WritesAll reading (triples_of triples.items) from out.new.bytes to) }
+    ensures room { 128 ≤ length out.new.bytes + out.new.spare }
+{
+    begin_array(triples.len(), out);
+    for triple in triples {
+        let item = add_one(db, hints, triple, reading, steps);
+        put(&item, out);
+    }
+}
+
+// Executes one triple, and answers its item.
+fn add_one<L: Ledger>(
+    db: &mut Db,
+    hints: &mut Hints,
+    triple: Triple,
+    reading: u64,
+    steps: &mut Steps<L>,
+) -> Reply
+    ensures reply { Carries db.old db.new (λ from to. HasItem from.limits reading (triple_of triple) from.state (reply_of result) to.state
+        × (to.limits ≡ from.limits)) }
+    ensures short { IsShort (reply_of result) }
+{
+    let at = match triple.at {
+        Ok(at) => at,
+        Err(fault) => return fault_reply(fault),
+    };
+    match triple.value {
+        Ok(value) => number_reply(db.put_near(
+            hints,
+            &triple.key,
+            time_at(at, reading),
+            value,
+            None,
+            steps,
+        )),
+        Err(fault) => fault_reply(fault),
+    }
+}

@@ -1,0 +1,113 @@
+// What each command does, and the text of its reply.
+ghost use Rattle.std.specs.Prelude.{◌≡◌, ◌+◌, ◌≤◌, length};
+ghost use Rattle.ts_command.specs.Answers.{HasTime};
+ghost use Rattle.ts_command.specs.Reading.{command_of};
+ghost use Rattle.ts_db.specs.Held.{Carries};
+ghost use Rattle.ts_execution.specs.Bounded.{IsBounded};
+ghost use Rattle.ts_execution.specs.Turn.{Executes};
+
+use crate::additions::put_items;
+use crate::answers::ok;
+use crate::changes::{add, alter, create, delete, incr, time_at};
+use crate::echoes::{put_pong, put_word};
+use crate::info::put_info;
+use crate::keys::{count_keys, drop_keys};
+use crate::rules::{create_rule, delete_rule};
+use std::sync::ledger::Ledger;
+use ts_command::Command;
+use ts_db::{Db, Hints};
+use ts_questions::{Wanted, put_get, put_members, put_range, put_ranges};
+use ts_resp::{Out, put};
+use ts_sample::Steps;
+
+/// Executes a command and leaves exactly the text of its reply in `out`. Want of memory is answered by its text,
+/// and then the database is unchanged. TS.MADD takes the room of its reply first, and then executes its triples
+/// one after another, each of which may answer want of memory by itself. `reading` is that of the clock, in
+/// milliseconds; one past `MAX_TIME` counts as that.
+pub fn execute<L: Ledger>(
+    db: &mut Db,
+    command: Command,
+    reading: u64,
+    out: &mut Out,
+    steps: &mut Steps<L>,
+)
+    requires room { 128 ≤ length out.old.bytes + out.old.spare }
+    requires time { HasTime command }
+    ensures executes { Carries db.old db.new (λ from to. Executes reading (command_of command) from out.new.bytes to) }
+    ensures room { 128 ≤ length out.new.bytes + out.new.spare }
+    ensures steps { IsBounded db.old reading (command_of command) steps.old steps.new }
+{
+    let mut hints = Hints::none(db.alloc());
+    execute_near(db, &mut hints, command, reading, out, steps);
+}
+
+/// Executes a command as `execute` does, with hints, which change nothing that it does or answers.
+pub(crate) fn execute_near<L: Ledger>(
+    db: &mut Db,
+    hints: &mut Hints,
+    command: Command,
+    reading: u64,
+    out: &mut Out,
+    steps: &mut Steps<L>,
+)
+    requires room { 128 ≤ length out.old.bytes + out.old.spare }
+    requires time { HasTime command }
+    ensures executes { Carries db.old db.new (λ from to. Executes reading (command_of command) from out.new.bytes to) }
+    ensures room { 128 ≤ length out.new.bytes + out.new.spare }
+    ensures steps { IsBounded db.old reading (command_of command) steps.old steps.new }
+{
+    out.clear();
+    match command {
+        Command::Create { key, spec } => put(&create(db, key, spec), out),
+        Command::Alter { key, change } => put(&alter(db, &key, change, steps), out),
+        Command::Add {
+            key,
+            at,
+            value,
+            on,
+            spec,
+        } => put(
+            &add(db, key, time_at(at, reading), value, on, spec, steps),
+            out,
+        ),
+        Command::Madd { triples } => put_items(db, hints, triples, reading, out, steps),
+        Command::Incr {
+            key,
+            change,
+            at,
+            spec,
+        } => put(
+            &incr(db, key, change, time_at(at, reading), spec, steps),
+            out,
+        ),
+        Command::DelRange { key, from, to } => put(&delete(db, &key, from, to, steps), out),
+        Command::CreateRule {
+            source,
+            dest,
+            agg,
+            grid,
+        } => put(&create_rule(db, &source, &dest, agg, grid), out),
+        Command::DeleteRule { source, dest } => put(&delete_rule(db, &source, &dest), out),
+        Command::Range { key, latest, query } => put_range(db, &key, latest, &query, out, steps),
+        Command::MRange {
+            latest,
+            show,
+            filters,
+            query,
+            group,
+        } => put_ranges(db, &filters, latest, show, query, group, out, steps),
+        Command::Get { key, latest } => put_get(db, &key, latest, out, steps),
+        Command::MGet {
+            latest,
+            show,
+            filters,
+        } => put_members(db, &filters, &Wanted::Last { latest, show }, out, steps),
+        Command::QueryIndex { filters } => put_members(db, &filters, &Wanted::Key, out, steps),
+        Command::InfoOf { key } => put_info(db, &key, out, steps),
+        Command::Ping { word } => put_pong(word, out),
+        Command::Echo { word } => put_word(word, out),
+        Command::Quit => put(&ok(), out),
+        Command::Drop { keys } => put(&drop_keys(db, &keys), out),
+        Command::Exists { keys } => put(&count_keys(db, &keys), out),
+    }
+}

@@ -1,0 +1,165 @@
+// TS.INFO: what is told of a series and of how it is kept.
+ghost use Rattle.std.specs.Prelude.{◌≡◌, ◌+◌, ◌*◌, ◌≤◌, [], length, map, Some, IfOk};
+ghost use Rattle.ts_spec.specs.Keyed.{get};
+ghost use Rattle.ts_spec.specs.Questions.{info_response};
+ghost use Rattle.ts_spec.specs.Replies as spec;
+ghost use Rattle.ts_spec.specs.Text.{Simple, Value};
+ghost use Rattle.ts_resp.specs.Replies.{reply_of};
+ghost use Rattle.ts_db.specs.Held.{Held, Stands, reach_at};
+ghost use Rattle.ts_db.specs.Information.{info_of, rule_info_of};
+ghost use Rattle.ts_questions.specs.Answering.{IsReplyText};
+
+use crate::names::{encoding_name, policy_name};
+use std::alloc::{AllocError, Global};
+use std::sync::ledger::Ledger;
+use ts_agg::name;
+use ts_db::{Db, Info, RuleInfo};
+use ts_labels::Labels;
+use ts_questions::{put_no_memory, put_or_no_memory, refusal_reply};
+use ts_resp::{Out, Reply, Word, put};
+use ts_sample::{Cell, Steps, Units};
+
+/// Writes the reply to TS.INFO.
+pub(crate) fn put_info<L: Ledger>(db: &Db, key: &Word, out: &mut Out, steps: &mut Steps<L>)
+    requires empty { out.old.bytes ≡ [] }
+    requires room { 128 ≤ out.old.spare }
+    ensures reply { (from : Held) → Stands db.now from → IsReplyText (info_response from.state key.now (get key.now from.state)) out.new.bytes }
+    ensures room { 128 ≤ length out.new.bytes + out.new.spare }
+    ensures steps { steps.new ≤ steps.old + 2 * reach_at db.now key.now }
+{
+    match db.info(key, steps) {
+        Ok(info) => match info_reply(info) {
+            Ok(reply) => put_or_no_memory(&reply, out),
+            Err(_) => put_no_memory(out),
+        },
+        Err(fault) => put(&refusal_reply(fault), out),
+    }
+}
+
+// Twelve names, each followed by its value.
+fn info_reply(info: Info) -> Result<Reply, AllocError>
+    ensures { IfOk result (λ reply. reply_of reply ≡ spec.info_reply (info_of info)) }
+{
+    let alloc = *info.rules.allocator();
+    let options = info.options;
+    let total = number(info.total)?;
+    let first = number(info.first)?;
+    let last = number(info.last)?;
+    let retention = number(options.retention)?;
+    let chunk_size = number(options.chunk_size as u64)?;
+    let ignore_time = number(options.ignore.time)?;
+    let labels = labels_reply(alloc, &info.labels)?;
+    let rules = rules_reply(alloc, info.rules)?;
+    let values = vec![in alloc;
+        simple("totalSamples"),
+        total,
+        simple("firstTimestamp"),
+        first,
+        simple("lastTimestamp"),
+        last,
+        simple("retentionTime"),
+        retention,
+        simple("chunkSize"),
+        chunk_size,
+        simple("chunkType"),
+        simple(encoding_name(options.encoding)),
+        simple("duplicatePolicy"),
+        simple(policy_name(options.policy)),
+        simple("labels"),
+        labels,
+        simple("sourceKey"),
+        word_or_nil(info.source),
+        simple("rules"),
+        rules,
+        simple("ignoreMaxTimeDiff"),
+        ignore_time,
+        simple("ignoreMaxValDiff"),
+        value(options.ignore.value),
+    ]?;
+    Ok(array(values))
+}
+
+// Words on a line.
+fn simple(words: &'static str) -> Reply
+    ensures { reply_of result ≡ Simple words.now }
+{
+    Reply::Simple(words)
+}
+
+// The array of these replies.
+fn array(replies: Vec<Reply>) -> Reply
+    ensures { reply_of result ≡ spec.array (map reply_of replies.items) }
+{
+    Reply::Array(replies)
+}
+
+// A number. None is past what an integer shows, so that there is room for it.
+fn number(number: u64) -> Result<Reply, AllocError>
+    ensures { IfOk result (λ reply. reply_of reply ≡ spec.number number) }
+{
+    match i64::try_from(number) {
+        Ok(number) => Ok(Reply::Int(number)),
+        Err(_) => Err(AllocError),
+    }
+}
+
+// A value.
+fn value(value: Units) -> Reply
+    ensures { reply_of result ≡ Value (Some value) }
+{
+    Reply::Value(Cell::Number(value))
+}
+
+// A word, or nil.
+fn word_or_nil(word: Option<Word>) -> Reply
+    ensures { reply_of result ≡ spec.bulk_or_nil word }
+{
+    match word {
+        None => Reply::Nil,
+        Some(word) => Reply::Bulk(word),
+    }
+}
+
+// An array of all labels.
+fn labels_reply(alloc: Global, labels: &Labels) -> Result<Reply, AllocError>
+    ensures { IfOk result (λ reply. reply_of reply ≡ spec.array (map spec.label_reply labels.now)) }
+{
+    let mut replies = Vec::with_capacity(alloc, labels.len())?;
+    for i in 0..labels.len() {
+        replies.push_reserved(label_reply(alloc, labels.label_at(i), labels.value_at(i))?);
+    }
+    Ok(Reply::Array(replies))
+}
+
+// `[label, value]`.
+fn label_reply(alloc: Global, name: &Word, value: &Word) -> Result<Reply, AllocError>
+    ensures { IfOk result (λ reply. reply_of reply
+        ≡ spec.label_reply (record { name = name.now; value = value.now })) }
+{
+    let name = Reply::Bulk(name.copy()?);
+    let value = Reply::Bulk(value.copy()?);
+    Ok(Reply::Array(vec![in alloc; name, value]?))
+}
+
+// An array of all rules.
+fn rules_reply(alloc: Global, rules: Vec<RuleInfo>) -> Result<Reply, AllocError>
+    ensures { IfOk result (λ reply. reply_of reply
+        ≡ spec.array (map spec.rule_reply (map rule_info_of rules.items))) }
+{
+    let mut replies = Vec::with_capacity(alloc, rules.len())?;
+    for rule in rules {
+        replies.push_reserved(rule_reply(alloc, rule)?);
+    }
+    Ok(Reply::Array(replies))
+}
+
+// `[destination, duration, aggregator, alignment]`.
+fn rule_reply(alloc: Global, rule: RuleInfo) -> Result<Reply, AllocError>
+    ensures { IfOk result (λ reply. reply_of reply ≡ spec.rule_reply (rule_info_of rule)) }
+{
+    let duration = number(rule.grid.duration())?;
+    let align = number(rule.grid.align())?;
+    let agg = Reply::Simple(name(rule.agg));
+    let dest = Reply::Bulk(rule.dest);
+    Ok(Reply::Array(vec![in alloc; dest, duration, agg, align]?))
+}

@@ -1,0 +1,196 @@
+// What loads a journal.
+ghost use Rattle.std.specs.Prelude.{◌≡◌, ◌≢◌, ℕ, ⊤, ◌+◌, ◌<◌, ◌≤◌, ◌^◌, true, List, [], length, None, Some};
+ghost use Rattle.std.specs.Io.KnownBytes.{IsAtEnd};
+ghost use Rattle.ts_io.specs.Causes.{Rose};
+ghost use Rattle.ts_io.specs.Logs.{unread, place_after};
+ghost use Rattle.ts_resp.specs.Reading.{fed};
+ghost use Rattle.ts_db.specs.Held.{Carries};
+ghost use Rattle.ts_journal.specs.Limits.{IsBounded};
+ghost use Rattle.ts_execution.specs.Limits.{CanRead};
+ghost use Rattle.ts_execution.specs.Restoring.{LoadsIf, IsCurrent, Takes, IfRead, IsLoaded, IsJudged, EndsWithin, verdict};
+
+use crate::next_change::{Found, next_change};
+use std::alloc::Global;
+use std::marker::Brand;
+use std::sync::ledger::{Blank, Ledger};
+use ts_db::{Db, Hints};
+use ts_io::Log;
+use ts_journal::limits_of;
+use ts_resp::{Reader, WireLimits};
+use ts_sample::Steps;
+
+/// How a journal was loaded.
+#[derive(Clone, Copy, Debug, PartialEq, Eq)]
+pub enum Loaded {
+    /// It was read to its end. So many of its bytes are whole requests, each a change that was done again.
+    Whole(u64),
+    /// It was read to its end, and breaks at this place.
+    Broken(u64),
+    /// It could not be read.
+    Fault,
+    /// As many bytes of it were read as may be.
+    Budget,
+    /// There was no memory.
+    Memory,
+}
+
+// What one read of a journal came to.
+#[derive(Clone, Copy, Debug, PartialEq, Eq)]
+pub(crate) enum Piece {
+    // So many bytes were read: none at its end.
+    Read(usize),
+    // It could not be read.
+    Fault,
+    // There was no memory.
+    Memory,
+}
+
+/// The most bytes that one read asks for.
+const PIECE: usize = 4096;
+
+// What was read of a journal so far.
+#[derive(Drop)]
+struct Loading {
+    reader: Reader,
+    // where the numbers of its keys are
+    hints: Hints,
+    // where the last change ends
+    end: u64,
+    // where the journal breaks, once it does
+    broken: Option<u64>,
+}
+
+/// Does again what the changes in a journal did, from its reading place 0 on. At most `budget` bytes of it are read, by
+/// pieces, so that memory does not grow with it. It is read to its end before it is judged.
+pub fn load<J: Log>(
+    alloc: Global,
+    db: &mut Db,
+    log: &mut J,
+    limits: WireLimits,
+    budget: u64,
+) -> Loaded
+    requires limits { CanRead limits }
+    requires bounded { IsBounded limits }
+    requires start { J.place log.old ≡ 0 }
+    ensures loaded { Carries db.old db.new (λ from to. (bytes : List ℕ) → J.content log.old ≡ Some bytes → IsLoaded result limits from to bytes) }
+    ensures content { J.content log.new ≡ J.content log.old }
+    ensures within { EndsWithin result (J.place log.new) }
+    ensures spent { result ≡ Loaded.Budget → J.place log.new ≡ budget }
+    ensures enough { (bytes : List ℕ) → J.content log.old ≡ Some bytes → result ≡ Loaded.Budget → budget ≤ length bytes }
+    ensures judged { (bytes : List ℕ) → J.content log.old ≡ Some bytes → IsJudged result → length bytes < budget }
+    ensures later { J.faults log.old ≤ J.faults log.new }
+    ensures fault { result ≡ Loaded.Fault → Rose (J.faults log.old) (J.faults log.new) }
+    ensures no_fault { result ≢ Loaded.Fault → J.faults log.new ≡ J.faults log.old }
+{
+    let mut loading = Loading {
+        reader: Reader::new(alloc, limits_of(limits)),
+        hints: Hints::new(alloc),
+        end: 0,
+        broken: None,
+    };
+    let mut buffer = [0; PIECE];
+    let mut taken = 0;
+    while taken < budget {
+        let most = (budget - taken).min(PIECE as u64) as usize;
+        match read_piece(&mut loading, db, log, &mut buffer[..most]) {
+            Piece::Read(0) => return loading.verdict(taken),
+            Piece::Read(count) => taken += count as u64,
+            Piece::Fault => return Loaded::Fault,
+            Piece::Memory => return Loaded::Memory,
+        }
+    }
+    Loaded::Budget
+}
+
+// Reads one piece, and does again what the whole changes with it did, unless the journal broke before.
+fn read_piece<J: Log>(loading: &mut Loading, db: &mut Db, log: &mut J, buffer: &mut [u8]) -> Piece
+    requires within { fed loading.old.reader + length buffer.old < 2 ^ 64 }
+    requires room { 0 < length buffer.old }
+    ensures takes { IfRead result (λ count. Takes count (unread (J.content log.old) (J.place log.old)) (unread (J.content log.new) (J.place log.new))
+        loading.old loading.new db.old db.new) }
+    ensures carries { Carries db.old db.new (λ from to. ⊤) }
+    ensures at_end { result ≡ Piece.Read 0 → IsAtEnd (unread (J.content log.new) (J.place log.new)) }
+    ensures bound { IfRead result (λ count. count ≤ length buffer.old) }
+    ensures content { J.content log.new ≡ J.content log.old }
+    ensures place { IfRead result (λ count. J.place log.new ≡ place_after (J.place log.old) count) }
+    ensures later { J.faults log.old ≤ J.faults log.new }
+    ensures fault { result ≡ Piece.Fault → Rose (J.faults log.old) (J.faults log.new) }
+    ensures no_fault { result ≢ Piece.Fault → J.faults log.new ≡ J.faults log.old }
+{
+    match log.read(buffer) {
+        Ok(count) => {
+            if loading.take_piece::<Brand>(db, &buffer[..count], Blank::new(1)) {
+                Piece::Read(count)
+            } else {
+                Piece::Memory
+            }
+        }
+        Err(_) => Piece::Fault,
+    }
+}
+
+impl Loading {
+    // What was found, where the journal ends here, after so many bytes.
+    fn verdict(&self, taken: u64) -> Loaded
+        ensures { result ≡ verdict self.now taken }
+    {
+        match self.broken {
+            Some(place) => Loaded::Broken(place),
+            None => Loaded::Whole(self.reader.place().unwrap_or(taken)),
+        }
+    }
+
+    // Does again what the whole changes with this piece did, unless the journal broke before. False: there was no memory.
+    fn take_piece<L: Ledger>(&mut self, db: &mut Db, bytes: &[u8], blank: Blank) -> bool
+        requires within { fed self.old.reader + length bytes.now < 2 ^ 64 }
+        requires name { blank.name ≡ L.name }
+        requires parts { blank.parts ≡ L.parts }
+        requires some { 0 < blank.parts }
+        ensures loads { Carries db.old db.new (λ from to. LoadsIf result self.old self.new bytes.now from to) }
+        ensures current { result ≡ true → IsCurrent self.new }
+        ensures fed { fed self.new.reader ≤ fed self.old.reader + length bytes.now }
+    {
+        match self.broken {
+            Some(_) => true,
+            None => self.take_more::<L>(db, bytes, blank),
+        }
+    }
+
+    // The same where the journal did not break.
+    fn take_more<L: Ledger>(&mut self, db: &mut Db, bytes: &[u8], blank: Blank) -> bool
+        requires whole { self.old.broken ≡ None }
+        requires within { fed self.old.reader + length bytes.now < 2 ^ 64 }
+        requires name { blank.name ≡ L.name }
+        requires parts { blank.parts ≡ L.parts }
+        requires some { 0 < blank.parts }
+        ensures loads { Carries db.old db.new (λ from to. LoadsIf result self.old self.new bytes.now from to) }
+        ensures current { result ≡ true → IsCurrent self.new }
+        ensures fed { fed self.new.reader ≤ fed self.old.reader + length bytes.now }
+    {
+        let mut steps = Steps::<L>::new(blank);
+        match self.reader.feed(bytes) {
+            Ok(()) => self.take_all(db, &mut steps),
+            Err(_) => false,
+        }
+    }
+
+    // Does again what the whole changes did. False: there was no memory.
+    fn take_all<L: Ledger>(&mut self, db: &mut Db, steps: &mut Steps<L>) -> bool
+        requires whole { self.old.broken ≡ None }
+        ensures loads { Carries db.old db.new (λ from to. LoadsIf result self.old self.new [] from to) }
+        ensures current { result ≡ true → IsCurrent self.new }
+        ensures fed { fed self.new.reader ≡ fed self.old.reader }
+    {
+        loop {
+            match next_change(&mut self.reader, self.end, db, &mut self.hints, steps) {
+                Found::Change(end) => self.end = end,
+                Found::Nothing => return true,
+                Found::Broken(place) => {
+                    self.broken = Some(place);
+                    return true;
+                }
+                Found::Memory => return false,
+            }
+        }
+    }
+}

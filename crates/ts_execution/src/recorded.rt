@@ -1,0 +1,126 @@
+// The turn of a request, with its record.
+ghost use Rattle.std.specs.Prelude.{◌≡◌, ◌+◌, ◌≤◌, true, false, [], length, Option, None, Some, IfOk, IfErr, OnErr, IfSome, IfNone};
+ghost use Rattle.ts_spec.specs.Run.{is_quit};
+ghost use Rattle.ts_command.specs.Answers.{HasTime};
+ghost use Rattle.ts_command.specs.Reading.{command_of};
+ghost use Rattle.ts_db.specs.Held.{Carries};
+ghost use Rattle.ts_journal.specs.Record.{is_change, IsRecordOf};
+ghost use Rattle.ts_journal.specs.Held.{told};
+ghost use Rattle.ts_execution.specs.Keeping.{Recorded, IsRecorded};
+ghost use Rattle.ts_execution.specs.Recording.{told_by, HasRecord};
+
+use crate::answers::fault_reply;
+use crate::execution::execute_near;
+use crate::turn::{reading_for, says_quit};
+use std::alloc::{AllocError, Global};
+use std::sync::ledger::Ledger;
+use ts_command::{Command, read};
+use ts_db::{Db, Hints};
+use ts_io::Clock;
+use ts_journal::Record;
+use ts_questions::put_no_memory;
+use ts_resp::{Out, Word, put};
+use ts_sample::Steps;
+
+/// What is known of a request that had its turn: whether it is QUIT, and the record of what it changes.
+#[derive(Drop)]
+pub struct Taken {
+    pub quits: bool,
+    pub entry: Option<Record>,
+}
+
+/// Gives a request its turn, and leaves its reply in `room`. The room of its record is taken before it is executed; where
+/// there is none, it is refused.
+pub fn take_recorded<C: Clock, L: Ledger>(
+    alloc: Global,
+    db: &mut Db,
+    hints: &mut Hints,
+    words: Vec<Word>,
+    clock: &mut C,
+    room: &mut Out,
+    steps: &mut Steps<L>,
+) -> Taken
+    requires { 128 ≤ length room.old.bytes + room.old.spare }
+    ensures recorded { Carries db.old db.new (λ from to. Recorded words.items (record { held = from; readings = C.readings clock.old })
+        room.new.bytes (told_by result.entry room.new.bytes) (record { held = to; readings = C.readings clock.new })) }
+    ensures quits { result.quits ≡ is_quit words.items }
+    ensures room { 128 ≤ length room.new.bytes + room.new.spare }
+{
+    match read(words) {
+        Ok(command) => {
+            let quits = says_quit(&command);
+            let entry = execute_recorded(alloc, db, hints, command, clock, room, steps);
+            Taken { quits, entry }
+        }
+        Err(fault) => {
+            room.clear();
+            put(&fault_reply(fault), room);
+            Taken {
+                quits: false,
+                entry: None,
+            }
+        }
+    }
+}
+
+// Executes a command, where there is room for its record.
+fn execute_recorded<C: Clock, L: Ledger>(
+    alloc: Global,
+    db: &mut Db,
+    hints: &mut Hints,
+    command: Command,
+    clock: &mut C,
+    room: &mut Out,
+    steps: &mut Steps<L>,
+) -> Option<Record>
+    requires room { 128 ≤ length room.old.bytes + room.old.spare }
+    requires time { HasTime command }
+    ensures recorded { Carries db.old db.new (λ from to. IsRecorded (command_of command) (record { held = from; readings = C.readings clock.old })
+        room.new.bytes (told_by result room.new.bytes) (record { held = to; readings = C.readings clock.new })) }
+    ensures room { 128 ≤ length room.new.bytes + room.new.spare }
+{
+    let reading = reading_for(&command, clock);
+    match record_for(alloc, &command, reading) {
+        Ok(entry) => {
+            execute_near(db, hints, command, reading, room, steps);
+            entry
+        }
+        Err(_) => {
+            room.clear();
+            put_no_memory(room);
+            None
+        }
+    }
+}
+
+// The record of a change, and None for any other command, which needs no memory here.
+fn record_for(alloc: Global, command: &Command, reading: u64) -> Result<Option<Record>, AllocError>
+    ensures record { IfOk result (HasRecord reading (command_of command.now)) }
+    ensures change { OnErr result (is_change (command_of command.now) ≡ true) }
+{
+    if !is_change(command) {
+        return Ok(None);
+    }
+    match Record::take(alloc, command, reading) {
+        Ok(entry) => Ok(entry),
+        Err(no_memory) => Err(no_memory),
+    }
+}
+
+// Whether a command is one of those that change the database.
+fn is_change(command: &Command) -> bool
+    ensures { result ≡ is_change (command_of command.now) }
+{
+    match command {
+        Command::Create { .. }
+        | Command::Alter { .. }
+        | Command::Add { .. }
+        | Command::Madd { .. }
+        | Command::Incr { .. }
+        | Command::DelRange { .. }
+        | Command::CreateRule { .. }
+        | Command::DeleteRule { .. }
+        | Command::Drop { .. } => true,
+        _ => false,
+    }
+}

@@ -1,0 +1,115 @@
+// The turn of one request.
+ghost use Rattle.std.specs.Prelude.{◌≡◌, ◌+◌, ◌≤◌, length, Ok};
+ghost use Rattle.ts_spec.specs.Run.{is_quit, says_quit};
+ghost use Rattle.ts_spec.specs.Grammar.{is_clock, needs_clock};
+ghost use Rattle.ts_command.specs.Reading.{command_of};
+ghost use Rattle.ts_db.specs.Held.{Carries};
+ghost use Rattle.ts_execution.specs.Turn.{turn, IsReading, left_by};
+
+use crate::addition::put_addition;
+use crate::answers::fault_reply;
+use crate::execution::execute_near;
+use std::mem;
+use std::sync::ledger::Ledger;
+use ts_command::{Addition, Command, read};
+use ts_db::{Db, Hints};
+use ts_io::Clock;
+use ts_resp::{Out, Word, put};
+use ts_sample::Steps;
+use ts_spec::At;
+
+/// Gives a request its turn, and leaves its reply in `room`. Answers whether the request is QUIT. What a command takes of
+/// the words is gone from them afterwards.
+pub fn take_turn<C: Clock, L: Ledger>(
+    db: &mut Db,
+    hints: &mut Hints,
+    words: &mut Vec<Word>,
+    clock: &mut C,
+    room: &mut Out,
+    steps: &mut Steps<L>,
+) -> bool
+    requires { 128 ≤ length room.old.bytes + room.old.spare }
+    ensures turn { Carries db.old db.new (λ from to. turn (record { held = from; readings = C.readings clock.old }) words.old.items room.new.bytes
+        (record { held = to; readings = C.readings clock.new })) }
+    ensures quits { result ≡ is_quit words.old.items }
+    ensures room { 128 ≤ length room.new.bytes + room.new.spare }
+{
+    let alloc = *words.allocator();
+    let Some(addition) = Addition::read(words) else {
+        return take_command(
+            db,
+            hints,
+            mem::replace(words, Vec::new(alloc)),
+            clock,
+            room,
+            steps,
+        );
+    };
+    let reading = reading_at(addition.at, clock);
+    put_addition(db, hints, alloc, &addition, reading, room, steps);
+    false
+}
+
+// The same by way of a command, which is large and is kept out of the caller.
+#[inline(never)]
+fn take_command<C: Clock, L: Ledger>(
+    db: &mut Db,
+    hints: &mut Hints,
+    words: Vec<Word>,
+    clock: &mut C,
+    room: &mut Out,
+    steps: &mut Steps<L>,
+) -> bool
+    requires { 128 ≤ length room.old.bytes + room.old.spare }
+    ensures turn { Carries db.old db.new (λ from to. turn (record { held = from; readings = C.readings clock.old }) words.items room.new.bytes
+        (record { held = to; readings = C.readings clock.new })) }
+    ensures quits { result ≡ is_quit words.items }
+    ensures room { 128 ≤ length room.new.bytes + room.new.spare }
+{
+    match read(words) {
+        Ok(command) => {
+            let reading = reading_for(&command, clock);
+            let quits = says_quit(&command);
+            execute_near(db, hints, command, reading, room, steps);
+            quits
+        }
+        Err(fault) => {
+            room.clear();
+            put(&fault_reply(fault), room);
+            false
+        }
+    }
+}
+
+// Whether the command is QUIT.
+pub(crate) fn says_quit(command: &Command) -> bool
+    ensures { result ≡ says_quit (Ok (command_of command.now)) }
+{
+    match command {
+        Command::Quit => true,
+        _ => false,
+    }
+}
+
+// The time, for a command that needs it, and else 0.
+pub(crate) fn reading_for<C: Clock>(command: &Command, clock: &mut C) -> u64
+    ensures reading { IsReading (needs_clock (command_of command.now)) (C.readings clock.old) result }
+    ensures left { C.readings clock.new ≡ left_by (needs_clock (command_of command.now)) (C.readings clock.old) }
+{
+    if command.needs_clock() {
+        clock.now()
+    } else {
+        0
+    }
+}
+
+// The time, for a sample that has the clock's, and else 0.
+fn reading_at<C: Clock>(at: At, clock: &mut C) -> u64
+    ensures reading { IsReading (is_clock at) (C.readings clock.old) result }
+    ensures left { C.readings clock.new ≡ left_by (is_clock at) (C.readings clock.old) }
+{
+    match at {
+        At::Clock => clock.now(),
+        At::Time(_) => 0,
+    }
+}

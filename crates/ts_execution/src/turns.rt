@@ -1,0 +1,79 @@
+// Turns of any kind, as a session gives them.
+ghost use Rattle.std.specs.Prelude.{◌≡◌, ◌+◌, ◌≤◌, List, ℕ, length, Option, IfOk};
+ghost use Rattle.ts_spec.specs.Run.{is_quit};
+ghost use Rattle.ts_db.specs.Held.{Held, Carries};
+ghost use Rattle.ts_execution.specs.Turn.{plain};
+ghost use Rattle.ts_execution.specs.Turns as kinds;
+
+use crate::turn::take_turn;
+use std::sync::ledger::Ledger;
+use ts_db::{Db, Hints};
+use ts_io::{Clock, Failed, Sink, write_all_counted};
+use ts_resp::{Out, Word};
+use ts_sample::Steps;
+
+/// What gives requests their turns: what a turn does to the world beside the reply that it writes, and what else may fail.
+pub trait Turns {
+    /// The kind of turn.
+    ghost kind: { kinds.Turns };
+
+    /// The world where the database stands for this, and the clock has these readings left.
+    ghost world: { Self → Held → Option (List ℕ) → kind.World };
+
+    /// The counts of its own faults.
+    ghost own: { Self → kind.Faults };
+
+    /// The reference that it works through, if it holds one: which it is stays.
+    ghost lent: { Self → ℕ };
+
+    /// Gives a request its turn, leaves its reply in `room`, and writes it to `out`. Answers whether the request is
+    /// QUIT. What a command takes of the words is gone from them afterwards. Hints change nothing that is done or written.
+    fn answer<C: Clock, K: Sink, L: Ledger>(
+        &mut self,
+        db: &mut Db,
+        hints: &mut Hints,
+        words: &mut Vec<Word>,
+        clock: &mut C,
+        room: &mut Out,
+        out: &mut K,
+        steps: &mut Steps<L>,
+    ) -> Result<bool, Failed>
+        requires { 128 ≤ length room.old.bytes + room.old.spare }
+        ensures answered { Carries db.old db.new (λ from to. kinds.Answered kind result words.old.items room.new.bytes
+            (world self.old from (C.readings clock.old)) (world self.new to (C.readings clock.new)) (K.has out.old) (K.has out.new)) }
+        ensures quits { IfOk result (λ quits. quits ≡ is_quit words.old.items) }
+        ensures room { 128 ≤ length room.new.bytes + room.new.spare }
+        ensures cause { kinds.HasTurnCause kind result (K.faults out.old) (K.faults out.new) (own self.old) (own self.new) }
+        ensures lent { lent self.new ≡ lent self.old };
+}
+
+/// Turns that do no more than what a request asks.
+#[derive(Drop)]
+pub struct Plain;
+
+impl Turns for Plain {
+    ghost kind = { plain };
+
+    ghost world = { λ s held readings. record { held = held; readings = readings } };
+
+    ghost own = { λ s. tt };
+
+    ghost lent = { λ s. 0 };
+
+    fn answer<C: Clock, K: Sink, L: Ledger>(
+        &mut self,
+        db: &mut Db,
+        hints: &mut Hints,
+        words: &mut Vec<Word>,
+        clock: &mut C,
+        room: &mut Out,
+        out: &mut K,
+        steps: &mut Steps<L>,
+    ) -> Result<bool, Failed> {
+        let quits = take_turn(db, hints, words, clock, room, steps);
+        match write_all_counted(out, room.bytes()) {
+            Ok(()) => Ok(quits),
+            Err(failed) => Err(failed),
+        }
+    }
+}

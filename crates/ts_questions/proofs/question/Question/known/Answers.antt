@@ -1,0 +1,15 @@
+use Rattle.std.proofs.Common.{arith}
+use Rattle.ts_questions.specs.Asking.{key_asked}
+use Rattle.ts_questions.proofs.Few.{few_kept}
+use Rattle.ts_questions.proofs.Finding.{kept_ascending}
+use Rattle.ts_questions.proofs.question.Question.known.Goals as goal
+
+pub returns-clause-rising : goal.returns-clause-rising
+returns-clause-rising c =
+    let question = c.args.self.now in
+    kept_ascending question.db.now c.known.ensures.stands question.latest (key_asked question)
+
+pub returns-clause-few : goal.returns-clause-few
+returns-clause-few c =
+    let question = c.args.self.now in
+    omega (arith, few_kept question.db.now c.known.ensures.stands question.latest (key_asked question), c.few.ensures)

@@ -1,0 +1,25 @@
+-- What is written of an answer, and what is said of a refusal.
+use Rattle.std.specs.Prelude.{◌≡◌, ◌⊎◌, ◌≤◌, ℕ, length, List, Option, None, Some}
+use Rattle.ts_spec.specs.Messages.{refusal_message, memory_message}
+use Rattle.ts_spec.specs.Refusal.{Refusal}
+use Rattle.ts_spec.specs.Replies.{reply_to, memory_reply}
+use Rattle.ts_spec.specs.Response.{Response}
+use Rattle.ts_spec.specs.Text.{Reply, text}
+use Rattle.ts_db.specs.Held.{YieldsToMemory}
+
+-- what is said of a refusal, or of want of memory
+abbrev pub message_of : Option Refusal → List ℕ
+message_of None = memory_message
+message_of (Some refusal) = refusal_message refusal
+
+-- the text of a response was written, or that of want of memory where this may be told
+abbrev pub IsTextOrLost : (may : Type 0) → Response → List ℕ → Type 0
+IsTextOrLost may response written = (written ≡ text (reply_to response)) ⊎ (may × (written ≡ text memory_reply))
+
+-- it may be told where the response yields to it
+abbrev pub IsReplyText : Response → List ℕ → Type 0
+IsReplyText response written = IsTextOrLost (YieldsToMemory response) response written
+
+-- any number of 64 bits, and any error, has a text of so many bytes at most
+abbrev pub IsShort : Reply → Type 0
+IsShort reply = length (text reply) ≤ 64

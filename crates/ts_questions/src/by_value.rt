@@ -1,0 +1,117 @@
+// The numbers of series by the values of a label.
+ghost use Rattle.std.specs.Prelude.{◌≡◌, ◌++◌, ℕ, All, List, [], ◌∷◌, Some, OnOk, IfOk};
+ghost use Rattle.ts_spec.specs.Filter.{value_of};
+ghost use Rattle.ts_spec.specs.Groups.{Labelled};
+ghost use Rattle.ts_sample.specs.declared.id.Id.{Id as TheId};
+ghost use Rattle.ts_group.specs.Sorted.{by_values_of};
+ghost use Rattle.ts_db.specs.Held.{IsLive};
+ghost use Rattle.ts_questions.specs.Grouping.{IsNumbered, numbered};
+
+use crate::grouping::Grouping;
+use std::alloc::{AllocError, Global};
+use std::collections::BTreeMap;
+use std::marker::Model;
+use ts_db::{Db, Id};
+use ts_resp::Word;
+
+/// The numbers of series that have one value, in the order of their keys.
+#[derive(Drop)]
+pub(crate) struct Numbers {
+    ids: Vec<Id>,
+}
+
+impl Model for Numbers {
+    ghost use Rattle.std.specs.Prelude.{List};
+    ghost use Rattle.ts_sample.specs.declared.id.Id.{Id as TheId};
+
+    ghost Value = { List TheId };
+
+    ghost view = { λ n. n.ids.items };
+}
+
+impl Numbers {
+    // None yet.
+    fn new(alloc: Global) -> Numbers
+        ensures { result ≡ [] }
+    {
+        Numbers {
+            ids: Vec::new(alloc),
+        }
+    }
+
+    // One more.
+    fn add(&mut self, id: Id) -> Result<(), AllocError>
+        ensures { OnOk result (self.new ≡ self.old ++ id ∷ []) }
+    {
+        self.ids.push(id)?;
+        Ok(())
+    }
+
+    /// All of them.
+    pub(crate) fn all(&self) -> &[Id]
+        ensures { result.now ≡ self.now }
+    {
+        &self.ids
+    }
+}
+
+/// The numbers of the series that have each value.
+pub(crate) type ByValue = BTreeMap<Word, Numbers>;
+
+/// These numbers by the values that their series have of the label. A series without the label is nowhere.
+pub(crate) fn by_value(db: &Db, ids: &[Id], grouping: &Grouping) -> Result<ByValue, AllocError>
+    requires { All (IsNumbered db.now.ids) ids.now }
+    ensures { IfOk result (λ groups. groups.entries ≡ by_values_of (numbered db.now grouping.now) grouping.now.by.label ids.now) }
+{
+    let mut groups = BTreeMap::new(db.alloc());
+    for id in ids {
+        add_number(db, *id, grouping, &mut groups)?;
+    }
+    Ok(groups)
+}
+
+// Adds a number to those of its value, if its series has the label.
+fn add_number(db: &Db, id: Id, grouping: &Grouping, groups: &mut ByValue) -> Result<(), AllocError>
+    requires { IsNumbered db.now.ids id }
+    ensures { OnOk result ((ns : List TheId) → groups.old.entries ≡ by_values_of (numbered db.now grouping.now) grouping.now.by.label ns
+        → groups.new.entries ≡ by_values_of (numbered db.now grouping.now) grouping.now.by.label (ns ++ id ∷ [])) }
+{
+    match db.labels_of(id).get(&grouping.by.label) {
+        None => Ok(()),
+        Some(value) => add_to(db.alloc(), groups, value, id),
+    }
+}
+
+// Adds a number to those of a value.
+fn add_to(alloc: Global, groups: &mut ByValue, value: &Word, id: Id) -> Result<(), AllocError>
+    ensures { OnOk result ((series : TheId → Labelled) (label : List ℕ) (ns : List TheId) → value_of label (series id).labels ≡ Some value.now
+        → groups.old.entries ≡ by_values_of series label ns → groups.new.entries ≡ by_values_of series label (ns ++ id ∷ [])) }
+{
+    match groups.get_mut(value) {
+        Some(numbers) => numbers.add(id),
+        None => {
+            let mut numbers = Numbers::new(alloc);
+            numbers.add(id)?;
+            groups.insert(value.copy()?, numbers)?;
+            Ok(())
+        }
+    }
+}
+
+/// Does nothing: it tells that each of these numbers is that of one key.
+pub(crate) fn known_numbers(db: &Db, ids: &[Id])
+    requires { All (IsLive db.now.ids) ids.now }
+    ensures { All (IsNumbered db.now.ids) ids.now }
+{
+    for id in ids {
+        known_number(db, *id);
+    }
+}
+
+// Does nothing: it tells that a number is that of one key.
+fn known_number(db: &Db, id: Id)
+    requires { IsLive db.now.ids id }
+    ensures { IsNumbered db.now.ids id }
+{
+    let _key = db.key_of(id);
+}

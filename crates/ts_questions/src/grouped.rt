@@ -1,0 +1,183 @@
+// The answers over many series in groups.
+ghost use Rattle.std.specs.Prelude.{◌≡◌, ◌+◌, ◌≤◌, ◌++◌, All, true, false, [], length, sum_by, IfErr, IfOk};
+ghost use Rattle.std.specs.List.{list_any};
+ghost use Rattle.std.specs.Result.{is_err};
+ghost use Rattle.ts_spec.specs.KeptQuestions.{kept_selection};
+ghost use Rattle.ts_spec.specs.Replies.{array};
+ghost use Rattle.ts_spec.specs.Text.{text};
+ghost use Rattle.ts_db.specs.Bounds.{selection_steps};
+ghost use Rattle.ts_db.specs.Faults.{key_with};
+ghost use Rattle.ts_db.specs.Held.{Held, Stands};
+ghost use Rattle.ts_questions.specs.Answering.{IsReplyText};
+ghost use Rattle.ts_questions.specs.Grouping.{IsGrouping, IsNumbered, group_reply, is_group_refused, group_steps, groups_of_numbers, groups_response, is_too_long, number_steps, numbers_steps, refusals};
+
+use crate::by_value::{by_value, known_numbers};
+use crate::faults::too_many_rows;
+use crate::gathering::gather;
+use crate::grouping::Grouping;
+use crate::members::{begin_members, settle};
+use crate::room::put_no_memory;
+use crate::search::is_one_refused;
+use crate::telling::Telling;
+use std::alloc::AllocError;
+use std::sync::ledger::Ledger;
+use ts_db::{Db, Id};
+use ts_group::{Group, encode_one};
+use ts_labels::Filter;
+use ts_range::RangeFault;
+use ts_resp::{Out, Word, put};
+use ts_sample::Steps;
+
+/// Writes the groups of the series that pass filters, in the order of their values. Where the rows of a series that has
+/// the label are too many, that alone is said, also where there is no memory for the others.
+pub(crate) fn put_groups<L: Ledger>(
+    db: &Db,
+    filters: &[Filter],
+    grouping: &Grouping,
+    out: &mut Out,
+    steps: &mut Steps<L>,
+)
+    requires grouping { IsGrouping grouping.now }
+    requires empty { out.old.bytes ≡ [] }
+    requires room { 128 ≤ out.old.spare }
+    ensures reply { (from : Held) → Stands db.now from → IsReplyText (groups_response from grouping.now filters.now) out.new.bytes }
+    ensures room { 128 ≤ length out.new.bytes + out.new.spare }
+    ensures steps { steps.new ≤ steps.old + (selection_steps db.now filters.now + sum_by (group_steps grouping.now db.now) (kept_selection db.now.keys filters.now)) }
+{
+    let Ok(ids) = db.select(filters, steps) else {
+        put_unselected(db, filters, grouping, out, steps);
+        return;
+    };
+    let numbers = ids.as_slice();
+    known_numbers(db, numbers);
+    match add_groups(db, numbers, grouping, out, steps) {
+        Ok(lost) => settle(lost, out),
+        Err(_) => {
+            out.clear();
+            put(&too_many_rows(), out);
+        }
+    }
+}
+
+// Writes that the rows of a series that passes filters and has the label are too many, or else that there is no memory.
+fn put_unselected<L: Ledger>(
+    db: &Db,
+    filters: &[Filter],
+    grouping: &Grouping,
+    out: &mut Out,
+    steps: &mut Steps<L>,
+)
+    requires grouping { IsGrouping grouping.now }
+    requires empty { out.old.bytes ≡ [] }
+    requires room { 128 ≤ out.old.spare }
+    ensures reply { (from : Held) → Stands db.now from → IsReplyText (groups_response from grouping.now filters.now) out.new.bytes }
+    ensures room { 128 ≤ length out.new.bytes + out.new.spare }
+    ensures steps { steps.new ≤ steps.old + (selection_steps db.now filters.now + sum_by (group_steps grouping.now db.now) (kept_selection db.now.keys filters.now)) }
+{
+    if is_one_refused(db, filters, grouping, steps) {
+        put(&too_many_rows(), out);
+        return;
+    }
+    put_no_memory(out);
+}
+
+// Adds an array of the groups of these numbers, unless the rows of one that has the label are too many. Answers whether
+// memory was lost: then there may be a part of it, as there may be after an Err.
+fn add_groups<L: Ledger>(
+    db: &Db,
+    ids: &[Id],
+    grouping: &Grouping,
+    out: &mut Out,
+    steps: &mut Steps<L>,
+) -> Result<bool, RangeFault>
+    requires numbered { All (IsNumbered db.now.ids) ids.now }
+    requires grouping { IsGrouping grouping.now }
+    ensures told { IfOk result (λ lost. refusals db.now grouping.now ids.now ≡ 0) }
+    ensures added { IfOk result (λ lost. lost ≡ false → out.new.bytes ≡ out.old.bytes ++ text (array (groups_of_numbers db.now grouping.now ids.now))) }
+    ensures refused { IfErr result (λ fault. 1 ≤ refusals db.now grouping.now ids.now) }
+    ensures room { length out.old.bytes + out.old.spare ≤ length out.new.bytes + out.new.spare }
+    ensures steps { steps.new ≤ steps.old + numbers_steps db.now grouping.now ids.now }
+{
+    let Ok(groups) = by_value(db, ids, grouping) else {
+        return lost_unless_refused(db, ids, grouping, steps);
+    };
+    let mut lost = begin_members(groups.len(), out);
+    for (value, numbers) in groups.iter() {
+        lost = add_group(db, value, numbers.all(), grouping, lost, out, steps)?;
+    }
+    Ok(lost)
+}
+
+// Answers that memory was lost, unless the rows of one of these that has the label are too many. Takes no memory.
+fn lost_unless_refused<L: Ledger>(
+    db: &Db,
+    ids: &[Id],
+    grouping: &Grouping,
+    steps: &mut Steps<L>,
+) -> Result<bool, RangeFault>
+    requires { All (IsNumbered db.now.ids) ids.now }
+    ensures told { IfOk result (λ lost. refusals db.now grouping.now ids.now ≡ 0) }
+    ensures lost { IfOk result (λ lost. lost ≡ true) }
+    ensures refused { IfErr result (λ fault. 1 ≤ refusals db.now grouping.now ids.now) }
+    ensures steps { steps.new ≤ steps.old + numbers_steps db.now grouping.now ids.now }
+{
+    for id in ids {
+        if is_number_refused(db, *id, grouping, steps) {
+            return Err(RangeFault::EmptyRows);
+        }
+    }
+    Ok(true)
+}
+
+// Whether the series of a number has the label, and its rows are too many. Takes no memory.
+fn is_number_refused<L: Ledger>(db: &Db, id: Id, grouping: &Grouping, steps: &mut Steps<L>) -> bool
+    requires { IsNumbered db.now.ids id }
+    ensures refused { result ≡ is_group_refused grouping.now db.now (key_with db.now.ids id) }
+    ensures steps { steps.new ≤ steps.old + group_steps grouping.now db.now (key_with db.now.ids id) }
+{
+    grouping.is_refused(db, id, steps)
+}
+
+// Adds the group of a value with the series of these numbers, unless memory was lost or is lost now, and answers whether it
+// was. The rows of one may be too many in either case.
+fn add_group<L: Ledger>(
+    db: &Db,
+    value: &Word,
+    ids: &[Id],
+    grouping: &Grouping,
+    before: bool,
+    out: &mut Out,
+    steps: &mut Steps<L>,
+) -> Result<bool, RangeFault>
+    requires numbered { All (IsNumbered db.now.ids) ids.now }
+    requires grouping { IsGrouping grouping.now }
+    ensures told { IfOk result (λ lost. list_any (is_too_long db.now grouping.now) ids.now ≡ false) }
+    ensures added { IfOk result (λ lost. lost ≡ false → out.new.bytes ≡ out.old.bytes ++ text (group_reply db.now grouping.now value.now ids.now)) }
+    ensures stays { IfOk result (λ lost. lost ≡ false → before ≡ false) }
+    ensures refused { IfErr result (λ fault. list_any (is_too_long db.now grouping.now) ids.now ≡ true) }
+    ensures room { length out.old.bytes + out.old.spare ≤ length out.new.bytes + out.new.spare }
+    ensures steps { steps.new ≤ steps.old + sum_by (number_steps db.now grouping.now) ids.now }
+{
+    let mut group = Group::new(db.alloc());
+    let lost = gather(db, ids, grouping, before, &mut group, steps)?;
+    if lost {
+        return Ok(true);
+    }
+    Ok(is_lost(encode_one(
+        db.alloc(),
+        &group,
+        &grouping.by,
+        value,
+        &grouping.show,
+        grouping.count,
+        grouping.query.reverse,
+        out,
+    )))
+}
+
+// Whether there was no memory.
+fn is_lost(done: Result<(), AllocError>) -> bool
+    ensures { result ≡ is_err done }
+{
+    done.is_err()
+}

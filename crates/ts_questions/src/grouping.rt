@@ -1,0 +1,89 @@
+// An answer over many series in groups: what is asked of each series.
+ghost use Rattle.std.specs.Prelude.{◌≡◌, ◌+◌, ◌≤◌, Some};
+ghost use Rattle.ts_spec.specs.Key.{Key};
+ghost use Rattle.ts_spec.specs.Keyed.{get};
+ghost use Rattle.ts_range.specs.Query.{query_of};
+ghost use Rattle.ts_db.specs.Held.{IsLive};
+ghost use Rattle.ts_questions.specs.Grouping.{IsGrouping, counted, has_label, is_group_refused, group_steps};
+
+use crate::telling::Telling;
+use crate::told::has_too_many_rows;
+use std::sync::ledger::Ledger;
+use ts_command::GroupBy;
+use ts_db::{Db, Id};
+use ts_labels::Show;
+use ts_range::{Filters, Query};
+use ts_sample::Steps;
+
+/// What an answer in groups asks of each series that has the label, and how it tells the groups.
+#[derive(Drop)]
+pub(crate) struct Grouping {
+    pub(crate) latest: bool,
+    pub(crate) show: Show,
+    /// The question. It asks all rows: how many are told is settled group by group.
+    pub(crate) query: Query,
+    /// What the query lets through, unless there was no memory for that.
+    pub(crate) filters: Option<Filters>,
+    pub(crate) by: GroupBy,
+    /// How many rows of each group are told, if not all.
+    pub(crate) count: Option<u64>,
+}
+
+impl Grouping {
+    pub(crate) fn new(latest: bool, show: Show, query: Query, by: GroupBy) -> Grouping
+        ensures grouping { IsGrouping result }
+        ensures asks { counted result ≡ query_of query }
+        ensures from { result.query.from ≡ query.from }
+        ensures to { result.query.to ≡ query.to }
+        ensures latest { result.latest ≡ latest }
+        ensures show { result.show ≡ show }
+        ensures by { result.by ≡ by }
+    {
+        let filters = Filters::of(&query).ok();
+        let count = query.count;
+        let mut all_rows = query;
+        all_rows.count = None;
+        Grouping {
+            latest,
+            show,
+            query: all_rows,
+            filters,
+            by,
+            count,
+        }
+    }
+
+    /// Whether the key of a number has the label.
+    pub(crate) fn asks(&self, db: &Db, id: Id) -> bool
+        requires { IsLive db.now.ids id }
+        ensures { (key : Key) → get key db.now.ids ≡ Some id → result ≡ has_label db.now self.now.by.label key }
+    {
+        db.labels_of(id).get(&self.by.label).is_some()
+    }
+
+    // Whether the rows of the key of a number are asked, and too many.
+    fn is_too_much_of<L: Ledger>(&self, db: &Db, id: Id, steps: &mut Steps<L>) -> bool
+        requires { IsLive db.now.ids id }
+        ensures refused { (key : Key) → get key db.now.ids ≡ Some id → result ≡ is_group_refused self.now db.now key }
+        ensures steps { (key : Key) → get key db.now.ids ≡ Some id → steps.new ≤ steps.old + group_steps self.now db.now key }
+    {
+        if !self.asks(db, id) {
+            return false;
+        }
+        has_too_many_rows(db, id, self.latest, &self.query, steps)
+    }
+}
+
+impl Telling for Grouping {
+    ghost is_too_much = { λ g stock key. is_group_refused g stock key };
+
+    ghost most = { λ g stock key. group_steps g stock key };
+
+    fn can_be_refused(&self) -> bool {
+        true
+    }
+
+    fn is_refused<L: Ledger>(&self, db: &Db, id: Id, steps: &mut Steps<L>) -> bool {
+        self.is_too_much_of(db, id, steps)
+    }
+}

@@ -1,0 +1,135 @@
+// The answers over many series.
+ghost use Rattle.std.specs.Prelude.{◌≡◌, ◌+◌, ◌≤◌, ◌++◌, All, List, [], true, false, length, sum_by, None, Some, IfErr, IfOk};
+ghost use Rattle.std.specs.Fmt.{decimal};
+ghost use Rattle.ts_spec.specs.Key.{Key};
+ghost use Rattle.ts_spec.specs.Keyed.{get};
+ghost use Rattle.ts_spec.specs.KeptQuestions.{kept_selection};
+ghost use Rattle.ts_spec.specs.Replies.{memory_reply};
+ghost use Rattle.ts_spec.specs.Text.{line_text, text};
+ghost use Rattle.ts_db.specs.Bounds.{selection_steps};
+ghost use Rattle.ts_db.specs.Held.{Held, Stands, IsLive, AreNumbersOf};
+ghost use Rattle.ts_questions.specs.Answering.{IsReplyText};
+ghost use Rattle.ts_questions.specs.Bounds.{wanted_steps};
+ghost use Rattle.ts_questions.specs.Members.{reply_at, each_told, AreAsAsked, IsAddedOrLost, AreAddedOrLost, many_response};
+
+use crate::faults::too_many_rows;
+use crate::member::add_member;
+use crate::room::put_no_memory;
+use crate::search::put_unselected;
+use crate::telling::Telling;
+use crate::wanted::Wanted;
+use std::sync::ledger::Ledger;
+use ts_db::{Db, Id};
+use ts_labels::Filter;
+use ts_range::RangeFault;
+use ts_resp::{Out, encode_count, put};
+use ts_sample::Steps;
+
+/// Writes what is told of each series that passes filters, one after another in the order of their keys. Where the
+/// rows of one are too many, that alone is said, also where there is no memory for the others.
+pub fn put_members<L: Ledger>(
+    db: &Db,
+    filters: &[Filter],
+    wanted: &Wanted,
+    out: &mut Out,
+    steps: &mut Steps<L>,
+)
+    requires lets { AreAsAsked wanted.now }
+    requires empty { out.old.bytes ≡ [] }
+    requires room { 128 ≤ out.old.spare }
+    ensures reply { (from : Held) → Stands db.now from → IsReplyText (many_response from wanted.now filters.now) out.new.bytes }
+    ensures room { 128 ≤ length out.new.bytes + out.new.spare }
+    ensures steps { steps.new ≤ steps.old + (selection_steps db.now filters.now + sum_by (wanted_steps db.now wanted.now) (kept_selection db.now.keys filters.now)) }
+{
+    let Ok(ids) = db.select(filters, steps) else {
+        put_unselected(db, filters, wanted, out, steps);
+        return;
+    };
+    match add_members(db, &ids, wanted, out, steps) {
+        Ok(lost) => settle(lost, out),
+        Err(_) => {
+            out.clear();
+            put(&too_many_rows(), out);
+        }
+    }
+}
+
+/// Says that there is no memory in the place of what was written, where memory was lost.
+pub(crate) fn settle(lost: bool, out: &mut Out)
+    requires { 128 ≤ length out.old.bytes + out.old.spare }
+    ensures kept { lost ≡ false → out.new.bytes ≡ out.old.bytes }
+    ensures said { lost ≡ true → out.new.bytes ≡ text memory_reply }
+    ensures room { 128 ≤ length out.new.bytes + out.new.spare }
+{
+    if lost {
+        out.clear();
+        put_no_memory(out);
+    }
+}
+
+// Adds an array of what is told of the keys of these numbers, unless what is told of one is too much. Answers whether
+// memory was lost: then there may be a part of it, as there may be after an Err.
+fn add_members<L: Ledger>(
+    db: &Db,
+    ids: &[Id],
+    wanted: &Wanted,
+    out: &mut Out,
+    steps: &mut Steps<L>,
+) -> Result<bool, RangeFault>
+    requires live { All (IsLive db.now.ids) ids.now }
+    requires lets { AreAsAsked wanted.now }
+    ensures added { IfOk result (λ lost. (keys : List Key) → AreNumbersOf db.now.ids keys ids.now
+        → AreAddedOrLost lost (each_told (reply_at db.now.limits db.now.keys wanted.now) keys) out.old.bytes out.new.bytes) }
+    ensures refused { IfErr result (λ fault. (keys : List Key) → AreNumbersOf db.now.ids keys ids.now
+        → each_told (reply_at db.now.limits db.now.keys wanted.now) keys ≡ None) }
+    ensures room { length out.old.bytes + out.old.spare ≤ length out.new.bytes + out.new.spare }
+    ensures steps { (keys : List Key) → AreNumbersOf db.now.ids keys ids.now → steps.new ≤ steps.old + sum_by (wanted_steps db.now wanted.now) keys }
+{
+    let mut lost = begin_members(ids.len(), out);
+    for id in ids {
+        lost = add_next(db, *id, wanted, lost, out, steps)?;
+    }
+    Ok(lost)
+}
+
+/// Begins an array of so many. Answers whether there was no memory for that.
+pub(crate) fn begin_members(count: usize, out: &mut Out) -> bool
+    ensures begun { result ≡ false → out.new.bytes ≡ out.old.bytes ++ line_text 42 (decimal count) }
+    ensures room { length out.old.bytes + out.old.spare ≤ length out.new.bytes + out.new.spare }
+{
+    match encode_count(count, out) {
+        Ok(()) => false,
+        Err(_) => true,
+    }
+}
+
+// Adds what is told of the key of a number, unless memory was lost or is lost now, and answers whether it was. What is
+// told may be too much in either case.
+fn add_next<L: Ledger>(
+    db: &Db,
+    id: Id,
+    wanted: &Wanted,
+    lost: bool,
+    out: &mut Out,
+    steps: &mut Steps<L>,
+) -> Result<bool, RangeFault>
+    requires live { IsLive db.now.ids id }
+    requires lets { AreAsAsked wanted.now }
+    ensures added { IfOk result (λ now. (key : Key) → get key db.now.ids ≡ Some id → IsAddedOrLost text now (reply_at db.now.limits db.now.keys wanted.now key) out.old.bytes out.new.bytes) }
+    ensures stays { IfOk result (λ now. now ≡ false → lost ≡ false) }
+    ensures refused { IfErr result (λ fault. (key : Key) → get key db.now.ids ≡ Some id → reply_at db.now.limits db.now.keys wanted.now key ≡ None) }
+    ensures room { length out.old.bytes + out.old.spare ≤ length out.new.bytes + out.new.spare }
+    ensures steps { (key : Key) → get key db.now.ids ≡ Some id → steps.new ≤ steps.old + wanted_steps db.now wanted.now key }
+{
+    if lost {
+        if wanted.is_refused(db, id, steps) {
+            return Err(RangeFault::EmptyRows);
+        }
+        return Ok(true);
+    }
+    match add_member(db, id, wanted, out, steps) {
+        Ok(()) => Ok(false),
+        Err(RangeFault::Memory(_)) => Ok(true),
+        Err(RangeFault::EmptyRows) => Err(RangeFault::EmptyRows),
+    }
+}

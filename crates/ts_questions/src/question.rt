@@ -1,0 +1,144 @@
+// A question about the samples of one series.
+ghost use Rattle.std.specs.Prelude.{◌≡◌, ◌<◌, ◌^◌, Some};
+ghost use Rattle.ts_spec.specs.Answer.{is_let_through};
+ghost use Rattle.ts_spec.specs.Keyed.{get};
+ghost use Rattle.ts_spec.specs.Sample.{Point};
+ghost use Rattle.ts_range.specs.Filters.{passes};
+ghost use Rattle.ts_range.specs.Query.{query_of};
+ghost use Rattle.ts_db.specs.Faults.{key_with};
+
+use std::sync::ledger::Ledger;
+use ts_db::{Db, Id};
+use ts_range::{Filters, Query};
+use ts_sample::{Sample, Steps, Visit};
+
+/// What is asked of the series of a number: the query, whether the sample of its open bucket counts, and the filters of
+/// the query, ready to be asked.
+#[derive(Clone, Copy)]
+pub(crate) struct Question<'a> {
+    pub(crate) db: &'a Db,
+    pub(crate) id: Id,
+    pub(crate) latest: bool,
+    pub(crate) query: &'a Query,
+    pub(crate) filters: &'a Filters,
+    pub ghost live: { get (key_with db.now.ids id) db.now.ids ≡ Some id },
+    pub ghost lets: { (p : Point) → passes filters.now p ≡ is_let_through (query_of query.now) p },
+}
+
+impl<'a> Question<'a> {
+    ghost use Rattle.std.specs.Prelude.{◌≤◌, ◌+◌, ◌⊎◌, ℕ, false, suc, nat_lt, length};
+    ghost use Rattle.std.specs.Option.{ForSome};
+    ghost use Rattle.ts_sample.specs.Visit.{visited};
+    ghost use Rattle.ts_spec.specs.Key.{Key};
+    ghost use Rattle.ts_spec.specs.Sample.{IsAscending, at_times, between, last_of};
+    ghost use Rattle.ts_series.specs.Seams.{IsSeam, IsSeamed, Around};
+    ghost use Rattle.ts_db.specs.Bounds.{walk_steps};
+    ghost use Rattle.ts_db.specs.Held.{AreTimes, IsLive, ends_of};
+    ghost use Rattle.ts_questions.specs.Asking.{key_asked, samples_asked, pieces_asked, reach_asked};
+
+    pub(crate) fn new(
+        db: &'a Db,
+        id: Id,
+        latest: bool,
+        query: &'a Query,
+        filters: &'a Filters,
+    ) -> Question<'a>
+        requires live { IsLive db.now.ids id }
+        requires lets { (p : Point) → passes filters.now p ≡ is_let_through (query_of query.now) p }
+        ensures db { result.db.now ≡ db.now }
+        ensures latest { result.latest ≡ latest }
+        ensures query { result.query.now ≡ query.now }
+        ensures key { (key : Key) → get key db.now.ids ≡ Some id → key_asked result ≡ key }
+    {
+        let _key = db.key_of(id);
+        Question {
+            db,
+            id,
+            latest,
+            query,
+            filters,
+        }
+    }
+
+    /// Does nothing: it tells of its samples what a reference hides.
+    pub(crate) fn known(&self)
+        ensures rising { IsAscending (samples_asked self.now) }
+        ensures few { length (samples_asked self.now) ≤ 2 ^ 32 }
+        ensures around { (from to : ℕ) → Around from to (walk_steps self.now.db.now (key_asked self.now) from to) (pieces_asked self.now) }
+        ensures cuts { (t : ℕ) → Around (suc t) t (reach_asked self.now) (pieces_asked self.now) }
+    {
+        self.db.known();
+        self.db.seams_of(self.id);
+        self.db.cuts_of(self.id);
+        few(self.db);
+    }
+
+    /// Takes a visitor over the samples between two times, in milliseconds, both included, in their order.
+    pub(crate) fn visit<V: Visit, L: Ledger>(
+        &self,
+        from: u64,
+        to: u64,
+        visit: &mut V,
+        steps: &mut Steps<L>,
+    )
+        requires room { 2 ^ 32 ≤ V.room visit.old }
+        ensures visited { visit.new ≡ visited V.step visit.old (between from to (samples_asked self.now)) }
+        ensures seams { IsSeamed (pieces_asked self.now) from to steps.old steps.new }
+    {
+        self.db
+            .visit_of(self.id, from, to, self.latest, visit, steps);
+    }
+
+    /// The times of the first and of the last sample, in milliseconds, if there are any.
+    pub(crate) fn ends<L: Ledger>(&self, steps: &mut Steps<L>) -> Option<(u64, u64)>
+        ensures ends { result ≡ ends_of (samples_asked self.now) }
+        ensures bounded { ForSome result AreTimes }
+        ensures steps { steps.new ≤ steps.old + reach_asked self.now }
+    {
+        self.db.ends_of(self.id, self.latest, steps)
+    }
+
+    /// The last sample before a time, in milliseconds, if there is one.
+    pub(crate) fn before<L: Ledger>(&self, t: u64, steps: &mut Steps<L>) -> Option<Sample>
+        ensures before { result ≡ last_of (at_times (λ u. nat_lt u t) (samples_asked self.now)) }
+        ensures steps { steps.new ≤ steps.old + reach_asked self.now }
+    {
+        self.db.before_of(self.id, t, self.latest, steps)
+    }
+
+    /// A time from one to another, in milliseconds, up to which there are so many samples, where that of the open bucket
+    /// is not asked; the later one where there are fewer. It cuts no chunk.
+    pub(crate) fn time_for(&self, from: u64, to: u64, count: u64) -> u64
+        requires ordered { from ≤ to }
+        ensures within { (from ≤ result) × (result ≤ to) }
+        ensures enough { self.now.latest ≡ false → (result ≡ to) ⊎ (count ≤ length (between from result (samples_asked self.now))) }
+        ensures seam { (result ≡ to) ⊎ IsSeam (result + 1) (pieces_asked self.now) }
+    {
+        self.db.time_for(self.id, from, to, count)
+    }
+
+    /// A time from one to another, in milliseconds, from which on there are so many samples, where that of the open bucket
+    /// is not asked; the earlier one where there are fewer. It cuts no chunk.
+    pub(crate) fn time_from(&self, from: u64, to: u64, count: u64) -> u64
+        requires ordered { from ≤ to }
+        ensures within { (from ≤ result) × (result ≤ to) }
+        ensures enough { self.now.latest ≡ false → (result ≡ from) ⊎ (count ≤ length (between result to (samples_asked self.now))) }
+        ensures seam { (result ≡ from) ⊎ IsSeam result (pieces_asked self.now) }
+    {
+        self.db.time_from(self.id, from, to, count)
+    }
+
+    /// How many samples a new chunk of the series has room for at most.
+    pub(crate) fn chunk_reach(&self) -> u64
+        ensures { result ≤ reach_asked self.now }
+    {
+        self.db.chunk_reach_of(self.id)
+    }
+}
+
+// Does nothing: it tells a bound that a reference hides.
+fn few(db: &Db)
+    ensures { db.now.limits.samples < 2 ^ 32 }
+{
+    let _samples = db.limits().samples;
+}

@@ -1,0 +1,97 @@
+// A taker that writes rows.
+ghost use Rattle.std.specs.Prelude.{◌+◌, ◌≤◌, length};
+
+use crate::room::put_no_memory;
+use ts_range::{Keep, Row, Take};
+use ts_resp::{Out, PAIR, close_array, open_array, put_pair};
+
+/// Writes the text of each row, behind a gap for the line with their number. The room grows as it fills.
+#[derive(Drop)]
+pub(crate) struct RowTexts {
+    out: Out,
+    count: u64,
+    // Whether there was no memory for a row.
+    lost: bool,
+    ghost gap: { 24 ≤ length out.bytes },
+    ghost room: { 152 ≤ length out.bytes + out.spare },
+}
+
+/// The room that it wants at first: the gap, and what every error takes.
+pub(crate) const FIRST_ROOM: usize = 152;
+
+impl RowTexts {
+    ghost use Rattle.std.specs.Prelude.{◌≡◌, [], List};
+    ghost use Rattle.ts_spec.specs.Answer.{Row as TheRow};
+    ghost use Rattle.ts_spec.specs.Response.{Rows};
+    ghost use Rattle.ts_questions.specs.Answering.{IsReplyText};
+    ghost use Rattle.ts_questions.specs.RowTexts.{AreWritten};
+
+    /// No rows yet.
+    pub(crate) fn begin(mut out: Out) -> RowTexts
+        requires empty { out.bytes ≡ [] }
+        requires room { 152 ≤ out.spare }
+        ensures { AreWritten result.lost result.count result.out.bytes [] }
+    {
+        open_array(&mut out);
+        RowTexts {
+            out,
+            count: 0,
+            lost: false,
+        }
+    }
+
+    /// The text of the array of the rows, or that there was no memory.
+    pub(crate) fn finish(self) -> Out
+        ensures reply { (rows : List TheRow) → AreWritten self.lost self.count self.out.bytes rows → IsReplyText (Rows rows) result.bytes }
+        ensures room { 128 ≤ length result.bytes + result.spare }
+    {
+        let RowTexts {
+            mut out,
+            count,
+            lost,
+        } = self;
+        if lost {
+            out.clear();
+            put_no_memory(&mut out);
+            return out;
+        }
+        close_array(count as usize, &mut out);
+        out
+    }
+}
+
+impl Take for RowTexts {
+    ghost use Rattle.ts_range.specs.Taking.{no_limit};
+    ghost use Rattle.ts_questions.specs.RowTexts.{AreWritten};
+
+    ghost has = { λ t rows. AreWritten t.lost t.count t.out.bytes rows };
+
+    ghost limit = { λ t. no_limit };
+
+    fn row(&mut self, row: Row) {
+        if self.lost {
+            return;
+        }
+        let Some(count) = self.count.checked_add(1) else {
+            self.lost = true;
+            return;
+        };
+        match self.out.reserve(PAIR) {
+            Err(_) => self.lost = true,
+            Ok(()) => {
+                put_pair(row.time, row.value, &mut self.out);
+                self.count = count;
+            }
+        }
+    }
+
+    fn is_full(&self) -> bool {
+        self.lost
+    }
+}
+
+impl Keep for RowTexts {
+    fn lose(&mut self) {
+        self.lost = true;
+    }
+}

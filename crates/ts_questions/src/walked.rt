@@ -1,0 +1,111 @@
+// A walk over the samples of a question that leaves out those that it has no use for.
+ghost use Rattle.std.specs.Prelude.{◌≡◌, ◌≤◌, ◌+◌, ◌⊎◌, List, [], filter};
+ghost use Rattle.ts_spec.specs.Sample.{Point, between};
+ghost use Rattle.ts_range.specs.Walking.{lets, rows_chosen};
+ghost use Rattle.ts_series.specs.Seams.{IsSeam, IsSeamed};
+ghost use Rattle.ts_questions.specs.Asking.{samples_asked, pieces_asked, rows_in};
+
+use crate::question::Question;
+use std::sync::ledger::Ledger;
+use ts_range::{Take, Walk};
+use ts_sample::Steps;
+
+// How many samples the walk is given at least before it is asked which more it wants.
+const SHARE: u64 = 1024;
+
+/// The taker to which the rows of the samples between two times were handed, the first one first.
+pub(crate) fn handed<T: Take, L: Ledger>(
+    question: &Question<'_>,
+    from: u64,
+    to: u64,
+    taker: T,
+    steps: &mut Steps<L>,
+) -> T
+    requires none { T.has taker [] }
+    ensures rows { T.has result (rows_in question.now.query.now (samples_asked question.now) from to) }
+    ensures limit { T.limit result ≡ T.limit taker }
+    ensures seams { IsSeamed (pieces_asked question.now) from to steps.old steps.new }
+{
+    let walk = Walk::new(question.filters, question.query.buckets, taker);
+    walked(question, from, to, walk, steps)
+}
+
+/// The taker of a walk that has not begun, after the samples between two times. Where only some rows or some times are
+/// asked, not all of them are decoded.
+pub(crate) fn walked<T: Take, L: Ledger>(
+    question: &Question<'_>,
+    from: u64,
+    to: u64,
+    mut walk: Walk<'_, T>,
+    steps: &mut Steps<L>,
+) -> T
+    requires none { walk.seen ≡ [] }
+    ensures rows { T.has result (rows_chosen walk.entry.buckets (samples_asked question.now) (filter (lets walk.entry) (between from to (samples_asked question.now)))) }
+    ensures limit { T.limit result ≡ walk.entry.limit }
+    ensures seams { IsSeamed (pieces_asked question.now) from to steps.old steps.new }
+{
+    let query = question.query;
+    if query.times.is_some() || (!query.reverse && query.count.is_some()) {
+        return walked_in_shares(question, from, to, walk, steps);
+    }
+    question.known();
+    question.visit(from, to, &mut walk, steps);
+    walk.finish()
+}
+
+// The same, in shares of samples: before each the walk is asked which of the others it wants.
+fn walked_in_shares<T: Take, L: Ledger>(
+    question: &Question<'_>,
+    mut from: u64,
+    mut to: u64,
+    mut walk: Walk<'_, T>,
+    steps: &mut Steps<L>,
+) -> T
+    requires none { walk.seen ≡ [] }
+    ensures rows { T.has result (rows_chosen walk.entry.buckets (samples_asked question.now) (filter (lets walk.entry) (between from to (samples_asked question.now)))) }
+    ensures limit { T.limit result ≡ walk.entry.limit }
+    ensures seams { IsSeamed (pieces_asked question.now) from to steps.old steps.new }
+{
+    question.known();
+    while let Some((start, last)) = walk.wanted_part(from, to) {
+        let share = share_of(question, &walk, start, last);
+        question.visit(share.first, share.last, &mut walk, steps);
+        if share.end == last {
+            return walk.finish();
+        }
+        walk = match walk.finish_if_full() {
+            Ok(taker) => return taker,
+            Err(walk) => walk,
+        };
+        from = share.end + 1;
+        to = last;
+    }
+    walk.finish()
+}
+
+// A share of samples: the first and the last time in it that are wanted, and the time at which it ends. It ends where
+// a chunk does, so that no chunk is decoded for two shares.
+#[derive(Clone, Copy)]
+struct Share {
+    first: u64,
+    last: u64,
+    end: u64,
+}
+
+// The share that begins at a time and ends no later than another, of so many samples.
+fn share_of<T: Take>(question: &Question<'_>, walk: &Walk<'_, T>, start: u64, last: u64) -> Share
+    requires ordered { start ≤ last }
+    ensures within { (start ≤ result.first) × (result.first ≤ result.last) × (result.last ≤ result.end) × (result.end ≤ last) }
+    ensures all { (ps : List Point) → filter (lets walk.now) (between result.first result.last ps) ≡ filter (lets walk.now) (between start result.end ps) }
+    ensures seam { (result.end ≡ last) ⊎ IsSeam (result.end + 1) (pieces_asked question.now) }
+{
+    let end = question.time_for(start, last, SHARE);
+    match walk.wanted_part(start, end) {
+        None => Share {
+            first: start,
+            last: end,
+            end,
+        },
+        Some((first, last)) => Share { first, last, end },
+    }
+}

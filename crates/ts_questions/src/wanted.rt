@@ -1,0 +1,66 @@
+// What is told of each of many series.
+ghost use Rattle.std.specs.Prelude.{◌≡◌, ◌+◌, ◌≤◌, is_none, Some};
+ghost use Rattle.ts_spec.specs.Key.{Key};
+ghost use Rattle.ts_spec.specs.Keyed.{get};
+ghost use Rattle.ts_db.specs.Held.{IsLive};
+ghost use Rattle.ts_questions.specs.Bounds.{wanted_steps};
+ghost use Rattle.ts_questions.specs.Members.{is_too_much_at, reply_at};
+
+use crate::telling::Telling;
+use crate::told::has_too_many_rows;
+use std::sync::ledger::Ledger;
+use ts_db::{Db, Id};
+use ts_labels::Show;
+use ts_range::{Filters, Query};
+use ts_sample::Steps;
+
+/// What an answer over many series tells of each.
+#[derive(Drop)]
+pub enum Wanted {
+    /// Its key.
+    Key,
+    /// Its key, those of its labels that are shown, and its last row.
+    Last {
+        latest: bool,
+        show: Show,
+    },
+    /// Its key, those of its labels that are shown, and the rows of a question.
+    Rows {
+        latest: bool,
+        show: Show,
+        query: Query,
+        /// What the query lets through, unless there was no memory for that.
+        filters: Option<Filters>,
+    },
+}
+
+impl Telling for Wanted {
+    ghost is_too_much = { λ w stock key. is_too_much_at w stock key };
+
+    ghost most = { λ w stock key. wanted_steps stock w key };
+
+    fn can_be_refused(&self) -> bool {
+        match self {
+            Wanted::Key => false,
+            Wanted::Last { .. } => false,
+            Wanted::Rows { .. } => true,
+        }
+    }
+
+    fn is_refused<L: Ledger>(&self, db: &Db, id: Id, steps: &mut Steps<L>) -> bool {
+        is_refused(db, id, self, steps)
+    }
+}
+
+// Whether what is told of the key of a number is too much. Takes no memory.
+fn is_refused<L: Ledger>(db: &Db, id: Id, wanted: &Wanted, steps: &mut Steps<L>) -> bool
+    requires { IsLive db.now.ids id }
+    ensures refused { (key : Key) → get key db.now.ids ≡ Some id → result ≡ is_none (reply_at db.now.limits db.now.keys wanted.now key) }
+    ensures steps { (key : Key) → get key db.now.ids ≡ Some id → steps.new ≤ steps.old + wanted_steps db.now wanted.now key }
+{
+    match wanted {
+        Wanted::Key => false,
+        Wanted::Last { .. } => false,
+        Wanted::Rows { latest, query, .. } => has_too_many_rows(db, id, *latest, query, steps),
+    }
+}
