@@ -44,4 +44,5 @@ pub use info::{Info, RuleInfo};
 pub use ts_index::Candidates;
 pub use ts_labels::{Change, Spec};
 pub use ts_sample::Id;
+pub use ts_series::Cursor;
 pub use ts_spec::Limits;

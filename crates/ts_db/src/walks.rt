@@ -1,10 +1,10 @@
-// Walks over the samples of a key by its number, and the times at which they can be cut.
-ghost use Rattle.std.specs.Prelude.{◌≡◌, ◌≤◌, ◌^◌, ◌⊎◌, ℕ, suc, false, length, Some, ◌+◌};
+// Walks over the samples of a key by its number, reads of them one after another, and the times at which they can be cut.
+ghost use Rattle.std.specs.Prelude.{◌≡◌, ◌≤◌, ◌^◌, ◌⊎◌, ℕ, suc, nat_le, false, length, Some, ◌+◌};
 ghost use Rattle.ts_sample.specs.Visit.{visited};
 ghost use Rattle.ts_spec.specs.Key.{Key};
 ghost use Rattle.ts_spec.specs.Keyed.{get};
 ghost use Rattle.ts_spec.specs.KeptQuestions.{kept_asked};
-ghost use Rattle.ts_spec.specs.Sample.{between};
+ghost use Rattle.ts_spec.specs.Sample.{at_times, between};
 ghost use Rattle.ts_series.specs.Seams.{IsSeam, IsSeamed, Around};
 ghost use Rattle.ts_db.specs.Held.{IsLive, reach_at, pieces_at};
 ghost use Rattle.ts_db.specs.Bounds.{walk_steps};
@@ -13,6 +13,7 @@ use crate::among::scan_shown;
 use crate::db::Db;
 use std::sync::ledger::Ledger;
 use ts_sample::{Id, Steps, Visit};
+use ts_series::Cursor;
 
 impl Db {
     /// Takes a visitor over the samples of the key of a number between two times, in milliseconds, both included, in
@@ -38,6 +39,18 @@ impl Db {
         let _limit = self.limits().samples;
         let row = self.asked_row(id, latest);
         scan_shown(&self.node(id).series, from, to, row, visit, steps);
+    }
+
+    /// Begins to read the samples of the key of a number from a time on, in milliseconds. The sample of an open bucket is
+    /// not among them. Takes no memory.
+    pub fn read_of<L: Ledger>(&self, id: Id, from: u64, steps: &mut Steps<L>) -> Cursor<'_>
+        requires { IsLive self.now.ids id }
+        ensures left { (key : Key) → get key self.now.ids ≡ Some id
+            → result ≡ at_times (nat_le from) (kept_asked self.now.keys false key) }
+        ensures counted { steps.old ≤ steps.new }
+        ensures steps { (key : Key) → get key self.now.ids ≡ Some id → steps.new ≤ steps.old + reach_at self.now key }
+    {
+        self.node(id).series.read_from(from, steps)
     }
 
     /// A time from one to another, in milliseconds, up to which the key of a number has so many samples; the later

@@ -1,7 +1,9 @@
 pub mod Asking
 pub mod Few
+pub mod FewRead
 pub mod FillingIn
 pub mod Finding
+pub mod FromBack
 pub mod Gathered
 pub mod GroupReplies
 pub mod Handing

@@ -27,14 +27,14 @@ parts from to t l rises upto =
     parted (λ u. nat_le u t) (λ u v le is. down t u v le is) all (ascending-times (is_within from to) l rises)
     ∙ ap (λ (ps : List Point). ps ++ at_times (λ u. not (nat_le u t)) all) first
 
-module _ (q : Query) (l : List Point) (rises : IsAscending l) (times : q.times ≡ None) (values : q.values ≡ None) (buckets : q.buckets ≡ None) (forward : q.reverse ≡ false)
+module _ (q : Query) (l : List Point) (times : q.times ≡ None) (values : q.values ≡ None) (buckets : q.buckets ≡ None) (forward : q.reverse ≡ false)
     (n : ℕ) (count : q.count ≡ Some n) where
   lets : (p : Point) → is_let_through q p ≡ true
   lets p =
       ap (λ (o : Option (List ℕ)). lets_time o p.time && lets_value q.values p.value) times
       ∙ ap (λ (o : Option Span). true && lets_value o p.value) values
 
-  plain : (x : ℕ) → rows (record q { to = x }) l ≡ take n (map row_of (between q.from x l))
+  pub plain : (x : ℕ) → rows (record q { to = x }) l ≡ take n (map row_of (between q.from x l))
   plain x =
       ap (λ (c : Option ℕ). first_ones c (turned q.reverse (rows_of q.buckets (record q { to = x }) l))) count
       ∙ ap (λ (r : Bool). take n (turned r (rows_of q.buckets (record q { to = x }) l))) forward
@@ -42,9 +42,9 @@ module _ (q : Query) (l : List Point) (rises : IsAscending l) (times : q.times �
       ∙ ap (λ (ps : List Point). take n (map row_of ps)) (filter-all (is_let_through q) (between q.from x l) (λ k d within. lets (get_or (between q.from x l) k d)))
 
   -- so many of them are enough
-  pub rows-upto : (t : ℕ) → t ≤ q.to → (t ≡ q.to) ⊎ (n ≤ length (between q.from t l)) → rows (record q { to = t }) l ≡ rows q l
-  rows-upto t upto (inl same) = ap (λ (x : ℕ). rows (record q { to = x }) l) same
-  rows-upto t upto (inr few) =
+  pub rows-upto : IsAscending l → (t : ℕ) → t ≤ q.to → (t ≡ q.to) ⊎ (n ≤ length (between q.from t l)) → rows (record q { to = t }) l ≡ rows q l
+  rows-upto rises t upto (inl same) = ap (λ (x : ℕ). rows (record q { to = x }) l) same
+  rows-upto rises t upto (inr few) =
       let front = map row_of (between q.from t l) in
       let back = map row_of (at_times (λ u. not (nat_le u t)) (between q.from q.to l)) in
       plain t

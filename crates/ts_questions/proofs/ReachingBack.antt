@@ -27,14 +27,14 @@ parts from to t l rises on =
     parted (λ u. nat_lt u t) (λ u v le is. down t u v le is) all (ascending-times (is_within from to) l rises)
     ∙ ap (λ (ps : List Point). at_times (λ u. nat_lt u t) all ++ ps) last
 
-module _ (q : Query) (l : List Point) (rises : IsAscending l) (times : q.times ≡ None) (values : q.values ≡ None) (buckets : q.buckets ≡ None) (backward : q.reverse ≡ true)
+module _ (q : Query) (l : List Point) (times : q.times ≡ None) (values : q.values ≡ None) (buckets : q.buckets ≡ None) (backward : q.reverse ≡ true)
     (n : ℕ) (count : q.count ≡ Some n) where
   lets : (p : Point) → is_let_through q p ≡ true
   lets p =
       ap (λ (o : Option (List ℕ)). lets_time o p.time && lets_value q.values p.value) times
       ∙ ap (λ (o : Option Span). true && lets_value o p.value) values
 
-  plain : (x : ℕ) → rows (record q { from = x }) l ≡ take n (reverse (map row_of (between x q.to l)))
+  pub plain : (x : ℕ) → rows (record q { from = x }) l ≡ take n (reverse (map row_of (between x q.to l)))
   plain x =
       ap (λ (c : Option ℕ). first_ones c (turned q.reverse (rows_of q.buckets (record q { from = x }) l))) count
       ∙ ap (λ (r : Bool). take n (turned r (rows_of q.buckets (record q { from = x }) l))) backward
@@ -42,9 +42,9 @@ module _ (q : Query) (l : List Point) (rises : IsAscending l) (times : q.times �
       ∙ ap (λ (ps : List Point). take n (reverse (map row_of ps))) (filter-all (is_let_through q) (between x q.to l) (λ k d within. lets (get_or (between x q.to l) k d)))
 
   -- so many of them are enough
-  pub rows-from : (t : ℕ) → q.from ≤ t → (t ≡ q.from) ⊎ (n ≤ length (between t q.to l)) → rows (record q { from = t }) l ≡ rows q l
-  rows-from t on (inl same) = ap (λ (x : ℕ). rows (record q { from = x }) l) same
-  rows-from t on (inr few) =
+  pub rows-from : IsAscending l → (t : ℕ) → q.from ≤ t → (t ≡ q.from) ⊎ (n ≤ length (between t q.to l)) → rows (record q { from = t }) l ≡ rows q l
+  rows-from rises t on (inl same) = ap (λ (x : ℕ). rows (record q { from = x }) l) same
+  rows-from rises t on (inr few) =
       let early = at_times (λ u. nat_lt u t) (between q.from q.to l) in
       let front = map row_of early in
       let back = map row_of (between t q.to l) in

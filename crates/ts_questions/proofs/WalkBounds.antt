@@ -20,7 +20,7 @@ one-more true p ps = omega arith
 one-more false p ps = omega arith
 
 -- two tests of which at most one holds, and a third that holds where one of them does
-fewer : (a b both : ℕ → Bool) → ((t : ℕ) → one (a t) + one (b t) ≤ one (both t)) → (l : List Point) → length (at_times a l) + length (at_times b l) ≤ length (at_times both l)
+pub fewer : (a b both : ℕ → Bool) → ((t : ℕ) → one (a t) + one (b t) ≤ one (both t)) → (l : List Point) → length (at_times a l) + length (at_times b l) ≤ length (at_times both l)
 fewer a b both each [] = omega arith
 fewer a b both each (p ∷ ps) =
     omega (arith, each p.time, fewer a b both each ps, one-more (a p.time) p (at_times a ps), one-more (b p.time) p (at_times b ps), one-more (both p.time) p (at_times both ps))

@@ -1,5 +1,5 @@
 -- A question about one series: the samples of which it is asked, the rows that answer it, and what is told.
-use Rattle.std.specs.Prelude.{◌≡◌, ℕ, ◌*◌, false, List, [], filter, Option, option_map}
+use Rattle.std.specs.Prelude.{◌≡◌, ℕ, ◌*◌, ◌<◌, false, List, [], filter, Option, None, Some, option_map}
 use Rattle.ts_spec.specs.Answer.{Row, answer, is_let_through, rows, tells_empty}
 use Rattle.ts_spec.specs.Key.{Key}
 use Rattle.ts_spec.specs.KeptQuestions.{kept_asked}
@@ -51,3 +51,12 @@ abbrev pub steps_beside : Question → Told → ℕ
 steps_beside q Samples = 3 * reach_asked q
 steps_beside q (Buckets stretch) = 2 * reach_asked q
 steps_beside q Nothing = 0
+
+-- only few samples of its own are wanted, fewer than a chunk may hold, and each of the interval is told
+pub record IsFew (q : Question) (n : ℕ) : Type 0 where
+  pub count : q.query.now.count ≡ Some n
+  pub own : q.latest ≡ false
+  pub times : q.query.now.times ≡ None
+  pub values : q.query.now.values ≡ None
+  pub buckets : q.query.now.buckets ≡ None
+  pub fewer : n < reach_asked q

@@ -3,7 +3,9 @@
 
 mod by_value;
 mod faults;
+mod few_samples;
 mod filled;
+mod from_back;
 mod gathering;
 mod grouped;
 mod grouping;

@@ -164,7 +164,7 @@ fn rows_told<L: Ledger>(
     ensures rows { IfOk result (λ found. map row_of found.items ≡ rows_asked question.now) }
     ensures seams { IsSeamed (pieces_asked question.now) question.now.query.now.from question.now.query.now.to (steps.old + steps_beside question.now told.now) steps.new }
 {
-    if question.query.reverse {
+    if question.query.reverse && question.query.buckets.is_some() {
         return rows_back(question, told, steps);
     }
     let taker = RowList::with_room(question.db.alloc(), 0)?;

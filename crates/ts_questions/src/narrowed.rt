@@ -53,8 +53,8 @@ pub(crate) fn first_wanted(question: &Question<'_>) -> u64
     question.time_from(query.from, query.to, count)
 }
 
-// Whether each sample of the interval is told.
-fn tells_each(query: &Query) -> bool
+/// Whether each sample of the interval is told.
+pub(crate) fn tells_each(query: &Query) -> bool
     ensures { result ≡ true → (query.now.times ≡ None) × (query.now.values ≡ None) × (query.now.buckets ≡ None) }
 {
     if query.times.is_some() {

@@ -8,7 +8,7 @@ ghost use Rattle.ts_range.specs.Query.{query_of};
 ghost use Rattle.ts_db.specs.Faults.{key_with};
 
 use std::sync::ledger::Ledger;
-use ts_db::{Db, Id};
+use ts_db::{Cursor, Db, Id};
 use ts_range::{Filters, Query};
 use ts_sample::{Sample, Steps, Visit};
 
@@ -26,7 +26,7 @@ pub(crate) struct Question<'a> {
 }
 
 impl<'a> Question<'a> {
-    ghost use Rattle.std.specs.Prelude.{◌≤◌, ◌+◌, ◌⊎◌, ℕ, false, suc, nat_lt, length};
+    ghost use Rattle.std.specs.Prelude.{◌≤◌, ◌+◌, ◌⊎◌, ℕ, false, suc, nat_le, nat_lt, length};
     ghost use Rattle.std.specs.Option.{ForSome};
     ghost use Rattle.ts_sample.specs.Visit.{visited};
     ghost use Rattle.ts_spec.specs.Key.{Key};
@@ -126,6 +126,22 @@ impl<'a> Question<'a> {
         ensures seam { (result ≡ from) ⊎ IsSeam result (pieces_asked self.now) }
     {
         self.db.time_from(self.id, from, to, count)
+    }
+
+    /// Begins to read the samples from a time on, in milliseconds, where that of the open bucket is not asked.
+    pub(crate) fn read_from<L: Ledger>(&self, from: u64, steps: &mut Steps<L>) -> Cursor<'a>
+        ensures left { self.now.latest ≡ false → result ≡ at_times (nat_le from) (samples_asked self.now) }
+        ensures steps { steps.new ≤ steps.old + reach_asked self.now }
+    {
+        self.db.read_of(self.id, from, steps)
+    }
+
+    /// The last sample, if there is one, where that of the open bucket is not asked. Decodes none.
+    pub(crate) fn last<L: Ledger>(&self, steps: &mut Steps<L>) -> Option<Sample>
+        ensures last { self.now.latest ≡ false → result ≡ last_of (samples_asked self.now) }
+        ensures steps { steps.new ≡ steps.old }
+    {
+        self.db.last_of(self.id, false, steps)
     }
 
     /// How many samples a new chunk of the series has room for at most.

@@ -1,14 +1,16 @@
 // The rows of a question, handed to whoever takes them.
-ghost use Rattle.std.specs.Prelude.{◌≡◌, ◌+◌, ◌*◌, ◌++◌, true, false, List, [], map, IfOk};
-ghost use Rattle.ts_spec.specs.Answer.{Row as TheRow, tells_empty};
+ghost use Rattle.std.specs.Prelude.{◌≡◌, ◌+◌, ◌*◌, true, false, [], map, IfOk};
+ghost use Rattle.ts_spec.specs.Answer.{tells_empty};
 ghost use Rattle.ts_range.specs.Query.{query_of, row_of};
 ghost use Rattle.ts_range.specs.Stretches.{IsStretchIn};
 ghost use Rattle.ts_series.specs.Seams.{IsSeamed};
 ghost use Rattle.ts_questions.specs.Asking.{samples_asked, pieces_asked, reach_asked, rows_asked, steps_beside, IsTold};
 
+use crate::few_samples::{few_into, few_wanted};
 use crate::filled::handed_filled;
+use crate::from_back::{hand_on, samples_back_into};
 use crate::last_rows::{last_rows, rows_between};
-use crate::narrowed::{first_wanted, last_wanted};
+use crate::narrowed::last_wanted;
 use crate::question::Question;
 use crate::told::Told;
 use crate::walked::handed;
@@ -45,15 +47,18 @@ fn samples_into<T: Take, L: Ledger>(question: &Question<'_>, taker: T, steps: &m
     requires full { tells_empty (query_of question.now.query.now).buckets ≡ false }
     requires none { T.has taker [] }
     ensures rows { T.has result (rows_asked question.now) }
-    ensures seams { IsSeamed (pieces_asked question.now) question.now.query.now.from question.now.query.now.to steps.old steps.new }
+    ensures seams { IsSeamed (pieces_asked question.now) question.now.query.now.from question.now.query.now.to (steps.old + 3 * reach_asked question.now) steps.new }
 {
+    if let Some(count) = few_wanted(question) {
+        return few_into(question, count, taker, steps);
+    }
     let query = question.query;
     let to = last_wanted(question);
     let taker = Limited::new(taker, query.count);
     handed(question, query.from, to, taker, steps).into_taker()
 }
 
-// The taker to which the rows were handed, the last one first. They are found before the first one is handed on.
+// The taker to which the rows were handed, the last one first. Those of buckets are found before the first one is handed on.
 fn rows_back_into<T: Keep, L: Ledger>(
     question: &Question<'_>,
     told: &Told,
@@ -66,20 +71,14 @@ fn rows_back_into<T: Keep, L: Ledger>(
     ensures rows { T.has result (rows_asked question.now) }
     ensures seams { IsSeamed (pieces_asked question.now) question.now.query.now.from question.now.query.now.to (steps.old + steps_beside question.now told.now) steps.new }
 {
+    if question.query.buckets.is_none() {
+        return samples_back_into(question, taker, steps);
+    }
     match rows_back(question, told, steps) {
         Ok(rows) => hand_on(&rows, &mut taker),
         Err(_) => taker.lose(),
     }
     taker
-}
-
-// Hands rows on.
-fn hand_on<T: Take>(rows: &[Row], taker: &mut T)
-    ensures { (before : List TheRow) → T.has taker.old before → T.has taker.new (before ++ map row_of rows.now) }
-{
-    for row in rows {
-        taker.row(*row);
-    }
 }
 
 /// The rows of what is told, the last one first.
@@ -111,11 +110,10 @@ fn samples_back<L: Ledger>(
     ensures seams { IsSeamed (pieces_asked question.now) question.now.query.now.from question.now.query.now.to (steps.old + 3 * reach_asked question.now) steps.new }
 {
     let query = question.query;
-    let from = first_wanted(question);
     if let Some(count) = query.count {
-        return last_rows(question, from, count, steps);
+        return last_rows(question, query.from, count, steps);
     }
-    let rows = rows_between(question, from, query.to, steps)?;
+    let rows = rows_between(question, query.from, query.to, steps)?;
     Ok(turned(rows, None))
 }
 

@@ -12,42 +12,33 @@ pub returns-in-Some-clause-rows : goal.returns-in-Some-clause-rows
 returns-in-Some-clause-rows g c =
     let question = c.args.question.now in
     let q = question.query.now in
-    let from = c.first_wanted-from.result in
-    let all = rows_in q (samples_asked question) from q.to in
+    let all = rows_in q (samples_asked question) q.from q.to in
     IfOk-weaker c.last_rows.result (λ found. map row_of found.items ≡ first_ones (Some c.in-Some.count) (reverse all)) (λ found. map row_of found.items ≡ rows_asked question)
     (λ found told.
     told
     ∙ ap (λ (o : Option _). first_ones o (reverse all)) (sym c.in-Some.is)
-    ∙ walk-rows-back (record (query_of q) { from = from }) (samples_asked question) (is_let_through (query_of q)) (λ p. refl) c.requires.backward c.requires.full
-    ∙ c.first_wanted-from.ensures.rows)
+    ∙ walk-rows-back (query_of q) (samples_asked question) (is_let_through (query_of q)) (λ p. refl) c.requires.backward c.requires.full)
     c.last_rows.ensures.rows
-
-pub returns-in-Some-clause-seams : goal.returns-in-Some-clause-seams
-returns-in-Some-clause-seams g c =
-    let q = c.args.question.now.query.now in
-    let most = c.args.steps.now + 3 * reach_asked c.args.question.now in
-    seamed-part (pieces_asked c.args.question.now) q.from q.to c.first_wanted-from.result q.to most most c.last_rows.new.steps c.first_wanted-from.ensures.within (omega arith) (omega arith) c.last_rows.ensures.seams
 
 -- without COUNT
 pub returns-clause-rows : goal.returns-clause-rows
 returns-clause-rows g c =
     let question = c.args.question.now in
     let q = question.query.now in
-    let all = rows_in q (samples_asked question) c.first_wanted-from.result q.to in
+    let all = rows_in q (samples_asked question) q.from q.to in
     c.turned.ensures
     ∙ ap (λ rs. reverse rs) c.in_ok-rows.ensures.rows
     ∙ ap (λ (o : Option _). first_ones o (reverse all)) (sym c.in_default.is)
-    ∙ walk-rows-back (record (query_of q) { from = c.first_wanted-from.result }) (samples_asked question) (is_let_through (query_of q)) (λ p. refl) c.requires.backward c.requires.full
-    ∙ c.first_wanted-from.ensures.rows
+    ∙ walk-rows-back (query_of q) (samples_asked question) (is_let_through (query_of q)) (λ p. refl) c.requires.backward c.requires.full
 
 pub returns-in_err-rows-clause-seams : goal.returns-in_err-rows-clause-seams
 returns-in_err-rows-clause-seams g c =
     let q = c.args.question.now.query.now in
-    seamed-part (pieces_asked c.args.question.now) q.from q.to c.first_wanted-from.result q.to c.args.steps.now (c.args.steps.now + 3 * reach_asked c.args.question.now) c.rows_between.new.steps
-    c.first_wanted-from.ensures.within (omega arith) (omega arith) c.rows_between.ensures.seams
+    seamed-part (pieces_asked c.args.question.now) q.from q.to q.from q.to c.args.steps.now (c.args.steps.now + 3 * reach_asked c.args.question.now) c.rows_between.new.steps
+    (omega arith) (omega arith) (omega arith) c.rows_between.ensures.seams
 
 pub returns-clause-seams : goal.returns-clause-seams
 returns-clause-seams g c =
     let q = c.args.question.now.query.now in
-    seamed-part (pieces_asked c.args.question.now) q.from q.to c.first_wanted-from.result q.to c.args.steps.now (c.args.steps.now + 3 * reach_asked c.args.question.now) c.rows_between.new.steps
-    c.first_wanted-from.ensures.within (omega arith) (omega arith) c.rows_between.ensures.seams
+    seamed-part (pieces_asked c.args.question.now) q.from q.to q.from q.to c.args.steps.now (c.args.steps.now + 3 * reach_asked c.args.question.now) c.rows_between.new.steps
+    (omega arith) (omega arith) (omega arith) c.rows_between.ensures.seams

@@ -1,10 +1,10 @@
-use Rattle.std.proofs.Common.{◌≡◌, ◌∙◌, List, refl, ap, subst, arith}
+use Rattle.std.proofs.Common.{◌≡◌, ◌+◌, ◌*◌, ◌∙◌, List, refl, ap, subst, arith}
 use Rattle.std.specs.Prelude.{Option}
 use Rattle.ts_spec.specs.Answer.{Row, first_ones, is_let_through}
 use Rattle.ts_range.specs.Query.{query_of}
 use Rattle.ts_range.specs.Taking.{Limit}
 use Rattle.ts_range.proofs.Whole.{walk-rows}
-use Rattle.ts_questions.specs.Asking.{samples_asked, pieces_asked, rows_asked, rows_in}
+use Rattle.ts_questions.specs.Asking.{samples_asked, pieces_asked, reach_asked, rows_asked, rows_in}
 use Rattle.ts_questions.proofs.WalkBounds.{seamed-part}
 use Rattle.ts_questions.proofs.rows_into.samples_into.Goals as goal
 
@@ -23,5 +23,5 @@ returns-clause-rows g c =
 pub returns-clause-seams : goal.returns-clause-seams
 returns-clause-seams g c =
     let q = c.args.question.now.query.now in
-    seamed-part (pieces_asked c.args.question.now) q.from q.to q.from c.last_wanted-to.result c.args.steps.now c.args.steps.now c.handed.new.steps (omega arith) c.last_wanted-to.ensures.within (omega arith)
-    c.handed.ensures.seams
+    seamed-part (pieces_asked c.args.question.now) q.from q.to q.from c.last_wanted-to.result c.args.steps.now (c.args.steps.now + 3 * reach_asked c.args.question.now) c.handed.new.steps (omega arith)
+    c.last_wanted-to.ensures.within (omega arith) c.handed.ensures.seams

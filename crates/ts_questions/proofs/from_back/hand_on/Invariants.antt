@@ -1,7 +1,7 @@
 use Rattle.std.proofs.Common.{List, ◌++◌, map, take}
 use Rattle.ts_spec.specs.Answer.{Row}
 use Rattle.ts_range.specs.Query.{row_of}
-use Rattle.ts_questions.proofs.rows_into.hand_on.Given as goal
+use Rattle.ts_questions.proofs.from_back.hand_on.Given as goal
 
 -- those before the one at hand were handed on
 abbrev pub invariant-loop-row : goal.invariant-loop-row
