@@ -42,6 +42,7 @@ pub(crate) fn read_labels(alloc: Global, words: &[Word]) -> Result<Labels, ReadF
         add_label(&mut labels, name, value)?;
         rest = next;
     }
+    labels.shrink_to_fit();
     Ok(labels)
 }
 

@@ -55,6 +55,17 @@ impl Labels {
         Ok(())
     }
 
+    /// Gives back the room that is kept for more labels. The labels stay; where copies share them, the room stays too.
+    pub fn shrink_to_fit(&mut self)
+        ensures { self.new ≡ self.old }
+    {
+        if let Some(shared) = &mut self.map
+            && let Some(map) = Rc::get_mut(shared)
+        {
+            map.shrink_to_fit();
+        }
+    }
+
     // A copy of the map that no one else holds.
     fn copied(&self) -> Result<IndexMap<Word, Word>, AllocError>
         ensures { IfOk result (λ map. labels_in map.entries ≡ self.now) }
