@@ -1,13 +1,17 @@
 -- A list that is cut at a time, and a sample that is put into one part.
-use Rattle.std.proofs.Common.{◌≡◌, ℕ, ◌/◌, ◌+◌, ◌<◌, ◌≤◌, List, [], ◌∷◌, ◌++◌, length, take, drop, sym, ap, ◌∙◌, subst, append_assoc, arith, length-append}
+use Rattle.std.proofs.Common.{◌≡◌, ℕ, false, ◌/◌, ◌+◌, ◌<◌, ◌≤◌, List, [], ◌∷◌, ◌++◌, length, take, drop, sym, ap, ◌∙◌, subst, append_assoc, append-nil, arith, length-append}
 use Rattle.std.specs.Prelude.{Some, ◌&&◌, nat_lt, nat_le}
 use Rattle.std.proofs.lemmas.Bool.Decides.{nat_tests}
-use Rattle.std.proofs.lemmas.List.{take_at, drop_at}
+use Rattle.std.proofs.lemmas.List.{take_at, drop_at, append_cancel_left}
 use Rattle.std.proofs.lemmas.List.Elements.{filter-append}
-use Rattle.ts_spec.specs.Sample.{Point, IsAscending, at_times, first_of, put}
+use Rattle.ts_spec.specs.Sample.{Point, IsAfter, IsAscending, at_times, first_of, put}
 use Rattle.ts_sample.proofs.Between.{filter-filter}
+use Rattle.ts_sample.proofs.Lists.{ascending-right}
 use Rattle.ts_sample.proofs.Parted.{filter_alike}
+use Rattle.ts_sample.proofs.Replacing.{none-before}
+use Rattle.ts_chunk_packed.specs.Rest.{AreBefore}
 use Rattle.ts_chunk_packed.proofs.Resting.{parts_of}
+use Rattle.ts_chunk_packed.proofs.Starting.{all_before}
 
 module _ (p : Point) (time : ℕ) (all : List Point) (rises : IsAscending all) where
   abbrev early : List Point
@@ -63,6 +67,45 @@ module _ (p : Point) (time : ℕ) (all : List Point) (rises : IsAscending all) w
       past : (s t n : ℕ) → t ≤ s → (nat_le t n && nat_lt s n) ≡ nat_lt s n
       past s t n more = grind (arith, nat_tests)
 
+-- a part that begins with this sample, and one before it
+module _ (b : Point) where
+  low-none : (rs : List Point) → Some b ≡ first_of rs → IsAscending rs → at_times (λ t. nat_lt t b.time) rs ≡ []
+  low-none [] is up = absurd (cc)
+  low-none (r ∷ rs) is up =
+      let same : b ≡ r = cc in
+      let not-it : nat_lt b.time b.time ≡ false = grind (arith, nat_tests) in
+      ap (λ (x : Point). at_times (λ t. nat_lt t b.time) (x ∷ rs)) (sym same) ∙ rw not-it (none-before b.time rs (subst (λ (x : Point). IsAfter x.time rs) (sym same) up.0))
+
+  before-it : (ps rs : List Point) → Some b ≡ first_of rs → IsAscending (ps ++ rs) → AreBefore b.time ps
+  before-it [] rs is up = tt
+  before-it (q ∷ ps) rs is up = (past-all q.time ps rs is up.0, before-it ps rs is up.1)
+    where
+      past-all : (t : ℕ) (ps rs : List Point) → Some b ≡ first_of rs → IsAfter t (ps ++ rs) → t < b.time
+      past-all t [] [] is after = absurd (cc)
+      past-all t [] (r ∷ rs) is after = let same : b ≡ r = cc in subst (λ (x : Point). t < x.time) (sym same) after.0
+      past-all t (q ∷ ps) rs is after = past-all t ps rs is after.1
+
+-- of two parts, a sample before the first of the second is put into the first, and any other into the second
+module _ (p : Point) (ps qs all : List Point) (whole : ps ++ qs ≡ all) (rises : IsAscending all) (b : Point) (begins : Some b ≡ first_of qs) where
+  up : IsAscending (ps ++ qs)
+  up = subst IsAscending (sym whole) rises
+
+  first-part : early p b.time all rises ≡ ps
+  first-part =
+      ap (at_times (λ t. nat_lt t b.time)) (sym whole) ∙ all_before b.time ps qs (before-it b ps qs begins up)
+      ∙ ap (λ (l : List Point). ps ++ l) (low-none b qs begins (ascending-right ps qs up)) ∙ append-nil ps
+
+  second-part : late p b.time all rises ≡ qs
+  second-part =
+      append_cancel_left ps (at_times (nat_le b.time) all) qs
+      (ap (λ (l : List Point). l ++ at_times (nat_le b.time) all) (sym first-part) ∙ parts_of b.time all rises ∙ sym whole)
+
+  pub into-first : p.time < b.time → put p ps ++ qs ≡ put p all
+  into-first less = sym (λ i. put p (first-part i) ++ second-part i) ∙ put-early p b.time all rises less
+
+  pub into-second : b.time ≤ p.time → ps ++ put p qs ≡ put p all
+  into-second more = sym (λ i. first-part i ++ put p (second-part i)) ∙ put-late p b.time all rises more
+
 -- the halves of a list that is so many samples and then so many others
 module _ (ps qs all : List Point) (parts : ps ++ qs ≡ all) (even : length ps ≡ (length ps + length qs) / 2) where
   half : length all / 2 ≡ length ps
@@ -73,16 +116,3 @@ module _ (ps qs all : List Point) (parts : ps ++ qs ≡ all) (even : length ps �
 
   pub second-half : qs ≡ drop (length all / 2) all
   second-half = sym (ap (drop (length all / 2)) (sym parts) ∙ drop_at ps qs (length all / 2) (sym half))
-
--- ---- a list after its first sample was taken
-
-module _ (p : Point) (ps : List Point) {none with_it left : List Point} (empty : none ≡ []) (with_is : with_it ≡ none ++ p ∷ []) (first : Some p ≡ first_of ps) (left_is : left ≡ drop 1 ps) where
-  pub taken-back : with_it ++ left ≡ ps
-  taken-back = (λ i. with_is i ++ left_is i) ∙ ap (λ (l : List Point). (l ++ p ∷ []) ++ drop 1 ps) empty ∙ go ps first
-    where
-      go : (qs : List Point) → Some p ≡ first_of qs → p ∷ drop 1 qs ≡ qs
-      go [] is = absurd (cc)
-      go (q ∷ qs) is = let same : p ≡ q = cc in ap (λ (r : Point). r ∷ qs) same
-
-  pub rises-back : IsAscending ps → IsAscending (with_it ++ left)
-  rises-back rises = subst IsAscending (sym taken-back) rises

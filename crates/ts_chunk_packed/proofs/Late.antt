@@ -1,7 +1,7 @@
 -- Samples that are passed on the way to a late one, and the marks that are set past them.
 use Rattle.std.proofs.Common.{◌≡◌, ℕ, ◌<◌, ◌≤◌, List, [], ◌∷◌, ◌++◌, length, take, sym, ap, ◌∙◌, subst, append_assoc, arith, length-append}
-use Rattle.std.specs.Prelude.{nat_lt, nat_le}
-use Rattle.std.proofs.lemmas.List.{take_at}
+use Rattle.std.specs.Prelude.{nat_lt, nat_le, IfOk, Result, Ok, Err}
+use Rattle.std.proofs.lemmas.List.{take_at, append_cancel_right}
 use Rattle.ts_spec.specs.Sample.{Point, at_times}
 use Rattle.ts_chunk_packed.specs.Marks.{Marked, AreMarks}
 use Rattle.ts_chunk_packed.specs.Packed.{State, begin, next, state_from}
@@ -19,7 +19,29 @@ module _ (all : List Point) (r : Left) (of : IsRestOf all r) (count : ℕ) (samp
   pub front_taken : take count all ≡ of.front
   front_taken = ap (take count) of.whole ∙ take_at of.front r.list count (sym samples)
 
--- ---- on the way
+-- which are the same, however they are found
+pub same_front : (all : List Point) (r : Left) (of other : IsRestOf all r) → of.front ≡ other.front
+same_front all r of other = append_cancel_right of.front other.front r.list (sym of.whole ∙ other.whole)
+
+-- one sample further
+module _ (all : List Point) (r q : Left) {time : ℕ} (passed : HasPassed time r q) (of : IsRestOf all r) where
+  pub one_further : IsRestOf all q
+  one_further = record {
+    front = of.front ++ passed.sample ∷ [];
+    whole = of.whole ∙ ap (λ (l : List Point). of.front ++ l) passed.list ∙ sym (append_assoc of.front (passed.sample ∷ []) q.list);
+    state = passed.state ∙ ap (λ (s : State). next s passed.sample) of.state ∙ sym (state-append begin of.front (passed.sample ∷ []));
+  }
+
+  pub marks_one : (ms : List Marked) → AreMarks of.front ms → (other : IsRestOf all q) → AreMarks other.front ms
+  unfolding one_further
+  marks_one ms are other = subst (λ (l : List Point). AreMarks l ms) (same_front all q one_further other) (marks_on of.front (passed.sample ∷ []) ms are)
+
+-- what holds of a value because of what else does
+pub if_ok : {X E : Type 0} {P Q : X → Type 0} (r : Result X E) → ((x : X) → P x → Q x) → IfOk r P → IfOk r Q
+if_ok (Ok x) then p = then x p
+if_ok (Err e) then p = tt
+
+-- ---- on the way to a time
 
 -- what is left goes on from samples before a time, and the marks stand past these
 pub record OnTheWay (time : ℕ) (all : List Point) (left : Left) (ms : List Marked) : Type 0 where
@@ -33,19 +55,14 @@ before_on t (q ∷ ps) p before early = (before.0, before_on t ps p before.1 ear
 -- one sample further
 module _ (time : ℕ) (all : List Point) (r q : Left) (passed : HasPassed time r q) (from : IsRestFrom time all r) where
   pub further : IsRestFrom time all q
+  unfolding one_further
   further = record {
-    rest = record {
-      front = from.rest.front ++ passed.sample ∷ [];
-      whole =
-          from.rest.whole ∙ ap (λ (l : List Point). from.rest.front ++ l) passed.list
-          ∙ sym (append_assoc from.rest.front (passed.sample ∷ []) q.list);
-      state = passed.state ∙ ap (λ (s : State). next s passed.sample) from.rest.state ∙ sym (state-append begin from.rest.front (passed.sample ∷ []));
-    };
+    rest = one_further all r q passed from.rest;
     before = before_on time from.rest.front passed.sample from.before passed.before;
   }
 
   pub marks_further : (ms : List Marked) → AreMarks from.rest.front ms → AreMarks further.rest.front ms
-  unfolding further
+  unfolding further one_further
   marks_further ms are = marks_on from.rest.front (passed.sample ∷ []) ms are
 
 -- and where no more is before the time

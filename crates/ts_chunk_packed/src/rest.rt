@@ -130,6 +130,7 @@ impl<'a> Rest<'a> {
         ensures passed { result ≡ true → length self.new.list < length self.old.list }
         ensures none { result ≡ false → at_times (λ t. nat_lt t time) self.new.list ≡ [] }
         ensures all { result ≡ false → at_times (nat_le time) self.new.list ≡ self.new.list }
+        ensures stays { result ≡ false → self.new ≡ self.old }
     {
         if self.count == 0 {
             return false;

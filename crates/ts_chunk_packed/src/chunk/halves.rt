@@ -1,8 +1,12 @@
 // A chunk that is cut in two, where a late sample makes it too long.
-ghost use Rattle.std.specs.Prelude.{◌≡◌, ◌+◌, ◌/◌, nat_eq, nat_lt, nat_le, ◌++◌, true, IfOk, IfSome};
-ghost use Rattle.ts_spec.specs.Sample.{at_times, put};
+ghost use Rattle.std.specs.Prelude.{◌≡◌, ◌+◌, ◌/◌, nat_eq, ◌++◌, IfOk, IfSome};
+ghost use Rattle.ts_spec.specs.Sample.{put};
+ghost use Rattle.ts_chunk_packed.specs.Marks.{AreMarks};
+ghost use Rattle.ts_chunk_packed.specs.Rest.{IsRestOf};
 
 use super::PackedChunk;
+use crate::late_marks::LateMarks;
+use crate::rest::Rest;
 use crate::splicing::take_over;
 use std::alloc::{AllocError, Global};
 use ts_sample::{Chunk, MAX_TIME, Sample};
@@ -19,13 +23,16 @@ impl PackedChunk {
         ensures limits { IfOk result (λ o. IfSome o (λ r. (r.0.limit ≡ self.now.limit) × (r.1.limit ≡ self.now.limit))) }
     {
         self.known();
-        let Some(time) = self.time_to_cut(sample.time) else {
+        let mut rest = self.rest_at(None);
+        let mut marks = LateMarks::with_room(alloc, self.limit)?;
+        self.pass_half(sample, &mut rest, &mut marks);
+        let Some((first, second)) = self.split(alloc, rest, marks)? else {
             return Ok(None);
         };
-        let Some((first, second)) = self.split(alloc, time)? else {
+        let Some(begins) = second.first() else {
             return Ok(None);
         };
-        if sample.time < time {
+        if sample.time < begins.time {
             let Some((first, _)) = first.with_sample(alloc, sample)? else {
                 return Ok(None);
             };
@@ -37,34 +44,50 @@ impl PackedChunk {
         Ok(Some((first, second)))
     }
 
-    // The time at which it is cut: nothing but speed depends on it.
-    fn time_to_cut(&self, time: u64) -> Option<u64> {
-        let mut rest = self.rest_from(0);
+    // Passes the samples that are the first half, or are it with this one, and sets the marks past them that are due. Nothing
+    // but speed depends on where it ends.
+    fn pass_half(&self, sample: &Sample, rest: &mut Rest<'_>, marks: &mut LateMarks)
+        requires rest { IsRestOf self.now.list rest.old }
+        requires marks { (of : IsRestOf self.now.list rest.old) → AreMarks of.front marks.old }
+        ensures rest { IsRestOf self.now.list rest.new }
+        ensures marks { (of : IsRestOf self.now.list rest.new) → AreMarks of.front marks.new }
+    {
         for _ in 0..self.count.saturating_sub(1) / 2 {
-            rest.pass(MAX_TIME);
+            self.pass_next(MAX_TIME, rest, marks);
         }
-        let middle = rest.next()?;
-        if time < middle.time {
-            return Some(middle.time);
-        }
-        let next = rest.next()?;
-        Some(next.time)
+        sample.known();
+        self.pass_next(sample.time + 1, rest, marks);
     }
 
-    // Its samples before a time, and the others, in chunks of the same limit: none where the others would not fit, or where there
-    // are none. The bytes of all but the first few of these stay as they are.
+    // Passes the next sample, if it is before a time, and sets the mark past it if one is due.
+    fn pass_next(&self, time: u64, rest: &mut Rest<'_>, marks: &mut LateMarks)
+        requires rest { IsRestOf self.now.list rest.old }
+        requires marks { (of : IsRestOf self.now.list rest.old) → AreMarks of.front marks.old }
+        ensures rest { IsRestOf self.now.list rest.new }
+        ensures marks { (of : IsRestOf self.now.list rest.new) → AreMarks of.front marks.new }
+    {
+        if !rest.pass(time) {
+            return;
+        }
+        let place = self.place_of(rest);
+        marks.set(rest.context(), place);
+    }
+
+    // The samples before those that are left of it, with these marks, and the others, in chunks of the same limit: none where the
+    // others would not fit, or where there are none. The bytes of all but the first few of these stay as they are.
     fn split(
         &self,
         alloc: Global,
-        time: u64,
+        mut rest: Rest<'_>,
+        marks: LateMarks,
     ) -> Result<Option<(PackedChunk, PackedChunk)>, AllocError>
-        ensures first { IfOk result (λ o. IfSome o (λ r. r.0.list ≡ at_times (λ t. nat_lt t time) self.now.list)) }
-        ensures second { IfOk result (λ o. IfSome o (λ r. r.1.list ≡ at_times (nat_le time) self.now.list)) }
+        requires rest { IsRestOf self.now.list rest }
+        requires marks { (of : IsRestOf self.now.list rest) → AreMarks of.front marks }
+        ensures whole { IfOk result (λ o. IfSome o (λ r. r.0.list ++ r.1.list ≡ self.now.list)) }
         ensures limits { IfOk result (λ o. IfSome o (λ r. (r.0.limit ≡ self.now.limit) × (r.1.limit ≡ self.now.limit))) }
     {
         self.known();
-        let mut rest = self.rest_from(time);
-        let first = self.front(alloc, time, &mut rest)?;
+        let first = self.all_before(alloc, &rest, marks)?;
         let mut second = PackedChunk::new(alloc, self.limit())?;
         let Some(sample) = rest.next() else {
             return Ok(None);

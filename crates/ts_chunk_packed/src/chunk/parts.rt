@@ -11,7 +11,7 @@ use crate::late_marks::LateMarks;
 use crate::mark::{Mark, Offset};
 use crate::rest::Rest;
 use std::alloc::{AllocError, Global};
-use ts_sample::Sample;
+use ts_sample::{Chunk, Sample};
 
 impl PackedChunk {
     // What is known of its samples.
@@ -63,8 +63,25 @@ impl PackedChunk {
         ensures rest { IfOk result (λ _. rest.new.list ≡ at_times (nat_le time) self.now.list) }
         ensures state { IfOk result (λ _. rest.new.state ≡ state_from begin (at_times (λ t. nat_lt t time) self.now.list)) }
     {
+        self.known();
         let mut marks = self.marks_before(alloc, rest)?;
         self.pass_before(time, rest, &mut marks);
+        self.all_before(alloc, rest, marks)
+    }
+
+    // All samples before those that are left of it, with these marks, in a chunk of the same limit.
+    pub(super) fn all_before(
+        &self,
+        alloc: Global,
+        rest: &Rest<'_>,
+        marks: LateMarks,
+    ) -> Result<PackedChunk, AllocError>
+        requires rest { IsRestOf self.now.list rest.now }
+        requires marks { (of : IsRestOf self.now.list rest.now) → AreMarks of.front marks }
+        ensures whole { IfOk result (λ c. c.list ++ rest.now.list ≡ self.now.list) }
+        ensures state { IfOk result (λ c. rest.now.state ≡ state_from begin c.list) }
+        ensures limit { IfOk result (λ c. c.limit ≡ self.now.limit) }
+    {
         let mut bytes = Vec::with_capacity(alloc, self.limit as usize)?;
         let (before, _) = self.bytes.split_at(self.bytes.len() - rest.bytes().len());
         bytes.extend_from_slice(before)?;
@@ -107,7 +124,7 @@ impl PackedChunk {
     }
 
     // Where the samples begin that are left of it.
-    fn place_of(&self, rest: &Rest<'_>) -> Offset
+    pub(super) fn place_of(&self, rest: &Rest<'_>) -> Offset
         requires { IsRestOf self.now.list rest.now }
         ensures { (of : IsRestOf self.now.list rest.now) → EndsAt of.front result.at result.count }
     {

@@ -1,25 +1,22 @@
-use Rattle.std.proofs.Common.{◌≡◌, ◌<◌, ◌≤◌, ◌++◌, ◌∙◌, ap, subst}
-use Rattle.std.specs.Prelude.{nat_lt, nat_le}
-use Rattle.ts_spec.specs.Sample.{Point, at_times, put}
-use Rattle.ts_chunk_packed.proofs.Halving.{put-early, put-late}
+use Rattle.std.proofs.Common.{◌≡◌, ◌<◌, ◌≤◌, ◌++◌, ◌∙◌, ap, arith}
+use Rattle.ts_spec.specs.Sample.{Point, put}
+use Rattle.ts_chunk_packed.proofs.Halving.{into-first, into-second}
 use Rattle.ts_chunk_packed.proofs.chunk.PackedChunk.split_with.Goals as goal
 
-pub returns-then-sample-time-clause-list : goal.returns-then-sample-time-clause-list
-returns-then-sample-time-clause-list c =
-    let all = c.args.self.now.list in
-    let time = c.in-Some.time in
-    let first : c.in-Some-2.first.list ≡ at_times (λ t. nat_lt t time) all = rw c.in-Some-2.is at c.in_ok-first.ensures.first in
-    let second : c.in-Some-2.second.list ≡ at_times (nat_le time) all = rw c.in-Some-2.is at c.in_ok-first.ensures.second in
-    let with_it : c.in-Some-3.first.list ≡ put c.args.sample.now c.in-Some-2.first.list = rw c.in-Some-3.is at c.in_ok-first-2.ensures.list in
-    (λ i. (with_it ∙ ap (put c.args.sample.now) first) i ++ second i)
-    ∙ put-early c.args.sample.now time all c.known.ensures.ascending (subst (λ n. n < time) (ap (λ (p : Point). p.time) c.sample.view_is) c.if-sample-time.true)
+pub returns-then-sample-begins-clause-list : goal.returns-then-sample-begins-clause-list
+returns-then-sample-begins-clause-list c =
+    let sample = c.args.sample.now in
+    let begins = c.in-Some-first.begins in
+    let whole : c.in-Some.first.list ++ c.in-Some.second.list ≡ c.args.self.now.list = rw c.in-Some.is at c.in_ok-first.ensures.whole in
+    let with_it : c.in-Some-2.first.list ≡ put sample c.in-Some.first.list = rw c.in-Some-2.is at c.in_ok-first-2.ensures.list in
+    let less : sample.time < begins.time = omega (arith, ap (λ (p : Point). p.time) c.sample.view_is, ap (λ (p : Point). p.time) c.begins.view_is, c.if-sample-begins.true) in
+    ap (λ l. l ++ c.in-Some.second.list) with_it ∙ into-first sample c.in-Some.first.list c.in-Some.second.list c.args.self.now.list whole c.known.ensures.ascending begins c.in-Some-first.ensures less
 
 pub returns-clause-list : goal.returns-clause-list
 returns-clause-list c =
-    let all = c.args.self.now.list in
-    let time = c.in-Some.time in
-    let first : c.in-Some-2.first.list ≡ at_times (λ t. nat_lt t time) all = rw c.in-Some-2.is at c.in_ok-first.ensures.first in
-    let second : c.in-Some-2.second.list ≡ at_times (nat_le time) all = rw c.in-Some-2.is at c.in_ok-first.ensures.second in
-    let with_it : c.in-Some-4.second.list ≡ put c.args.sample.now c.in-Some-2.second.list = rw c.in-Some-4.is at c.in_ok-second.ensures.list in
-    (λ i. first i ++ (with_it ∙ ap (put c.args.sample.now) second) i)
-    ∙ put-late c.args.sample.now time all c.known.ensures.ascending (subst (λ n. time ≤ n) (ap (λ (p : Point). p.time) c.sample.view_is) c.if-sample-time.false)
+    let sample = c.args.sample.now in
+    let begins = c.in-Some-first.begins in
+    let whole : c.in-Some.first.list ++ c.in-Some.second.list ≡ c.args.self.now.list = rw c.in-Some.is at c.in_ok-first.ensures.whole in
+    let with_it : c.in-Some-3.second.list ≡ put sample c.in-Some.second.list = rw c.in-Some-3.is at c.in_ok-second.ensures.list in
+    let more : begins.time ≤ sample.time = omega (arith, ap (λ (p : Point). p.time) c.sample.view_is, ap (λ (p : Point). p.time) c.begins.view_is, c.if-sample-begins.false) in
+    ap (λ l. c.in-Some.first.list ++ l) with_it ∙ into-second sample c.in-Some.first.list c.in-Some.second.list c.args.self.now.list whole c.known.ensures.ascending begins c.in-Some-first.ensures more
