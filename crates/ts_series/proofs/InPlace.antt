@@ -1,5 +1,6 @@
 -- Items in the place of others in a list, where only those past the last common place move.
 use Rattle.std.proofs.Common.{◌≡◌, ℕ, ◌+◌, ◌-◌, ◌≤◌, List, ◌++◌, length, take, drop, sym, ◌∙◌, ap, arith, append_assoc}
+use Rattle.std.specs.Prelude.{Option, None, Some, IsSome, OnSome}
 use Rattle.std.proofs.lemmas.List.{take_at, drop_at, take-append-le, take-append-drop, drop-append-le, length-take}
 use Rattle.ts_series.specs.Held.{replaced}
 use Rattle.ts_series.proofs.Changed.{turned-back}
@@ -48,3 +49,9 @@ pub put-back : {X : Type 0} (place n : ℕ) (new old turned items now : List X) 
     → now ≡ drop (n - place) items ++ take (n - place) items → now ≡ replaced place place new old
 put-back {X} place n new old turned items now within is all many then =
     then ∙ turned-back place n (take place old) new (drop place old) items (all ∙ ap (λ (l : List X). new ++ l) is) (omega (arith, length-take place old)) many
+
+-- ---- an answer that is there
+
+pub on-some : {X P : Type 0} (o : Option X) → IsSome o → OnSome o P → P
+on-some None some then = absurd (cc some)
+on-some (Some x) some then = then

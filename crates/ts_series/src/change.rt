@@ -54,7 +54,7 @@ impl<C: Chunk> Chunks<C> {
         requires { IsChangeOf C.format (length self.old.pieces + self.old.room) self.old.pieces self.old.limits change }
         ensures pieces { self.new.pieces ≡ pieces_after change self.old.pieces }
         ensures limits { self.new.limits ≡ limits_after change self.old.limits }
-        ensures room { length self.new.pieces + self.new.room ≡ length self.old.pieces + self.old.room }
+        ensures room { length self.old.pieces + self.old.room ≤ length self.new.pieces + self.new.room }
     {
         let Change {
             start,
@@ -95,7 +95,7 @@ impl<C: Chunk> Chunks<C> {
         requires enough { length (replaced start end (map C.list chunks.items) self.old.pieces) ≤ length self.old.pieces + self.old.room }
         ensures pieces { self.new.pieces ≡ replaced start end (map C.list chunks.items) self.old.pieces }
         ensures limits { self.new.limits ≡ replaced start end (map C.most chunks.items) self.old.limits }
-        ensures room { length self.new.pieces + self.new.room ≡ length self.old.pieces + self.old.room }
+        ensures room { length self.old.pieces + self.old.room ≤ length self.new.pieces + self.new.room }
     {
         let (removed, added) = (self.count_of(start, end), count_in(&chunks));
         self.count = self.count - removed + added;

@@ -1,6 +1,6 @@
-// Items in the place of others in a ring. It takes no memory, and the ring is turned only where more or fewer come
-// than go.
-ghost use Rattle.std.specs.Prelude.{◌≡◌, ◌≤◌, ◌+◌, ◌-◌, [], length, take, drop};
+// Items in the place of others in a ring. It takes no memory. Where one more comes than goes, or one fewer, the shorter
+// side of the ring moves by one place; the ring is turned only where the difference is greater.
+ghost use Rattle.std.specs.Prelude.{◌≡◌, ◌<◌, ◌≤◌, ◌+◌, ◌-◌, [], length, take, drop};
 ghost use Rattle.std.specs.VecDeque.{deque_capacity};
 ghost use Rattle.ts_series.specs.Held.{replaced};
 
@@ -17,7 +17,7 @@ pub(crate) fn replace_between<T: Drop>(
     requires within { end ≤ length ring.old.items }
     requires room { length (replaced start end items.items ring.old.items) ≤ deque_capacity ring.old }
     ensures items { ring.new.items ≡ replaced start end items.items ring.old.items }
-    ensures capacity { deque_capacity ring.new ≡ deque_capacity ring.old }
+    ensures capacity { deque_capacity ring.old ≤ deque_capacity ring.new }
 {
     make_places(ring, start, end, &mut items);
     put_in_place(ring, start, items);
@@ -31,7 +31,7 @@ fn make_places<T: Drop>(ring: &mut VecDeque<T>, start: usize, end: usize, items:
     requires room { length (replaced start end items.old.items ring.old.items) ≤ deque_capacity ring.old }
     ensures within { start + length items.new.items ≤ length ring.new.items }
     ensures left { replaced start (start + length items.new.items) items.new.items ring.new.items ≡ replaced start end items.old.items ring.old.items }
-    ensures capacity { deque_capacity ring.new ≡ deque_capacity ring.old }
+    ensures capacity { deque_capacity ring.old ≤ deque_capacity ring.new }
 {
     let (places, wanted) = (end - start, items.len());
     if places < wanted {
@@ -49,8 +49,11 @@ fn put_between<T: Drop>(ring: &mut VecDeque<T>, place: usize, items: &mut Vec<T>
     requires room { length ring.old.items + length items.old.items ≤ deque_capacity ring.old + left }
     ensures ring { ring.new.items ≡ replaced place place (drop left items.old.items) ring.old.items }
     ensures items { items.new.items ≡ take left items.old.items }
-    ensures capacity { deque_capacity ring.new ≡ deque_capacity ring.old }
+    ensures capacity { deque_capacity ring.old ≤ deque_capacity ring.new }
 {
+    if items.len() - left == 1 {
+        return insert_last(ring, place, items);
+    }
     ring.rotate_left(place);
     while left < items.len() {
         if let Some(item) = items.pop() {
@@ -60,6 +63,21 @@ fn put_between<T: Drop>(ring: &mut VecDeque<T>, place: usize, items: &mut Vec<T>
     ring.rotate_right(place);
 }
 
+// Puts the last of these items between those before a place and those from it on.
+fn insert_last<T: Drop>(ring: &mut VecDeque<T>, place: usize, items: &mut Vec<T>)
+    requires within { place ≤ length ring.old.items }
+    requires some { 0 < length items.old.items }
+    requires room { length ring.old.items < deque_capacity ring.old }
+    ensures ring { ring.new.items ≡ replaced place place (drop (length items.old.items - 1) items.old.items) ring.old.items }
+    ensures items { items.new.items ≡ take (length items.old.items - 1) items.old.items }
+    ensures capacity { deque_capacity ring.old ≤ deque_capacity ring.new }
+{
+    if let Some(item) = items.pop() {
+        // There is room for it.
+        ring.insert(place, item).unwrap();
+    }
+}
+
 // Takes out the items from one place up to another.
 fn take_out<T: Drop>(ring: &mut VecDeque<T>, start: usize, end: usize)
     requires ordered { start ≤ end }
@@ -67,6 +85,10 @@ fn take_out<T: Drop>(ring: &mut VecDeque<T>, start: usize, end: usize)
     ensures items { ring.new.items ≡ replaced start end [] ring.old.items }
     ensures capacity { deque_capacity ring.new ≡ deque_capacity ring.old }
 {
+    if end - start == 1 {
+        ring.remove(start);
+        return;
+    }
     ring.rotate_left(start);
     for _ in start..end {
         ring.pop_front();
