@@ -33,7 +33,7 @@ pub(crate) fn count_pairs(set: OptionSet, words: &[Word]) -> usize
 pub(crate) fn read_labels(alloc: Global, words: &[Word]) -> Result<Labels, ReadFault>
     ensures { SaysOr ⊤ (λ labels. labels) result (labels_after [] words.now) }
 {
-    let mut labels = Labels::new(alloc);
+    let mut labels = Labels::with_capacity(alloc, words.len() / 2)?;
     let mut rest = words;
     while let Some((name, after)) = rest.split_first() {
         let Some((value, next)) = after.split_first() else {
@@ -42,7 +42,6 @@ pub(crate) fn read_labels(alloc: Global, words: &[Word]) -> Result<Labels, ReadF
         add_label(&mut labels, name, value)?;
         rest = next;
     }
-    labels.shrink_to_fit();
     Ok(labels)
 }
 

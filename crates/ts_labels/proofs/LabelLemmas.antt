@@ -45,7 +45,7 @@ AreDistinct-labels_in [] h = tt
 AreDistinct-labels_in (e ∷ es) h = (none_after e.0 es h.0, AreDistinct-labels_in es h.1)
 
 -- a first label whose value is not found has another name
-not_first : (b : Bool) (v : Key) (rest : Option Key) → (if b then Some v else rest) ≡ None → (b ≡ false) × (rest ≡ None)
+pub not_first : (b : Bool) (v : Key) (rest : Option Key) → (if b then Some v else rest) ≡ None → (b ≡ false) × (rest ≡ None)
 not_first true v rest h = cc
 not_first false v rest h = (refl, h)
 

@@ -1,2 +1,3 @@
 pub mod LabelLemmas
+pub mod PairLemmas
 pub mod TextLemmas

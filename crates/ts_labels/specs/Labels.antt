@@ -11,10 +11,10 @@ labelled name value = record { name = name; value = value }
 abbrev pub labels_in : List (List ℕ × List ℕ) → List Label
 labels_in entries = map (λ e. labelled e.0 e.1) entries
 
--- those of the entries of a map, where there is one
-abbrev pub labels_there : Option (List (List ℕ × List ℕ)) → List Label
+-- the labels that are there, or none
+abbrev pub labels_there : Option (List Label) → List Label
 labels_there None = []
-labels_there (Some entries) = labels_in entries
+labels_there (Some labels) = labels
 
 -- no label has the name of one after it
 abbrev pub AreDistinct : List Label → Type 0

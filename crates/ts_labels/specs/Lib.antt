@@ -1,5 +1,6 @@
 pub mod Spec
 pub mod Labels
+pub mod Pairs
 pub mod Asks
 pub mod Filter
 pub mod Faults

@@ -3,9 +3,9 @@ ghost use Rattle.std.specs.Prelude.{◌≡◌, ◌<◌, ◌^◌, ◌↔◌, [], 
 ghost use Rattle.std.specs.Option.{option_copied};
 ghost use Rattle.ts_spec.specs.Filter.{value_of};
 ghost use Rattle.ts_spec.specs.Labels.{with_label};
-ghost use Rattle.ts_labels.specs.Labels.{AreDistinct, labelled, labels_in};
+ghost use Rattle.ts_labels.specs.Labels.{AreDistinct, labelled};
 
-use indexmap::IndexMap;
+use crate::pairs::Pairs;
 use std::alloc::{AllocError, Global};
 use std::marker::Model;
 use std::rc::Rc;
@@ -16,7 +16,7 @@ use ts_resp::Word;
 #[derive(Debug, Drop)]
 pub struct Labels {
     alloc: Global,
-    map: Option<Rc<IndexMap<Word, Word>>>,
+    pairs: Option<Rc<Pairs>>,
 }
 
 impl Model for Labels {
@@ -26,7 +26,7 @@ impl Model for Labels {
 
     ghost Value = { List Label };
 
-    ghost view = { λ l. labels_there (option_map (λ map. map.value.entries) l.map) };
+    ghost view = { λ l. labels_there (option_map (λ pairs. pairs.value) l.pairs) };
 }
 
 impl Labels {
@@ -34,46 +34,51 @@ impl Labels {
     pub fn new(alloc: Global) -> Labels
         ensures { result ≡ [] }
     {
-        Labels { alloc, map: None }
+        Labels { alloc, pairs: None }
+    }
+
+    /// No labels, with room for so many, if they are few.
+    pub fn with_capacity(alloc: Global, labels: usize) -> Result<Labels, AllocError>
+        ensures { IfOk result (λ labels. labels ≡ []) }
+    {
+        if labels == 0 {
+            return Ok(Labels::new(alloc));
+        }
+        let pairs = Rc::new(alloc, Pairs::with_capacity(alloc, labels)?)?;
+        Ok(Labels {
+            alloc,
+            pairs: Some(pairs),
+        })
     }
 
     /// Gives a label this value. A label that is there keeps its place.
-    #[tactic(auto, using(crate::proofs::LabelLemmas::inserted_label))]
     pub fn set(&mut self, label: Word, value: Word) -> Result<(), AllocError>
         ensures ok { OnOk result (self.new ≡ with_label (labelled label value) self.old) }
         ensures err { OnErr result (self.new ≡ self.old) }
     {
-        if let Some(shared) = &mut self.map
-            && let Some(map) = Rc::get_mut(shared)
+        if let Some(shared) = &mut self.pairs
+            && let Some(pairs) = Rc::get_mut(shared)
         {
-            map.insert(label, value)?;
-            return Ok(());
+            return pairs.set(self.alloc, label, value);
         }
-        let mut map = self.copied()?;
-        map.insert(label, value)?;
-        self.map = Some(Rc::new(self.alloc, map)?);
+        let mut pairs = self.copied()?;
+        pairs.set(self.alloc, label, value)?;
+        self.pairs = Some(Rc::new(self.alloc, pairs)?);
         Ok(())
     }
 
-    /// Gives back the room that is kept for more labels. The labels stay; where copies share them, the room stays too.
-    pub fn shrink_to_fit(&mut self)
-        ensures { self.new ≡ self.old }
-    {
-        if let Some(shared) = &mut self.map
-            && let Some(map) = Rc::get_mut(shared)
-        {
-            map.shrink_to_fit();
-        }
-    }
-
-    // A copy of the map that no one else holds.
-    fn copied(&self) -> Result<IndexMap<Word, Word>, AllocError>
-        ensures { IfOk result (λ map. labels_in map.entries ≡ self.now) }
+    // Copies that no one else holds.
+    fn copied(&self) -> Result<Pairs, AllocError>
+        ensures { IfOk result (λ pairs. pairs ≡ self.now) }
     {
         self.known();
-        let mut copied = IndexMap::with_capacity(self.alloc, self.len())?;
+        let mut copied = Pairs::with_capacity(self.alloc, self.len() + 1)?;
         for i in 0..self.len() {
-            copied.insert(self.label_at(i).copy()?, self.value_at(i).copy()?)?;
+            copied.set(
+                self.alloc,
+                self.label_at(i).copy()?,
+                self.value_at(i).copy()?,
+            )?;
         }
         Ok(copied)
     }
@@ -82,13 +87,13 @@ impl Labels {
     pub fn copy(&self) -> Result<Labels, AllocError>
         ensures { IfOk result (λ labels. labels ≡ self.now) }
     {
-        let map = match &self.map {
+        let pairs = match &self.pairs {
             None => None,
             Some(shared) => Some(shared.clone()?),
         };
         Ok(Labels {
             alloc: self.alloc,
-            map,
+            pairs,
         })
     }
 
@@ -96,9 +101,9 @@ impl Labels {
     pub fn get(&self, label: &Word) -> Option<&Word>
         ensures { option_copied result ≡ value_of label.now self.now }
     {
-        match &self.map {
+        match &self.pairs {
             None => None,
-            Some(map) => map.get(label),
+            Some(pairs) => pairs.get(label),
         }
     }
 
@@ -107,9 +112,9 @@ impl Labels {
         ensures len { result ≡ length self.now }
         ensures small { result < 2 ^ 63 }
     {
-        match &self.map {
+        match &self.pairs {
             None => 0,
-            Some(map) => map.len(),
+            Some(pairs) => pairs.len(),
         }
     }
 
@@ -141,9 +146,9 @@ impl Labels {
         requires { i < length self.now }
         ensures { slice_get self.now i ≡ Some (labelled result.0.now result.1.now) }
     {
-        match &self.map {
+        match &self.pairs {
             None => unreachable!(),
-            Some(map) => map.get_index(i).unwrap(),
+            Some(pairs) => pairs.pair_at(i),
         }
     }
 
@@ -151,8 +156,8 @@ impl Labels {
     pub fn known(&self)
         ensures { AreDistinct self.now }
     {
-        if let Some(map) = &self.map {
-            let _len = map.len();
+        if let Some(pairs) = &self.pairs {
+            let _len = pairs.len();
         }
     }
 }

@@ -4,6 +4,7 @@
 mod filter;
 mod filter_text;
 mod labels;
+mod pairs;
 mod show;
 mod spec;
 

@@ -1,7 +1,6 @@
 use Rattle.std.proofs.Common.{◌≡◌, take}
-use Rattle.ts_labels.specs.Labels.{labels_in}
 use Rattle.ts_labels.proofs.labels.Labels.copied.Given as goal
 
 -- the labels so far
 abbrev pub invariant-loop-i : goal.invariant-loop-i
-invariant-loop-i l = labels_in l.copied.entries ≡ take l.i l.self
+invariant-loop-i l = l.copied ≡ take l.i l.self

@@ -1,0 +1,11 @@
+-- Labels in a place of their own, as the definitions have them.
+use Rattle.std.specs.Prelude.{List}
+use Rattle.ts_spec.specs.State.{Label}
+use Rattle.ts_labels.specs.Labels.{labels_in}
+use Rattle.ts_labels.specs.declared.pairs.Held.{Held}
+use Rattle.ts_labels.specs.declared.pairs.Held.TheVariants.{Few, Many}
+
+-- the labels that stand there
+abbrev pub pairs_in : Held → List Label
+pairs_in (Few pairs) = labels_in pairs.items
+pairs_in (Many map) = labels_in map.entries

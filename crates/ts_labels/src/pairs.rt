@@ -1,0 +1,158 @@
+// Labels with their values in a place of their own.
+ghost use Rattle.std.specs.Prelude.{◌≡◌, ◌<◌, ◌^◌, [], length, slice_get, option_map, Some, IfOk, IfSome, IfNone, OnOk, OnErr, None};
+ghost use Rattle.std.specs.Option.{option_copied};
+ghost use Rattle.ts_spec.specs.Filter.{value_of};
+ghost use Rattle.ts_spec.specs.Labels.{with_label};
+ghost use Rattle.ts_labels.specs.Labels.{AreDistinct, labelled, labels_in};
+
+use indexmap::IndexMap;
+use std::alloc::{AllocError, Global};
+use std::marker::Model;
+use std::mem::replace;
+use ts_resp::Word;
+
+// So many are looked through one after another.
+const FEW: usize = 8;
+
+// Few are looked through one after another, more are found by a hash.
+#[derive(Debug, Drop)]
+enum Held {
+    Few(Vec<(Word, Word)>),
+    Many(IndexMap<Word, Word>),
+}
+
+// Labels and their values, in the order in which the labels were first set. Each label is there once.
+#[derive(Debug, Drop)]
+pub(crate) struct Pairs {
+    held: Held,
+}
+
+impl Model for Pairs {
+    ghost use Rattle.std.specs.Prelude.{List};
+    ghost use Rattle.ts_spec.specs.State.{Label};
+    ghost use Rattle.ts_labels.specs.Labels.{AreDistinct};
+    ghost use Rattle.ts_labels.specs.Pairs.{pairs_in};
+
+    ghost Value = { List Label };
+
+    ghost view = { λ p. pairs_in p.held };
+
+    ghost invariant = { λ p. AreDistinct (pairs_in p.held) };
+}
+
+impl Pairs {
+    // None, with room for so many, if they are few.
+    pub(crate) fn with_capacity(alloc: Global, pairs: usize) -> Result<Pairs, AllocError>
+        ensures { IfOk result (λ pairs. pairs ≡ []) }
+    {
+        let few = Vec::with_capacity(alloc, pairs.min(FEW))?;
+        Ok(Pairs {
+            held: Held::Few(few),
+        })
+    }
+
+    // Gives a label this value. A label that is there keeps its place.
+    #[tactic(auto, using(crate::proofs::LabelLemmas::inserted_label))]
+    pub(crate) fn set(&mut self, alloc: Global, label: Word, value: Word) -> Result<(), AllocError>
+        ensures ok { OnOk result (self.new ≡ with_label (labelled label value) self.old) }
+        ensures err { OnErr result (self.new ≡ self.old) }
+    {
+        match &mut self.held {
+            Held::Many(map) => {
+                map.insert(label, value)?;
+            }
+            Held::Few(pairs) => {
+                if pairs.len() < FEW {
+                    return set_few(pairs, label, value);
+                }
+                let mut map = hashed(alloc, pairs.as_slice())?;
+                map.insert(label, value)?;
+                self.held = Held::Many(map);
+            }
+        }
+        Ok(())
+    }
+
+    // The value of a label, if it is there.
+    pub(crate) fn get(&self, label: &Word) -> Option<&Word>
+        ensures { option_copied result ≡ value_of label.now self.now }
+    {
+        match &self.held {
+            Held::Many(map) => map.get(label),
+            Held::Few(pairs) => match place_of(pairs.as_slice(), label) {
+                Some(place) => Some(&pairs[place].1),
+                None => None,
+            },
+        }
+    }
+
+    // How many there are.
+    pub(crate) fn len(&self) -> usize
+        ensures len { result ≡ length self.now }
+        ensures small { result < 2 ^ 63 }
+        ensures distinct { AreDistinct self.now }
+    {
+        match &self.held {
+            Held::Many(map) => map.len(),
+            Held::Few(pairs) => pairs.len(),
+        }
+    }
+
+    // The label at this place, with its value.
+    pub(crate) fn pair_at(&self, i: usize) -> (&Word, &Word)
+        requires { i < length self.now }
+        ensures { slice_get self.now i ≡ Some (labelled result.0.now result.1.now) }
+    {
+        match &self.held {
+            Held::Many(map) => map.get_index(i).unwrap(),
+            Held::Few(pairs) => (&pairs[i].0, &pairs[i].1),
+        }
+    }
+}
+
+// Where a label stands.
+fn place_of(pairs: &[(Word, Word)], label: &Word) -> Option<usize>
+    ensures place { IfSome result (λ i. option_map (λ l. l.name) (slice_get (labels_in pairs.now) i) ≡ Some label.now) }
+    ensures within { IfSome result (λ i. i < length pairs.now) }
+    ensures value { IfSome result (λ i. option_map (λ l. l.value) (slice_get (labels_in pairs.now) i) ≡ value_of label.now (labels_in pairs.now)) }
+    ensures absent { IfNone result (value_of label.now (labels_in pairs.now) ≡ None) }
+{
+    for (place, pair) in pairs.iter().enumerate() {
+        if pair.0 == *label {
+            return Some(place);
+        }
+    }
+    None
+}
+
+// Gives a label this value among few.
+fn set_few(pairs: &mut Vec<(Word, Word)>, label: Word, value: Word) -> Result<(), AllocError>
+    requires { AreDistinct (labels_in pairs.old.items) }
+    ensures ok { OnOk result (labels_in pairs.new.items ≡ with_label (labelled label value) (labels_in pairs.old.items)) }
+    ensures err { OnErr result (pairs.new.items ≡ pairs.old.items) }
+    ensures distinct { AreDistinct (labels_in pairs.new.items) }
+{
+    match place_of(pairs.as_slice(), &label) {
+        Some(place) => {
+            let _old = replace(&mut pairs[place], (label, value));
+            Ok(())
+        }
+        None => {
+            pairs.reserve_exact(1)?;
+            pairs.push_reserved((label, value));
+            Ok(())
+        }
+    }
+}
+
+// Copies of these, which are found by a hash.
+fn hashed(alloc: Global, pairs: &[(Word, Word)]) -> Result<IndexMap<Word, Word>, AllocError>
+    requires { AreDistinct (labels_in pairs.now) }
+    ensures { IfOk result (λ map. labels_in map.entries ≡ labels_in pairs.now) }
+{
+    let mut map = IndexMap::with_capacity(alloc, pairs.len() + 1)?;
+    for i in 0..pairs.len() {
+        map.insert(pairs[i].0.copy()?, pairs[i].1.copy()?)?;
+    }
+    Ok(map)
+}
