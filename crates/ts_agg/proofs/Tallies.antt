@@ -9,7 +9,7 @@ use Rattle.ts_spec.proofs.Aggregates.{summary-push, summary-count}
 use Rattle.ts_agg.specs.declared.tally.Tally.{Tally}
 use Rattle.ts_agg.specs.declared.tally.Tally.TheVariants.{Avg, Sum, Min, Max, Range, Count, First, Last}
 use Rattle.ts_agg.specs.Amounts.{added}
-use Rattle.ts_agg.specs.Tally.{kept_of, Tells}
+use Rattle.ts_agg.specs.Tally.{tally_of, Tells}
 
 -- what is kept after one more sample
 abbrev pub pushed : Tally → Point → Tally
@@ -32,7 +32,7 @@ summary_of count sum least greatest first last = record { count = count; sum = s
 
 -- of some samples: the first one was kept, and the others are compared with it
 kept-pushed : (a : Aggregator) (n : ℕ) (sum least greatest first last : ℤ) (p : Point)
-    → pushed (kept_of a (summary_of (suc n) sum least greatest first last)) p ≡ kept_of a (push (summary_of (suc n) sum least greatest first last) p)
+    → pushed (tally_of a (summary_of (suc n) sum least greatest first last)) p ≡ tally_of a (push (summary_of (suc n) sum least greatest first last) p)
 kept-pushed agg.Avg n sum least greatest first last p = refl
 kept-pushed agg.Sum n sum least greatest first last p = refl
 kept-pushed agg.Min n sum least greatest first last p = refl
@@ -43,7 +43,7 @@ kept-pushed agg.First n sum least greatest first last p = refl
 kept-pushed agg.Last n sum least greatest first last p = refl
 
 kept-push : (a : Aggregator) (count : ℕ) (sum least greatest first last : ℤ) (p : Point) → 0 < count
-    → pushed (kept_of a (summary_of count sum least greatest first last)) p ≡ kept_of a (push (summary_of count sum least greatest first last) p)
+    → pushed (tally_of a (summary_of count sum least greatest first last)) p ≡ tally_of a (push (summary_of count sum least greatest first last) p)
 kept-push a zero sum least greatest first last p some = absurd (omega arith)
 kept-push a (suc n) sum least greatest first last p some = kept-pushed a n sum least greatest first last p
 
@@ -54,5 +54,5 @@ one-more a t new p ps is told =
     let some : 0 < s.count = omega (arith, summary-count ps, told.some) in
     record {
       some = omega (arith, length-append ps (p ∷ []));
-      kept = is ∙ ap (λ (u : Tally). pushed u p) told.kept ∙ kept-push a s.count s.sum s.least s.greatest s.first s.last p some ∙ ap (kept_of a) (sym (summary-push ps p));
+      kept = is ∙ ap (λ (u : Tally). pushed u p) told.kept ∙ kept-push a s.count s.sum s.least s.greatest s.first s.last p some ∙ ap (tally_of a) (sym (summary-push ps p));
     }

@@ -8,20 +8,20 @@ use Rattle.ts_agg.specs.declared.tally.Tally.{Tally}
 use Rattle.ts_agg.specs.declared.tally.Tally.TheVariants.{Avg, Sum, Min, Max, Range, Count, First, Last}
 
 -- what an aggregator keeps of what the values of a list come to
-abbrev pub kept_of : Aggregator → Summary → Tally
-kept_of agg.Avg s = Avg (record { count = s.count; sum = s.sum })
-kept_of agg.Sum s = Sum (record { count = s.count; sum = s.sum })
-kept_of agg.Min s = Min s.least
-kept_of agg.Max s = Max s.greatest
-kept_of agg.Range s = Range s.least s.greatest
-kept_of agg.Count s = Count s.count
-kept_of agg.First s = First s.first
-kept_of agg.Last s = Last s.last
+abbrev pub tally_of : Aggregator → Summary → Tally
+tally_of agg.Avg s = Avg (record { count = s.count; sum = s.sum })
+tally_of agg.Sum s = Sum (record { count = s.count; sum = s.sum })
+tally_of agg.Min s = Min s.least
+tally_of agg.Max s = Max s.greatest
+tally_of agg.Range s = Range s.least s.greatest
+tally_of agg.Count s = Count s.count
+tally_of agg.First s = First s.first
+tally_of agg.Last s = Last s.last
 
 -- it is what an aggregator keeps of the list, which is not empty
 pub record Tells (a : Aggregator) (t : Tally) (ps : List Point) : Type 0 where
   pub some : 0 < length ps
-  pub kept : t ≡ kept_of a (summary ps)
+  pub kept : t ≡ tally_of a (summary ps)
 
 -- how many samples it has counted, if it counts them
 abbrev pub counted : Tally → ℕ

@@ -18,7 +18,7 @@ use Rattle.ts_series.specs.Plan.{Plan, after, IsFor}
 use Rattle.ts_rules.specs.declared.rule.Rule.{Rule}
 use Rattle.ts_db.specs.declared.node.Node.{Node}
 use Rattle.ts_db.specs.declared.store.Store.{Store}
-use Rattle.ts_db.specs.Store.{key_in, kept_at, collected, stock_of, contents_of, Nodes, AreLive, HasLiveLinks, HaveGrids, IsNode, IsStore, IsInOrder, Holds}
+use Rattle.ts_db.specs.Store.{key_in, kept_node, collected, stock_of, contents_of, Nodes, AreLive, HasLiveLinks, HaveGrids, IsNode, IsStore, IsInOrder, Holds}
 use Rattle.ts_db.specs.Answering.{node_after, IsReady, IsApplied, IsElsewhere}
 use Rattle.ts_db.specs.Turned.{HasSuch, IsTurned, IsAfter}
 use Rattle.ts_db.proofs.Collecting.{same-names, collected-written}
@@ -27,7 +27,7 @@ use Rattle.ts_db.proofs.Storing as storing
 use Rattle.ts_db.proofs.Storing.{names-written, store-written}
 
 -- what a key has that the store holds
-pub there : (s : Store) (store : IsInOrder s) (key : Key) (id : Id) (n : Node) → Holds s key id n → get key (stock_of s).keys ≡ Some (kept_at s.nodes n)
+pub there : (s : Store) (store : IsInOrder s) (key : Key) (id : Id) (n : Node) → Holds s key id n → get key (stock_of s).keys ≡ Some (kept_node s.nodes n)
 there s store key id n holds = storing.there s.limits s.nodes s.keys.entries store key id n holds.number holds.node
 
 -- ---- another node under the number and the key of one
@@ -48,7 +48,7 @@ module _ (s : Store) (store : IsInOrder s) (key : Key) (id : Id) (n changed : No
   store-changed links sound = store-written s.limits s.nodes s.keys.entries store (slab.with_value s.nodes id.0 changed) key id n changed holds.number holds.node change as_many name links sound
 
   -- and of the key alone another value is kept
-  pub keys-changed : HasLiveLinks s.nodes changed → collected (slab.with_value s.nodes id.0 changed) s.keys.entries ≡ with_key key (kept_at s.nodes changed) (collected s.nodes s.keys.entries)
+  pub keys-changed : HasLiveLinks s.nodes changed → collected (slab.with_value s.nodes id.0 changed) s.keys.entries ≡ with_key key (kept_node s.nodes changed) (collected s.nodes s.keys.entries)
   keys-changed links =
       collected-written s.nodes (slab.with_value s.nodes id.0 changed) s.keys.entries key id changed (storing.apart s.limits s.nodes s.keys.entries store) holds.number change
       (storing.others-written s.limits s.nodes s.keys.entries store (slab.with_value s.nodes id.0 changed) id.0 n changed holds.node change name)
@@ -93,8 +93,8 @@ module _ (s : Store) (store : IsInOrder s) (id : Id) (plan : Plan) (labels : Opt
   turned : slab.with_value s.nodes id.0 changed ≡ new
   turned = ap (slab.with_value s.nodes id.0) (sym t.so.rest) ∙ sym t.turned
 
-  same : kept_at s.nodes changed ≡ kept_at s.nodes (node_after plan labels rules n)
-  same = ap (λ (h : History). kept_at s.nodes (record n { series = h; labels = unwrap_or labels n.labels; rules = unwrap_or rules n.rules })) t.so.done
+  same : kept_node s.nodes changed ≡ kept_node s.nodes (node_after plan labels rules n)
+  same = ap (λ (h : History). kept_node s.nodes (record n { series = h; labels = unwrap_or labels n.labels; rules = unwrap_or rules n.rules })) t.so.done
 
   it : planned.node ≡ n
   it = some-same planned.node n (sym planned.holds.node ∙ got)
@@ -124,7 +124,7 @@ module _ (s : Store) (store : IsInOrder s) (id : Id) (plan : Plan) (labels : Opt
       ap (λ (nodes : Nodes). record (contents_of s) { keys = collected nodes s.keys.entries }) (sym turned)
       ∙ ap (λ (m : Keeping). record (contents_of s) { keys = m })
       (keys-changed s store key id n changed (record { number = held.number; node = got }) refl links
-      ∙ ap (λ (d : Kept). with_key key d (collected s.nodes s.keys.entries)) (same ∙ ap (λ (x : Node). kept_at s.nodes (node_after plan labels rules x)) (some-same n g (sym got ∙ held.node))))
+      ∙ ap (λ (d : Kept). with_key key d (collected s.nodes s.keys.entries)) (same ∙ ap (λ (x : Node). kept_node s.nodes (node_after plan labels rules x)) (some-same n g (sym got ∙ held.node))))
 
   -- the other nodes stay
   pub elsewhere : IsElsewhere s (record s { nodes = new }) id

@@ -19,7 +19,7 @@ use Rattle.ts_series.proofs.Counting.{times-length}
 use Rattle.ts_db.specs.declared.node.Node.{Node}
 use Rattle.ts_db.specs.declared.store.Store.{Store}
 use Rattle.ts_db.specs.Held.{YieldsToMemory}
-use Rattle.ts_db.specs.Store.{kept_at, stock_of, contents_of, Contents, IsInOrder, Holds}
+use Rattle.ts_db.specs.Store.{kept_node, stock_of, contents_of, Contents, IsInOrder, Holds}
 use Rattle.ts_db.specs.Answering.{node_after}
 use Rattle.ts_db.proofs.Applying.{there}
 use Rattle.ts_db.proofs.OneKey.{altered-alone}
@@ -51,11 +51,11 @@ module _ (s : Store) (store : IsInOrder s) (key : Key) (id : Id) (n : Node) (hol
       ∙ ap (λ b. if b then kept_refused (stock_of s).keys refusal.LabelsFull else record { keys = keep_changed key (kept_altered c) (stock_of s).keys; response = Done }) fits)) tt
 
   pub alter-answers : (c : Change) (plan : Plan) (new : Contents) → is_longer s.limits.labels c.labels ≡ false → plan ≡ with_change plan (alters (options_with c.retention c.chunk_size c.policy c.ignore n.series.options))
-      → new ≡ record (contents_of s) { keys = with_key key (kept_at s.nodes (node_after plan c.labels None n)) (stock_of s).keys }
+      → new ≡ record (contents_of s) { keys = with_key key (kept_node s.nodes (node_after plan c.labels None n)) (stock_of s).keys }
       → kept_alter_at s.limits (stock_of s).keys key c (get key (stock_of s).keys) ≡ record { keys = new.keys; response = Done }
   alter-answers c plan new fits is applied =
       ap (kept_alter_at s.limits (stock_of s).keys key c) (there s store key id n holds)
       ∙ ap (λ b. if b then kept_refused (stock_of s).keys refusal.LabelsFull else record { keys = keep_changed key (kept_altered c) (stock_of s).keys; response = Done }) fits
       ∙ ap (λ (m : Keeping). record { keys = m; response = Done })
-      (altered-alone (stock_of s).keys key (kept_at s.nodes n) c (there s store key id n holds)
-      ∙ sym (ap (λ (x : Contents). x.keys) applied ∙ ap (λ (p : Plan). with_key key (kept_at s.nodes (node_after p c.labels None n)) (stock_of s).keys) is))
+      (altered-alone (stock_of s).keys key (kept_node s.nodes n) c (there s store key id n holds)
+      ∙ sym (ap (λ (x : Contents). x.keys) applied ∙ ap (λ (p : Plan). with_key key (kept_node s.nodes (node_after p c.labels None n)) (stock_of s).keys) is))

@@ -27,7 +27,7 @@ use Rattle.ts_db.specs.Bounds.{count_where, fewest, selection_steps}
 use Rattle.ts_db.specs.Held.{Stock, AreNumbersOf}
 use Rattle.ts_db.specs.Indexed.{IsIndexed}
 use Rattle.ts_db.specs.Ordered.{among}
-use Rattle.ts_db.specs.Store.{Nodes, Numbers, key_at, key_in, kept_at, collected, ids_of, number_of, IsInOrder}
+use Rattle.ts_db.specs.Store.{Nodes, Numbers, key_at, key_in, kept_node, collected, ids_of, number_of, IsInOrder}
 use Rattle.ts_db.proofs.Collecting.{get-ids}
 use Rattle.ts_db.proofs.Permuted.{at, distinct-ordered}
 use Rattle.ts_db.proofs.Tagged.{tagged, IsKnown, IsIndexOf, told}
@@ -66,7 +66,7 @@ chosen-tags nodes fs (e ∷ es) there = go (slab.get nodes e.1.0) there.0.1 (cho
   where
     go : (o : Option Node) → o ≡ Some there.0.0 → numbers_where (all_hold fs) (tags nodes es) ≡ chosen nodes fs es
         → (if all_hold fs (unwrap_or (option_map (λ (n : Node). n.labels) o) []) then e.1 ∷ numbers_where (all_hold fs) (tags nodes es) else numbers_where (all_hold fs) (tags nodes es))
-        ≡ (if passes fs (option_map (kept_at nodes) o) then e.1 ∷ chosen nodes fs es else chosen nodes fs es)
+        ≡ (if passes fs (option_map (kept_node nodes) o) then e.1 ∷ chosen nodes fs es else chosen nodes fs es)
     go None at rest = absurd (cc at)
     go (Some n) at rest = ap (λ (l : List Id). if all_hold fs n.labels then e.1 ∷ l else l) rest
 
@@ -81,7 +81,7 @@ count-tags nodes test (e ∷ es) there = go (slab.get nodes e.1.0) there.0.1 (co
 
     go : (o : Option Node) → o ≡ Some there.0.0 → length (numbers_where test (tags nodes es)) ≡ count_where test (listing nodes es)
         → length (if test (unwrap_or (option_map (λ (n : Node). n.labels) o) []) then e.1 ∷ numbers_where test (tags nodes es) else numbers_where test (tags nodes es))
-        ≡ count_where test (onto e.0 (option_map (kept_at nodes) o) (listing nodes es))
+        ≡ count_where test (onto e.0 (option_map (kept_node nodes) o) (listing nodes es))
     go None at rest = absurd (cc at)
     go (Some n) at rest = one (test n.labels) rest
 

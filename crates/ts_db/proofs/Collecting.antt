@@ -13,9 +13,9 @@ use Rattle.ts_spec.proofs.Maps.{get-with, get-without, maps-same}
 use Rattle.ts_spec.proofs.Tidy.{some-same}
 use Rattle.ts_sample.specs.declared.id.Id.{Id}
 use Rattle.ts_rules.specs.declared.rule.Rule.{Rule}
-use Rattle.ts_rules.specs.Rules.{kept_as}
+use Rattle.ts_rules.specs.Rules.{kept_rule_to}
 use Rattle.ts_db.specs.declared.node.Node.{Node}
-use Rattle.ts_db.specs.Store.{Nodes, Numbers, rules_by, key_at, key_in, kept_of, kept_by, kept_at, kept_in, with_found, collected, ids_of, has_key, number_of, IsLive, AreLive, IsLiveSource, HasLiveLinks}
+use Rattle.ts_db.specs.Store.{Nodes, Numbers, rules_by, key_at, key_in, kept_series, kept_named, kept_node, kept_numbered, with_found, collected, ids_of, has_key, number_of, HasNode, AreLive, IsLiveSource, HasLiveLinks}
 
 same-pointwise : (j k : Key) → same j k ≡ pointwise nat_eq j k
 same-pointwise [] [] = refl
@@ -29,13 +29,13 @@ same-at j k = same-pointwise j k ∙ sym (is_eq-slice_cmp j k)
 -- what is kept of a number, if there is one
 abbrev pub found : Nodes → Option Id → Option Kept
 found nodes None = None
-found nodes (Some id) = kept_in nodes id
+found nodes (Some id) = kept_numbered nodes id
 
 get-found : {X : Type 0} (q k : Key) (o : Option X) (m : Keyed X) → get q (with_found k o m) ≡ cond (same k q) o (get q m)
 get-found {X} q k None m = get-without q k m
 get-found {X} q k (Some d) m = get-with q k d m
 
-found-cond : (nodes : Nodes) (b : Bool) (id : Id) (o : Option Id) → cond b (kept_in nodes id) (found nodes o) ≡ found nodes (cond b (Some id) o)
+found-cond : (nodes : Nodes) (b : Bool) (id : Id) (o : Option Id) → cond b (kept_numbered nodes id) (found nodes o) ≡ found nodes (cond b (Some id) o)
 found-cond nodes true id o = refl
 found-cond nodes false id o = refl
 
@@ -43,9 +43,9 @@ found-cond nodes false id o = refl
 pub get-collected : (q : Key) (nodes : Nodes) (es : Numbers) → get q (collected nodes es) ≡ found nodes (number_of q es)
 get-collected q nodes [] = refl
 get-collected q nodes (e ∷ es) =
-    get-found q e.0 (kept_in nodes e.1) (collected nodes es)
-    ∙ ap (λ b. cond b (kept_in nodes e.1) (get q (collected nodes es))) (same-sym e.0 q ∙ same-at q e.0)
-    ∙ ap (cond (has_key q e.0) (kept_in nodes e.1)) (get-collected q nodes es)
+    get-found q e.0 (kept_numbered nodes e.1) (collected nodes es)
+    ∙ ap (λ b. cond b (kept_numbered nodes e.1) (get q (collected nodes es))) (same-sym e.0 q ∙ same-at q e.0)
+    ∙ ap (cond (has_key q e.0) (kept_numbered nodes e.1)) (get-collected q nodes es)
     ∙ found-cond nodes (has_key q e.0) e.1 (number_of q es)
 
 cond-same : (b : Bool) (id : Id) (o : Option Id) → cond b (Some id) o ≡ (if b then Some id else o)
@@ -70,30 +70,30 @@ id-same a b is = λ i. record { 0 = is i }
 
 -- ---- what is kept of a node where numbers keep their keys
 
-same-rules : (nodes : Nodes) (new old : Id → Key) (rs : List Rule) → AreLive nodes rs → ((id : Id) → IsLive nodes id → new id ≡ old id) → rules_by new rs ≡ rules_by old rs
+same-rules : (nodes : Nodes) (new old : Id → Key) (rs : List Rule) → AreLive nodes rs → ((id : Id) → HasNode nodes id → new id ≡ old id) → rules_by new rs ≡ rules_by old rs
 same-rules nodes new old [] live same = refl
 same-rules nodes new old (r ∷ rs) live same =
     let rest : rules_by new rs ≡ rules_by old rs = same-rules nodes new old rs live.1 same in
     let here : new r.dest ≡ old r.dest = same r.dest live.0 in
-    λ i. kept_as (here i) r ∷ rest i
+    λ i. kept_rule_to (here i) r ∷ rest i
 
-same-source : (nodes : Nodes) (new old : Id → Key) (o : Option Id) → IsLiveSource nodes o → ((id : Id) → IsLive nodes id → new id ≡ old id) → option_map new o ≡ option_map old o
+same-source : (nodes : Nodes) (new old : Id → Key) (o : Option Id) → IsLiveSource nodes o → ((id : Id) → HasNode nodes id → new id ≡ old id) → option_map new o ≡ option_map old o
 same-source nodes new old None live same = refl
 same-source nodes new old (Some id) live same = ap (λ (k : Key). Some k) (same id live)
 
-pub same-names : (nodes : Nodes) (new old : Id → Key) (n : Node) → HasLiveLinks nodes n → ((id : Id) → IsLive nodes id → new id ≡ old id) → kept_by new n ≡ kept_by old n
+pub same-names : (nodes : Nodes) (new old : Id → Key) (n : Node) → HasLiveLinks nodes n → ((id : Id) → HasNode nodes id → new id ≡ old id) → kept_named new n ≡ kept_named old n
 same-names nodes new old n live same =
     let rules : rules_by new n.rules.items ≡ rules_by old n.rules.items = same-rules nodes new old n.rules.items live.rules same in
     let source : option_map new n.source ≡ option_map old n.source = same-source nodes new old n.source live.source same in
     λ i. record { options = n.series.options; labels = n.labels; list = n.series.samples; high = n.series.high; born = n.series.born; rules = rules i; source = source i }
 
 -- a node without rules and without a source
-pub bare-kept : (nodes : Nodes) (n : Node) → n.rules.items ≡ [] → n.source ≡ None → kept_at nodes n ≡ kept_of n.labels n.series
-bare-kept nodes n rules source = λ i. record (kept_of n.labels n.series) { rules = rules_by (key_in nodes) (rules i); source = option_map (key_in nodes) (source i) }
+pub bare-kept : (nodes : Nodes) (n : Node) → n.rules.items ≡ [] → n.source ≡ None → kept_node nodes n ≡ kept_series n.labels n.series
+bare-kept nodes n rules source = λ i. record (kept_series n.labels n.series) { rules = rules_by (key_in nodes) (rules i); source = option_map (key_in nodes) (source i) }
 
 -- the nodes of other numbers are kept as they were
 abbrev pub KeepsOthers : (nodes new : Nodes) → ℕ → Type 0
-KeepsOthers nodes new i = (j : ℕ) (g : Node) → j ≢ i → slab.get nodes j ≡ Some g → kept_at new g ≡ kept_at nodes g
+KeepsOthers nodes new i = (j : ℕ) (g : Node) → j ≢ i → slab.get nodes j ≡ Some g → kept_node new g ≡ kept_node nodes g
 
 -- where one series changes, other keys have what they had
 others-found : (nodes new : Nodes) (es : Numbers) (key : Key) (id : Id)
@@ -102,55 +102,55 @@ others-found : (nodes new : Nodes) (es : Numbers) (key : Key) (id : Id)
     → (q : Key) (o : Option Id) → number_of q es ≡ o → same key q ≡ false → found new o ≡ found nodes o
 others-found nodes new es key id apart is others kept q None at unlike = refl
 others-found nodes new es key id apart is others kept q (Some i) at unlike =
-    ap (option_map (kept_at new)) (others i.0 differ) ∙ go (slab.get nodes i.0) refl
+    ap (option_map (kept_node new)) (others i.0 differ) ∙ go (slab.get nodes i.0) refl
   where
     differ : i.0 ≢ id.0
     differ e = absurd (cc (apart key q i (is ∙ ap (λ (x : Id). Some x) (sym (id-same i id e))) at, unlike))
 
-    go : (o : Option Node) → slab.get nodes i.0 ≡ o → option_map (kept_at new) o ≡ option_map (kept_at nodes) o
+    go : (o : Option Node) → slab.get nodes i.0 ≡ o → option_map (kept_node new) o ≡ option_map (kept_node nodes) o
     go None e = refl
     go (Some g) e = ap (λ (d : Kept). Some d) (kept i.0 g differ e)
 
 -- a series that changed is that of its key alone
 pub collected-written : (nodes new : Nodes) (es : Numbers) (key : Key) (id : Id) (n : Node)
     → ((j k : Key) (i : Id) → number_of j es ≡ Some i → number_of k es ≡ Some i → same j k ≡ true)
-    → number_of key es ≡ Some id → slab.Updates nodes new id.0 (Some n) → KeepsOthers nodes new id.0 → collected new es ≡ with_key key (kept_at new n) (collected nodes es)
+    → number_of key es ≡ Some id → slab.Updates nodes new id.0 (Some n) → KeepsOthers nodes new id.0 → collected new es ≡ with_key key (kept_node new n) (collected nodes es)
 collected-written nodes new es key id n apart is change kept = maps-same _ _ (λ q.
-    get-collected q new es ∙ pick q (number_of q es) refl (cases_Bool (same key q)) ∙ sym (get-with q key (kept_at new n) (collected nodes es)))
+    get-collected q new es ∙ pick q (number_of q es) refl (cases_Bool (same key q)) ∙ sym (get-with q key (kept_node new n) (collected nodes es)))
   where
-    here : found new (Some id) ≡ Some (kept_at new n)
-    here = ap (option_map (kept_at new)) change.changed
+    here : found new (Some id) ≡ Some (kept_node new n)
+    here = ap (option_map (kept_node new)) change.changed
 
     pick : (q : Key) (o : Option Id) → number_of q es ≡ o → (same key q ≡ true) ⊎ (same key q ≡ false)
-        → found new o ≡ (if same key q then Some (kept_at new n) else get q (collected nodes es))
+        → found new o ≡ (if same key q then Some (kept_node new n) else get q (collected nodes es))
     pick q o at (inl alike) =
-        ap (found new) (sym at ∙ sym (number-same key q es alike) ∙ is) ∙ here ∙ ap (λ b. if b then Some (kept_at new n) else get q (collected nodes es)) (sym alike)
+        ap (found new) (sym at ∙ sym (number-same key q es alike) ∙ is) ∙ here ∙ ap (λ b. if b then Some (kept_node new n) else get q (collected nodes es)) (sym alike)
     pick q o at (inr unlike) =
         others-found nodes new es key id apart is change.others kept q o at unlike ∙ ap (found nodes) (sym at) ∙ sym (get-collected q nodes es)
-        ∙ ap (λ b. if b then Some (kept_at new n) else get q (collected nodes es)) (sym unlike)
+        ∙ ap (λ b. if b then Some (kept_node new n) else get q (collected nodes es)) (sym unlike)
 
 -- a series under a new key
 pub collected-added : (nodes new : Nodes) (es fs : Numbers) (key : Key) (id : Id) (n : Node)
     → ((k : Key) (i : Id) → number_of k es ≡ Some i → (g : Node) × (slab.get nodes i.0 ≡ Some g))
     → slab.get nodes id.0 ≡ None → slab.Updates nodes new id.0 (Some n) → KeepsOthers nodes new id.0 → ((q : Key) → number_of q fs ≡ cond (has_key key q) (Some id) (number_of q es))
-    → collected new fs ≡ with_key key (kept_at new n) (collected nodes es)
+    → collected new fs ≡ with_key key (kept_node new n) (collected nodes es)
 collected-added nodes new es fs key id n stored vacant change kept differs = maps-same _ _ (λ q.
     get-collected q new fs ∙ ap (found new) (differs q ∙ ap (λ b. cond b (Some id) (number_of q es)) (sym (same-at key q)))
-    ∙ pick q (same key q) (number_of q es) refl ∙ sym (get-with q key (kept_at new n) (collected nodes es)))
+    ∙ pick q (same key q) (number_of q es) refl ∙ sym (get-with q key (kept_node new n) (collected nodes es)))
   where
-    here : found new (Some id) ≡ Some (kept_at new n)
-    here = ap (option_map (kept_at new)) change.changed
+    here : found new (Some id) ≡ Some (kept_node new n)
+    here = ap (option_map (kept_node new)) change.changed
 
     other : (q : Key) (o : Option Id) → number_of q es ≡ o → found new o ≡ found nodes o
     other q None at = refl
     other q (Some i) at =
         let there = stored q i at in
         let differ : i.0 ≢ id.0 = λ e. absurd (cc (there.1, ap (slab.get nodes) e, vacant)) in
-        ap (option_map (kept_at new)) (change.others i.0 differ ∙ there.1)
+        ap (option_map (kept_node new)) (change.others i.0 differ ∙ there.1)
         ∙ ap (λ (d : Kept). Some d) (kept i.0 there.0 differ there.1)
-        ∙ sym (ap (option_map (kept_at nodes)) there.1)
+        ∙ sym (ap (option_map (kept_node nodes)) there.1)
 
-    pick : (q : Key) (b : Bool) (o : Option Id) → number_of q es ≡ o → found new (cond b (Some id) o) ≡ (if b then Some (kept_at new n) else get q (collected nodes es))
+    pick : (q : Key) (b : Bool) (o : Option Id) → number_of q es ≡ o → found new (cond b (Some id) o) ≡ (if b then Some (kept_node new n) else get q (collected nodes es))
     pick q true o at = here
     pick q false o at = other q o at ∙ ap (found nodes) (sym at) ∙ sym (get-collected q nodes es)
 
@@ -172,14 +172,14 @@ pub record IsOf (nodes : Nodes) (d : Kept) : Type 0 where
   pub number : ℕ
   pub node : Node
   pub there : slab.get nodes number ≡ Some node
-  pub same : d ≡ kept_at nodes node
+  pub same : d ≡ kept_node nodes node
 
 pub node-of : (nodes : Nodes) (es : Numbers) (k : Key) (d : Kept) → get k (collected nodes es) ≡ Some d → IsOf nodes d
 node-of nodes es k d is = from (number_of k es) (sym (get-collected k nodes es) ∙ is)
   where
-    of : (i : ℕ) (o : Option Node) → slab.get nodes i ≡ o → option_map (kept_at nodes) o ≡ Some d → IsOf nodes d
+    of : (i : ℕ) (o : Option Node) → slab.get nodes i ≡ o → option_map (kept_node nodes) o ≡ Some d → IsOf nodes d
     of i None at e = absurd (cc e)
-    of i (Some n) at e = record { number = i; node = n; there = at; same = some-same d (kept_at nodes n) (sym e) }
+    of i (Some n) at e = record { number = i; node = n; there = at; same = some-same d (kept_node nodes n) (sym e) }
 
     from : (o : Option Id) → found nodes o ≡ Some d → IsOf nodes d
     from None e = absurd (cc e)
@@ -191,4 +191,4 @@ collected-slots nodes new es same = maps-same _ _ (λ q. get-collected q new es 
   where
     go : (o : Option Id) → found new o ≡ found nodes o
     go None = refl
-    go (Some id) = λ i. option_map (kept_by (λ j. key_at (slice_index_or (same i) j.0 None))) (slice_index_or (same i) id.0 None)
+    go (Some id) = λ i. option_map (kept_named (λ j. key_at (slice_index_or (same i) j.0 None))) (slice_index_or (same i) id.0 None)

@@ -24,7 +24,7 @@ use Rattle.ts_db.specs.declared.work.Work.TheVariants.{Delete}
 use Rattle.ts_db.specs.Faults.{refusal_of}
 use Rattle.ts_db.specs.Feeding.{Rows, Gone, keep_fed}
 use Rattle.ts_db.specs.Planning.{changed_by, gone_by, rows_by_work, AreChanged, first_full, IsUnplanned}
-use Rattle.ts_db.specs.Store.{kept_of, rules_by, key_in, kept_by, kept_at, stock_of, contents_of, Contents, IsInOrder, IsDb, Holds}
+use Rattle.ts_db.specs.Store.{kept_series, rules_by, key_in, kept_named, kept_node, stock_of, contents_of, Contents, IsInOrder, IsDb, Holds}
 use Rattle.ts_db.specs.Answering.{node_after, IsKeptAnswer}
 use Rattle.ts_db.proofs.Applying.{there}
 use Rattle.ts_db.proofs.Fed.{deleted-fed}
@@ -39,14 +39,14 @@ cut-list h plan from to removed k is =
     ap (λ (p : Plan). list_of (after p h)) is ∙ times-swap (nat_le (low h)) (λ t. not (is_within from to t)) h.samples ∙ ap (outside from to) k.past_edge
 
 cuts-after : (names : Id → Key) (n : Node) (plan : Plan) (rules : Vec Rule Global) (from to removed : ℕ) → IsKept n.series → plan ≡ with_change plan (cuts from to removed)
-    → AreChanged (changed_by (Delete from to) n.series) n.rules.items rules.items → kept_by names (node_after plan None (Some rules) n) ≡ kept_without from to (kept_by names n)
+    → AreChanged (changed_by (Delete from to) n.series) n.rules.items rules.items → kept_named names (node_after plan None (Some rules) n) ≡ kept_without from to (kept_named names n)
 cuts-after names n plan rules from to removed k is changed =
     let list : at_times (nat_le (low n.series)) (outside from to n.series.samples) ≡ outside from to n.series.samples =
     times-swap (nat_le (low n.series)) (λ t. not (is_within from to t)) n.series.samples ∙ ap (outside from to) k.past_edge in
     let same : rules_by names rules.items ≡ map (changed_by (Delete from to) n.series) (rules_by names n.rules.items) =
     changed-rules names (changed_by (Delete from to) n.series) n.rules.items rules.items changed in
-    ap (λ (p : Plan). kept_by names (node_after p None (Some rules) n)) is
-    ∙ (λ i. record (kept_of n.labels n.series) { list = list i; rules = same i; source = option_map names n.source })
+    ap (λ (p : Plan). kept_named names (node_after p None (Some rules) n)) is
+    ∙ (λ i. record (kept_series n.labels n.series) { list = list i; rules = same i; source = option_map names n.source })
 
 pub cut-within : (h : History) (plan : Plan) (from to removed limit : ℕ) → IsKept h → plan ≡ with_change plan (cuts from to removed) → length (list_of h) ≤ limit → length (list_of (after plan h)) ≤ limit
 cut-within h plan from to removed limit k is le =
@@ -107,7 +107,7 @@ module _ (s : Store) (db : IsDb s) (key : Key) (id : Id) (n : Node) (holds : Hol
   gone = gone_by (Delete from to) n.series
 
   abbrev after_keys : Keeping
-  after_keys = keys_fed s db.store key id n holds (links s db key id n holds) rows gone (kept_without from to (kept_at s.nodes n))
+  after_keys = keys_fed s db.store key id n holds (links s db key id n holds) rows gone (kept_without from to (kept_node s.nodes n))
 
   -- the first destination that would show too many samples
   abbrev pub full_without : Option Id
@@ -118,13 +118,13 @@ module _ (s : Store) (db : IsDb s) (key : Key) (id : Id) (n : Node) (holds : Hol
       ≡ kept_unless_full (stock_of s).keys (option_map (key_in s.nodes) full_without) (record { keys = after_keys; response = Count many })
   delete-from many =
       ap (λ (q : Keeping). kept_within_destinations s.limits (stock_of s).keys key (record { keys = q; response = Count many }))
-      (deleted-fed (stock_of s).keys key (kept_at s.nodes n) (there s db.store key id n holds) (links s db key id n holds) from to)
-      ∙ destinations-tested s db.store key id n holds (links s db key id n holds) rows gone (kept_without from to (kept_at s.nodes n)) (record { keys = after_keys; response = Count many })
+      (deleted-fed (stock_of s).keys key (kept_node s.nodes n) (there s db.store key id n holds) (links s db key id n holds) from to)
+      ∙ destinations-tested s db.store key id n holds (links s db key id n holds) rows gone (kept_without from to (kept_node s.nodes n)) (record { keys = after_keys; response = Count many })
 
   -- a deletion that was planned
   pub deleted-answers : (plan : Plan) (rules : Vec Rule Global) (removed : ℕ) (new : Contents) → plan ≡ with_change plan (cuts from to (length (between from to (list_of n.series)))) → removed ≡ plan.removed
       → AreChanged (changed_by (Delete from to) n.series) n.rules.items rules.items → full_without ≡ None
-      → new ≡ record (contents_of s) { keys = keep_fed rows gone (rules_by (key_in s.nodes) n.rules.items) (with_key key (kept_at s.nodes (node_after plan None (Some rules) n)) (stock_of s).keys) }
+      → new ≡ record (contents_of s) { keys = keep_fed rows gone (rules_by (key_in s.nodes) n.rules.items) (with_key key (kept_node s.nodes (node_after plan None (Some rules) n)) (stock_of s).keys) }
       → kept_within_destinations s.limits (stock_of s).keys key (record { keys = keep_deleted key from to (stock_of s).keys; response = Count (length (between from to (list_of n.series))) })
       ≡ record { keys = new.keys; response = Count removed }
   deleted-answers plan rules removed new is count changed room applied =

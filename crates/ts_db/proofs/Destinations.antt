@@ -17,9 +17,9 @@ use Rattle.ts_db.specs.declared.fault.DbFault.TheVariants.{KeyExists, NoKey, Key
 use Rattle.ts_db.specs.declared.store.Store.{Store}
 use Rattle.ts_db.specs.Faults.{key_among, key_with, full_refusal, refusal_of}
 use Rattle.ts_db.specs.Feeding.{Rows, Gone}
-use Rattle.ts_db.specs.Held.{IsLive as IsLiveNumber, YieldsToMemory, IsFullAt, IsOwn}
+use Rattle.ts_db.specs.Held.{IsLive, YieldsToMemory, IsFullAt, IsOwn}
 use Rattle.ts_db.specs.Planning.{fed_list, first_full, IsUnplanned}
-use Rattle.ts_db.specs.Store.{key_at, key_in, number_of, stock_of, IsLive, AreLive, IsInOrder, Holds}
+use Rattle.ts_db.specs.Store.{key_at, key_in, number_of, stock_of, HasNode, AreLive, IsInOrder, Holds}
 use Rattle.ts_db.specs.Answering.{IsKeptAnswer}
 use Rattle.ts_db.proofs.Collecting.{get-ids, id-same}
 
@@ -45,7 +45,7 @@ among (e ∷ es) sorted k i is one = go (e.value.0 == i.0) refl (among es (and_p
         later j y true z = absurd (cc (sym y, ap (λ (q : Key). get_in q es) (sym (same-true e.key j z)) ∙ below-get e.key es parts.0))
         later j y false z = y
 
-module _ (s : Store) (store : IsInOrder s) (i : Id) (live : IsLive s.nodes i) where
+module _ (s : Store) (store : IsInOrder s) (i : Id) (live : HasNode s.nodes i) where
   numbered : get live.node.key (stock_of s).ids ≡ Some i
   numbered = get-ids live.node.key s.keys.entries ∙ store.owned i.0 live.node live.there
 
@@ -62,7 +62,7 @@ module _ (s : Store) (store : IsInOrder s) (i : Id) (live : IsLive s.nodes i) wh
   pub only-key : (k : Key) → number_of k s.keys.entries ≡ Some i → key_in s.nodes i ≡ k
   only-key k is = ap key_at live.there ∙ store.named k i live.node is live.there
 
-  pub live-number : IsLiveNumber (stock_of s).ids i
+  pub live-number : IsLive (stock_of s).ids i
   live-number = record { key = live.node.key; is = numbered }
 
 -- ---- the first destination that is full
@@ -73,15 +73,15 @@ pub none-full-yields : (names : Id → Key) (m : Keeping) (full : Option Id) (do
 none-full-yields names m full done none yields = subst (λ (o : Option Id). YieldsToMemory (kept_unless_full m (option_map names o) done).response) (sym none) yields
 
 module _ (s : Store) (store : IsInOrder s) (rs : List Rule) (rows : Rows) (gone : Gone) (lives : AreLive s.nodes rs) where
-  full-live : (i : Id) → first_full s.limits.samples s.nodes rows gone rs ≡ Some i → IsLive s.nodes i
+  full-live : (i : Id) → first_full s.limits.samples s.nodes rows gone rs ≡ Some i → HasNode s.nodes i
   full-live i is = go rs lives is
     where
-      go : (ps : List Rule) → AreLive s.nodes ps → first_full s.limits.samples s.nodes rows gone ps ≡ Some i → IsLive s.nodes i
+      go : (ps : List Rule) → AreLive s.nodes ps → first_full s.limits.samples s.nodes rows gone ps ≡ Some i → HasNode s.nodes i
       go [] l x = absurd (cc x)
       go (p ∷ ps) l x = pick (nat_lt s.limits.samples (length (fed_list s.nodes rows gone p))) x (λ y. go ps l.1 y)
         where
-          pick : (b : Bool) → (if b then Some p.dest else first_full s.limits.samples s.nodes rows gone ps) ≡ Some i → (first_full s.limits.samples s.nodes rows gone ps ≡ Some i → IsLive s.nodes i) → IsLive s.nodes i
-          pick true y ih = subst (λ (j : Id). IsLive s.nodes j) (some-same p.dest i y) l.0
+          pick : (b : Bool) → (if b then Some p.dest else first_full s.limits.samples s.nodes rows gone ps) ≡ Some i → (first_full s.limits.samples s.nodes rows gone ps ≡ Some i → HasNode s.nodes i) → HasNode s.nodes i
+          pick true y ih = subst (λ (j : Id). HasNode s.nodes j) (some-same p.dest i y) l.0
           pick false y ih = ih y
 
   -- the step refuses for that destination, and the fault tells its number

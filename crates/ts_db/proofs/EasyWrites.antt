@@ -20,7 +20,7 @@ use Rattle.ts_sample.specs.Chunk.{IsPast, greatest_limit}
 use Rattle.ts_sample.specs.declared.id.Id.{Id}
 use Rattle.ts_series.specs.History.{History, list_of, reach, limit_for, format_of, IsKept}
 use Rattle.ts_rules.specs.declared.rule.Rule.{Rule}
-use Rattle.ts_rules.specs.Rules.{kept_as}
+use Rattle.ts_rules.specs.Rules.{kept_rule_to}
 use Rattle.ts_rules.specs.Shares as shares
 use Rattle.ts_rules.specs.Shares.{in_buckets}
 use Rattle.ts_db.specs.declared.node.Node.{Node}
@@ -30,9 +30,9 @@ use Rattle.ts_db.specs.Held.{reach_at}
 use Rattle.ts_db.specs.Bounds as bounds
 use Rattle.ts_db.specs.Bounds.{high_at, rule_steps, write_steps, AllClosePastAll, IsEasyAppend, rule_deletion_steps, deletion_steps}
 use Rattle.ts_db.specs.Planning.{share_at, shares_of, IsEasyAt, AreEasyOf}
-use Rattle.ts_db.specs.Store.{rules_by, key_at, key_in, kept_at, number_of, stock_of, AreLive, IsDb, Holds}
+use Rattle.ts_db.specs.Store.{rules_by, key_at, key_in, kept_node, number_of, stock_of, AreLive, IsDb, Holds}
 use Rattle.ts_db.proofs.Applying.{there}
-use Rattle.ts_series.specs.Held.{AreChunks, greatest}
+use Rattle.ts_series.specs.Stored.{AreChunks, greatest}
 use Rattle.ts_db.proofs.Reaches.{reach-held}
 
 -- ---- an appended sample lies in no bucket before the open one
@@ -62,9 +62,9 @@ module _ (s : Store) (db : IsDb s) (key : Key) (id : Id) (n : Node) (holds : Hol
   rules-before : (t : ℕ) → is_append t n.series.high ≡ true → AreOpenBefore t (rules_by (key_in s.nodes) n.rules.items)
   rules-before t fresh =
       let m = db.stands.to.state in
-      let is : get key (stock_of s).keys ≡ Some (kept_at s.nodes n) = there s db.store key id n holds in
-      let from : From (kept_record (link_to m key)) (get key m) (kept_at s.nodes n) =
-      mapped-from (kept_record (link_to m key)) (get key m) (kept_at s.nodes n) (sym (get-kept m key) ∙ ap (get key) (sym db.stands.stands.state.kept) ∙ is) in
+      let is : get key (stock_of s).keys ≡ Some (kept_node s.nodes n) = there s db.store key id n holds in
+      let from : From (kept_record (link_to m key)) (get key m) (kept_node s.nodes n) =
+      mapped-from (kept_record (link_to m key)) (get key m) (kept_node s.nodes n) (sym (get-kept m key) ∙ ap (get key) (sym db.stands.stands.state.kept) ∙ is) in
       subst (AreOpenBefore t) (ap (λ (q : Kept). q.rules) from.gives)
       (all-before from.value t from.value.rules (ap (is_append t) (ap (λ (q : Kept). q.high) from.gives) ∙ fresh) (db.stands.stands.state.valid.sound key from.value from.is).rules)
 
@@ -73,7 +73,7 @@ module _ (s : Store) (db : IsDb s) (key : Key) (id : Id) (n : Node) (holds : Hol
   holds-dest : (r : Rule) (d : Node) → slab.get s.nodes r.dest.0 ≡ Some d → Holds s (key_in s.nodes r.dest) r.dest d
   holds-dest r d at = record { number = ap (λ (o : Option Node). number_of (key_at o) s.keys.entries) at ∙ db.store.owned r.dest.0 d at; node = at }
 
-  own : get key (stock_of s).keys ≡ Some (kept_at s.nodes n)
+  own : get key (stock_of s).keys ≡ Some (kept_node s.nodes n)
   own = there s db.store key id n holds
 
   far : reach_at (stock_of s) key ≡ reach n.series
@@ -85,7 +85,7 @@ module _ (s : Store) (db : IsDb s) (key : Key) (id : Id) (n : Node) (holds : Hol
   -- ---- a write
 
   share-write : (p : Point) (r : Rule) (d : Node) → slab.get s.nodes r.dest.0 ≡ Some d
-      → share_at (Write p) n.series r (slab.get s.nodes r.dest.0) ≡ rule_steps (stock_of s) key p.time (kept_as (key_in s.nodes r.dest) r)
+      → share_at (Write p) n.series r (slab.get s.nodes r.dest.0) ≡ rule_steps (stock_of s) key p.time (kept_rule_to (key_in s.nodes r.dest) r)
   share-write p r d at =
       let dest_far : reach_at (stock_of s) (key_in s.nodes r.dest) ≡ reach d.series = reach-held s (key_in s.nodes r.dest) r.dest d (holds-dest r d at) in
       ap (share_at (Write p) n.series r) at
@@ -96,7 +96,7 @@ module _ (s : Store) (db : IsDb s) (key : Key) (id : Id) (n : Node) (holds : Hol
   shares-write p (r ∷ rs) nodes =
       let one = share-write p r nodes.0.node nodes.0.there in
       let rest = shares-write p rs nodes.1 in
-      (λ i. one i + rest i) ∙ sym (sum_by-cons (rule_steps (stock_of s) key p.time) (kept_as (key_in s.nodes r.dest) r) (rules_by (key_in s.nodes) rs))
+      (λ i. one i + rest i) ∙ sym (sum_by-cons (rule_steps (stock_of s) key p.time) (kept_rule_to (key_in s.nodes r.dest) r) (rules_by (key_in s.nodes) rs))
 
   -- what the key and its rules take
   pub write-total : (p : Point) → 3 * reach n.series + shares_of s.nodes (Write p) n.series n.rules.items ≡ write_steps (stock_of s) key p.time
@@ -115,7 +115,7 @@ module _ (s : Store) (db : IsDb s) (key : Key) (id : Id) (n : Node) (holds : Hol
 
   past-dest : (r : Rule) (d : Node) (b : ℕ) → slab.get s.nodes r.dest.0 ≡ Some d → bounds.IsPastAll (stock_of s) (key_in s.nodes r.dest) b → shares.IsPastAll s.limits.samples d.series b
   past-dest r d b at e =
-      let dest : get (key_in s.nodes r.dest) (stock_of s).keys ≡ Some (kept_at s.nodes d) = there s db.store (key_in s.nodes r.dest) r.dest d (holds-dest r d at) in
+      let dest : get (key_in s.nodes r.dest) (stock_of s).keys ≡ Some (kept_node s.nodes d) = there s db.store (key_in s.nodes r.dest) r.dest d (holds-dest r d at) in
       let dest_far : reach_at (stock_of s) (key_in s.nodes r.dest) ≡ reach d.series = reach-held s (key_in s.nodes r.dest) r.dest d (holds-dest r d at) in
       let many : length (list_at (get (key_in s.nodes r.dest) (stock_of s).keys)) ≡ length (list_of d.series) = ap (λ (o : Option Kept). length (list_at o)) dest in
       record { past = subst (λ (o : Option Kept). IsPast (last_of (list_at o)) b) dest e.past; few = omega (arith, e.few, many, dest_far) }
@@ -146,9 +146,9 @@ module _ (s : Store) (db : IsDb s) (key : Key) (id : Id) (n : Node) (holds : Hol
   -- ---- a deletion
 
   share-delete : (from to : ℕ) (r : Rule) (d : Node) → slab.get s.nodes r.dest.0 ≡ Some d
-      → share_at (Delete from to) n.series r (slab.get s.nodes r.dest.0) ≡ rule_deletion_steps (stock_of s) key from to (kept_as (key_in s.nodes r.dest) r)
+      → share_at (Delete from to) n.series r (slab.get s.nodes r.dest.0) ≡ rule_deletion_steps (stock_of s) key from to (kept_rule_to (key_in s.nodes r.dest) r)
   share-delete from to r d at =
-      let dest : get (key_in s.nodes r.dest) (stock_of s).keys ≡ Some (kept_at s.nodes d) = there s db.store (key_in s.nodes r.dest) r.dest d (holds-dest r d at) in
+      let dest : get (key_in s.nodes r.dest) (stock_of s).keys ≡ Some (kept_node s.nodes d) = there s db.store (key_in s.nodes r.dest) r.dest d (holds-dest r d at) in
       let dest_far : reach_at (stock_of s) (key_in s.nodes r.dest) ≡ reach d.series = reach-held s (key_in s.nodes r.dest) r.dest d (holds-dest r d at) in
       ap (share_at (Delete from to) n.series r) at
       ∙ sym (λ i. length (in_buckets r.grid from to (list_at (own i))) + 6 * far i + length (between (start r.grid from) to (list_at (dest i))) + 5 * dest_far i)
@@ -159,7 +159,7 @@ module _ (s : Store) (db : IsDb s) (key : Key) (id : Id) (n : Node) (holds : Hol
   shares-delete from to (r ∷ rs) nodes =
       let one = share-delete from to r nodes.0.node nodes.0.there in
       let rest = shares-delete from to rs nodes.1 in
-      (λ i. one i + rest i) ∙ sym (sum_by-cons (rule_deletion_steps (stock_of s) key from to) (kept_as (key_in s.nodes r.dest) r) (rules_by (key_in s.nodes) rs))
+      (λ i. one i + rest i) ∙ sym (sum_by-cons (rule_deletion_steps (stock_of s) key from to) (kept_rule_to (key_in s.nodes r.dest) r) (rules_by (key_in s.nodes) rs))
 
   -- what the key and its rules take
   pub deletion-total : (from to : ℕ) → 3 * reach n.series + shares_of s.nodes (Delete from to) n.series n.rules.items ≡ deletion_steps (stock_of s) key from to

@@ -11,7 +11,7 @@ use Rattle.ts_db.specs.declared.node.Node.{Node}
 use Rattle.ts_db.specs.declared.store.Store.{Store}
 use Rattle.ts_db.specs.Answering.{IsElsewhere}
 use Rattle.ts_db.specs.Linking.{kept_ruleless, keep_freed, keep_unled, IsKeptBy, IsAlone, KeepsNames}
-use Rattle.ts_db.specs.Store.{rules_by, key_in, kept_at, number_of, stock_of, contents_of, Contents, IsDb, Holds}
+use Rattle.ts_db.specs.Store.{rules_by, key_in, kept_node, number_of, stock_of, contents_of, Contents, IsDb, Holds}
 use Rattle.ts_db.proofs.Alone.{ended-alone}
 use Rattle.ts_db.proofs.Applying.{there}
 use Rattle.ts_db.proofs.Collecting.{get-ids}
@@ -44,7 +44,7 @@ module _ (s : Store) (db : IsDb s) (key : Key) (id : Id) (n : Node) (holds : Hol
   pub all-alone : IsAlone s new key
   all-alone = record {
     keys = ap (λ (x : Contents). without_key key x.keys) whole
-        ∙ ended-alone s.limits (stock_of s).keys db.stands.to.state db.stands.stands.state key (kept_at s.nodes n) (there s db.store key id n holds);
+        ∙ ended-alone s.limits (stock_of s).keys db.stands.to.state db.stands.stands.state key (kept_node s.nodes n) (there s db.store key id n holds);
     limits = ap (λ (x : Contents). x.limits) whole;
     ids = ap (λ (x : Contents). x.ids) whole;
   }

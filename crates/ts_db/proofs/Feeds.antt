@@ -12,11 +12,11 @@ use Rattle.ts_sample.specs.declared.id.Id.{Id}
 use Rattle.ts_series.specs.Plan.{Plan}
 use Rattle.ts_rules.specs.declared.rule.Rule.{Rule}
 use Rattle.ts_rules.specs.declared.plan.RulePlan.{RulePlan}
-use Rattle.ts_rules.specs.Rules.{kept_as}
+use Rattle.ts_rules.specs.Rules.{kept_rule_to}
 use Rattle.ts_rules.specs.Plans.{IsMendedBy, after_plan}
 use Rattle.ts_db.specs.declared.node.Node.{Node}
 use Rattle.ts_db.specs.declared.store.Store.{Store}
-use Rattle.ts_db.specs.Store.{rules_by, key_at, key_in, kept_at, stock_of, contents_of, Contents, Nodes, IsInOrder, Holds}
+use Rattle.ts_db.specs.Store.{rules_by, key_at, key_in, kept_node, stock_of, contents_of, Contents, Nodes, IsInOrder, Holds}
 use Rattle.ts_db.specs.Answering.{node_after, IsReady, IsApplied, IsElsewhere}
 use Rattle.ts_db.specs.Feeding.{Rows, Gone, keep_fed}
 use Rattle.ts_db.specs.Planning.{kept_rule_in, IsFedBy, AreFedBy, NoneTo, AreDistinct, IsFed}
@@ -37,11 +37,11 @@ fed_node plan n = record n { series = after_plan plan n.series }
 
 -- what is kept of a destination after its plan
 pub mended-node : (names : Nodes) (n : Node) (plan : Option Plan) (limit : ℕ) (rows : Rows) (gone : Gone) (q : KeptRule) → IsMendedBy limit (gone q) (rows n.series.born q) n.series plan
-    → kept_at names (fed_node plan n) ≡ mended_kept (gone q) (rows n.series.born q) (kept_at names n)
+    → kept_node names (fed_node plan n) ≡ mended_kept (gone q) (rows n.series.born q) (kept_node names n)
 mended-node nodes n None limit rows gone q m =
-    λ i. record (kept_at nodes n) { options = m.options i; list = m.list i; high = m.high i }
+    λ i. record (kept_node nodes n) { options = m.options i; list = m.list i; high = m.high i }
 mended-node nodes n (Some plan) limit rows gone q m =
-    λ i. record (kept_at nodes n) { options = m.options i; list = m.list i; high = m.high i }
+    λ i. record (kept_node nodes n) { options = m.options i; list = m.list i; high = m.high i }
 
 module _ (now : Store) (store : IsInOrder now) (rows : Rows) (gone : Gone) (r : Rule) (x : RulePlan) (fed : IsFedBy now.limits.samples now.nodes rows gone r x) where
   abbrev q : KeptRule
@@ -59,19 +59,19 @@ module _ (now : Store) (store : IsInOrder now) (rows : Rows) (gone : Gone) (r : 
 
   -- it is mended alone
   pub mends : keep_changed (kept_rule_in now.nodes r).dest (λ d. mended_kept (gone (kept_rule_in now.nodes r)) (rows d.born (kept_rule_in now.nodes r)) d) (stock_of now).keys
-      ≡ with_key fed.node.key (kept_at now.nodes (fed_node x.dest fed.node)) (stock_of now).keys
+      ≡ with_key fed.node.key (kept_node now.nodes (fed_node x.dest fed.node)) (stock_of now).keys
   mends =
-      changed-alone (stock_of now).keys q.dest (kept_at now.nodes fed.node) (λ d. mended_kept (gone q) (rows d.born q) d)
+      changed-alone (stock_of now).keys q.dest (kept_node now.nodes fed.node) (λ d. mended_kept (gone q) (rows d.born q) d)
       (ap (λ (k : Key). get k (stock_of now).keys) name ∙ there now store fed.node.key x.rule.dest fed.node holds)
-      ∙ ap (λ (k : Key). with_key k (mended_kept (gone q) (rows fed.node.series.born q) (kept_at now.nodes fed.node)) (stock_of now).keys) name
+      ∙ ap (λ (k : Key). with_key k (mended_kept (gone q) (rows fed.node.series.born q) (kept_node now.nodes fed.node)) (stock_of now).keys) name
       ∙ ap (λ (d : Kept). with_key fed.node.key d (stock_of now).keys) (sym (mended-node now.nodes fed.node x.dest now.limits.samples rows gone q fed.mended))
 
   -- nothing is planned for it
   pub mends-nothing : x.dest ≡ None
       → keep_changed (kept_rule_in now.nodes r).dest (λ d. mended_kept (gone (kept_rule_in now.nodes r)) (rows d.born (kept_rule_in now.nodes r)) d) (stock_of now).keys ≡ (stock_of now).keys
   mends-nothing e =
-      mends ∙ ap (λ (p : Option Plan). with_key fed.node.key (kept_at now.nodes (fed_node p fed.node)) (stock_of now).keys) e
-      ∙ unchanged (stock_of now).keys fed.node.key (kept_at now.nodes fed.node) (there now store fed.node.key x.rule.dest fed.node holds)
+      mends ∙ ap (λ (p : Option Plan). with_key fed.node.key (kept_node now.nodes (fed_node p fed.node)) (stock_of now).keys) e
+      ∙ unchanged (stock_of now).keys fed.node.key (kept_node now.nodes fed.node) (there now store fed.node.key x.rule.dest fed.node holds)
 
   -- its plan may be done
   pub ready : (plan : Plan) → x.dest ≡ Some plan → IsReady now x.rule.dest plan None None
@@ -102,7 +102,7 @@ fed-elsewhere now new id rows gone (r ∷ rs) (x ∷ xs) else none fed = (
     there = else.others r.dest.0 none.0 ∙ fed.0.there;
     mended = subst (λ (limit : ℕ). IsMendedBy limit (gone (kept_rule_in new.nodes r)) (rows fed.0.node.series.born (kept_rule_in new.nodes r)) fed.0.node.series x.dest)
         (sym (ap (λ l. l.samples) else.limits))
-        (subst (λ (k : Key). IsMendedBy now.limits.samples (gone (kept_as k r)) (rows fed.0.node.series.born (kept_as k r)) fed.0.node.series x.dest) (sym (else.names r.dest)) fed.0.mended);
+        (subst (λ (k : Key). IsMendedBy now.limits.samples (gone (kept_rule_to k r)) (rows fed.0.node.series.born (kept_rule_to k r)) fed.0.node.series x.dest) (sym (else.names r.dest)) fed.0.mended);
   },
   fed-elsewhere now new id rows gone rs xs else none.1 fed.1,
 )
@@ -117,11 +117,11 @@ module _ (init now : Store) (store : IsInOrder now) (rows : Rows) (gone : Gone) 
       → x.dest ≡ Some plan → IsElsewhere now new x.rule.dest → IsApplied now x.rule.dest plan None None new → Feeding init new rows gone rs xs
   step-done new plan [] fed distinct result e else applied = absurd fed
   step-done new plan (r ∷ rest) fed distinct result e else applied =
-      let done : contents_of new ≡ record (contents_of now) { keys = with_key fed.0.node.key (kept_at now.nodes (node_after plan None None fed.0.node)) (stock_of now).keys } =
+      let done : contents_of new ≡ record (contents_of now) { keys = with_key fed.0.node.key (kept_node now.nodes (node_after plan None None fed.0.node)) (stock_of now).keys } =
       applied fed.0.node.key fed.0.node (holds now store rows gone r x fed.0) in
       let here : keep_changed (kept_rule_in now.nodes r).dest (λ d. mended_kept (gone (kept_rule_in now.nodes r)) (rows d.born (kept_rule_in now.nodes r)) d) (stock_of now).keys
-      ≡ with_key fed.0.node.key (kept_at now.nodes (node_after plan None None fed.0.node)) (stock_of now).keys =
-      mends now store rows gone r x fed.0 ∙ ap (λ (p : Option Plan). with_key fed.0.node.key (kept_at now.nodes (fed_node p fed.0.node)) (stock_of now).keys) e in
+      ≡ with_key fed.0.node.key (kept_node now.nodes (node_after plan None None fed.0.node)) (stock_of now).keys =
+      mends now store rows gone r x fed.0 ∙ ap (λ (p : Option Plan). with_key fed.0.node.key (kept_node now.nodes (fed_node p fed.0.node)) (stock_of now).keys) e in
       record {
         rest = rest;
         plans = fed-elsewhere now new x.rule.dest rows gone rest xs else (subst (λ (i : Id). NoneTo i.0 rest) (sym fed.0.dest) distinct.0) fed.1;

@@ -15,7 +15,7 @@ use Rattle.ts_db.specs.declared.store.Store.{Store}
 use Rattle.ts_db.specs.Feeding.{Rows, Gone, keep_fed}
 use Rattle.ts_db.specs.Links.{IsLink, AreLinks}
 use Rattle.ts_db.specs.Planning.{kept_rule_in, fed_list, first_full}
-use Rattle.ts_db.specs.Store.{rules_by, key_at, key_in, kept_at, kept_in, stock_of, IsLive, AreLive, IsInOrder, Holds}
+use Rattle.ts_db.specs.Store.{rules_by, key_at, key_in, kept_node, kept_numbered, stock_of, HasNode, AreLive, IsInOrder, Holds}
 use Rattle.ts_db.proofs.Applying.{there}
 use Rattle.ts_db.proofs.Fed.{get-fed, no-own}
 use Rattle.ts_db.proofs.KeptLinks.{HasLinks}
@@ -37,14 +37,14 @@ module _ (s : Store) (store : IsInOrder s) (key : Key) (id : Id) (n : Node) (hol
       ∙ ap (option_map (fed rows gone None)) (get-with key key e (stock_of s).keys ∙ ap (λ b. if b then Some e else get key (stock_of s).keys) (same-refl key))
 
   -- a number that is live has what is kept of it under its key
-  live-kept : (i : Id) → IsLive s.nodes i → get (key_in s.nodes i) (stock_of s).keys ≡ kept_in s.nodes i
+  live-kept : (i : Id) → HasNode s.nodes i → get (key_in s.nodes i) (stock_of s).keys ≡ kept_numbered s.nodes i
   live-kept i live =
       ap (λ (k : Key). get k (stock_of s).keys) (ap key_at live.there)
       ∙ there s store live.node.key i live.node (record { number = store.owned i.0 live.node live.there; node = live.there })
-      ∙ sym (ap (option_map (kept_at s.nodes)) live.there)
+      ∙ sym (ap (option_map (kept_node s.nodes)) live.there)
 
   -- what the destination of a rule has
-  one-fed : (r : Rule) → IsLink (stock_of s).keys key all (kept_rule_in s.nodes r) → IsLive s.nodes r.dest → list_at (get (key_in s.nodes r.dest) keys_fed) ≡ fed_list s.nodes rows gone r
+  one-fed : (r : Rule) → IsLink (stock_of s).keys key all (kept_rule_in s.nodes r) → HasNode s.nodes r.dest → list_at (get (key_in s.nodes r.dest) keys_fed) ≡ fed_list s.nodes rows gone r
   one-fed r link live =
       ap list_at (get-fed rows gone all (with_key key e (stock_of s).keys) (key_in s.nodes r.dest) links.apart
       ∙ ap (λ (o : Option KeptRule). option_map (fed rows gone o) (get (key_in s.nodes r.dest) (with_key key e (stock_of s).keys))) link.found

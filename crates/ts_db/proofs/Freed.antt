@@ -5,14 +5,14 @@ use Rattle.ts_spec.specs.Key.{Key}
 use Rattle.ts_spec.specs.Kept.{KeptRule}
 use Rattle.ts_sample.specs.declared.id.Id.{Id}
 use Rattle.ts_rules.specs.declared.rule.Rule.{Rule}
-use Rattle.ts_rules.specs.Rules.{kept_as}
+use Rattle.ts_rules.specs.Rules.{kept_rule_to}
 use Rattle.ts_db.specs.declared.store.Store.{Store}
 use Rattle.ts_db.specs.Answering.{IsElsewhere}
 use Rattle.ts_db.specs.Linking.{kept_sourced, keep_freed, IsKeptBy}
-use Rattle.ts_db.specs.Store.{rules_by, key_in, number_of, stock_of, contents_of, Contents, Numbers, IsLive, AreLive, IsLiveSource, IsInOrder}
+use Rattle.ts_db.specs.Store.{rules_by, key_in, number_of, stock_of, contents_of, Contents, Numbers, HasNode, AreLive, IsLiveSource, IsInOrder}
 
 -- a number stays live where all keys stay
-pub live-after : (old new : Store) → IsInOrder old → IsInOrder new → new.keys.entries ≡ old.keys.entries → (id : Id) → IsLive old.nodes id → IsLive new.nodes id
+pub live-after : (old new : Store) → IsInOrder old → IsInOrder new → new.keys.entries ≡ old.keys.entries → (id : Id) → HasNode old.nodes id → HasNode new.nodes id
 live-after old new before after same id live =
     let of = after.stored live.node.key id (ap (λ (es : Numbers). number_of live.node.key es) same ∙ before.owned id.0 live.node live.there) in
     record { node = of.0; there = of.1 }
@@ -30,7 +30,7 @@ pub same-rules-by : (new old : Id → Key) → ((i : Id) → new i ≡ old i) �
 same-rules-by new old same [] = refl
 same-rules-by new old same (r ∷ rs) =
     let rest : rules_by new rs ≡ rules_by old rs = same-rules-by new old same rs in
-    λ i. kept_as (same r.dest i) r ∷ rest i
+    λ i. kept_rule_to (same r.dest i) r ∷ rest i
 
 -- what is left to do, and that it comes to the same
 pub record Freeing (init now : Store) (all rest : List Rule) : Type 0 where

@@ -15,7 +15,7 @@ use Rattle.ts_db.specs.declared.store.Store.{Store}
 use Rattle.ts_db.specs.Answering.{IsReady}
 use Rattle.ts_db.specs.Growing.{grown, kept_grown}
 use Rattle.ts_db.specs.Turned.{IsTurned, IsGrown}
-use Rattle.ts_db.specs.Store.{kept_of, key_in, kept_at, collected, Nodes, HasLiveLinks, IsNode, IsStore, IsInOrder, Holds}
+use Rattle.ts_db.specs.Store.{kept_series, key_in, kept_node, collected, Nodes, HasLiveLinks, IsNode, IsStore, IsInOrder, Holds}
 use Rattle.ts_db.proofs.Applying.{store-changed, keys-changed}
 use Rattle.ts_db.proofs.StayingOpen.{grown-grids}
 use Rattle.ts_db.proofs.Working.{changed-rules, changed-live}
@@ -54,10 +54,10 @@ module _ (s : Store) (store : IsInOrder s) (id : Id) (plan : Plan) (planned : Is
   store-grown =
       subst (λ (nodes : Nodes). IsStore s.limits nodes s.keys.entries) turned (store-changed s store planned.key id n changed (record { number = planned.holds.number; node = got }) refl links in_order)
 
-  same : kept_at s.nodes changed ≡ kept_grown s.nodes plan p n
+  same : kept_node s.nodes changed ≡ kept_grown s.nodes plan p n
   same =
       let all = changed-rules (key_in s.nodes) (grown p) n.rules.items t.now.rules.items t.so.rules in
-      λ i. record (kept_of n.labels (t.so.done i)) { rules = all i; source = option_map (key_in s.nodes) n.source }
+      λ i. record (kept_series n.labels (t.so.done i)) { rules = all i; source = option_map (key_in s.nodes) n.source }
 
   -- and of the key of the number that is kept
   pub keys-grown : (key : Key) (g : Node) → Holds s key id g → collected new s.keys.entries ≡ with_key key (kept_grown s.nodes plan p g) (collected s.nodes s.keys.entries)

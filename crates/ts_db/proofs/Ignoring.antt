@@ -20,7 +20,7 @@ use Rattle.ts_series.specs.Put.{met}
 use Rattle.ts_series.proofs.Expired.{none-kept}
 use Rattle.ts_db.specs.declared.node.Node.{Node}
 use Rattle.ts_db.specs.declared.store.Store.{Store}
-use Rattle.ts_db.specs.Store.{kept_at, key_in, stock_of, IsInOrder, IsNode, Holds}
+use Rattle.ts_db.specs.Store.{kept_node, key_in, stock_of, IsInOrder, IsNode, Holds}
 use Rattle.ts_db.specs.Writes.{ignored_by}
 use Rattle.ts_db.specs.Bounds.{ignored_at, IsIgnored}
 use Rattle.ts_db.proofs.Applying.{there}
@@ -73,7 +73,7 @@ late-enough h t last kept c = go (nat_lt t (low h)) refl
 
 module _ (s : Store) (store : IsInOrder s) (key : Key) (id : Id) (n : Node) (holds : Holds s key id n) (t : ℕ) (v : ℤ) where
   -- a link stands in what is kept of it
-  pub kept-by : kept_ignored (kept_at s.nodes n) t v ≡ ignored_by n t v
+  pub kept-by : kept_ignored (kept_node s.nodes n) t v ≡ ignored_by n t v
   kept-by = ap (λ (b : Bool). if b then None else ignored_after n.series.options (last_of (list_of n.series)) t v) (same_source n.source)
     where
       same_source : (o : Option Id) → is_some (option_map (key_in s.nodes) o) ≡ is_some o
@@ -97,14 +97,14 @@ module _ (s : Store) (store : IsInOrder s) (key : Key) (id : Id) (n : Node) (hol
 
   -- a write of a sample that is ignored tells the time of the last one
   pub write-ignored : (how : Merge) (last : ℕ) → Some last ≡ ignored_by n t v
-      → kept_write s.limits (stock_of s).keys key (kept_at s.nodes n) how t v ≡ unchanged_with (stock_of s).keys (Count last)
+      → kept_write s.limits (stock_of s).keys key (kept_node s.nodes n) how t v ≡ unchanged_with (stock_of s).keys (Count last)
   write-ignored how last is =
       let m : Keeping = (stock_of s).keys in
       let merged : KeptOutcome = kept_write_merged s.limits m key t (merge how (value_at t (list_of n.series)) v) in
-      ap (λ (b : Bool). if b then kept_refused m refusal.TooOld else kept_unless_ignored m (kept_ignored (kept_at s.nodes n) t v) merged) (ignored-late last is)
+      ap (λ (b : Bool). if b then kept_refused m refusal.TooOld else kept_unless_ignored m (kept_ignored (kept_node s.nodes n) t v) merged) (ignored-late last is)
       ∙ ap (λ (o : Option ℕ). kept_unless_ignored m o merged) (kept-by ∙ sym is)
 
   -- one of another sample is what the value comes to
   pub write-unignored : (how : Merge) → None ≡ ignored_by n t v
-      → kept_write s.limits (stock_of s).keys key (kept_at s.nodes n) how t v ≡ kept_write_merged s.limits (stock_of s).keys key t (met how t v n.series)
+      → kept_write s.limits (stock_of s).keys key (kept_node s.nodes n) how t v ≡ kept_write_merged s.limits (stock_of s).keys key t (met how t v n.series)
   write-unignored how none = write-met (stock_of s).keys s key n how t v (kept-by ∙ sym none)

@@ -18,7 +18,7 @@ use Rattle.ts_series.specs.History.{list_of, low}
 use Rattle.ts_series.specs.Put.{met}
 use Rattle.ts_db.specs.declared.node.Node.{Node}
 use Rattle.ts_db.specs.declared.store.Store.{Store}
-use Rattle.ts_db.specs.Store.{kept_at, stock_of, IsInOrder, Holds}
+use Rattle.ts_db.specs.Store.{kept_node, stock_of, IsInOrder, Holds}
 use Rattle.ts_db.specs.Writes.{IsChanged, ignored_by}
 use Rattle.ts_db.specs.Bounds.{IsIgnored, IsChangeIgnored}
 use Rattle.ts_db.proofs.Applying.{there}
@@ -29,13 +29,13 @@ module _ (s : Store) (store : IsInOrder s) (key : Key) (id : Id) (n : Node) (hol
   -- the step, by what its tests say
   tested : (a b : Bool) → is_before_last t (last_of (list_of n.series)) ≡ a → nat_lt t (low n.series) ≡ b
       → kept_incr_at s.limits (stock_of s).keys key x t spec (get key (stock_of s).keys) ≡ (if a then kept_refused (stock_of s).keys refusal.BeforeLast
-      else (if b then kept_refused (stock_of s).keys refusal.TooOld else kept_increased s.limits (stock_of s).keys key (kept_at s.nodes n) t (within_bound (changed_value x (last_of (list_of n.series))))))
+      else (if b then kept_refused (stock_of s).keys refusal.TooOld else kept_increased s.limits (stock_of s).keys key (kept_node s.nodes n) t (within_bound (changed_value x (last_of (list_of n.series))))))
   tested a b e f =
       ap (kept_incr_at s.limits (stock_of s).keys key x t spec) (there s store key id n holds)
       ∙ ap (λ c. if c then kept_refused (stock_of s).keys refusal.BeforeLast
-      else (if nat_lt t (low n.series) then kept_refused (stock_of s).keys refusal.TooOld else kept_increased s.limits (stock_of s).keys key (kept_at s.nodes n) t (within_bound (changed_value x (last_of (list_of n.series)))))) e
+      else (if nat_lt t (low n.series) then kept_refused (stock_of s).keys refusal.TooOld else kept_increased s.limits (stock_of s).keys key (kept_node s.nodes n) t (within_bound (changed_value x (last_of (list_of n.series)))))) e
       ∙ ap (λ c. if a then kept_refused (stock_of s).keys refusal.BeforeLast
-      else (if c then kept_refused (stock_of s).keys refusal.TooOld else kept_increased s.limits (stock_of s).keys key (kept_at s.nodes n) t (within_bound (changed_value x (last_of (list_of n.series)))))) f
+      else (if c then kept_refused (stock_of s).keys refusal.TooOld else kept_increased s.limits (stock_of s).keys key (kept_node s.nodes n) t (within_bound (changed_value x (last_of (list_of n.series)))))) f
 
   pub incr-before : is_before_last t (last_of (list_of n.series)) ≡ true → kept_incr_at s.limits (stock_of s).keys key x t spec (get key (stock_of s).keys) ≡ kept_refused (stock_of s).keys refusal.BeforeLast
   incr-before e = tested true (nat_lt t (low n.series)) e refl
@@ -53,7 +53,7 @@ module _ (s : Store) (store : IsInOrder s) (key : Key) (id : Id) (n : Node) (hol
 
   pub incr-out : is_before_last t (last_of (list_of n.series)) ≡ false → nat_lt t (low n.series) ≡ false → IsChanged (within_bound (changed_value x (last_of (list_of n.series)))) None
       → kept_incr_at s.limits (stock_of s).keys key x t spec (get key (stock_of s).keys) ≡ kept_refused (stock_of s).keys refusal.OutOfRange
-  incr-out e f is = tested false false e f ∙ ap (kept_increased s.limits (stock_of s).keys key (kept_at s.nodes n) t) (out (changed_value x (last_of (list_of n.series))) is)
+  incr-out e f is = tested false false e f ∙ ap (kept_increased s.limits (stock_of s).keys key (kept_node s.nodes n) t) (out (changed_value x (last_of (list_of n.series))) is)
 
   within : (w v : ℤ) → IsChanged (within_bound w) (Some v) → within_bound w ≡ To v
   within w v is = go (nat_le (unsigned_abs w) bound) is
@@ -67,7 +67,7 @@ module _ (s : Store) (store : IsInOrder s) (key : Key) (id : Id) (n : Node) (hol
       → kept_incr_at s.limits (stock_of s).keys key x t spec (get key (stock_of s).keys) ≡ kept_unless_ignored (stock_of s).keys (ignored_by n t v) (kept_write_merged s.limits (stock_of s).keys key t (To v))
   in-range v e f is =
       tested false false e f
-      ∙ ap (kept_increased s.limits (stock_of s).keys key (kept_at s.nodes n) t) (within (changed_value x (last_of (list_of n.series))) v is)
+      ∙ ap (kept_increased s.limits (stock_of s).keys key (kept_node s.nodes n) t) (within (changed_value x (last_of (list_of n.series))) v is)
       ∙ ap (λ (o : Option ℕ). kept_unless_ignored (stock_of s).keys o (kept_write_merged s.limits (stock_of s).keys key t (To v))) (kept-by s store key id n holds t v)
 
   pub incr-ignored : (v : ℤ) (last : ℕ) → is_before_last t (last_of (list_of n.series)) ≡ false → nat_lt t (low n.series) ≡ false

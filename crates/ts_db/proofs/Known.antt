@@ -12,20 +12,20 @@ use Rattle.ts_spec.proofs.Keys.{same-refl}
 use Rattle.ts_spec.proofs.BucketRoom.{HaveRoom, stands-room}
 use Rattle.ts_sample.specs.declared.id.Id.{Id}
 use Rattle.ts_rules.specs.declared.rule.Rule.{Rule}
-use Rattle.ts_rules.specs.Rules.{kept_as}
+use Rattle.ts_rules.specs.Rules.{kept_rule_to}
 use Rattle.ts_db.specs.declared.node.Node.{Node}
 use Rattle.ts_db.specs.declared.store.Store.{Store}
 use Rattle.ts_db.specs.declared.work.Work.TheVariants.{Write}
 use Rattle.ts_db.specs.Links.{AreLinks, AreApart}
 use Rattle.ts_db.specs.Planning.{AllTake, NoneTo, AreDistinct}
-use Rattle.ts_db.specs.Store.{rules_by, key_at, key_in, kept_at, stock_of, HaveGrids, IsInOrder, IsDb, Holds}
+use Rattle.ts_db.specs.Store.{rules_by, key_at, key_in, kept_node, stock_of, HaveGrids, IsInOrder, IsDb, Holds}
 use Rattle.ts_db.proofs.Applying.{there}
 use Rattle.ts_db.proofs.Collecting.{IsOf, node-of}
 use Rattle.ts_db.proofs.KeptLinks.{HasLinks, links-of}
 
 -- the rules of a key are links
 pub links : (s : Store) → IsDb s → (key : Key) (id : Id) (n : Node) → Holds s key id n → HasLinks (stock_of s).keys key (rules_by (key_in s.nodes) n.rules.items)
-links s db key id n holds = links-of s.limits (stock_of s).keys db.stands.to.state db.stands.stands.state key (kept_at s.nodes n) (there s db.store key id n holds)
+links s db key id n holds = links-of s.limits (stock_of s).keys db.stands.to.state db.stands.stands.state key (kept_node s.nodes n) (there s db.store key id n holds)
 
 -- ---- room
 
@@ -45,7 +45,7 @@ below a b c x y = omega (arith, x, y)
 pub takes : (s : Store) → IsDb s → (key : Key) (id : Id) (n : Node) → Holds s key id n → (p : Point) → AllTake (Write p) n.series n.rules.items
 takes s db key id n holds p =
     go n.rules.items (db.store.each id.0 n holds.node).grids
-    (λ fresh. stands-room s.limits (stock_of s).keys db.stands.to.state key (kept_at s.nodes n) p.time db.stands.stands.state (durations s db.store) (there s db.store key id n holds) fresh)
+    (λ fresh. stands-room s.limits (stock_of s).keys db.stands.to.state key (kept_node s.nodes n) p.time db.stands.stands.state (durations s db.store) (there s db.store key id n holds) fresh)
   where
     go : (rs : List Rule) → HaveGrids rs → (is_append p.time n.series.high ≡ true → HaveRoom p.time (rules_by (key_in s.nodes) rs)) → AllTake (Write p) n.series rs
     go [] g room = tt
@@ -71,7 +71,7 @@ distinct s (r ∷ rs) x = (go rs x.0, distinct s rs x.1)
     go [] e = tt
     go (p ∷ ps) e = pick (same (key_in s.nodes p.dest) (key_in s.nodes r.dest)) refl e (λ y. go ps y)
       where
-        pick : (b : Bool) → same (key_in s.nodes p.dest) (key_in s.nodes r.dest) ≡ b → (if b then Some (kept_as (key_in s.nodes p.dest) p) else kept_rule_to (key_in s.nodes r.dest) (rules_by (key_in s.nodes) ps)) ≡ None
+        pick : (b : Bool) → same (key_in s.nodes p.dest) (key_in s.nodes r.dest) ≡ b → (if b then Some (kept_rule_to (key_in s.nodes p.dest) p) else kept_rule_to (key_in s.nodes r.dest) (rules_by (key_in s.nodes) ps)) ≡ None
             → (kept_rule_to (key_in s.nodes r.dest) (rules_by (key_in s.nodes) ps) ≡ None → NoneTo r.dest.0 ps) → NoneTo r.dest.0 (p ∷ ps)
         pick true x e ih = absurd (cc e)
         pick false x e ih =

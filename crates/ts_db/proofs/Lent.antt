@@ -23,7 +23,7 @@ use Rattle.ts_db.specs.Indexed.{IsIndexed}
 use Rattle.ts_db.specs.declared.node.Node.{Node}
 use Rattle.ts_db.specs.Held.{Stock, IsLive, AreNumbersOf}
 use Rattle.ts_db.specs.Candidates.{passing, Covers}
-use Rattle.ts_db.specs.Store.{Nodes, Numbers, key_at, key_in, kept_at, collected, ids_of, number_of}
+use Rattle.ts_db.specs.Store.{Nodes, Numbers, key_at, key_in, kept_node, collected, ids_of, number_of}
 use Rattle.ts_db.proofs.Collecting.{get-ids, get-collected, found as node-found}
 use Rattle.ts_db.proofs.Permuted.{at}
 use Rattle.ts_db.proofs.Tagged.{IsKnown, told}
@@ -49,7 +49,7 @@ names-chosen nodes fs (e ∷ es) there known =
     ∙ go (slab.get nodes e.1.0) there.0.1
   where
     go : (o : Option Node) → o ≡ Some there.0.0
-        → more (all_hold fs (unwrap_or (option_map (λ (n : Node). n.labels) o) [])) e.0 (kept_selected_in fs (listing nodes es)) ≡ kept_selected_in fs (onto e.0 (option_map (kept_at nodes) o) (listing nodes es))
+        → more (all_hold fs (unwrap_or (option_map (λ (n : Node). n.labels) o) [])) e.0 (kept_selected_in fs (listing nodes es)) ≡ kept_selected_in fs (onto e.0 (option_map (kept_node nodes) o) (listing nodes es))
     go None at = absurd (cc at)
     go (Some n) at = refl
 
@@ -66,7 +66,7 @@ module _ (nodes : Nodes) (es : Numbers) (told_by : Labelled) (is : IsTold nodes 
 
     its-labels : kept_labels_at (get k (collected nodes es)) ≡ unwrap_or (labels_in nodes c.0) []
     its-labels =
-        ap kept_labels_at (get-collected k nodes es ∙ ap (node-found nodes) at ∙ ap (option_map (kept_at nodes)) of.1)
+        ap kept_labels_at (get-collected k nodes es ∙ ap (node-found nodes) at ∙ ap (option_map (kept_node nodes)) of.1)
         ∙ sym (ap (λ (o : Option Node). unwrap_or (option_map (λ (n : Node). n.labels) o) []) of.1)
 
   names-passing : (fs : List Filter) (keys : List Key) (cs : List Id) → AreNumbersOf (ids_of es) keys cs

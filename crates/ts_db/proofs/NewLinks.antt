@@ -16,10 +16,10 @@ use Rattle.ts_sample.specs.declared.id.Id.{Id}
 use Rattle.ts_bucket.specs.Grid.{IsGrid}
 use Rattle.ts_series.specs.History.{IsKept}
 use Rattle.ts_rules.specs.declared.rule.Rule.{Rule}
-use Rattle.ts_rules.specs.Rules.{kept_as}
+use Rattle.ts_rules.specs.Rules.{kept_rule_to}
 use Rattle.ts_db.specs.declared.node.Node.{Node}
 use Rattle.ts_db.specs.declared.store.Store.{Store}
-use Rattle.ts_db.specs.Store.{rules_by, key_at, key_in, kept_at, collected, number_of, stock_of, contents_of, Nodes, IsLive, AreLive, IsLiveSource, HasLiveLinks, HaveGrids, IsNode, IsStore, IsInOrder, Holds}
+use Rattle.ts_db.specs.Store.{rules_by, key_at, key_in, kept_node, collected, number_of, stock_of, contents_of, Nodes, HasNode, AreLive, IsLiveSource, HasLiveLinks, HaveGrids, IsNode, IsStore, IsInOrder, Holds}
 use Rattle.ts_db.specs.Linking.{IsKeptBy, IsUnspent, HasMore, HasRules}
 use Rattle.ts_db.specs.Turned.{IsTurned, TakesRule}
 use Rattle.ts_db.proofs.Applying.{there, store-changed, keys-changed}
@@ -37,32 +37,32 @@ module _ (s : Store) (store : IsInOrder s) (id : Id) (new : Nodes) {by : (was no
   store-turned links sound =
       subst (λ (nodes : Nodes). IsStore s.limits nodes s.keys.entries) (sym t.turned) (store-changed s store t.was.key id t.was t.now holds name links sound)
 
-  kept-changed : HasLiveLinks s.nodes t.now → (stock_of (record s { nodes = new })).keys ≡ with_key t.was.key (kept_at s.nodes t.now) (stock_of s).keys
+  kept-changed : HasLiveLinks s.nodes t.now → (stock_of (record s { nodes = new })).keys ≡ with_key t.was.key (kept_node s.nodes t.now) (stock_of s).keys
   kept-changed links = ap (λ (nodes : Nodes). collected nodes s.keys.entries) t.turned ∙ keys-changed s store t.was.key id t.was t.now holds name links
 
   -- and of its key that is kept which f makes
-  pub kept-turned : (f : Kept → Kept) → HasLiveLinks s.nodes t.now → kept_at s.nodes t.now ≡ f (kept_at s.nodes t.was) → IsKeptBy s id f (record s { nodes = new })
+  pub kept-turned : (f : Kept → Kept) → HasLiveLinks s.nodes t.now → kept_node s.nodes t.now ≡ f (kept_node s.nodes t.was) → IsKeptBy s id f (record s { nodes = new })
   kept-turned f links is =
       ap (λ (m : Keeping). record (contents_of s) { keys = m })
       (kept-changed links
       ∙ ap (λ (d : Kept). with_key t.was.key d (stock_of s).keys) is
-      ∙ sym (changed-alone (stock_of s).keys t.was.key (kept_at s.nodes t.was) f (there s store t.was.key id t.was holds))
+      ∙ sym (changed-alone (stock_of s).keys t.was.key (kept_node s.nodes t.was) f (there s store t.was.key id t.was holds))
       ∙ ap (λ (k : Key). keep_changed k f (stock_of s).keys) (sym (ap key_at t.there)))
 
   -- or nothing else, where that is what was kept
-  pub same-turned : HasLiveLinks s.nodes t.now → t.now.series ≡ t.was.series → kept_at s.nodes t.now ≡ kept_at s.nodes t.was → stock_of (record s { nodes = new }) ≡ stock_of s
+  pub same-turned : HasLiveLinks s.nodes t.now → t.now.series ≡ t.was.series → kept_node s.nodes t.now ≡ kept_node s.nodes t.was → stock_of (record s { nodes = new }) ≡ stock_of s
   same-turned links series is =
       ap (λ (nodes : Nodes). stock_of (record s { nodes = nodes })) t.turned
       ∙ stock-turned s id.0 t.was t.now t.there series
       (keys-changed s store t.was.key id t.was t.now holds name links
       ∙ ap (λ (d : Kept). with_key t.was.key d (stock_of s).keys) is
-      ∙ unchanged (stock_of s).keys t.was.key (kept_at s.nodes t.was) (there s store t.was.key id t.was holds))
+      ∙ unchanged (stock_of s).keys t.was.key (kept_node s.nodes t.was) (there s store t.was.key id t.was holds))
 
 -- ---- a node with other rules
 
 -- what is kept of a node with these rules
-pub kept-rules : (nodes : Nodes) (rs : List Rule) (old new : Node) → HasRules rs old new → kept_at nodes new ≡ record (kept_at nodes old) { rules = rules_by (key_in nodes) rs }
-kept-rules nodes rs old new h = ap (kept_at nodes) h.rest ∙ ap (λ (qs : List Rule). record (kept_at nodes old) { rules = rules_by (key_in nodes) qs }) h.rules
+pub kept-rules : (nodes : Nodes) (rs : List Rule) (old new : Node) → HasRules rs old new → kept_node nodes new ≡ record (kept_node nodes old) { rules = rules_by (key_in nodes) rs }
+kept-rules nodes rs old new h = ap (kept_node nodes) h.rest ∙ ap (λ (qs : List Rule). record (kept_node nodes old) { rules = rules_by (key_in nodes) qs }) h.rules
 
 pub live-rules : (nodes : Nodes) (rs : List Rule) (old new : Node) → HasRules rs old new → AreLive nodes rs → IsLiveSource nodes old.source → HasLiveLinks nodes new
 live-rules nodes rs old new h live source =
@@ -75,7 +75,7 @@ node-rules limits rs old new h grids x =
 -- ---- without the rules to a number
 
 -- two numbers with one key are one
-pub same-name : (s : Store) → IsInOrder s → (a b : Id) → IsLive s.nodes a → IsLive s.nodes b → same (key_in s.nodes a) (key_in s.nodes b) ≡ (a.0 == b.0)
+pub same-name : (s : Store) → IsInOrder s → (a b : Id) → HasNode s.nodes a → HasNode s.nodes b → same (key_in s.nodes a) (key_in s.nodes b) ≡ (a.0 == b.0)
 same-name s store a b x y = pick (a.0 == b.0) refl (same (key_in s.nodes a) (key_in s.nodes b)) refl
   where
     pick : (e : Bool) → (a.0 == b.0) ≡ e → (t : Bool) → same (key_in s.nodes a) (key_in s.nodes b) ≡ t → t ≡ e
@@ -91,7 +91,7 @@ same-name s store a b x y = pick (a.0 == b.0) refl (same (key_in s.nodes a) (key
         let alike : a.0 ≡ b.0 = ap (λ (i : Id). i.0) one in
         absurd (cc (sym e ∙ eq-eqb a.0 b.0 alike))
 
-module _ (s : Store) (store : IsInOrder s) (dest : Id) (to : IsLive s.nodes dest) where
+module _ (s : Store) (store : IsInOrder s) (dest : Id) (to : HasNode s.nodes dest) where
   abbrev left : Rule → Bool
   left r = not (r.dest.0 == dest.0)
 
@@ -99,13 +99,13 @@ module _ (s : Store) (store : IsInOrder s) (dest : Id) (to : IsLive s.nodes dest
   unruled [] live = refl
   unruled (r ∷ rs) live =
       go (left r) (unruled rs live.1)
-      ∙ ap (λ b. cond (not b) (kept_as (key_in s.nodes r.dest) r ∷ filter (λ q. not (same q.dest (key_in s.nodes dest))) (rules_by (key_in s.nodes) rs)) (filter (λ q. not (same q.dest (key_in s.nodes dest))) (rules_by (key_in s.nodes) rs)))
+      ∙ ap (λ b. cond (not b) (kept_rule_to (key_in s.nodes r.dest) r ∷ filter (λ q. not (same q.dest (key_in s.nodes dest))) (rules_by (key_in s.nodes) rs)) (filter (λ q. not (same q.dest (key_in s.nodes dest))) (rules_by (key_in s.nodes) rs)))
       (sym (same-name s store r.dest dest live.0 to))
     where
       go : (b : Bool) → rules_by (key_in s.nodes) (filter left rs) ≡ filter (λ q. not (same q.dest (key_in s.nodes dest))) (rules_by (key_in s.nodes) rs)
           → rules_by (key_in s.nodes) (cond b (r ∷ filter left rs) (filter left rs))
-          ≡ cond b (kept_as (key_in s.nodes r.dest) r ∷ filter (λ q. not (same q.dest (key_in s.nodes dest))) (rules_by (key_in s.nodes) rs)) (filter (λ q. not (same q.dest (key_in s.nodes dest))) (rules_by (key_in s.nodes) rs))
-      go true ih = ap (λ (qs : List KeptRule). kept_as (key_in s.nodes r.dest) r ∷ qs) ih
+          ≡ cond b (kept_rule_to (key_in s.nodes r.dest) r ∷ filter (λ q. not (same q.dest (key_in s.nodes dest))) (rules_by (key_in s.nodes) rs)) (filter (λ q. not (same q.dest (key_in s.nodes dest))) (rules_by (key_in s.nodes) rs))
+      go true ih = ap (λ (qs : List KeptRule). kept_rule_to (key_in s.nodes r.dest) r ∷ qs) ih
       go false ih = ih
 
   pub live-left : (rs : List Rule) → AreLive s.nodes rs → AreLive s.nodes (filter left rs)
@@ -126,7 +126,7 @@ module _ (s : Store) (store : IsInOrder s) (dest : Id) (to : IsLive s.nodes dest
 
 -- ---- with one more rule
 
-live-more : (nodes : Nodes) (rs : List Rule) (r : Rule) → AreLive nodes rs → IsLive nodes r.dest → AreLive nodes (rs ++ r ∷ [])
+live-more : (nodes : Nodes) (rs : List Rule) (r : Rule) → AreLive nodes rs → HasNode nodes r.dest → AreLive nodes (rs ++ r ∷ [])
 live-more nodes [] r live here = (here, tt)
 live-more nodes (q ∷ rs) r live here = (live.0, live-more nodes rs r live.1 here)
 
@@ -134,18 +134,18 @@ grids-more : (rs : List Rule) (r : Rule) → HaveGrids rs → IsGrid r.grid → 
 grids-more [] r g here = (here, tt)
 grids-more (q ∷ rs) r g here = (g.0, grids-more rs r g.1 here)
 
-rules-more : (names : Id → Key) (rs : List Rule) (r : Rule) → rules_by names (rs ++ r ∷ []) ≡ rules_by names rs ++ kept_as (names r.dest) r ∷ []
+rules-more : (names : Id → Key) (rs : List Rule) (r : Rule) → rules_by names (rs ++ r ∷ []) ≡ rules_by names rs ++ kept_rule_to (names r.dest) r ∷ []
 rules-more names [] r = refl
-rules-more names (q ∷ rs) r = ap (λ (qs : List KeptRule). kept_as (names q.dest) q ∷ qs) (rules-more names rs r)
+rules-more names (q ∷ rs) r = ap (λ (qs : List KeptRule). kept_rule_to (names q.dest) q ∷ qs) (rules-more names rs r)
 
 module _ (nodes : Nodes) (dest : Id) (agg : Aggregator) (grid : Grid) (old new : Node) (h : HasMore dest agg grid old new) where
   pub more-name : new.key ≡ old.key
   more-name = ap (λ (x : Node). x.key) h.rest
 
-  pub more-links : HasLiveLinks nodes old → IsLive nodes dest → HasLiveLinks nodes new
+  pub more-links : HasLiveLinks nodes old → HasNode nodes dest → HasLiveLinks nodes new
   more-links live to =
       subst (HasLiveLinks nodes) (sym h.rest)
-      (record { rules = subst (AreLive nodes) (sym h.rules) (live-more nodes old.rules.items h.rule live.rules (subst (IsLive nodes) (sym h.leads) to)); source = live.source })
+      (record { rules = subst (AreLive nodes) (sym h.rules) (live-more nodes old.rules.items h.rule live.rules (subst (HasNode nodes) (sym h.leads) to)); source = live.source })
 
   pub more-node : (limits : Limits) → IsNode limits old → old.series.born < limits.born → IsGrid grid → IsKept new.series → IsNode limits new
   more-node limits x room fits series =
@@ -157,16 +157,16 @@ module _ (nodes : Nodes) (dest : Id) (agg : Aggregator) (grid : Grid) (old new :
         grids = subst HaveGrids (sym h.rules) (grids-more old.rules.items h.rule x.grids (subst IsGrid (sym (ap (λ (q : KeptRule). q.grid) (h.kept []))) fits));
       })
 
-  pub more-kept : kept_at nodes new ≡ kept_with_rule (key_in nodes dest) agg grid (kept_at nodes old)
+  pub more-kept : kept_node nodes new ≡ kept_with_rule (key_in nodes dest) agg grid (kept_node nodes old)
   more-kept =
-      ap (kept_at nodes) h.rest
-      ∙ ap (λ (qs : List KeptRule). record (kept_at nodes old) { born = old.series.born + 1; rules = qs })
+      ap (kept_node nodes) h.rest
+      ∙ ap (λ (qs : List KeptRule). record (kept_node nodes old) { born = old.series.born + 1; rules = qs })
       (ap (rules_by (key_in nodes)) h.rules
       ∙ rules-more (key_in nodes) old.rules.items h.rule
-      ∙ ap (λ (q : KeptRule). rules_by (key_in nodes) old.rules.items ++ q ∷ []) (ap (λ (i : Id). kept_as (key_in nodes i) h.rule) h.leads ∙ h.kept (key_in nodes dest)))
+      ∙ ap (λ (q : KeptRule). rules_by (key_in nodes) old.rules.items ++ q ∷ []) (ap (λ (i : Id). kept_rule_to (key_in nodes i) h.rule) h.leads ∙ h.kept (key_in nodes dest)))
 
 -- a node that has one more rule, or the rules that it had where there was no memory
-module _ (s : Store) (store : IsInOrder s) (id : Id) (new : Nodes) (dest : Id) (agg : Aggregator) (grid : Grid) (to : IsLive s.nodes dest) where
+module _ (s : Store) (store : IsInOrder s) (id : Id) (new : Nodes) (dest : Id) (agg : Aggregator) (grid : Grid) (to : HasNode s.nodes dest) where
   abbrev Takes : Result (Unit {0}) AllocError → Type 0
   Takes r = IsTurned s.nodes new id (TakesRule dest agg grid r)
 

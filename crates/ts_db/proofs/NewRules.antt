@@ -23,7 +23,7 @@ use Rattle.ts_db.specs.Answering.{IsKeptAnswer, IsElsewhere}
 use Rattle.ts_db.specs.Faults.{refusal_of}
 use Rattle.ts_db.specs.Held.{YieldsToMemory}
 use Rattle.ts_db.specs.Linking.{kept_sourced, any_rule, barred_by, IsKeptBy, IsReason}
-use Rattle.ts_db.specs.Store.{rules_by, key_in, kept_by, kept_at, stock_of, contents_of, Contents, IsInOrder, Holds}
+use Rattle.ts_db.specs.Store.{rules_by, key_in, kept_named, kept_node, stock_of, contents_of, Contents, IsInOrder, Holds}
 use Rattle.ts_db.proofs.Applying.{there}
 use Rattle.ts_db.proofs.Collecting.{same-at}
 use Rattle.ts_db.proofs.Known.{named}
@@ -60,7 +60,7 @@ module _ (limits : Limits) (m : Keeping) (source dest : Key) (agg : Aggregator) 
   done = record { keys = keep_ruled source dest agg grid m; response = Done }
 
   -- the step of two nodes
-  pub rule-barred : (names : Id → Key) (n d : Node) → kept_create_rule_at limits m source dest agg grid (Some (kept_by names n)) (Some (kept_by names d)) ≡ unless_barred m (barred_by limits n d) done
+  pub rule-barred : (names : Id → Key) (n d : Node) → kept_create_rule_at limits m source dest agg grid (Some (kept_named names n)) (Some (kept_named names d)) ≡ unless_barred m (barred_by limits n d) done
   rule-barred names n d =
       tests m done (is_some (option_map names n.source)) (any_rules (rules_by names d.rules.items)) (is_some (option_map names d.source)) (nat_le limits.born n.series.born) (nat_le limits.rules (length (rules_by names n.rules.items)))
       ∙ ap (λ b. unless_barred m (if b then Some SourceIsDest else (if any_rules (rules_by names d.rules.items) then Some DestIsSource else (if is_some (option_map names d.source) then Some DestHasSource
@@ -91,7 +91,7 @@ module _ (s : Store) (store : IsInOrder s) (source dest : Key) (from to : Id) (n
   step-by =
       ap (λ b. if b then kept_refused (stock_of s).keys SameKey else kept_create_rule_at s.limits (stock_of s).keys source dest agg grid (get source (stock_of s).keys) (get dest (stock_of s).keys)) apart
       ∙ ap (λ (o : Option Kept). kept_create_rule_at s.limits (stock_of s).keys source dest agg grid o (get dest (stock_of s).keys)) (there s store source from n holds)
-      ∙ ap (λ (o : Option Kept). kept_create_rule_at s.limits (stock_of s).keys source dest agg grid (Some (kept_at s.nodes n)) o) (there s store dest to d other)
+      ∙ ap (λ (o : Option Kept). kept_create_rule_at s.limits (stock_of s).keys source dest agg grid (Some (kept_node s.nodes n)) o) (there s store dest to d other)
       ∙ rule-barred s.limits (stock_of s).keys source dest agg grid (key_in s.nodes) n d
 
   -- where there is a reason against it

@@ -10,7 +10,7 @@ use Rattle.ts_rules.specs.declared.plan.RulePlan.{RulePlan}
 use Rattle.ts_rules.specs.Rules.{IsChanged}
 use Rattle.ts_rules.specs.Plans.{mended_list}
 use Rattle.ts_db.specs.declared.node.Node.{Node}
-use Rattle.ts_db.specs.Store.{Nodes, kept_at}
+use Rattle.ts_db.specs.Store.{Nodes, kept_node}
 use Rattle.ts_db.specs.Feeding.{Rows, Gone}
 use Rattle.ts_db.specs.Planning.{kept_rule_in, IsFedBy, AreFedBy, AreChanged, fed_list, first_full}
 
@@ -20,7 +20,7 @@ use Rattle.ts_db.specs.Planning.{kept_rule_in, IsFedBy, AreFedBy, AreChanged, fe
 pub fed-list : (nodes : Nodes) (rows : Rows) (gone : Gone) (r : Rule) (n : Node) → slab.get nodes r.dest.0 ≡ Some n
     → fed_list nodes rows gone r ≡ mended_list (gone (kept_rule_in nodes r)) (rows n.series.born (kept_rule_in nodes r)) n.series
 fed-list nodes rows gone r n is =
-    ap (λ (o : Option Node). list_at (option_map (λ d. mended_kept (gone (kept_rule_in nodes r)) (rows d.born (kept_rule_in nodes r)) d) (option_map (kept_at nodes) o))) is
+    ap (λ (o : Option Node). list_at (option_map (λ d. mended_kept (gone (kept_rule_in nodes r)) (rows d.born (kept_rule_in nodes r)) d) (option_map (kept_node nodes) o))) is
 
 pub fits-one : (limit : ℕ) (nodes : Nodes) (rows : Rows) (gone : Gone) (r : Rule) (n : Node) → slab.get nodes r.dest.0 ≡ Some n
     → length (mended_list (gone (kept_rule_in nodes r)) (rows n.series.born (kept_rule_in nodes r)) n.series) ≤ limit → first_full limit nodes rows gone (r ∷ []) ≡ None

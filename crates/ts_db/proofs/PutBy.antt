@@ -26,19 +26,19 @@ use Rattle.ts_db.proofs.Lifting.{IsLaw, lifted-on}
 
 module _ (limits : Limits) (keys : Keeping) (m : State) (stands : StandsFor limits keys m) (key : Key) where
   -- what is kept of the key, by its record
-  abbrev kept_of : Option Record → Option Kept
-  kept_of o = option_map (kept_record (link_to m key)) o
+  abbrev kept_series : Option Record → Option Kept
+  kept_series o = option_map (kept_record (link_to m key)) o
 
   -- a step by the record of the key
   by-record : (step : Option Record → Outcome) (kept_step : Option Kept → KeptOutcome) (o : Option Record) → get key m ≡ o
-      → IsStepOf limits (step (get key m)) (kept_step (get key keys)) → IsStepOf limits (step o) (kept_step (kept_of o))
+      → IsStepOf limits (step (get key m)) (kept_step (get key keys)) → IsStepOf limits (step o) (kept_step (kept_series o))
   by-record step kept_step o is done =
-      subst (λ (q : Option Record). IsStepOf limits (step q) (kept_step (kept_of q))) is
+      subst (λ (q : Option Record). IsStepOf limits (step q) (kept_step (kept_series q))) is
       (subst (λ (q : Option Kept). IsStepOf limits (step (get key m)) (kept_step q)) (ap (get key) stands.kept ∙ get-kept m key) done)
 
   -- where the key is missing it is a write by the series' own policy, and else one that would make the series
   of-record : (room : 1 ≤ limits.samples) (t : ℕ) (v : ℤ) (on : Option Policy) (o : Option Record) → get key m ≡ o
-      → IsLaw limits m (put_by limits m key t v on o) (kept_put_by limits keys key t v on (kept_of o))
+      → IsLaw limits m (put_by limits m key t v on o) (kept_put_by limits keys key t v on (kept_series o))
   of-record room t v on None is = record {
     is_step = by-record (put_at limits m key t v) (kept_put_at limits keys key t v) None is (put-step limits keys m key t v stands);
     refuses = put-refuses limits m key t v None;

@@ -12,10 +12,10 @@ use Rattle.ts_spec.proofs.Maps.{get-each, get-without}
 use Rattle.ts_spec.proofs.Tidy.{some-same}
 use Rattle.ts_sample.specs.declared.id.Id.{Id}
 use Rattle.ts_rules.specs.declared.rule.Rule.{Rule}
-use Rattle.ts_rules.specs.Rules.{kept_as}
+use Rattle.ts_rules.specs.Rules.{kept_rule_to}
 use Rattle.ts_db.specs.declared.node.Node.{Node}
 use Rattle.ts_db.specs.Linking.{AreFreeOf, IsFreeOf}
-use Rattle.ts_db.specs.Store.{Nodes, Numbers, rules_by, key_at, key_in, kept_at, collected, has_key, number_of, IsLive, AreLive, IsLiveSource, HasLiveLinks, IsStore}
+use Rattle.ts_db.specs.Store.{Nodes, Numbers, rules_by, key_at, key_in, kept_node, collected, has_key, number_of, HasNode, AreLive, IsLiveSource, HasLiveLinks, IsStore}
 use Rattle.ts_db.proofs.Collecting.{collected-removed}
 use Rattle.ts_db.proofs.Storing.{apart, there, missing, others-removed}
 
@@ -76,14 +76,14 @@ module _ (limits : Limits) (nodes : Nodes) (es : Numbers) (store : IsStore limit
     named : key_in nodes id ≡ key
     named = let n = store.stored key id is in ap key_at n.1 ∙ store.named key id n.0 is n.1
 
-    live-still : (i : Id) → (i.0 ≡ id.0 → ⊥) → IsLive nodes i → IsLive new i
+    live-still : (i : Id) → (i.0 ≡ id.0 → ⊥) → HasNode nodes i → HasNode new i
     live-still i other live = record { node = live.node; there = change.others i.0 other ∙ live.there }
 
     rules-live : (rs : List Rule) → kept_rule_to key (rules_by (key_in nodes) rs) ≡ None → AreLive nodes rs → AreLive new rs
     rules-live [] none live = tt
     rules-live (r ∷ rs) none live = go (same (key_in nodes r.dest) key) refl none (λ e. rules-live rs e live.1)
       where
-        go : (b : Bool) → same (key_in nodes r.dest) key ≡ b → (if b then Some (kept_as (key_in nodes r.dest) r) else kept_rule_to key (rules_by (key_in nodes) rs)) ≡ None
+        go : (b : Bool) → same (key_in nodes r.dest) key ≡ b → (if b then Some (kept_rule_to (key_in nodes r.dest) r) else kept_rule_to key (rules_by (key_in nodes) rs)) ≡ None
             → (kept_rule_to key (rules_by (key_in nodes) rs) ≡ None → AreLive new rs) → AreLive new (r ∷ rs)
         go true x e ih = absurd (cc e)
         go false x e ih =
@@ -97,7 +97,7 @@ module _ (limits : Limits) (nodes : Nodes) (es : Numbers) (store : IsStore limit
     pub links-left : (i : ℕ) (g : Node) → i ≢ id.0 → slab.get nodes i ≡ Some g → HasLiveLinks new g
     links-left i g other at =
         let number = store.owned i g at in
-        let f : IsFreeOf key (kept_at nodes g) = free g.key (kept_at nodes g) (there limits nodes es store g.key (record { 0 = i }) g number at) (unlike (same key g.key) refl number) in
+        let f : IsFreeOf key (kept_node nodes g) = free g.key (kept_node nodes g) (there limits nodes es store g.key (record { 0 = i }) g number at) (unlike (same key g.key) refl number) in
         record { rules = rules-live g.rules.items f.rules (store.live i g at).rules; source = source-live g.source f.source (store.live i g at).source }
       where
         unlike : (b : Bool) → same key g.key ≡ b → number_of g.key es ≡ Some (record { 0 = i }) → b ≡ false

@@ -20,7 +20,7 @@ use Rattle.ts_spec.proofs.Keys.{before-irrefl}
 use Rattle.ts_sample.specs.declared.id.Id.{Id}
 use Rattle.ts_db.specs.declared.node.Node.{Node}
 use Rattle.ts_db.specs.Held.{AreNumbersOf}
-use Rattle.ts_db.specs.Store.{Nodes, Numbers, kept_at, kept_in, with_found, collected, number_of}
+use Rattle.ts_db.specs.Store.{Nodes, Numbers, kept_node, kept_numbered, with_found, collected, number_of}
 
 -- the order of a map's keys is that of the definitions
 below-before : (j k : Key) → slice_cmp nat_cmp j k ≡ Less → is_before j k ≡ true
@@ -52,7 +52,7 @@ onto k (Some d) es = record { key = k; value = d } ∷ es
 
 abbrev pub listing : Nodes → Numbers → List (Entry Kept)
 listing nodes [] = []
-listing nodes (e ∷ es) = onto e.0 (kept_in nodes e.1) (listing nodes es)
+listing nodes (e ∷ es) = onto e.0 (kept_numbered nodes e.1) (listing nodes es)
 
 -- each number has a node
 abbrev pub HaveNodes : Nodes → Numbers → Type 0
@@ -61,7 +61,7 @@ HaveNodes nodes (e ∷ es) = ((n : Node) × (slab.get nodes e.1.0 ≡ Some n)) �
 
 below-listing : (nodes : Nodes) (k : Key) (es : Numbers) → AllByRecursion (λ y. slice_cmp nat_cmp k y ≡ Less) (keys_of es) → is_below k (listing nodes es) ≡ true
 below-listing nodes k [] h = refl
-below-listing nodes k (e ∷ es) h = go (kept_in nodes e.1) (below-listing nodes k es h.1)
+below-listing nodes k (e ∷ es) h = go (kept_numbered nodes e.1) (below-listing nodes k es h.1)
   where
     go : (o : Option Kept) → is_below k (listing nodes es) ≡ true → is_below k (onto e.0 o (listing nodes es)) ≡ true
     go None rest = rest
@@ -71,9 +71,9 @@ below-listing nodes k (e ∷ es) h = go (kept_in nodes e.1) (below-listing nodes
 pub listing-entries : (nodes : Nodes) (es : Numbers) → IsStrictlySortedBy (slice_cmp nat_cmp) (keys_of es) → HaveNodes nodes es → (collected nodes es).entries ≡ listing nodes es
 unfolding IsStrictlySortedBy
 listing-entries nodes [] sorted there = refl
-listing-entries nodes (e ∷ es) sorted there = go (kept_in nodes e.1) (ap (option_map (kept_at nodes)) there.0.1) (listing-entries nodes es sorted.1 there.1)
+listing-entries nodes (e ∷ es) sorted there = go (kept_numbered nodes e.1) (ap (option_map (kept_node nodes)) there.0.1) (listing-entries nodes es sorted.1 there.1)
   where
-    go : (o : Option Kept) → o ≡ Some (kept_at nodes there.0.0) → (collected nodes es).entries ≡ listing nodes es
+    go : (o : Option Kept) → o ≡ Some (kept_node nodes there.0.0) → (collected nodes es).entries ≡ listing nodes es
         → (with_found e.0 o (collected nodes es)).entries ≡ onto e.0 o (listing nodes es)
     go None is rest = absurd (cc is)
     go (Some d) is rest = ap (put_in e.0 d) rest ∙ front e.0 d (listing nodes es) (below-listing nodes e.0 es sorted.0)
@@ -86,7 +86,7 @@ passes fs (Some d) = all_hold fs d.labels
 -- the numbers whose labels pass all filters
 abbrev pub chosen : Nodes → List Filter → Numbers → List Id
 chosen nodes fs [] = []
-chosen nodes fs (e ∷ es) = if passes fs (kept_in nodes e.1) then e.1 ∷ chosen nodes fs es else chosen nodes fs es
+chosen nodes fs (e ∷ es) = if passes fs (kept_numbered nodes e.1) then e.1 ∷ chosen nodes fs es else chosen nodes fs es
 
 -- each number is that of its key
 abbrev pub AreFound : Keyed Id → Numbers → Type 0
@@ -95,7 +95,7 @@ AreFound ids (e ∷ es) = (get e.0 ids ≡ Some e.1) × AreFound ids es
 
 chosen-listing : (nodes : Nodes) (ids : Keyed Id) (fs : List Filter) (es : Numbers) → AreFound ids es → AreNumbersOf ids (kept_selected_in fs (listing nodes es)) (chosen nodes fs es)
 chosen-listing nodes ids fs [] found = tt
-chosen-listing nodes ids fs (e ∷ es) found = go (kept_in nodes e.1) (chosen-listing nodes ids fs es found.1)
+chosen-listing nodes ids fs (e ∷ es) found = go (kept_numbered nodes e.1) (chosen-listing nodes ids fs es found.1)
   where
     choose : (d : Kept) (b : Bool) → AreNumbersOf ids (kept_selected_in fs (listing nodes es)) (chosen nodes fs es)
         → AreNumbersOf ids (if b then e.0 ∷ kept_selected_in fs (listing nodes es) else kept_selected_in fs (listing nodes es)) (if b then e.1 ∷ chosen nodes fs es else chosen nodes fs es)

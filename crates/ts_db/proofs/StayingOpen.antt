@@ -14,7 +14,7 @@ use Rattle.ts_series.specs.Plan.{Plan, after}
 use Rattle.ts_series.specs.Put.{Writes, sample_of}
 use Rattle.ts_rules.specs.declared.rule.Rule.{Rule}
 use Rattle.ts_rules.specs.declared.plan.RulePlan.{RulePlan}
-use Rattle.ts_rules.specs.Rules.{kept_as}
+use Rattle.ts_rules.specs.Rules.{kept_rule_to}
 use Rattle.ts_rules.specs.Plans.{mended_list, IsMendedBy}
 use Rattle.ts_rules.proofs.Mended.{unmended}
 use Rattle.ts_db.specs.declared.node.Node.{Node}
@@ -23,7 +23,7 @@ use Rattle.ts_db.specs.declared.work.Work.TheVariants.{Write}
 use Rattle.ts_db.specs.Feeding.{Rows, Gone}
 use Rattle.ts_db.specs.Growing.{grown, AreOpenAt, StaysOpen, HaveRoom, kept_grown}
 use Rattle.ts_db.specs.Planning.{changed_by, gone_by, rows_by_work, AllTake, kept_rule_in, AreFedBy, AreChanged, first_full, AreDistinct, IsFed}
-use Rattle.ts_db.specs.Store.{kept_of, rules_by, key_in, kept_by, AreLive, HaveGrids, IsNode, IsInOrder}
+use Rattle.ts_db.specs.Store.{kept_series, rules_by, key_in, kept_named, AreLive, HaveGrids, IsNode, IsInOrder}
 use Rattle.ts_db.proofs.Feeds.{Feeding, fed-none, fed-all}
 use Rattle.ts_db.proofs.Plans.{fits-one, full-past}
 
@@ -58,15 +58,15 @@ module _ (h : History) (p : Point) (append : is_append p.time h.high ≡ true) w
   grown-rules : (names : Id → _) (rs : List Rule) → AreOpenAt p rs → map (grown p) (rules_by names rs) ≡ map (changed_by (Write p) h) (rules_by names rs)
   grown-rules names [] o = refl
   grown-rules names (r ∷ rs) o =
-      ap (λ (q : KeptRule). q ∷ map (grown p) (rules_by names rs)) (grows (kept_as (names r.dest) r) o.0)
-      ∙ ap (λ (qs : List KeptRule). changed_by (Write p) h (kept_as (names r.dest) r) ∷ qs) (grown-rules names rs o.1)
+      ap (λ (q : KeptRule). q ∷ map (grown p) (rules_by names rs)) (grows (kept_rule_to (names r.dest) r) o.0)
+      ∙ ap (λ (qs : List KeptRule). changed_by (Write p) h (kept_rule_to (names r.dest) r) ∷ qs) (grown-rules names rs o.1)
 
 -- what is kept of the node is what is kept after the write
 pub grown-after : (s : Store) (n : Node) (plan : Plan) (t : ℕ) (v : ℤ) → Writes (sample_of t v n.series) plan → StaysOpen n.series (sample_of t v n.series) n.rules.items
-    → kept_grown s.nodes plan (sample_of t v n.series) n ≡ kept_with t v (kept_by (key_in s.nodes) n)
+    → kept_grown s.nodes plan (sample_of t v n.series) n ≡ kept_with t v (kept_named (key_in s.nodes) n)
 grown-after s n plan t v w o =
     let same = grown-rules n.series (sample_of t v n.series) o.append (key_in s.nodes) n.rules.items o.at in
-    λ i. record (kept_of n.labels (after (record { cut = w.cut i; removed = 0; encoding = plan.encoding; wrote = w.wrote i; options = w.options i; change = plan.change; room = None }) n.series)) { rules = same i; source = option_map (key_in s.nodes) n.source }
+    λ i. record (kept_series n.labels (after (record { cut = w.cut i; removed = 0; encoding = plan.encoding; wrote = w.wrote i; options = w.options i; change = plan.change; room = None }) n.series)) { rules = same i; source = option_map (key_in s.nodes) n.source }
 
 -- ---- plans that leave destinations as they are
 

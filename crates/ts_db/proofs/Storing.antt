@@ -12,7 +12,7 @@ use Rattle.ts_spec.proofs.Tidy.{some-same}
 use Rattle.ts_sample.specs.declared.id.Id.{Id}
 use Rattle.ts_rules.specs.declared.rule.Rule.{Rule}
 use Rattle.ts_db.specs.declared.node.Node.{Node}
-use Rattle.ts_db.specs.Store.{Nodes, Numbers, key_at, key_in, kept_at, collected, has_key, number_of, IsLive, AreLive, IsLiveSource, HasLiveLinks, IsNode, IsStore}
+use Rattle.ts_db.specs.Store.{Nodes, Numbers, key_at, key_in, kept_node, collected, has_key, number_of, HasNode, AreLive, IsLiveSource, HasLiveLinks, IsNode, IsStore}
 use Rattle.ts_db.proofs.Counts.{count-more, count-same, count-less}
 use Rattle.ts_db.proofs.Collecting.{same-at, found, get-collected, id-same, collected-written, collected-added, collected-removed, collected-slots, KeepsOthers, same-names}
 
@@ -35,7 +35,7 @@ still-there nodes new i n change j g is = pick (cases_eq j i)
 -- ---- live numbers
 
 -- where each number that is live is so after a change, links stay live
-pub live-on : (nodes new : Nodes) (n : Node) → ((id : Id) → IsLive nodes id → IsLive new id) → HasLiveLinks nodes n → HasLiveLinks new n
+pub live-on : (nodes new : Nodes) (n : Node) → ((id : Id) → HasNode nodes id → HasNode new id) → HasLiveLinks nodes n → HasLiveLinks new n
 live-on nodes new n on live = record { rules = rules n.rules.items live.rules; source = source n.source live.source }
   where
     rules : (rs : List Rule) → AreLive nodes rs → AreLive new rs
@@ -50,7 +50,7 @@ live-on nodes new n on live = record { rules = rules n.rules.items live.rules; s
 pub live-bare : (nodes : Nodes) (n : Node) → n.rules.items ≡ [] → n.source ≡ None → HasLiveLinks nodes n
 live-bare nodes n rules source = record { rules = subst (AreLive nodes) (sym rules) tt; source = subst (IsLiveSource nodes) (sym source) tt }
 
-pub live-written : (nodes new : Nodes) (i : ℕ) (n : Node) → slab.Updates nodes new i (Some n) → (id : Id) → IsLive nodes id → IsLive new id
+pub live-written : (nodes new : Nodes) (i : ℕ) (n : Node) → slab.Updates nodes new i (Some n) → (id : Id) → HasNode nodes id → HasNode new id
 live-written nodes new i n change id live = let g = still-there nodes new i n change id.0 live.node live.there in record { node = g.0; there = g.1 }
 
 -- numbers keep their keys where a node does
@@ -87,8 +87,8 @@ module _ (limits : Limits) (nodes : Nodes) (es : Numbers) (store : IsStore limit
       let alike : j ≡ k = sym (store.named j id of.0 x of.1) ∙ store.named k id of.0 y of.1 in
       ap (same j) (sym alike) ∙ same-refl j
 
-  pub there : (key : Key) (id : Id) (n : Node) → number_of key es ≡ Some id → slab.get nodes id.0 ≡ Some n → get key (collected nodes es) ≡ Some (kept_at nodes n)
-  there key id n is at = get-collected key nodes es ∙ ap (found nodes) is ∙ ap (option_map (kept_at nodes)) at
+  pub there : (key : Key) (id : Id) (n : Node) → number_of key es ≡ Some id → slab.get nodes id.0 ≡ Some n → get key (collected nodes es) ≡ Some (kept_node nodes n)
+  there key id n is at = get-collected key nodes es ∙ ap (found nodes) is ∙ ap (option_map (kept_node nodes)) at
 
   pub missing : (key : Key) → number_of key es ≡ None → get key (collected nodes es) ≡ None
   missing key is = get-collected key nodes es ∙ ap (found nodes) is
@@ -108,7 +108,7 @@ module _ (limits : Limits) (nodes : Nodes) (es : Numbers) (store : IsStore limit
         (λ j g e. live-on nodes new g (live-written nodes new id.0 n change) (store.live j g e));
     each = after-update nodes new id.0 n change (IsNode limits) sound store.each;
     counted = ap count_keys (collected-written nodes new es key id n apart is change (others-written new id.0 old n at change name))
-        ∙ count-same key (kept_at new n) (kept_at nodes old) (collected nodes es) (there key id old is at) ∙ store.counted;
+        ∙ count-same key (kept_node new n) (kept_node nodes old) (collected nodes es) (there key id old is at) ∙ store.counted;
     no_other = as_many ∙ store.no_other;
     few = store.few;
     some_samples = store.some_samples;
@@ -145,7 +145,7 @@ module _ (limits : Limits) (nodes : Nodes) (es : Numbers) (store : IsStore limit
     each = after-update nodes new id.0 n change (IsNode limits) sound store.each;
     counted =
         (let size : count_keys (collected new fs) ≡ suc (count_keys (collected nodes es)) =
-        ap count_keys (collected-added nodes new es fs key id n store.stored vacant change (others-added new id n vacant change) differs) ∙ count-more key (kept_at new n) (collected nodes es) (missing key none) in
+        ap count_keys (collected-added nodes new es fs key id n store.stored vacant change (others-added new id n vacant change) differs) ∙ count-more key (kept_node new n) (collected nodes es) (missing key none) in
         omega (arith, size, store.counted, more));
     no_other = omega (arith, one_more, store.no_other, more);
     few = omega (arith, more, room);
@@ -202,7 +202,7 @@ module _ (limits : Limits) (nodes : Nodes) (es : Numbers) (store : IsStore limit
     counted =
         (let n = store.stored key id is in
         let one : count_keys (collected new fs) ≡ count_keys (without_key key (collected nodes es)) = ap count_keys (collected-removed nodes new es fs key id apart is change (others-removed new id change links) differs) in
-        let two : suc (count_keys (without_key key (collected nodes es))) ≡ count_keys (collected nodes es) = count-less key (kept_at nodes n.0) (collected nodes es) (there key id n.0 is n.1) in
+        let two : suc (count_keys (without_key key (collected nodes es))) ≡ count_keys (collected nodes es) = count-less key (kept_node nodes n.0) (collected nodes es) (there key id n.0 is n.1) in
         omega (arith, one, two, store.counted, fewer));
     no_other = omega (arith, one_less, store.no_other, fewer);
     few = omega (arith, store.few, fewer);
@@ -237,7 +237,7 @@ module _ (limits : Limits) (nodes : Nodes) (es : Numbers) (store : IsStore limit
     where
       go : (o : Option Id) → number_of key es ≡ o → is_some (found nodes o) ≡ is_some o
       go None is = refl
-      go (Some id) is = let of = store.stored key id is in ap (λ (o : Option Node). is_some (option_map (kept_at nodes) o)) of.1
+      go (Some id) is = let of = store.stored key id is in ap (λ (o : Option Node). is_some (option_map (kept_node nodes) o)) of.1
 
   -- with more room alone
   pub store-slots : (new : Nodes) → new.slots ≡ nodes.slots → IsStore limits new es

@@ -9,7 +9,7 @@ use Rattle.ts_bucket.specs.Grid.{IsGrid}
 use Rattle.ts_series.specs.History.{History}
 use Rattle.ts_rules.specs.declared.rule.Rule.{Rule}
 use Rattle.ts_rules.specs.declared.plan.RulePlan.{RulePlan}
-use Rattle.ts_rules.specs.Rules.{kept_as}
+use Rattle.ts_rules.specs.Rules.{kept_rule_to}
 use Rattle.ts_db.specs.declared.fault.DbFault.{DbFault}
 use Rattle.ts_db.specs.declared.node.Node.{Node}
 use Rattle.ts_db.specs.declared.store.Store.{Store}
@@ -17,7 +17,7 @@ use Rattle.ts_db.specs.declared.work.Work.{Work}
 use Rattle.ts_db.specs.declared.work.Work.TheVariants.{Write, Delete}
 use Rattle.ts_db.specs.Feeding.{Rows, Gone, keep_fed}
 use Rattle.ts_db.specs.Planning.{changed_by, gone_by, rows_by_work, AllTake, AreChanged, AreFedBy, first_full, IsUnplanned, AreDestinationPlans}
-use Rattle.ts_db.specs.Store.{rules_by, key_in, stock_of, contents_of, Contents, IsLive, AreLive, HaveGrids, IsDb, Holds}
+use Rattle.ts_db.specs.Store.{rules_by, key_in, stock_of, contents_of, Contents, HasNode, AreLive, HaveGrids, IsDb, Holds}
 use Rattle.ts_db.specs.Answering.{IsElsewhere}
 use Rattle.ts_db.proofs.Feeds.{fed-elsewhere, names-same}
 use Rattle.ts_db.proofs.Known.{links, none-own, distinct}
@@ -30,15 +30,15 @@ changed-rules names change [] [] c = refl
 changed-rules names change [] (x ∷ xs) c = absurd c
 changed-rules names change (r ∷ rs) [] c = absurd c
 changed-rules names change (r ∷ rs) (x ∷ xs) c =
-    ap (λ (q : KeptRule). q ∷ rules_by names xs) (ap (λ (i : Id). kept_as (names i) x) c.0.dest ∙ c.0.kept (names r.dest))
-    ∙ ap (λ (qs : List KeptRule). change (kept_as (names r.dest) r) ∷ qs) (changed-rules names change rs xs c.1)
+    ap (λ (q : KeptRule). q ∷ rules_by names xs) (ap (λ (i : Id). kept_rule_to (names i) x) c.0.dest ∙ c.0.kept (names r.dest))
+    ∙ ap (λ (qs : List KeptRule). change (kept_rule_to (names r.dest) r) ∷ qs) (changed-rules names change rs xs c.1)
 
 -- they lead to the same series
 pub changed-live : (s : Store) (change : KeptRule → KeptRule) (rs xs : List Rule) → AreChanged change rs xs → AreLive s.nodes rs → AreLive s.nodes xs
 changed-live s change [] [] c live = tt
 changed-live s change [] (x ∷ xs) c live = absurd c
 changed-live s change (r ∷ rs) [] c live = absurd c
-changed-live s change (r ∷ rs) (x ∷ xs) c live = (subst (λ (i : Id). IsLive s.nodes i) (sym c.0.dest) live.0, changed-live s change rs xs c.1 live.1)
+changed-live s change (r ∷ rs) (x ∷ xs) c live = (subst (λ (i : Id). HasNode s.nodes i) (sym c.0.dest) live.0, changed-live s change rs xs c.1 live.1)
 
 -- and their buckets stay
 same-grid : (work : Work) (h : History) (q : KeptRule) → (changed_by work h q).grid ≡ q.grid
@@ -50,7 +50,7 @@ changed-grids work h [] [] c g = tt
 changed-grids work h [] (x ∷ xs) c g = absurd c
 changed-grids work h (r ∷ rs) [] c g = absurd c
 changed-grids work h (r ∷ rs) (x ∷ xs) c g = (
-  subst IsGrid (sym (ap (λ (q : KeptRule). q.grid) (c.0.kept []) ∙ same-grid work h (kept_as [] r))) g.0,
+  subst IsGrid (sym (ap (λ (q : KeptRule). q.grid) (c.0.kept []) ∙ same-grid work h (kept_rule_to [] r))) g.0,
   changed-grids work h rs xs c.1 g.1,
 )
 

@@ -21,7 +21,7 @@ use Rattle.ts_spec.proofs.Tidy.{some-same}
 use Rattle.ts_sample.specs.declared.id.Id.{Id}
 use Rattle.ts_series.specs.History.{History, list_of, low, IsKept}
 use Rattle.ts_series.specs.Plan.{Plan, after}
-use Rattle.ts_series.specs.Put.{Answers, Writes, Fits, IsWrite, IsFullFault, met, sample_of, list_after, unwritten_of, refusal_of as put_refusal}
+use Rattle.ts_series.specs.Put.{PutAnswers, Writes, Fits, IsWrite, IsFullFault, met, sample_of, list_after, unwritten_of, refusal_of as put_refusal}
 use Rattle.ts_series.specs.declared.plan.PutFault.{PutFault}
 use Rattle.ts_series.specs.declared.plan.PutFault.TheVariants.{TooOld, Duplicate, OutOfRange, Full, Unwritten, Memory}
 use Rattle.ts_series.proofs.Counting.{length-after}
@@ -33,7 +33,7 @@ use Rattle.ts_db.specs.declared.work.Work.TheVariants.{Write}
 use Rattle.ts_db.specs.Faults.{refusal_of}
 use Rattle.ts_db.specs.Feeding.{Rows, Gone, keep_fed}
 use Rattle.ts_db.specs.Planning.{changed_by, gone_by, rows_by_work, AreChanged, first_full, IsUnplanned}
-use Rattle.ts_db.specs.Store.{kept_of, rules_by, key_in, kept_by, kept_at, stock_of, contents_of, Contents, IsNode, IsDb, Holds}
+use Rattle.ts_db.specs.Store.{kept_series, rules_by, key_in, kept_named, kept_node, stock_of, contents_of, Contents, IsNode, IsDb, Holds}
 use Rattle.ts_db.specs.Answering.{node_after, IsKeptAnswer}
 use Rattle.ts_db.proofs.Applying.{there}
 use Rattle.ts_db.proofs.Fed.{written-fed}
@@ -51,11 +51,11 @@ pub record IsWritten (limit : ℕ) (what : Merged) (t : ℕ) (h : History) (p : 
 
 -- a plan that writes a sample, to a source whose rules change with it
 pub writes-after : (names : Id → Key) (n : Node) (plan : Plan) (rules : Vec Rule Global) (t : ℕ) (v : ℤ) → Writes (sample_of t v n.series) plan
-    → AreChanged (changed_by (Write (sample_of t v n.series)) n.series) n.rules.items rules.items → kept_by names (node_after plan None (Some rules) n) ≡ kept_with t v (kept_by names n)
+    → AreChanged (changed_by (Write (sample_of t v n.series)) n.series) n.rules.items rules.items → kept_named names (node_after plan None (Some rules) n) ≡ kept_with t v (kept_named names n)
 writes-after names n plan rules t v w changed =
     let same : rules_by names rules.items ≡ map (changed_by (Write (sample_of t v n.series)) n.series) (rules_by names n.rules.items) =
     changed-rules names (changed_by (Write (sample_of t v n.series)) n.series) n.rules.items rules.items changed in
-    λ i. record (kept_of n.labels (after (record { cut = w.cut i; removed = 0; encoding = plan.encoding; wrote = w.wrote i; options = w.options i; change = plan.change; room = None }) n.series)) { rules = same i; source = option_map names n.source }
+    λ i. record (kept_series n.labels (after (record { cut = w.cut i; removed = 0; encoding = plan.encoding; wrote = w.wrote i; options = w.options i; change = plan.change; room = None }) n.series)) { rules = same i; source = option_map names n.source }
 
 -- a planned write leaves the list within the limit
 pub within-planned : (h : History) (plan : Plan) (limit t : ℕ) (v : ℤ) → IsKept h → IsWrite limit (sample_of t v h) h (Ok plan) → length (list_of h) ≤ limit → length (list_of (after plan h)) ≤ limit
@@ -65,7 +65,7 @@ within-planned h plan limit t v kept a le =
     subst (λ ps. length ps ≤ limit) (sym same) (length-after limit (edge_of h.options.retention (raised t h.high)) (sample_of t v h) h.samples kept.ascending a.1 le)
 
 -- what a plan writes is the sample of a write, where it writes one
-pub written-sample : (plan : Plan) (what : Merged) (limit t : ℕ) (h : History) (p : Point) → Answers what limit t h (Ok plan) → Some p ≡ first_of plan.wrote → IsWritten limit what t h p plan
+pub written-sample : (plan : Plan) (what : Merged) (limit t : ℕ) (h : History) (p : Point) → PutAnswers what limit t h (Ok plan) → Some p ≡ first_of plan.wrote → IsWritten limit what t h p plan
 written-sample plan (Refuse r) limit t h p a is = absurd a
 written-sample plan Keep limit t h p a is = let none : Some p ≡ None = is ∙ ap (λ (x : Plan). first_of x.wrote) a in absurd (cc none)
 written-sample plan (To v) limit t h p a is = record {
@@ -82,7 +82,7 @@ pub record IsUnwritten (limit : ℕ) (what : Merged) (t : ℕ) (h : History) (p 
   pub sample : p ≡ sample_of t value h
   pub fits : Fits limit (sample_of t value h) h
 
-pub unwritten-sample : (fault : PutFault) (what : Merged) (limit t : ℕ) (h : History) (p : Point) → Answers what limit t h (Err fault) → unwritten_of fault ≡ Some p → IsUnwritten limit what t h p
+pub unwritten-sample : (fault : PutFault) (what : Merged) (limit t : ℕ) (h : History) (p : Point) → PutAnswers what limit t h (Err fault) → unwritten_of fault ≡ Some p → IsUnwritten limit what t h p
 unwritten-sample TooOld what limit t h p a is = absurd (cc is)
 unwritten-sample Duplicate what limit t h p a is = absurd (cc is)
 unwritten-sample OutOfRange what limit t h p a is = absurd (cc is)
@@ -105,26 +105,26 @@ module _ (s : Store) (db : IsDb s) (key : Key) (id : Id) (n : Node) (holds : Hol
   gone t v = gone_by (Write (sample_of t v n.series)) n.series
 
   abbrev after_keys : ℕ → ℤ → Keeping
-  after_keys t v = keys_fed s db.store key id n holds (links s db key id n holds) (rows t v) (gone t v) (kept_with t v (kept_at s.nodes n))
+  after_keys t v = keys_fed s db.store key id n holds (links s db key id n holds) (rows t v) (gone t v) (kept_with t v (kept_node s.nodes n))
 
   -- the first destination that would show too many samples
   abbrev pub full_by : ℕ → ℤ → Option Id
   full_by t v = first_full s.limits.samples s.nodes (rows t v) (gone t v) n.rules.items
 
   -- a write of a value, by how many samples the key and the destinations of its rules have then
-  write-to : (t : ℕ) (v : ℤ) → kept_write_merged s.limits (stock_of s).keys key t (To v) ≡ (if nat_lt s.limits.samples (length (kept_with t v (kept_at s.nodes n)).list)
+  write-to : (t : ℕ) (v : ℤ) → kept_write_merged s.limits (stock_of s).keys key t (To v) ≡ (if nat_lt s.limits.samples (length (kept_with t v (kept_node s.nodes n)).list)
       then kept_refused (stock_of s).keys refusal.SamplesFull
       else kept_unless_full (stock_of s).keys (option_map (key_in s.nodes) (full_by t v)) (record { keys = after_keys t v; response = Count t }))
   write-to t v =
-      let is : get key (stock_of s).keys ≡ Some (kept_at s.nodes n) = there s db.store key id n holds in
-      let own : get key (after_keys t v) ≡ Some (kept_with t v (kept_at s.nodes n)) =
-      own-fed s db.store key id n holds (links s db key id n holds) (rows t v) (gone t v) (kept_with t v (kept_at s.nodes n)) in
+      let is : get key (stock_of s).keys ≡ Some (kept_node s.nodes n) = there s db.store key id n holds in
+      let own : get key (after_keys t v) ≡ Some (kept_with t v (kept_node s.nodes n)) =
+      own-fed s db.store key id n holds (links s db key id n holds) (rows t v) (gone t v) (kept_with t v (kept_node s.nodes n)) in
       let done : KeptOutcome = record { keys = after_keys t v; response = Count t } in
       ap (λ (q : Keeping). kept_within_samples s.limits (stock_of s).keys key (record { keys = q; response = Count t }))
-      (written-fed (stock_of s).keys key (kept_at s.nodes n) is (links s db key id n holds) t v)
+      (written-fed (stock_of s).keys key (kept_node s.nodes n) is (links s db key id n holds) t v)
       ∙ ap (λ (o : Option Kept). if nat_lt s.limits.samples (length (list_at o)) then kept_refused (stock_of s).keys refusal.SamplesFull else kept_within_destinations s.limits (stock_of s).keys key done) own
-      ∙ ap (λ (o : KeptOutcome). if nat_lt s.limits.samples (length (kept_with t v (kept_at s.nodes n)).list) then kept_refused (stock_of s).keys refusal.SamplesFull else o)
-      (destinations-tested s db.store key id n holds (links s db key id n holds) (rows t v) (gone t v) (kept_with t v (kept_at s.nodes n)) done)
+      ∙ ap (λ (o : KeptOutcome). if nat_lt s.limits.samples (length (kept_with t v (kept_node s.nodes n)).list) then kept_refused (stock_of s).keys refusal.SamplesFull else o)
+      (destinations-tested s db.store key id n holds (links s db key id n holds) (rows t v) (gone t v) (kept_with t v (kept_node s.nodes n)) done)
 
   -- where the key itself has room
   write-fits : (t : ℕ) (v : ℤ) → length (list_after (sample_of t v n.series) n.series) ≤ s.limits.samples
@@ -143,7 +143,7 @@ module _ (s : Store) (db : IsDb s) (key : Key) (id : Id) (n : Node) (holds : Hol
 
   -- a write that was planned, for the key and for the destinations of its rules
   pub planned-answers : (plan : Plan) (d : Kept) (t : ℕ) (v : ℤ) (new : Contents) → IsWrite s.limits.samples (sample_of t v n.series) n.series (Ok plan)
-      → d ≡ kept_with t v (kept_at s.nodes n) → full_by t v ≡ None
+      → d ≡ kept_with t v (kept_node s.nodes n) → full_by t v ≡ None
       → new ≡ record (contents_of s) { keys = keep_fed (rows t v) (gone t v) (rules_by (key_in s.nodes) n.rules.items) (with_key key d (stock_of s).keys) }
       → kept_write_merged s.limits (stock_of s).keys key t (To v) ≡ record { keys = new.keys; response = Count t }
   planned-answers plan d t v new a same room is =
@@ -163,7 +163,7 @@ module _ (s : Store) (db : IsDb s) (key : Key) (id : Id) (n : Node) (holds : Hol
       (λ none. none-full-yields (key_in s.nodes) (stock_of s).keys (full_by t v) done none tt) x)
 
   -- a write that was not planned, and not for want of memory
-  pub refused-answers : (fault : PutFault) (o : Option Refusal) (what : Merged) (t : ℕ) → unwritten_of fault ≡ None → o ≡ put_refusal fault → Answers what s.limits.samples t n.series (Err fault)
+  pub refused-answers : (fault : PutFault) (o : Option Refusal) (what : Merged) (t : ℕ) → unwritten_of fault ≡ None → o ≡ put_refusal fault → PutAnswers what s.limits.samples t n.series (Err fault)
       → IsKeptAnswer o (stock_of s).keys (kept_write_merged s.limits (stock_of s).keys key t what)
   refused-answers fault o (Refuse r) t other is a = subst (λ (x : Option Refusal). IsKeptAnswer x (stock_of s).keys (kept_refused (stock_of s).keys r)) (sym (is ∙ a)) refl
   refused-answers fault o Keep t other is a = absurd a
@@ -183,8 +183,8 @@ module _ (s : Store) (db : IsDb s) (key : Key) (id : Id) (n : Node) (holds : Hol
       full (Memory e) none x = absurd x
 
 -- what a write comes to that is not ignored, by what is kept and by the series
-pub write-met : (m : Keeping) (s : Store) (key : Key) (n : Node) (how : Merge) (t : ℕ) (v : ℤ) → kept_ignored (kept_at s.nodes n) t v ≡ None
-    → kept_write s.limits m key (kept_at s.nodes n) how t v ≡ kept_write_merged s.limits m key t (met how t v n.series)
+pub write-met : (m : Keeping) (s : Store) (key : Key) (n : Node) (how : Merge) (t : ℕ) (v : ℤ) → kept_ignored (kept_node s.nodes n) t v ≡ None
+    → kept_write s.limits m key (kept_node s.nodes n) how t v ≡ kept_write_merged s.limits m key t (met how t v n.series)
 write-met m s key n how t v none =
     ap (λ (o : Option ℕ). if nat_lt t (low n.series) then kept_refused m refusal.TooOld
     else kept_unless_ignored m o (kept_write_merged s.limits m key t (merge how (value_at t (list_of n.series)) v))) none

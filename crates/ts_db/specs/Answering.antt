@@ -19,7 +19,7 @@ use Rattle.ts_db.specs.declared.node.Node.{Node}
 use Rattle.ts_db.specs.declared.store.Store.{Store}
 use Rattle.ts_db.specs.Faults.{refusal_of}
 use Rattle.ts_db.specs.Held.{Stock, YieldsToMemory}
-use Rattle.ts_db.specs.Store.{key_in, kept_at, stock_of, contents_of, AreLive, HaveGrids, Holds}
+use Rattle.ts_db.specs.Store.{key_in, kept_node, stock_of, contents_of, AreLive, HaveGrids, Holds}
 
 -- a refusal is the step's answer; want of memory is told only where the step refuses nothing
 abbrev pub IsKeptAnswer : Option Refusal → Keeping → KeptOutcome → Type 0
@@ -50,7 +50,7 @@ pub record IsReady (s : Store) (id : Id) (plan : Plan) (labels : Option (List La
 -- what is kept of the key of a number is that after the plan, and all else is as it was
 abbrev pub IsApplied : (old : Store) → Id → Plan → Option (List Label) → Option (Vec Rule Global) → (new : Store) → Type 0
 IsApplied old id plan labels rules new =
-    (key : Key) (n : Node) → Holds old key id n → contents_of new ≡ record (contents_of old) { keys = with_key key (kept_at old.nodes (node_after plan labels rules n)) (stock_of old).keys }
+    (key : Key) (n : Node) → Holds old key id n → contents_of new ≡ record (contents_of old) { keys = with_key key (kept_node old.nodes (node_after plan labels rules n)) (stock_of old).keys }
 
 -- the other nodes stay, and all keys
 pub record IsElsewhere (old new : Store) (id : Id) : Type 0 where

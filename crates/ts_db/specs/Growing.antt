@@ -9,7 +9,7 @@ use Rattle.ts_series.specs.History.{History}
 use Rattle.ts_series.specs.Plan.{Plan}
 use Rattle.ts_rules.specs.declared.rule.Rule.{Rule}
 use Rattle.ts_db.specs.declared.node.Node.{Node}
-use Rattle.ts_db.specs.Store.{Nodes, kept_at}
+use Rattle.ts_db.specs.Store.{Nodes, kept_node}
 use Rattle.ts_db.specs.Answering.{node_after}
 
 -- a rule with one more sample in its open bucket
@@ -33,4 +33,4 @@ HaveRoom (r ∷ rs) = (r.running.count < 10 ^ 14) × HaveRoom rs
 
 -- what is kept of a node after a plan of its series, with the sample in the open bucket of each rule
 abbrev pub kept_grown : Nodes → Plan → Point → Node → Kept
-kept_grown nodes plan p n = record (kept_at nodes (node_after plan None None n)) { rules = map (grown p) (kept_at nodes n).rules }
+kept_grown nodes plan p n = record (kept_node nodes (node_after plan None None n)) { rules = map (grown p) (kept_node nodes n).rules }

@@ -12,7 +12,7 @@ use Rattle.ts_rules.specs.declared.plan.RulePlan.{RulePlan}
 use Rattle.ts_rules.specs.declared.fault.RuleFault.{RuleFault}
 use Rattle.ts_rules.specs.declared.fault.RuleFault.TheVariants as rule_fault
 use Rattle.ts_rules.specs.declared.fault.RuleFault.TheVariants.{Full}
-use Rattle.ts_rules.specs.Rules.{kept_as, IsChanged, TakesAppended}
+use Rattle.ts_rules.specs.Rules.{kept_rule_to, IsChanged, TakesAppended}
 use Rattle.ts_rules.specs.Writes.{rule_after}
 use Rattle.ts_rules.specs.Deletions.{rule_left}
 use Rattle.ts_rules.specs.Plans.{IsMendedBy}
@@ -24,7 +24,7 @@ use Rattle.ts_db.specs.declared.work.Work.{Work}
 use Rattle.ts_db.specs.declared.work.Work.TheVariants.{Write, Delete}
 use Rattle.ts_db.specs.Feeding.{Rows, Gone, keep_fed}
 use Rattle.ts_rules.specs.Shares.{write_share, deletion_share, IsEasyWrite}
-use Rattle.ts_db.specs.Store.{rules_by, key_in, kept_in, stock_of, contents_of, Nodes}
+use Rattle.ts_db.specs.Store.{rules_by, key_in, kept_numbered, stock_of, contents_of, Nodes}
 
 -- ---- work on a source, as it was before
 
@@ -55,7 +55,7 @@ AllTake work source (r ∷ rs) = TakesWork work source r × AllTake work source 
 
 -- a rule as what is kept of it
 abbrev pub kept_rule_in : Nodes → Rule → KeptRule
-kept_rule_in nodes r = kept_as (key_in nodes r.dest) r
+kept_rule_in nodes r = kept_rule_to (key_in nodes r.dest) r
 
 -- The plan for a rule: it changes so, and its destination is mended so.
 pub record IsFedBy (limit : ℕ) (nodes : Nodes) (rows : Rows) (gone : Gone) (r : Rule) (x : RulePlan) : Type 0 where
@@ -87,7 +87,7 @@ AreDistinct (r ∷ rs) = NoneTo r.dest.0 rs × AreDistinct rs
 
 -- the list of a destination once it is mended
 abbrev pub fed_list : Nodes → Rows → Gone → Rule → List Point
-fed_list nodes rows gone r = list_at (option_map (λ d. mended_kept (gone (kept_rule_in nodes r)) (rows d.born (kept_rule_in nodes r)) d) (kept_in nodes r.dest))
+fed_list nodes rows gone r = list_at (option_map (λ d. mended_kept (gone (kept_rule_in nodes r)) (rows d.born (kept_rule_in nodes r)) d) (kept_numbered nodes r.dest))
 
 -- the first of these rules whose destination would show more than the limit
 abbrev pub first_full : (limit : ℕ) → Nodes → Rows → Gone → List Rule → Option Id

@@ -17,22 +17,22 @@ use Rattle.ts_sample.specs.declared.id.Id.{Id}
 use Rattle.ts_bucket.specs.Grid.{IsGrid}
 use Rattle.ts_series.specs.History.{History, list_of, reach, IsKept}
 use Rattle.ts_rules.specs.declared.rule.Rule.{Rule}
-use Rattle.ts_rules.specs.Rules.{kept_as}
+use Rattle.ts_rules.specs.Rules.{kept_rule_to}
 use Rattle.ts_db.specs.declared.node.Node.{Node}
 use Rattle.ts_db.specs.declared.store.Store.{Store}
 use Rattle.ts_db.specs.Held.{Stock, Leads, reach_at, pieces_at}
 
 -- what is kept of a series with these labels, without rules and without a source
-abbrev pub kept_of : List Label → History → Kept
-kept_of labels h = record { options = h.options; labels = labels; list = list_of h; high = h.high; born = h.born; rules = []; source = None }
+abbrev pub kept_series : List Label → History → Kept
+kept_series labels h = record { options = h.options; labels = labels; list = list_of h; high = h.high; born = h.born; rules = []; source = None }
 
 -- what is kept of rules, by the keys of their destinations
 abbrev pub rules_by : (Id → Key) → List Rule → List KeptRule
-rules_by names rs = map (λ r. kept_as (names r.dest) r) rs
+rules_by names rs = map (λ r. kept_rule_to (names r.dest) r) rs
 
 -- what is kept of a node, by the keys of numbers
-abbrev pub kept_by : (Id → Key) → Node → Kept
-kept_by names n = record (kept_of n.labels n.series) { rules = rules_by names n.rules.items; source = option_map names n.source }
+abbrev pub kept_named : (Id → Key) → Node → Kept
+kept_named names n = record (kept_series n.labels n.series) { rules = rules_by names n.rules.items; source = option_map names n.source }
 
 -- the series by their numbers, and the numbers by their keys
 abbrev pub Nodes : Type 0
@@ -50,12 +50,12 @@ key_at (Some n) = n.key
 abbrev pub key_in : Nodes → Id → Key
 key_in nodes id = key_at (slab.get nodes id.0)
 
-abbrev pub kept_at : Nodes → Node → Kept
-kept_at nodes n = kept_by (key_in nodes) n
+abbrev pub kept_node : Nodes → Node → Kept
+kept_node nodes n = kept_named (key_in nodes) n
 
 -- what is kept of a number
-abbrev pub kept_in : Nodes → Id → Option Kept
-kept_in nodes id = option_map (kept_at nodes) (slab.get nodes id.0)
+abbrev pub kept_numbered : Nodes → Id → Option Kept
+kept_numbered nodes id = option_map (kept_node nodes) (slab.get nodes id.0)
 
 abbrev pub with_found : {X : Type 0} → Key → Option X → Keyed X → Keyed X
 with_found k None m = without_key k m
@@ -64,7 +64,7 @@ with_found k (Some x) m = with_key k x m
 -- what they keep of each key
 abbrev pub collected : Nodes → Numbers → Keeping
 collected nodes [] = none
-collected nodes (e ∷ es) = with_found e.0 (kept_in nodes e.1) (collected nodes es)
+collected nodes (e ∷ es) = with_found e.0 (kept_numbered nodes e.1) (collected nodes es)
 
 -- the number of each key
 abbrev pub ids_of : Numbers → Keyed Id
@@ -119,19 +119,19 @@ abbrev pub contents_of : Store → Contents
 contents_of s = record { limits = s.limits; keys = collected s.nodes s.keys.entries; ids = ids_of s.keys.entries }
 
 -- a number has a node
-pub record IsLive (nodes : Nodes) (id : Id) : Type 0 where
+pub record HasNode (nodes : Nodes) (id : Id) : Type 0 where
   pub node : Node
   pub there : slab.get nodes id.0 ≡ Some node
 
 -- so have the destinations of these rules
 abbrev pub AreLive : Nodes → List Rule → Type 0
 AreLive nodes [] = ⊤
-AreLive nodes (r ∷ rs) = IsLive nodes r.dest × AreLive nodes rs
+AreLive nodes (r ∷ rs) = HasNode nodes r.dest × AreLive nodes rs
 
 -- and so has a source, if there is one
 abbrev pub IsLiveSource : Nodes → Option Id → Type 0
 IsLiveSource nodes None = ⊤
-IsLiveSource nodes (Some id) = IsLive nodes id
+IsLiveSource nodes (Some id) = HasNode nodes id
 
 -- The numbers that a node is linked to are those of nodes.
 pub record HasLiveLinks (nodes : Nodes) (n : Node) : Type 0 where

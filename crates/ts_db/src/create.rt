@@ -8,7 +8,7 @@ ghost use Rattle.ts_labels.specs.Spec.{spec_of};
 ghost use Rattle.ts_series.specs.History.{list_of, IsKept};
 ghost use Rattle.ts_db.specs.Faults.{IsMemory};
 ghost use Rattle.ts_db.specs.Held.{IsOwn};
-ghost use Rattle.ts_db.specs.Store.{kept_of, stock_of, IsInOrder};
+ghost use Rattle.ts_db.specs.Store.{kept_series, stock_of, IsInOrder};
 ghost use Rattle.ts_db.specs.Answering.{KeptDone, KeptNumber};
 
 use crate::fault::DbFault;
@@ -52,7 +52,7 @@ impl Store {
         requires within { length (list_of series) ≤ self.old.limits.samples }
         requires born { series.born ≤ self.old.limits.born }
         requires labels { length labels ≤ self.old.limits.labels }
-        ensures added { IfOk result (λ _. (stock_of self.new).keys ≡ with_key key (kept_of labels series) (stock_of self.old).keys) }
+        ensures added { IfOk result (λ _. (stock_of self.new).keys ≡ with_key key (kept_series labels series) (stock_of self.old).keys) }
         ensures limits { self.new.limits ≡ self.old.limits }
         ensures memory { IfErr result IsMemory }
         ensures unchanged { IfErr result (λ _. stock_of self.new ≡ stock_of self.old) }
@@ -119,7 +119,7 @@ fn begun<L: Ledger>(
     steps: &mut Steps<L>,
 ) -> Result<Series, AllocError>
     requires time { time ≤ MAX_TIME }
-    ensures begun { IfOk result (λ series. kept_of [] series ≡ kept_fresh (record { options = options; labels = [] }) (record { time = time; value = value; made = 0 } ∷ []) (Some time)) }
+    ensures begun { IfOk result (λ series. kept_series [] series ≡ kept_fresh (record { options = options; labels = [] }) (record { time = time; value = value; made = 0 } ∷ []) (Some time)) }
     ensures kept { IfOk result (λ series. IsKept series) }
     ensures counted { steps.old ≤ steps.new }
     ensures steps { steps.new ≡ steps.old }

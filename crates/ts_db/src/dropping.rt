@@ -5,7 +5,7 @@ ghost use Rattle.ts_spec.specs.Keyed.{get, without_key};
 ghost use Rattle.ts_spec.specs.Keeping.{keep_dropped};
 ghost use Rattle.ts_db.specs.declared.node.Node.{Node as TheNode};
 ghost use Rattle.ts_db.specs.Linking.{keep_unled, AreFreeOf, IsAlone, KeepsNames};
-ghost use Rattle.ts_db.specs.Store.{key_in, stock_of, contents_of, number_of, IsInOrder, IsDb, IsLive, IsLiveSource, IsThere, Holds};
+ghost use Rattle.ts_db.specs.Store.{key_in, stock_of, contents_of, number_of, IsInOrder, IsDb, HasNode, IsLiveSource, IsThere, Holds};
 
 use crate::store::Store;
 use ts_resp::Word;
@@ -46,7 +46,7 @@ impl Store {
     // Ends the rule to a series, from this source, if there is one.
     fn end_source(&mut self, source: Option<Id>, id: Id)
         requires store { IsInOrder self.old }
-        requires live { IsLive self.old.nodes id }
+        requires live { HasNode self.old.nodes id }
         requires source { IsLiveSource self.old.nodes source }
         ensures store { IsInOrder self.new }
         ensures ended { contents_of self.new ≡ record (contents_of self.old) { keys = keep_unled (option_map (key_in self.old.nodes) source) (key_in self.old.nodes id) (stock_of self.old).keys } }

@@ -5,9 +5,9 @@ ghost use Rattle.ts_spec.specs.Questions.{time_or_0};
 ghost use Rattle.ts_spec.specs.Response.{Told};
 ghost use Rattle.ts_sample.specs.Steps.{Takes};
 ghost use Rattle.ts_series.specs.History.{reach};
-ghost use Rattle.ts_rules.specs.Rules.{kept_as};
+ghost use Rattle.ts_rules.specs.Rules.{kept_rule_to};
 ghost use Rattle.ts_db.specs.Information.{rule_info_of, info_of};
-ghost use Rattle.ts_db.specs.Store.{rules_by, key_in, kept_at, IsLive, AreLive, IsLiveSource, HasLiveLinks, IsInOrder};
+ghost use Rattle.ts_db.specs.Store.{rules_by, key_in, kept_node, HasNode, AreLive, IsLiveSource, HasLiveLinks, IsInOrder};
 
 use crate::node::Node;
 use crate::store::Store;
@@ -54,7 +54,7 @@ impl Store {
     ) -> Result<Info, AllocError>
         requires store { IsInOrder self.now }
         requires links { HasLiveLinks self.now.nodes node.now }
-        ensures info { IfOk result (λ info. Told (info_of info) ≡ kept_info_response (Some (kept_at self.now.nodes node.now))) }
+        ensures info { IfOk result (λ info. Told (info_of info) ≡ kept_info_response (Some (kept_node self.now.nodes node.now))) }
         ensures steps { Takes steps.old steps.new (2 * reach node.now.series) }
     {
         let first = node.series.first(steps);
@@ -98,8 +98,8 @@ impl Store {
     // What is told of a rule.
     fn rule_info(&self, rule: &Rule) -> Result<RuleInfo, AllocError>
         requires store { IsInOrder self.now }
-        requires live { IsLive self.now.nodes rule.now.dest }
-        ensures { IfOk result (λ info. rule_info_of info ≡ kept_rule_info (kept_as (key_in self.now.nodes rule.now.dest) rule.now)) }
+        requires live { HasNode self.now.nodes rule.now.dest }
+        ensures { IfOk result (λ info. rule_info_of info ≡ kept_rule_info (kept_rule_to (key_in self.now.nodes rule.now.dest) rule.now)) }
     {
         Ok(RuleInfo {
             dest: self.copied_key(rule.dest)?,
@@ -111,7 +111,7 @@ impl Store {
     // A copy of the key of a number.
     fn copied_key(&self, id: Id) -> Result<Word, AllocError>
         requires store { IsInOrder self.now }
-        requires live { IsLive self.now.nodes id }
+        requires live { HasNode self.now.nodes id }
         ensures { IfOk result (λ key. key ≡ key_in self.now.nodes id) }
     {
         self.nodes.node(id).key.copy()

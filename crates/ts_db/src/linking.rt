@@ -5,7 +5,7 @@ ghost use Rattle.ts_spec.specs.Keeping.{kept_with_rule};
 ghost use Rattle.ts_db.specs.declared.node.Node.{Node as TheNode};
 ghost use Rattle.ts_db.specs.Answering.{IsElsewhere};
 ghost use Rattle.ts_db.specs.Linking.{kept_unruled, kept_ruleless, kept_sourced, keep_freed, IsKeptBy, IsUnspent};
-ghost use Rattle.ts_db.specs.Store.{rules_by, key_in, stock_of, contents_of, IsInOrder, IsLive, AreLive, IsLiveSource};
+ghost use Rattle.ts_db.specs.Store.{rules_by, key_in, stock_of, contents_of, IsInOrder, HasNode, AreLive, IsLiveSource};
 
 use crate::store::Store;
 use std::alloc::AllocError;
@@ -24,8 +24,8 @@ impl Store {
         grid: Grid,
     ) -> Result<(), AllocError>
         requires store { IsInOrder self.old }
-        requires live { IsLive self.old.nodes id }
-        requires dest { IsLive self.old.nodes dest }
+        requires live { HasNode self.old.nodes id }
+        requires dest { HasNode self.old.nodes dest }
         requires born { (n : TheNode) → slab.get self.old.nodes id.0 ≡ Some n → IsUnspent self.old.limits n }
         ensures store { IsInOrder self.new }
         ensures added { IfOk result (λ _. IsKeptBy self.old id (kept_with_rule (key_in self.old.nodes dest) agg grid) self.new) }
@@ -39,8 +39,8 @@ impl Store {
     // Ends the rule from one series to another.
     pub(crate) fn remove_rule(&mut self, id: Id, dest: Id)
         requires store { IsInOrder self.old }
-        requires live { IsLive self.old.nodes id }
-        requires dest { IsLive self.old.nodes dest }
+        requires live { HasNode self.old.nodes id }
+        requires dest { HasNode self.old.nodes dest }
         ensures store { IsInOrder self.new }
         ensures removed { IsKeptBy self.old id (kept_unruled (key_in self.old.nodes dest)) self.new }
         ensures elsewhere { IsElsewhere self.old self.new id }
@@ -51,7 +51,7 @@ impl Store {
     // Takes its rules from a series.
     pub(crate) fn take_rules(&mut self, id: Id) -> Vec<Rule>
         requires store { IsInOrder self.old }
-        requires live { IsLive self.old.nodes id }
+        requires live { HasNode self.old.nodes id }
         ensures rules { (n : TheNode) → slab.get self.old.nodes id.0 ≡ Some n → result.items ≡ n.rules.items }
         ensures store { IsInOrder self.new }
         ensures taken { IsKeptBy self.old id kept_ruleless self.new }
@@ -63,7 +63,7 @@ impl Store {
     // Gives a series this source, or none.
     pub(crate) fn set_source(&mut self, id: Id, source: Option<Id>)
         requires store { IsInOrder self.old }
-        requires live { IsLive self.old.nodes id }
+        requires live { HasNode self.old.nodes id }
         requires source { IsLiveSource self.old.nodes source }
         ensures store { IsInOrder self.new }
         ensures set { IsKeptBy self.old id (kept_sourced (option_map (key_in self.old.nodes) source)) self.new }

@@ -7,7 +7,7 @@ ghost use Rattle.ts_db.specs.Answering.{KeptDone};
 ghost use Rattle.ts_db.specs.Faults.{IsRefusal};
 ghost use Rattle.ts_db.specs.declared.node.Node.{Node as TheNode};
 ghost use Rattle.ts_db.specs.Linking.{any_to, IsReason};
-ghost use Rattle.ts_db.specs.Store.{stock_of, IsInOrder, IsDb, IsLive};
+ghost use Rattle.ts_db.specs.Store.{stock_of, IsInOrder, IsDb, HasNode};
 
 use crate::fault::DbFault;
 use crate::linked::barred;
@@ -52,8 +52,8 @@ impl Store {
 
     // Why there can be no rule from one series to another, if there is a reason.
     fn barred(&self, id: Id, dest: Id) -> Option<DbFault>
-        requires live { IsLive self.now.nodes id }
-        requires dest { IsLive self.now.nodes dest }
+        requires live { HasNode self.now.nodes id }
+        requires dest { HasNode self.now.nodes dest }
         ensures barred { (n d : TheNode) → slab.get self.now.nodes id.0 ≡ Some n → slab.get self.now.nodes dest.0 ≡ Some d → IsReason self.now.limits n d result }
     {
         barred(&self.limits, self.nodes.node(id), self.nodes.node(dest))
@@ -82,7 +82,7 @@ impl Store {
 
     // Whether a rule leads from one series to another.
     fn has_rule(&self, id: Id, dest: Id) -> bool
-        requires { IsLive self.now.nodes id }
+        requires { HasNode self.now.nodes id }
         ensures { (n : TheNode) → slab.get self.now.nodes id.0 ≡ Some n → result ≡ any_to dest.0 n.rules.items }
     {
         self.nodes.node(id).has_rule(dest)

@@ -4,7 +4,7 @@ ghost use Rattle.ts_sample.specs.Steps.{Takes};
 ghost use Rattle.slab.specs.Slab as slab;
 ghost use Rattle.ts_db.specs.declared.fault.DbFault.TheVariants.{SamplesFull};
 ghost use Rattle.ts_db.specs.Planning.{gone_by, rows_by_work, TakesWork, AllTake, fed_list, first_full, IsUnplanned, share_at, shares_of, IsEasyAt, AreEasyOf};
-ghost use Rattle.ts_db.specs.Store.{IsInOrder, IsLive, AreLive};
+ghost use Rattle.ts_db.specs.Store.{IsInOrder, HasNode, AreLive};
 
 use crate::fault::DbFault;
 use crate::store::Store;
@@ -49,7 +49,7 @@ impl Store {
         steps: &mut Steps<L>,
     ) -> bool
         requires store { IsInOrder self.now }
-        requires live { IsLive self.now.nodes rule.now.dest }
+        requires live { HasNode self.now.nodes rule.now.dest }
         requires room { TakesWork work.now source.now rule.now }
         ensures full { result ≡ nat_lt self.now.limits.samples (length (fed_list self.now.nodes (rows_by_work work.now source.now) (gone_by work.now source.now) rule.now)) }
         ensures steps { Takes steps.old steps.new (share_at work.now source.now rule.now (slab.get self.now.nodes rule.now.dest.0)) }

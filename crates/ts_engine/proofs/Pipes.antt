@@ -15,7 +15,7 @@ use Rattle.ts_execution.specs.Turns.{Turns, NoFault, AFault}
 use Rattle.ts_engine.specs.declared.go.Go.{Go}
 use Rattle.ts_engine.specs.declared.go.Go.TheVariants as go
 use Rattle.ts_engine.specs.Ending.{end_at, end_by}
-use Rattle.ts_engine.specs.Session.{Spot, Went, Quitted, IsUpToDate, Answers}
+use Rattle.ts_engine.specs.Session.{Spot, Went, Quitted, IsUpToDate, WentAs}
 use Rattle.ts_engine.specs.Piping.{beginning_of, ReadAll, Ends, EndsOr, PIECE, shown_at, is_of_input, has_ended, Pumped, PipedBy, HasCauses, HasCausesBy}
 use Rattle.ts_engine.proofs.Places.{reply_past, break_past}
 use Rattle.ts_engine.proofs.Sessions.{fed_only, not_fed, went_on, quitted_on, answers_on}
@@ -190,7 +190,7 @@ module _ {turns : Turns} where
   }
 
   -- how the input goes on, or ends, with an answer of the session
-  abbrev ends_by : (answer : Go) (rest : Option (List ℕ)) (old new : Spot turns) (had has : List ℕ → Type 0) (bytes : List ℕ) → Answers answer old new had has bytes → EndsOr (end_by answer) rest old new had has bytes
+  abbrev ends_by : (answer : Go) (rest : Option (List ℕ)) (old new : Spot turns) (had has : List ℕ → Type 0) (bytes : List ℕ) → WentAs answer old new had has bytes → EndsOr (end_by answer) rest old new had has bytes
   ends_by go.More rest old new had has bytes goes = goes
   ends_by go.Quit rest old new had has bytes goes = inr goes
   ends_by (go.Broken fault) rest old new had has bytes goes = goes
@@ -198,7 +198,7 @@ module _ {turns : Turns} where
   ends_by go.Memory rest old new had has bytes goes = goes
 
   -- none of them is the end of the input
-  no_end : (answer : Go) (rest : Option (List ℕ)) (old new : Spot turns) (had has : List ℕ → Type 0) (bytes : List ℕ) (goes : Answers answer old new had has bytes)
+  no_end : (answer : Go) (rest : Option (List ℕ)) (old new : Spot turns) (had has : List ℕ → Type 0) (bytes : List ℕ) (goes : WentAs answer old new had has bytes)
       → has_ended (end_by answer) rest old new had has bytes (ends_by answer rest old new had has bytes goes) ≡ true → ⊥
   no_end go.More rest old new had has bytes goes same = (cc)
   no_end go.Quit rest old new had has bytes goes same = (cc)
@@ -208,7 +208,7 @@ module _ {turns : Turns} where
 
   -- a read took some bytes, and what they hold was answered
   pub pumped_piece : (answer : Go) (e : Option End) (taken : ℕ) (old new : Spot turns) (left rest : Option (List ℕ)) (had has : List ℕ → Type 0) (bytes : List ℕ) → e ≡ end_by answer
-      → length bytes ≡ taken → Consumes left rest bytes → Answers answer old new had has bytes → Pumped (record { taken = taken; end = e }) left rest old new had has
+      → length bytes ≡ taken → Consumes left rest bytes → WentAs answer old new had has bytes → Pumped (record { taken = taken; end = e }) left rest old new had has
   pumped_piece answer e taken old new left rest had has bytes is count took goes =
       subst (λ (x : Option End). Pumped (record { taken = taken; end = x }) left rest old new had has) (sym is) (record {
         bytes = bytes;

@@ -17,7 +17,7 @@ use Rattle.ts_engine.specs.declared.replay.Replay.{Replay as Kept}
 use Rattle.ts_engine.specs.declared.replayed.CaptureEnd.{CaptureEnd}
 use Rattle.ts_engine.specs.declared.replayed.CaptureEnd.TheVariants as end
 use Rattle.ts_engine.specs.declared.replayed.Read.{Read}
-use Rattle.ts_engine.specs.Replaying.{Spot, beginning, Went, Answers, IsAt, IsUpToDate, Ends, EndsOr, has_ended, Pumped, Replayed, HasCauses, end_at, end_by}
+use Rattle.ts_engine.specs.Replaying.{Spot, beginning, Went, WentAs, IsAt, IsUpToDate, Ends, EndsOr, has_ended, Pumped, Replayed, HasCauses, end_at, end_by}
 use Rattle.ts_engine.specs.Replays.{coming, standing, HasAnswered, Begins}
 use Rattle.ts_engine.proofs.ReplaysOn.{went_none, not_answered, went_on, answers_on}
 use Rattle.ts_engine.proofs.ReplaySteps.{no_frames, its_own_ending}
@@ -151,7 +151,7 @@ replayed_none limits budget from left has = record {
 }
 
 -- how the input goes on, or ends, with an answer of the replay
-abbrev ends_by : (answer : Course) (rest : Option (List ℕ)) (old new : Spot) (had has : List ℕ → Type 0) (bytes : List ℕ) → Answers answer old new had has bytes → EndsOr (end_by answer) rest old new had has bytes
+abbrev ends_by : (answer : Course) (rest : Option (List ℕ)) (old new : Spot) (had has : List ℕ → Type 0) (bytes : List ℕ) → WentAs answer old new had has bytes → EndsOr (end_by answer) rest old new had has bytes
 ends_by course.More rest old new had has bytes goes = goes
 ends_by (course.Broken place) rest old new had has bytes goes = goes
 ends_by course.WriteFault rest old new had has bytes goes = goes
@@ -166,7 +166,7 @@ no_end course.Memory same = (cc)
 
 -- a read took some bytes, and what they hold was answered
 pub pumped_piece : (answer : Course) (e : Option CaptureEnd) (taken : ℕ) (old new : Spot) (left rest : Option (List ℕ)) (had has : List ℕ → Type 0) (bytes : List ℕ) → e ≡ end_by answer
-    → length bytes ≡ taken → Consumes left rest bytes → Answers answer old new had has bytes → Pumped (record { taken = taken; end = e }) left rest old new had has
+    → length bytes ≡ taken → Consumes left rest bytes → WentAs answer old new had has bytes → Pumped (record { taken = taken; end = e }) left rest old new had has
 pumped_piece answer e taken old new left rest had has bytes is count took goes =
     subst (λ (x : Option CaptureEnd). Pumped (record { taken = taken; end = x }) left rest old new had has) (sym is) (record {
       bytes = bytes;

@@ -9,7 +9,7 @@ use Rattle.ts_mux.specs.Order.{Item}
 use Rattle.ts_engine.specs.declared.course.Course.{Course}
 use Rattle.ts_engine.specs.declared.course.Course.TheVariants as course
 use Rattle.ts_engine.specs.Replies.{IsReply, reply_frame}
-use Rattle.ts_engine.specs.Replaying.{Spot, Went, WentSome, LastFrame, Answers, GoesOn, Replied, end_of}
+use Rattle.ts_engine.specs.Replaying.{Spot, Went, WentSome, LastFrame, WentAs, GoesOn, Replied, end_of}
 use Rattle.ts_engine.proofs.FramesWritten.{all_framed-append}
 use Rattle.ts_engine.proofs.ReplyRuns.{Replies-append, Replies-one}
 
@@ -99,15 +99,15 @@ module _ (first mid : Spot) (had has' : List ℕ → Type 0) (x : List ℕ) (bef
   }
 
   -- an answer after a stretch is an answer over both
-  pub answers_on : (answer : Course) (last : Spot) (has : List ℕ → Type 0) (y : List ℕ) → Answers answer mid last has' has y → Answers answer first last had has (x ++ y)
+  pub answers_on : (answer : Course) (last : Spot) (has : List ℕ → Type 0) (y : List ℕ) → WentAs answer mid last has' has y → WentAs answer first last had has (x ++ y)
   answers_on course.More last has y after = went_on last has y after
   answers_on (course.Broken place) last has y after = (went_on last has y after.0, after.1)
   answers_on course.WriteFault last has y after = last_on last has y after
   answers_on course.Memory last has y after = some_on last has y after
 
   -- an answer after a stretch and no more bytes is an answer over the stretch
-  pub answers_then : (answer : Course) (last : Spot) (has : List ℕ → Type 0) → Answers answer mid last has' has [] → Answers answer first last had has x
-  answers_then answer last has after = subst (λ (l : List ℕ). Answers answer first last had has l) (append-nil x) (answers_on answer last has [] after)
+  pub answers_then : (answer : Course) (last : Spot) (has : List ℕ → Type 0) → WentAs answer mid last has' has [] → WentAs answer first last had has x
+  answers_then answer last has after = subst (λ (l : List ℕ). WentAs answer first last had has l) (append-nil x) (answers_on answer last has [] after)
 
   pub went_then : (last : Spot) (has : List ℕ → Type 0) → Went mid last has' has [] → Went first last had has x
   went_then last has after = subst (λ (l : List ℕ). Went first last had has l) (append-nil x) (went_on last has [] after)
@@ -133,7 +133,7 @@ answered_item (Some (course.Broken place)) item old new had has items ending rep
 answered_item (Some course.Memory) item old new had has items ending replied = absurd replied.wrote
 
 -- what answered all items of a frame goes on, where it is no end
-pub goes_on : (answer : Course) (old new : Spot) (had has : List ℕ → Type 0) → Answers answer old new had has [] → GoesOn (end_of answer) old new had has
+pub goes_on : (answer : Course) (old new : Spot) (had has : List ℕ → Type 0) → WentAs answer old new had has [] → GoesOn (end_of answer) old new had has
 goes_on course.More old new had has answers = answers
 goes_on (course.Broken place) old new had has answers = answers
 goes_on course.WriteFault old new had has answers = answers

@@ -13,7 +13,7 @@ use Rattle.ts_spec.proofs.Runs.{Runs-append, Runs-one, then_all-append, requests
 use Rattle.ts_execution.specs.Turns.{Turns, OfLast, is_turn}
 use Rattle.ts_engine.specs.declared.go.Go.{Go}
 use Rattle.ts_engine.specs.declared.go.Go.TheVariants as go
-use Rattle.ts_engine.specs.Session.{Spot, Went, WentSome, LastReply, Quitted, CutFault, IsBroken, Answers, GoesOn, Replied, Refused}
+use Rattle.ts_engine.specs.Session.{Spot, Went, WentSome, LastReply, Quitted, CutFault, IsBroken, WentAs, GoesOn, Replied, Refused}
 use Rattle.ts_engine.proofs.Quits.{goes_on-append, goes_on-one}
 
 -- a sink that grew by some bytes grew by these, which are the same
@@ -121,7 +121,7 @@ module _ {turns : Turns} where
     cut_fault_on last has y cut = record { fault = cut.fault; kept = cut.kept; went = went_on last has y _ cut.went; broken = cut.broken }
 
     -- an answer after a stretch is an answer over both
-    abbrev pub answers_on : (answer : Go) (last : Spot turns) (has : List ℕ → Type 0) (y : List ℕ) → Answers answer mid last has' has y → Answers answer first last had has (x ++ y)
+    abbrev pub answers_on : (answer : Go) (last : Spot turns) (has : List ℕ → Type 0) (y : List ℕ) → WentAs answer mid last has' has y → WentAs answer first last had has (x ++ y)
     answers_on go.More last has y after = (went_on last has y [] after.0, after.1)
     answers_on go.Quit last has y after = quitted_on last has y after
     answers_on (go.Broken fault) last has y after = (went_on last has y _ after.0, after.1)
@@ -129,8 +129,8 @@ module _ {turns : Turns} where
     answers_on go.Memory last has y after = went_some_on last has y after
 
     -- an answer after a stretch and no more bytes is an answer over the stretch
-    pub answers_then : (answer : Go) (last : Spot turns) (has : List ℕ → Type 0) → Answers answer mid last has' has [] → Answers answer first last had has x
-    answers_then answer last has after = subst (λ (l : List ℕ). Answers answer first last had has l) (append-nil x) (answers_on answer last has [] after)
+    pub answers_then : (answer : Go) (last : Spot turns) (has : List ℕ → Type 0) → WentAs answer mid last has' has [] → WentAs answer first last had has x
+    answers_then answer last has after = subst (λ (l : List ℕ). WentAs answer first last had has l) (append-nil x) (answers_on answer last has [] after)
 
     pub went_then : (last : Spot turns) (has : List ℕ → Type 0) → Went mid last has' has [] [] → Went first last had has x []
     went_then last has after = subst (λ (l : List ℕ). Went first last had has l []) (append-nil x) (went_on last has [] [] after)
@@ -150,7 +150,7 @@ module _ {turns : Turns} where
   -- a piece was fed, and then what was whole was answered
   pub piece_answers : (answer : Go) (old fed new : Spot turns) (had has : List ℕ → Type 0) (bytes : List ℕ)
       → ((more : List ℕ) → stream_of fed.reader more ≡ stream_of old.reader (bytes ++ more)) → fed.executed ≡ old.executed → fed.world ≡ old.world
-      → Answers answer fed new had has [] → Answers answer old new had has bytes
+      → WentAs answer fed new had has [] → WentAs answer old new had has bytes
   piece_answers answer old fed new had has bytes stream executed world after =
       answers_then old fed had had bytes (fed_only old fed had bytes stream executed world) answer new has after
 

@@ -29,9 +29,9 @@ kept_runs from to [] text run = ap (λ (k : Kept). k.failed) run.1
 kept_runs from to (request ∷ requests) text run = kept_runs run.mid to requests run.rest run.after ∙ run.here.failed
 
 -- where it has not failed, the record of a turn is in it
-pub kept_of : (from : Kept) (request : Request) (written : List ℕ) (kept : ℕ) (to : Kept) → to.failed ≡ false → IsCut from request written kept to → IsKept from request written to
-kept_of from request written kept to fine (inl is) = is
-kept_of from request written kept to fine (inr torn) = absurd (not_both to.failed fine torn.1.failed)
+pub whole-kept : (from : Kept) (request : Request) (written : List ℕ) (kept : ℕ) (to : Kept) → to.failed ≡ false → IsCut from request written kept to → IsKept from request written to
+whole-kept from request written kept to fine (inl is) = is
+whole-kept from request written kept to fine (inr torn) = absurd (not_both to.failed fine torn.1.failed)
 
 -- ---- how the turns went
 
@@ -88,7 +88,7 @@ module _ (old new : Spot keeping) (had has : List ℕ → Type 0) (bytes : List 
 
   abbrev cut_same : new.world.failed ≡ false → LastReply keeping.cut old new had has bytes ⊎ CutFault old new had has bytes
       → LastReply journaled.cut (same old) (same new) had has bytes ⊎ CutFault (same old) (same new) had has bytes
-  cut_same fine (inl cut) = inl (last_same keeping.cut journaled.cut cut (kept_of cut.mid cut.last.request cut.reply cut.kept new.world fine cut.turned))
+  cut_same fine (inl cut) = inl (last_same keeping.cut journaled.cut cut (whole-kept cut.mid cut.last.request cut.reply cut.kept new.world fine cut.turned))
   cut_same fine (inr cut) = inr (record { fault = cut.fault; kept = cut.kept; went = went_same _ cut.went; broken = cut.broken })
 
   abbrev ends_same : (e : End) (left : Option (List ℕ)) → new.world.failed ≡ false → Ends e left old new had has bytes → Ends e left (same old) (same new) had has bytes

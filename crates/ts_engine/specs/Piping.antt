@@ -13,7 +13,7 @@ use Rattle.ts_engine.specs.declared.piped.End.TheVariants as end
 use Rattle.ts_engine.specs.declared.piped.Outcome.{Outcome}
 use Rattle.ts_engine.specs.declared.piped.Step.{Step}
 use Rattle.ts_engine.specs.declared.go.Go.TheVariants as go
-use Rattle.ts_engine.specs.Session.{Spot, Went, LastReply, Quitted, CutFault, Answers}
+use Rattle.ts_engine.specs.Session.{Spot, Went, LastReply, Quitted, CutFault, WentAs}
 
 -- where a session begins: nothing was read or executed
 abbrev pub beginning_of : (turns : Turns) → WireLimits → turns.World → Spot turns
@@ -37,15 +37,15 @@ module _ {turns : Turns} where
   abbrev pub Ends : End → Option (List ℕ) → Spot turns → Spot turns → (List ℕ → Type 0) → (List ℕ → Type 0) → List ℕ → Type 0
   Ends end.Ended left old new had has bytes = ReadAll left old new had has bytes ⊎ Quitted old new had has bytes
   Ends (end.Truncated place) left old new had has bytes = Went old new had has bytes [] × (stream_of new.reader [] ≡ Inside place) × IsAtEnd left
-  Ends (end.Protocol fault) left old new had has bytes = Answers (go.Broken fault) old new had has bytes
-  Ends end.ReadFault left old new had has bytes = Answers go.More old new had has bytes
-  Ends end.WriteFault left old new had has bytes = Answers go.WriteFault old new had has bytes
-  Ends end.Memory left old new had has bytes = Answers go.Memory old new had has bytes
-  Ends end.Budget left old new had has bytes = Answers go.More old new had has bytes
+  Ends (end.Protocol fault) left old new had has bytes = WentAs (go.Broken fault) old new had has bytes
+  Ends end.ReadFault left old new had has bytes = WentAs go.More old new had has bytes
+  Ends end.WriteFault left old new had has bytes = WentAs go.WriteFault old new had has bytes
+  Ends end.Memory left old new had has bytes = WentAs go.Memory old new had has bytes
+  Ends end.Budget left old new had has bytes = WentAs go.More old new had has bytes
 
   -- the input goes on, or it has ended so
   abbrev pub EndsOr : Option End → Option (List ℕ) → Spot turns → Spot turns → (List ℕ → Type 0) → (List ℕ → Type 0) → List ℕ → Type 0
-  EndsOr None left old new had has bytes = Answers go.More old new had has bytes
+  EndsOr None left old new had has bytes = WentAs go.More old new had has bytes
   EndsOr (Some e) left old new had has bytes = Ends e left old new had has bytes
 
   -- whether the end of the input was read, and no QUIT

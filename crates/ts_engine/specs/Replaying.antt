@@ -64,16 +64,16 @@ pub record IsBroken (place : ℕ) (spot : Spot) : Type 0 where
   pub items : (more : List ℕ) → spot.items more ≡ []
 
 -- how a replay went over a piece, by its answer
-abbrev pub Answers : Course → Spot → Spot → (List ℕ → Type 0) → (List ℕ → Type 0) → List ℕ → Type 0
-Answers course.More old new had has bytes = Went old new had has bytes
-Answers (course.Broken place) old new had has bytes = Went old new had has bytes × IsBroken place new
-Answers course.WriteFault old new had has bytes = LastFrame old new had has bytes
-Answers course.Memory old new had has bytes = WentSome old new had has bytes
+abbrev pub WentAs : Course → Spot → Spot → (List ℕ → Type 0) → (List ℕ → Type 0) → List ℕ → Type 0
+WentAs course.More old new had has bytes = Went old new had has bytes
+WentAs (course.Broken place) old new had has bytes = Went old new had has bytes × IsBroken place new
+WentAs course.WriteFault old new had has bytes = LastFrame old new had has bytes
+WentAs course.Memory old new had has bytes = WentSome old new had has bytes
 
 -- there may be more of the piece, or the replay answered
 abbrev pub GoesOn : Option Course → Spot → Spot → (List ℕ → Type 0) → (List ℕ → Type 0) → Type 0
 GoesOn None old new had has = Went old new had has []
-GoesOn (Some answer) old new had has = Answers answer old new had has []
+GoesOn (Some answer) old new had has = WentAs answer old new had has []
 
 -- any answer but that more may come
 abbrev pub end_of : Course → Option Course
@@ -114,10 +114,10 @@ IsUpToDate spot = (place : Option ℕ) × IsAt (ended_at place) spot
 abbrev pub Ends : CaptureEnd → Option (List ℕ) → Spot → Spot → (List ℕ → Type 0) → (List ℕ → Type 0) → List ℕ → Type 0
 Ends end.Ended left old new had has bytes = Went old new had has bytes × IsAt capture.Ended new × IsAtEnd left
 Ends (end.Truncated place) left old new had has bytes = Went old new had has bytes × IsAt (capture.Inside place) new × IsAtEnd left
-Ends (end.Broken place) left old new had has bytes = Answers (course.Broken place) old new had has bytes
+Ends (end.Broken place) left old new had has bytes = WentAs (course.Broken place) old new had has bytes
 Ends end.ReadFault left old new had has bytes = Went old new had has bytes × IsUpToDate new
-Ends end.WriteFault left old new had has bytes = Answers course.WriteFault old new had has bytes
-Ends end.Memory left old new had has bytes = Answers course.Memory old new had has bytes
+Ends end.WriteFault left old new had has bytes = WentAs course.WriteFault old new had has bytes
+Ends end.Memory left old new had has bytes = WentAs course.Memory old new had has bytes
 Ends end.Budget left old new had has bytes = Went old new had has bytes × IsUpToDate new
 
 -- the input goes on, or it has ended so

@@ -88,17 +88,17 @@ module _ {turns : Turns} where
     pub rest : stream_of spot.reader [] ≡ ended_at (unfinished spot.reader)
 
   -- how a session went over a piece, by its answer
-  abbrev pub Answers : Go → Spot turns → Spot turns → (List ℕ → Type 0) → (List ℕ → Type 0) → List ℕ → Type 0
-  Answers go.More old new had has bytes = Went old new had has bytes [] × IsUpToDate new
-  Answers go.Quit old new had has bytes = Quitted old new had has bytes
-  Answers (go.Broken fault) old new had has bytes = Went old new had has bytes (fault_text fault.kind) × IsBroken fault new
-  Answers go.WriteFault old new had has bytes = LastReply turns.cut old new had has bytes ⊎ CutFault old new had has bytes
-  Answers go.Memory old new had has bytes = WentSome old new had has bytes
+  abbrev pub WentAs : Go → Spot turns → Spot turns → (List ℕ → Type 0) → (List ℕ → Type 0) → List ℕ → Type 0
+  WentAs go.More old new had has bytes = Went old new had has bytes [] × IsUpToDate new
+  WentAs go.Quit old new had has bytes = Quitted old new had has bytes
+  WentAs (go.Broken fault) old new had has bytes = Went old new had has bytes (fault_text fault.kind) × IsBroken fault new
+  WentAs go.WriteFault old new had has bytes = LastReply turns.cut old new had has bytes ⊎ CutFault old new had has bytes
+  WentAs go.Memory old new had has bytes = WentSome old new had has bytes
 
   -- one request had its turn and there may be more, or the session answered
   abbrev pub GoesOn : Option Go → Spot turns → Spot turns → (List ℕ → Type 0) → (List ℕ → Type 0) → Type 0
   GoesOn None old new had has = Went old new had has [] [] × (old.reader.begin < new.reader.begin)
-  GoesOn (Some answer) old new had has = Answers answer old new had has []
+  GoesOn (Some answer) old new had has = WentAs answer old new had has []
 
   -- a request had its turn, and its reply was written unless something failed
   pub record Replied (answer : Option Go) (request : Request) (old new : Spot turns) (had has : List ℕ → Type 0) : Type 0 where

@@ -29,7 +29,7 @@ pub(crate) struct Replay {
 impl Replay {
     ghost use Rattle.ts_mux.specs.Framing.{fed, unfinished};
     ghost use Rattle.ts_db.specs.Held.{Carries};
-    ghost use Rattle.ts_engine.specs.Replaying.{Answers, GoesOn, WroteOrFault};
+    ghost use Rattle.ts_engine.specs.Replaying.{WentAs, GoesOn, WroteOrFault};
     ghost use Rattle.ts_engine.specs.Replays.{frames_in, standing, HasAnswered, Begins};
 
     // A replay to which no byte came.
@@ -56,7 +56,7 @@ impl Replay {
     ) -> Course
         requires answered { HasAnswered self.old }
         requires within { fed (frames_in self.old) + length bytes.now < 2 ^ 64 }
-        ensures goes { Carries db.old db.new (λ from to. Answers result
+        ensures goes { Carries db.old db.new (λ from to. WentAs result
             (standing self.old from (C.readings clock.old)) (standing self.new to (C.readings clock.new))
             (K.has out.old) (K.has out.new) bytes.now) }
         ensures answered { result ≡ Course.More → HasAnswered self.new }
@@ -88,7 +88,7 @@ impl Replay {
         requires name { blank.name ≡ L.name }
         requires parts { blank.parts ≡ L.parts }
         requires some { 0 < blank.parts }
-        ensures goes { Carries db.old db.new (λ from to. Answers result
+        ensures goes { Carries db.old db.new (λ from to. WentAs result
             (standing self.old from (C.readings clock.old)) (standing self.new to (C.readings clock.new))
             (K.has out.old) (K.has out.new) []) }
         ensures answered { result ≡ Course.More → HasAnswered self.new }

@@ -28,7 +28,7 @@ pub struct Session {
 impl Session {
     ghost use Rattle.ts_resp.specs.Reading.{fed, unfinished};
     ghost use Rattle.ts_db.specs.Held.{Carries};
-    ghost use Rattle.ts_engine.specs.Session.{GoesOn, Answers, HasCauseBy, WroteOrFault};
+    ghost use Rattle.ts_engine.specs.Session.{GoesOn, WentAs, HasCauseBy, WroteOrFault};
     ghost use Rattle.ts_engine.specs.Standing.{spot, spot_in, reader_of, executed_by, ended_of, Begins, HasAnswered};
 
     /// A session to which no byte came.
@@ -56,7 +56,7 @@ impl Session {
         out: &mut K,
     ) -> Go
         requires { fed (reader_of self.old) + length bytes.now < 2 ^ 64 }
-        ensures goes { IfNone (ended_of self.old) (Carries db.old db.new (λ from to. Answers result
+        ensures goes { IfNone (ended_of self.old) (Carries db.old db.new (λ from to. WentAs result
             (spot self.old from (C.readings clock.old)) (spot self.new to (C.readings clock.new))
             (K.has out.old) (K.has out.new) bytes.now)) }
         ensures current { IfNone (ended_of self.old) (result ≡ Go.More → HasAnswered self.new) }
@@ -79,7 +79,7 @@ impl Session {
         out: &mut K,
     ) -> Go
         requires { fed (reader_of self.old) + length bytes.now < 2 ^ 64 }
-        ensures goes { IfNone (ended_of self.old) (Carries db.old db.new (λ from to. Answers result
+        ensures goes { IfNone (ended_of self.old) (Carries db.old db.new (λ from to. WentAs result
             (spot_in T.kind self.old (T.world turns.old from (C.readings clock.old)))
             (spot_in T.kind self.new (T.world turns.new to (C.readings clock.new))) (K.has out.old) (K.has out.new) bytes.now)) }
         ensures current { IfNone (ended_of self.old) (result ≡ Go.More → HasAnswered self.new) }
@@ -127,7 +127,7 @@ impl Session {
         requires name { blank.name ≡ L.name }
         requires parts { blank.parts ≡ L.parts }
         requires some { 0 < blank.parts }
-        ensures goes { Carries db.old db.new (λ from to. Answers result
+        ensures goes { Carries db.old db.new (λ from to. WentAs result
             (spot_in T.kind self.old (T.world turns.old from (C.readings clock.old)))
             (spot_in T.kind self.new (T.world turns.new to (C.readings clock.new)))
             (K.has out.old) (K.has out.new) bytes.now) }
@@ -152,7 +152,7 @@ impl Session {
         out: &mut K,
         steps: &mut Steps<L>,
     ) -> Go
-        ensures goes { Carries db.old db.new (λ from to. Answers result
+        ensures goes { Carries db.old db.new (λ from to. WentAs result
             (spot_in T.kind self.old (T.world turns.old from (C.readings clock.old)))
             (spot_in T.kind self.new (T.world turns.new to (C.readings clock.new)))
             (K.has out.old) (K.has out.new) []) }

@@ -13,12 +13,12 @@ abbrev pub labelled_of : Member → Labelled
 labelled_of m = record { key = m.key; labels = m.labels; rows = map row_of m.rows.items }
 
 -- what is kept of these rows
-abbrev pub kept_of : List Row → Kept
-kept_of rows = record { summaries = summaries rows; lost = false }
+abbrev pub kept_rows : List Row → Kept
+kept_rows rows = record { summaries = summaries rows; lost = false }
 
 -- what a group of these series keeps
 abbrev pub grouped : List Labelled → Group
-grouped ms = record { sources = joining (map (λ m. m.key) ms); reduction = kept_of (flat_map (λ m. m.rows) ms) }
+grouped ms = record { sources = joining (map (λ m. m.key) ms); reduction = kept_rows (flat_map (λ m. m.rows) ms) }
 
 -- the groups of series by the values of a label
 abbrev pub by_values : (label : List ℕ) → List Labelled → List (List ℕ × Group)

@@ -5,7 +5,7 @@ ghost use Rattle.ts_spec.specs.Groups.{Labelled, group};
 ghost use Rattle.ts_labels.specs.Show.{show_of};
 ghost use Rattle.ts_range.specs.Query.{row_of};
 ghost use Rattle.ts_command.specs.GroupBy.{group_of};
-ghost use Rattle.ts_group.specs.Grouped.{grouped, kept_of, labelled_of};
+ghost use Rattle.ts_group.specs.Grouped.{grouped, kept_rows, labelled_of};
 ghost use Rattle.ts_group.specs.Labels.{member_with};
 
 use crate::labels::GroupLabels;
@@ -77,8 +77,8 @@ impl Group {
 
 // Takes all these rows.
 fn take_rows(reduction: &mut Reduction, rows: &[Row]) -> Result<(), AllocError>
-    ensures { OnOk result ((before : List TheRow) → reduction.old ≡ kept_of before
-        → reduction.new ≡ kept_of (before ++ map row_of rows.now)) }
+    ensures { OnOk result ((before : List TheRow) → reduction.old ≡ kept_rows before
+        → reduction.new ≡ kept_rows (before ++ map row_of rows.now)) }
 {
     for row in rows {
         reduction.row(*row);

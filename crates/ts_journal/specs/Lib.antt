@@ -1,6 +1,6 @@
 pub mod Draft
 pub mod Fixed
-pub mod Held
+pub mod Content
 pub mod Limits
 pub mod Lines
 pub mod Loading

@@ -11,7 +11,7 @@ use ts_resp::Out;
 
 // What is known of a record before the reply is.
 #[derive(Drop)]
-pub(crate) enum Held {
+pub(crate) enum Content {
     // The whole record of a command that is accepted or refused as one.
     Fixed(Out),
     // The words of each triple of TS.MADD.
@@ -22,12 +22,12 @@ pub(crate) enum Held {
 /// it the reply decides.
 #[derive(Drop)]
 pub struct Record {
-    held: Held,
+    held: Content,
 }
 
 impl Record {
     ghost use Rattle.ts_command.specs.Reading.{command_of};
-    ghost use Rattle.ts_journal.specs.Held.{told};
+    ghost use Rattle.ts_journal.specs.Content.{told};
     ghost use Rattle.ts_journal.specs.Record.{is_change, IsRecordOf};
 
     /// The record of a command with this reading of the clock, and None where the command is no change. All memory that
@@ -43,7 +43,7 @@ impl Record {
         if let Command::Madd { triples } = command {
             let triples = Triples::take(alloc, triples, reading)?;
             return Ok(Some(Record {
-                held: Held::Triples(triples),
+                held: Content::Triples(triples),
             }));
         }
         if !is_fixed(command) {
@@ -52,7 +52,7 @@ impl Record {
         let mut draft = Draft::new(alloc)?;
         put_fixed(&mut draft, command, reading)?;
         Ok(Some(Record {
-            held: Held::Fixed(draft.close()),
+            held: Content::Fixed(draft.close()),
         }))
     }
 
@@ -64,8 +64,8 @@ impl Record {
             return &[];
         }
         match &mut self.held {
-            Held::Fixed(out) => out.bytes(),
-            Held::Triples(triples) => triples.taken(reply),
+            Content::Fixed(out) => out.bytes(),
+            Content::Triples(triples) => triples.taken(reply),
         }
     }
 }

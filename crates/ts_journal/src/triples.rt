@@ -33,7 +33,7 @@ pub(crate) struct Triples {
 }
 
 impl Triples {
-    ghost use Rattle.ts_journal.specs.Held.{pieces_of};
+    ghost use Rattle.ts_journal.specs.Content.{pieces_of};
 
     pub(crate) fn take(
         alloc: Global,

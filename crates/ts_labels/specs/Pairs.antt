@@ -2,10 +2,10 @@
 use Rattle.std.specs.Prelude.{List}
 use Rattle.ts_spec.specs.State.{Label}
 use Rattle.ts_labels.specs.Labels.{labels_in}
-use Rattle.ts_labels.specs.declared.pairs.Held.{Held}
-use Rattle.ts_labels.specs.declared.pairs.Held.TheVariants.{Few, Many}
+use Rattle.ts_labels.specs.declared.pairs.Storage.{Storage}
+use Rattle.ts_labels.specs.declared.pairs.Storage.TheVariants.{Few, Many}
 
 -- the labels that stand there
-abbrev pub pairs_in : Held → List Label
+abbrev pub pairs_in : Storage → List Label
 pairs_in (Few pairs) = labels_in pairs.items
 pairs_in (Many map) = labels_in map.entries

@@ -16,7 +16,7 @@ const FEW: usize = 8;
 
 // Few are looked through one after another, more are found by a hash.
 #[derive(Debug, Drop)]
-enum Held {
+enum Storage {
     Few(Vec<(Word, Word)>),
     Many(IndexMap<Word, Word>),
 }
@@ -24,7 +24,7 @@ enum Held {
 // Labels and their values, in the order in which the labels were first set. Each label is there once.
 #[derive(Debug, Drop)]
 pub(crate) struct Pairs {
-    held: Held,
+    held: Storage,
 }
 
 impl Model for Pairs {
@@ -47,7 +47,7 @@ impl Pairs {
     {
         let few = Vec::with_capacity(alloc, pairs.min(FEW))?;
         Ok(Pairs {
-            held: Held::Few(few),
+            held: Storage::Few(few),
         })
     }
 
@@ -58,16 +58,16 @@ impl Pairs {
         ensures err { OnErr result (self.new ≡ self.old) }
     {
         match &mut self.held {
-            Held::Many(map) => {
+            Storage::Many(map) => {
                 map.insert(label, value)?;
             }
-            Held::Few(pairs) => {
+            Storage::Few(pairs) => {
                 if pairs.len() < FEW {
                     return set_few(pairs, label, value);
                 }
                 let mut map = hashed(alloc, pairs.as_slice())?;
                 map.insert(label, value)?;
-                self.held = Held::Many(map);
+                self.held = Storage::Many(map);
             }
         }
         Ok(())
@@ -78,8 +78,8 @@ impl Pairs {
         ensures { option_copied result ≡ value_of label.now self.now }
     {
         match &self.held {
-            Held::Many(map) => map.get(label),
-            Held::Few(pairs) => match place_of(pairs.as_slice(), label) {
+            Storage::Many(map) => map.get(label),
+            Storage::Few(pairs) => match place_of(pairs.as_slice(), label) {
                 Some(place) => Some(&pairs[place].1),
                 None => None,
             },
@@ -93,8 +93,8 @@ impl Pairs {
         ensures distinct { AreDistinct self.now }
     {
         match &self.held {
-            Held::Many(map) => map.len(),
-            Held::Few(pairs) => pairs.len(),
+            Storage::Many(map) => map.len(),
+            Storage::Few(pairs) => pairs.len(),
         }
     }
 
@@ -104,8 +104,8 @@ impl Pairs {
         ensures { slice_get self.now i ≡ Some (labelled result.0.now result.1.now) }
     {
         match &self.held {
-            Held::Many(map) => map.get_index(i).unwrap(),
-            Held::Few(pairs) => (&pairs[i].0, &pairs[i].1),
+            Storage::Many(map) => map.get_index(i).unwrap(),
+            Storage::Few(pairs) => (&pairs[i].0, &pairs[i].1),
         }
     }
 }

@@ -9,9 +9,9 @@ use Rattle.ts_spec.specs.Sample.{Point, IsAfter, IsAscending, at_times, is_withi
 use Rattle.ts_spec.proofs.Samples.{ascending-filter}
 use Rattle.ts_sample.specs.Visit.{visited}
 use Rattle.ts_sample.proofs.Between.{filter-filter}
+use Rattle.ts_sample.proofs.Lists.{ascending-left}
 use Rattle.ts_sample.proofs.Parted.{filter_alike}
 use Rattle.ts_range.specs.Walking.{Walking, lets, with_seen, rows_chosen, rows_of_walk}
-use Rattle.ts_range.proofs.Cuts.{front-ascends}
 use Rattle.ts_range.proofs.Filtered.{length-filter}
 use Rattle.ts_questions.proofs.Handing.{seen-visited}
 use Rattle.ts_questions.proofs.Reaching.{parts}
@@ -129,7 +129,7 @@ module _ (lets : Point → Bool) (seen l whole : List Point) where
 -- nothing of the rest is let through
 pub none-left : (lets : Point → Bool) (seen rest whole : List Point) → filter lets rest ≡ [] → IsSoFar lets seen rest whole → IsSoFar lets seen [] whole
 none-left lets seen rest whole none is = record {
-  rises = subst IsAscending (sym (append-nil seen)) (front-ascends seen rest is.rises);
+  rises = subst IsAscending (sym (append-nil seen)) (ascending-left seen rest is.rises);
   few = omega (arith, is.few, length-append seen rest, ap length (append-nil seen));
   same = filter-append lets seen [] ∙ ap (λ (ps : List Point). filter lets seen ++ ps) (sym none) ∙ sym (filter-append lets seen rest) ∙ is.same;
 }

@@ -8,7 +8,7 @@ use Rattle.ts_spec.specs.Sample.{Point, MAX_TIME, IsAfter, IsAscending}
 use Rattle.ts_spec.specs.Bucket.{Grid, start}
 use Rattle.ts_spec.specs.Answer.{Row}
 use Rattle.ts_spec.proofs.Buckets.{start-le}
-use Rattle.ts_sample.proofs.Lists.{ascending-left, ascending-right}
+use Rattle.ts_sample.proofs.Lists.{ascending-right}
 use Rattle.ts_agg.specs.Tally.{Tells}
 use Rattle.ts_range.specs.declared.query.Buckets.{Buckets}
 use Rattle.ts_range.specs.declared.bucket.Bucket.{Bucket}
@@ -115,10 +115,6 @@ first has bs ps p none empty new span at tells = record {
 }
 
 -- ---- the samples that are let through
-
--- the first ones of an ascending list ascend
-pub front-ascends : (qs ps : List Point) → IsAscending (qs ++ ps) → IsAscending qs
-front-ascends = ascending-left
 
 -- one that passes is kept
 pub one-passes : (test : Point → Bool) (seen : List Point) (p : Point) → test p ≡ true → filter test (seen ++ p ∷ []) ≡ filter test seen ++ p ∷ []

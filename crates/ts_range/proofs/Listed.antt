@@ -1,34 +1,14 @@
 -- Whether a time is among given ones, in whichever order these stand.
-use Rattle.std.proofs.Common.{◌≡◌, ℕ, ◌-◌, ◌<◌, ◌≤◌, true, false, nat_lt, nat_le, List, [], ◌∷◌, length, get_or, refl, sym, ◌∙◌, ap, eqb, arith, inl, inr, ne_eqb}
-use Rattle.std.specs.List.{list_any, All}
+use Rattle.std.proofs.Common.{◌≡◌, ℕ, ◌-◌, ◌<◌, ◌≤◌, true, false, nat_lt, nat_le, List, length, get_or, sym, ◌∙◌, eqb, arith}
 use Rattle.std.specs.List.Sorted.{IsPermutation, IsNonDecreasing, IsPartitionPoint}
-use Rattle.std.specs.Prelude.{◌||◌}
-use Rattle.std.proofs.lemmas.List.{get_or_default}
 use Rattle.std.proofs.lemmas.List.Sorted.{list_any-IsPermutation}
-use Rattle.std.proofs.lemmas.List.Folds.{list_any_none}
-use Rattle.std.proofs.lemmas.Bool.{cases_lt}
 use Rattle.std.proofs.lemmas.Bool.Decides.{nat_tests}
 use Rattle.ts_spec.specs.Answer.{is_listed}
-
-listed-any : (us : List ℕ) (t : ℕ) → is_listed us t ≡ list_any (λ u. eqb u t) us
-listed-any [] t = refl
-listed-any (u ∷ us) t = ap (λ b. eqb u t || b) (listed-any us t)
+use Rattle.ts_sample.proofs.Listed.{listed-any, unlisted}
 
 -- the order of the times is nothing to it
 pub listed_alike : (us vs : List ℕ) (t : ℕ) → IsPermutation us vs → is_listed vs t ≡ is_listed us t
 listed_alike us vs t moved = listed-any vs t ∙ sym (list_any-IsPermutation (λ u. eqb u t) us vs moved) ∙ sym (listed-any us t)
-
-other : (us : List ℕ) (t i : ℕ) → ((k : ℕ) → k < i → get_or us k 0 < t) → ((k : ℕ) → i ≤ k → k < length us → t < get_or us k 0) → All (λ u. eqb u t ≡ false) us
-other us t i below above k d within =
-    let same = get_or_default us k d 0 within in
-    elim (cases_lt k i) [
-      | inl less ↦ ne_eqb (get_or us k d) t (λ is. absurd (omega (arith, below k less, same, is)))
-      | inr more ↦ ne_eqb (get_or us k d) t (λ is. absurd (omega (arith, above k more within, same, is)))
-    ]
-
--- a time between two of them that stand side by side is not among them
-unlisted : (us : List ℕ) (t i : ℕ) → ((k : ℕ) → k < i → get_or us k 0 < t) → ((k : ℕ) → i ≤ k → k < length us → t < get_or us k 0) → is_listed us t ≡ false
-unlisted us t i below above = listed-any us t ∙ list_any_none (λ u. eqb u t) us (other us t i below above)
 
 is-less : (u t : ℕ) → nat_lt u t ≡ true → u < t
 is-less u t is = grind (arith, nat_tests)

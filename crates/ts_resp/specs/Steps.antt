@@ -16,7 +16,7 @@ pub record GoesOn (old new : Reading) : Type 0 where
   pub limits : new.limits ≡ old.limits
 
 -- what is answered says how the stream goes on
-pub record Answers (old new : Reading) (next : Next) : Type 0 where
+pub record Gives (old new : Reading) (next : Next) : Type 0 where
   pub request : IfRequest next (λ words. (more : List ℕ) → stream_of old more ≡ Then words new.begin (stream_of new more))
   pub words : IfRequest next (λ words. words ≢ [])
   pub progress : IfRequest next (λ _. old.begin < new.begin)

@@ -1,15 +1,15 @@
 -- How a word holds its bytes, and how they compare.
 use Rattle.std.specs.Prelude.{ℕ, zero, suc, ◌+◌, ◌*◌, ◌≤◌, List, [], ◌∷◌, take}
-use Rattle.ts_resp.specs.declared.word.Held.{Held}
-use Rattle.ts_resp.specs.declared.word.Held.TheVariants.{Short, Long}
+use Rattle.ts_resp.specs.declared.word.Storage.{Storage}
+use Rattle.ts_resp.specs.declared.word.Storage.TheVariants.{Short, Long}
 
 -- its bytes: the first ones of an array, or all of a vector
-abbrev pub held_bytes : Held → List ℕ
+abbrev pub held_bytes : Storage → List ℕ
 held_bytes (Short alloc len bytes) = take len bytes
 held_bytes (Long bytes) = bytes.items
 
 -- so many bytes are there
-abbrev pub IsHeld : Held → Type 0
+abbrev pub IsHeld : Storage → Type 0
 IsHeld (Short alloc len bytes) = len ≤ 30
 IsHeld (Long bytes) = Unit {0}
 

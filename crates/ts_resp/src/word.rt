@@ -20,7 +20,7 @@ const SHORT: usize = 30;
 
 // Few bytes lie in the word itself, more in an allocation.
 #[derive(Drop)]
-enum Held {
+enum Storage {
     // The first `len` bytes of the array.
     Short {
         alloc: Global,
@@ -33,7 +33,7 @@ enum Held {
 /// A word of a request: bytes of any kind. Words are compared, ordered and hashed by their bytes.
 #[derive(Drop)]
 pub struct Word {
-    held: Held,
+    held: Storage,
 }
 
 impl Model for Word {
@@ -59,7 +59,7 @@ impl Word {
         }
         let bytes = Vec::from_slice(alloc, bytes)?;
         Ok(Word {
-            held: Held::Long(bytes),
+            held: Storage::Long(bytes),
         })
     }
 
@@ -85,7 +85,7 @@ impl Word {
         ensures { result ≡ take len bytes }
     {
         Word {
-            held: Held::Short { alloc, len, bytes },
+            held: Storage::Short { alloc, len, bytes },
         }
     }
 
@@ -111,8 +111,8 @@ impl Word {
     // Where it takes its memory.
     fn allocator(&self) -> Global {
         match &self.held {
-            Held::Short { alloc, .. } => *alloc,
-            Held::Long(bytes) => *bytes.allocator(),
+            Storage::Short { alloc, .. } => *alloc,
+            Storage::Long(bytes) => *bytes.allocator(),
         }
     }
 
@@ -122,8 +122,8 @@ impl Word {
         ensures { result.now ≡ self.now }
     {
         match &self.held {
-            Held::Short { len, bytes, .. } => &bytes[..*len as usize],
-            Held::Long(bytes) => bytes.as_slice(),
+            Storage::Short { len, bytes, .. } => &bytes[..*len as usize],
+            Storage::Long(bytes) => bytes.as_slice(),
         }
     }
 }

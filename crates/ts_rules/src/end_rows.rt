@@ -11,9 +11,9 @@ ghost use Rattle.ts_rules.specs.Shares.{in_buckets};
 ghost use Rattle.ts_rules.specs.Ends.{rows_at, is_first_in};
 
 use crate::count::ends_left;
+use crate::interval_cursor::IntervalCursor;
 use crate::open_bucket::row;
 use crate::rule::Rule;
-use crate::walk::Walk;
 use std::sync::ledger::Ledger;
 use ts_agg::Running;
 use ts_sample::{Sample, Steps};
@@ -34,7 +34,7 @@ impl Ends {
         source: &Series,
         from: u64,
         to: u64,
-        gone: &Walk<'_>,
+        gone: &IntervalCursor<'_>,
         born: u32,
         steps: &mut Steps<L>,
     ) -> Ends
@@ -112,7 +112,7 @@ fn last_row(
 }
 
 // Whether the first sample of a walk is in the bucket that starts there.
-fn is_head_in(rule: &Rule, walk: &Walk<'_>, start: u64) -> bool
+fn is_head_in(rule: &Rule, walk: &IntervalCursor<'_>, start: u64) -> bool
     ensures { result ≡ is_first_in rule.now.grid start walk.now }
 {
     match walk.head() {

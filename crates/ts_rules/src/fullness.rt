@@ -7,10 +7,10 @@ ghost use Rattle.ts_rules.specs.Plans.{mended_list};
 ghost use Rattle.ts_rules.specs.Deletions.{is_lost, rows_left};
 ghost use Rattle.ts_rules.specs.Shares.{deletion_share};
 
+use crate::count_lost::count_lost;
 use crate::end_rows::Ends;
-use crate::losses::count_lost;
+use crate::interval_cursor::IntervalCursor;
 use crate::rule::Rule;
-use crate::walk::Walk;
 use std::sync::ledger::Ledger;
 use ts_sample::Steps;
 use ts_series::Series;
@@ -34,12 +34,12 @@ pub(crate) fn is_full<L: Ledger>(
     source.known();
     dest.known();
     rule.grid.known();
-    let gone = Walk::new(source, from, to, steps);
+    let gone = IntervalCursor::new(source, from, to, steps);
     let ends = Ends::new(rule, source, from, to, &gone, dest.born(), steps);
     let edge = ends.edge(dest);
     let first = rule.grid.start_of(from).max(edge);
     let last = rule.grid.start_of(to);
-    let shown = Walk::new(dest, first, last, steps);
+    let shown = IntervalCursor::new(dest, first, last, steps);
     let removed = count_lost(rule, gone, shown, steps);
     let left = dest.count_from(edge, steps) - removed;
     (limit as usize) < left + ends.count_from(edge)

@@ -3,12 +3,13 @@
 #![tactic(auto)]
 
 mod count;
+mod count_lost;
 mod deletion;
 mod end_rows;
 mod fault;
 mod fullness;
+mod interval_cursor;
 mod laws;
-mod losses;
 mod lost;
 mod mending;
 mod open_bucket;
@@ -18,7 +19,6 @@ mod room;
 mod rule;
 mod span;
 mod touched;
-mod walk;
 mod write;
 
 pub use fault::RuleFault;

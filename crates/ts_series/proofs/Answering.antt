@@ -8,7 +8,7 @@ use Rattle.ts_spec.specs.Sample.{Point, IsAscending, at, at_times, first_of, las
 use Rattle.ts_spec.proofs.Samples.{at-times, at-append, at-after}
 use Rattle.ts_sample.specs.Chunk.{IsChunk, joined}
 use Rattle.ts_sample.proofs.Replacing.{none-before}
-use Rattle.ts_series.specs.Held.{Held, AreChunks, AreKept, IsTrimmed}
+use Rattle.ts_series.specs.Stored.{Stored, AreChunks, AreKept, IsTrimmed}
 use Rattle.ts_series.proofs.Counting.{times-append}
 use Rattle.ts_series.proofs.Joined.{chunk-at, chunks-take, map-at, joined-at}
 use Rattle.ts_series.proofs.Meeting.{last-joined, trimmed-at}
@@ -37,21 +37,21 @@ not-less i n h = go (cases i n)
     go (inr le) = le
 
 -- as many pieces as chunks
-pub pieces-length : {X : Type 0} (list : X → List Point) (cs : List X) (limits : List ℕ) (room : ℕ) (h : Held) → ◌≡◌ {A = Held} (record { pieces = map list cs; limits = limits; room = room }) h
+pub pieces-length : {X : Type 0} (list : X → List Point) (cs : List X) (limits : List ℕ) (room : ℕ) (h : Stored) → ◌≡◌ {A = Stored} (record { pieces = map list cs; limits = limits; room = room }) h
     → length h.pieces ≡ length cs
-pieces-length list cs limits room h view = ap (λ (k : Held). length k.pieces) (sym view) ∙ length-map cs list
+pieces-length list cs limits room h view = ap (λ (k : Stored). length k.pieces) (sym view) ∙ length-map cs list
 
 -- what is known of the chunk that stands at a place
-pub record IsPiece (format : List Point → List ℕ) (h : Held) (i : ℕ) (ps : List Point) : Type 0 where
+pub record IsPiece (format : List Point → List ℕ) (h : Stored) (i : ℕ) (ps : List Point) : Type 0 where
   pub within : i < length h.pieces
   pub here : ps ≡ get_or h.pieces i []
   pub chunk : IsChunk format (get_or h.limits i 0) ps
 
-pub piece : {X : Type 0} (format : List Point → List ℕ) (list : X → List Point) (most : X → ℕ) (cs : List X) (room count : ℕ) (h : Held)
-    → ◌≡◌ {A = Held} (record { pieces = map list cs; limits = map most cs; room = room }) h → AreKept format (map list cs) (map most cs) count
+pub piece : {X : Type 0} (format : List Point → List ℕ) (list : X → List Point) (most : X → ℕ) (cs : List X) (room count : ℕ) (h : Stored)
+    → ◌≡◌ {A = Stored} (record { pieces = map list cs; limits = map most cs; room = room }) h → AreKept format (map list cs) (map most cs) count
     → (i : ℕ) (x : X) → i < length cs → x ≡ get_or cs i x → IsPiece format h i (list x)
 piece format list most cs room count h view kept i x less there =
-    subst (λ (k : Held). IsPiece format k i (list x)) view
+    subst (λ (k : Stored). IsPiece format k i (list x)) view
     (let within : i < length (map list cs) = omega (arith, length-map cs list) in
     let here : list x ≡ get_or (map list cs) i [] = ap list there ∙ sym (map-at list i cs x [] less) in
     record { within = within; here = here; chunk = subst (λ (ps : List Point). IsChunk format (get_or (map most cs) i 0) ps) (sym here) (chunk-at format i (map list cs) (map most cs) kept.chunks within) })

@@ -5,7 +5,7 @@ use Rattle.std.proofs.lemmas.Bool.Decides.{nat_tests}
 use Rattle.ts_spec.specs.Sample.{Point, IsAscending, last_of}
 use Rattle.ts_sample.specs.Chunk.{IsChunk, IsPast, Fits, joined}
 use Rattle.ts_sample.proofs.Lists.{ascending-left}
-use Rattle.ts_series.specs.Held.{AreChunks, AreKept, HasRoomFor, with_last}
+use Rattle.ts_series.specs.Stored.{AreChunks, AreKept, HasRoomFor, with_last}
 
 -- the last of these lists has a sample more
 pub map-last : {X : Type 0} (list : X → List Point) (p : Point) (i : ℕ) (xs : List X) (x d : X) → length xs ≡ suc i → list x ≡ list (get_or xs i d) ++ p ∷ []

@@ -7,10 +7,10 @@ use Rattle.ts_spec.specs.Sample.{Point, IsAscending, at, put, last_of}
 use Rattle.ts_spec.specs.Rules.{Merged}
 use Rattle.ts_spec.proofs.Samples.{ascending-put}
 use Rattle.ts_sample.specs.Chunk.{IsPast, joined}
-use Rattle.ts_series.specs.Held.{points, with_last, HasRoomFor, IsReady}
+use Rattle.ts_series.specs.Stored.{points, with_last, HasRoomFor, IsReady}
 use Rattle.ts_series.specs.History.{History, list_of, low, IsKeptIn}
 use Rattle.ts_series.specs.Plan.{IsForIn, appends}
-use Rattle.ts_series.specs.Put.{met, Answers, list_after}
+use Rattle.ts_series.specs.Put.{met, PutAnswers, list_after}
 use Rattle.ts_series.proofs.Appended.{joined-last}
 use Rattle.ts_series.proofs.PutBetween.{put-past}
 use Rattle.ts_series.proofs.Putting.{at-shown, at-past, answers-new, met-late, full-early}
@@ -36,9 +36,9 @@ module _ {format : List Point → List ℕ} (h : History) (p : Point) (shows : S
       is-for plan h refl refl (omega (arith, made), tt) ready (omega arith) tt (written-list plan h refl shows kept.chunks.ascending list)
 
   -- and it is the answer to the write
-  pub appends-answers : (encoding : Encoding) (how : Merge) (limit : ℕ) → low h ≤ p.time → length (points h.held) < limit → Answers (met how p.time p.value h) limit p.time h (Ok (appends encoding p))
+  pub appends-answers : (encoding : Encoding) (how : Merge) (limit : ℕ) → low h ≤ p.time → length (points h.held) < limit → PutAnswers (met how p.time p.value h) limit p.time h (Ok (appends encoding p))
   appends-answers encoding how limit late few =
       let none : at p.time (list_of h) ≡ None = at-shown p.time h shows late ∙ at-past p.time (points h.held) kept.chunks.ascending past in
-      subst (λ (m : Merged). Answers m limit p.time h (Ok (appends encoding p))) (met-late how p.time p.value h late)
+      subst (λ (m : Merged). PutAnswers m limit p.time h (Ok (appends encoding p))) (met-late how p.time p.value h late)
       (answers-new how limit p h (Ok (appends encoding p)) none made
       (record { cut = refl; removed = refl; wrote = refl; options = refl }, λ absent. ltb-false limit (length (list_after p h)) (sym (full-early limit p h shows none few))))

@@ -5,7 +5,7 @@ use Rattle.std.proofs.lemmas.List.{map-append, take-map, drop-map, take_at, drop
 use Rattle.ts_spec.specs.Sample.{Point, IsAfter, IsAscending, MAX_TIME}
 use Rattle.ts_sample.specs.Chunk.{AreFine, joined}
 use Rattle.ts_sample.proofs.Lists.{ascending-left, ascending-right}
-use Rattle.ts_series.specs.Held.{AreChunks, AreKept, replaced}
+use Rattle.ts_series.specs.Stored.{AreChunks, AreKept, replaced}
 use Rattle.ts_series.proofs.Joined.{chunks-take, chunks-drop, chunks-append}
 use Rattle.ts_series.proofs.PieceCounts.{three-parts, joined-replaced}
 use Rattle.ts_series.proofs.NewChunks.{fine-joined}

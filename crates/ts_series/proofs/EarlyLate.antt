@@ -8,7 +8,7 @@ use Rattle.ts_spec.proofs.Samples.{IsBefore}
 use Rattle.ts_series.proofs.Counting.{times-append}
 use Rattle.ts_sample.specs.Chunk.{joined}
 use Rattle.ts_sample.proofs.Lists.{after-right, ascending-right}
-use Rattle.ts_series.specs.Held.{IsTrimmed}
+use Rattle.ts_series.specs.Stored.{IsTrimmed}
 
 -- the last sample is before the time, if there is one
 abbrev pub is_before : ℕ → Option Point → Bool

@@ -8,7 +8,7 @@ use Rattle.ts_spec.specs.Sample.{Point, IsAscending, at, at_times, is_within, be
 use Rattle.ts_spec.proofs.Samples.{at-times, ascending-times}
 use Rattle.ts_sample.proofs.Parted.{filter_alike}
 use Rattle.ts_sample.proofs.Between.{filter-filter}
-use Rattle.ts_series.specs.Held.{Held, points}
+use Rattle.ts_series.specs.Stored.{Stored, points}
 use Rattle.ts_series.specs.History.{History, history_of, list_of, low}
 use Rattle.ts_series.proofs.Trimmed.{last-from}
 use Rattle.ts_series.proofs.Expired.{none-last, none-kept, last-kept}
@@ -66,7 +66,7 @@ module _ (edge : ℕ) (ps : List Point) where
           sym (ap last_of turned
           ∙ last-from edge (at_times (λ t. nat_lt t time) ps) (ascending-times (λ t. nat_lt t time) ps rises) (last-kept edge (at_times (λ t. nat_lt t time) ps) q is up) ∙ is)
 
-module _ {o : Options} {high : Option ℕ} {born : ℕ} {held : Held} {h : History} {edge : ℕ} (view : history_of o high born held ≡ h) (is : edge ≡ low h) where
+module _ {o : Options} {high : Option ℕ} {born : ℕ} {held : Stored} {h : History} {edge : ℕ} (view : history_of o high born held ≡ h) (is : edge ≡ low h) where
   -- the samples that a series shows
   pub shown : at_times (nat_le edge) (points held) ≡ list_of h
   shown = ap (λ e. at_times (nat_le e) (points held)) (is ∙ ap low (sym view)) ∙ ap list_of view

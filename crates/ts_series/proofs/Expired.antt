@@ -5,7 +5,7 @@ use Rattle.std.proofs.lemmas.Bool.Decides.{nat_tests}
 use Rattle.ts_spec.specs.Sample.{Point, IsAfter, IsAscending, at_times, last_of}
 use Rattle.ts_sample.specs.Chunk.{joined}
 use Rattle.ts_sample.proofs.Lists.{ascending-right}
-use Rattle.ts_series.specs.Held.{AreKept, IsTrimmed}
+use Rattle.ts_series.specs.Stored.{AreKept, IsTrimmed}
 use Rattle.ts_series.proofs.Counting.{times-append}
 
 after-last : (t : ℕ) (ps : List Point) (q : Point) → IsAfter t ps → last_of ps ≡ Some q → t < q.time

@@ -6,7 +6,7 @@ use Rattle.ts_spec.specs.Sample.{Point, IsAscending}
 use Rattle.ts_sample.specs.Chunk.{IsChunk, HaveLimit, joined}
 use Rattle.ts_sample.proofs.Fitting.{limits-append}
 use Rattle.ts_sample.proofs.Lists.{ascending-take, ascending-drop}
-use Rattle.ts_series.specs.Held.{AreChunks}
+use Rattle.ts_series.specs.Stored.{AreChunks}
 use Rattle.ts_series.proofs.PlannedPieces.{both-joined, both-chunks}
 
 take-more : (count n : ℕ) (ps : List Point) → count ≤ length ps → take count ps ++ take n (drop count ps) ≡ take (count + n) ps

@@ -2,7 +2,7 @@
 use Rattle.std.proofs.Common.{◌≡◌, ℕ, ◌+◌, ◌-◌, ◌≤◌, List, ◌++◌, length, take, drop, sym, ◌∙◌, ap, arith, append_assoc}
 use Rattle.std.specs.Prelude.{Option, None, Some, IsSome, OnSome}
 use Rattle.std.proofs.lemmas.List.{take_at, drop_at, take-append-le, take-append-drop, drop-append-le, length-take}
-use Rattle.ts_series.specs.Held.{replaced}
+use Rattle.ts_series.specs.Stored.{replaced}
 use Rattle.ts_series.proofs.Changed.{turned-back}
 
 -- ---- a part of a list

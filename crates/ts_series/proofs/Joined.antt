@@ -3,7 +3,7 @@ use Rattle.std.proofs.Common.{◌≡◌, ◌≢◌, ℕ, zero, suc, ◌<◌, ◌
 use Rattle.ts_spec.specs.Sample.{Point, IsAfter, IsAscending}
 use Rattle.ts_sample.specs.Chunk.{IsChunk, joined}
 use Rattle.ts_sample.proofs.Lists.{after-right, ascending-left, ascending-right}
-use Rattle.ts_series.specs.Held.{AreChunks, longest}
+use Rattle.ts_series.specs.Stored.{AreChunks, longest}
 
 -- the list at a place, between those before it and those after it
 pub joined-at : (i : ℕ) (pss : List (List Point)) → joined pss ≡ joined (take i pss) ++ (get_or pss i [] ++ joined (drop (suc i) pss))

@@ -12,7 +12,7 @@ use Rattle.ts_spec.specs.Valid.{IsUpTo, IsOwn}
 use Rattle.ts_spec.proofs.Samples.{at-put_all, ascending-put_all, ascending-times}
 use Rattle.ts_spec.proofs.Sound.{IsPart, part-times}
 use Rattle.ts_spec.proofs.Settles.{times-within, upto-raised, upto-here}
-use Rattle.ts_series.specs.Held.{Held, points, AreKept, IsTrimmed}
+use Rattle.ts_series.specs.Stored.{Stored, points, AreKept, IsTrimmed}
 use Rattle.ts_series.specs.History.{History, history_of, list_of, low, record_of, IsKeptIn}
 use Rattle.ts_series.specs.Plan.{Plan, AreMade, after, without_cut}
 use Rattle.ts_series.proofs.Cutting.{part-cut}
@@ -54,7 +54,7 @@ own-written born high rows ps made own t p is = go (at t rows) refl (sym (at-put
     go None there is = (upto-high rows high p.time (own t p is).0, (own t p is).1)
 
 -- a series after a plan is in order
-pub kept-after : {format : List Point → List ℕ} (plan : Plan) (h : History) (held : Held) → IsKeptIn format h → AreMade h.born plan.wrote → AreKept format held.pieces held.limits (length (points held)) → IsTrimmed (low (after plan h)) held.pieces
+pub kept-after : {format : List Point → List ℕ} (plan : Plan) (h : History) (held : Stored) → IsKeptIn format h → AreMade h.born plan.wrote → AreKept format held.pieces held.limits (length (points held)) → IsTrimmed (low (after plan h)) held.pieces
     → IsKeptIn format (record (after plan h) { held = held })
 kept-after plan h held k made chunks trimmed =
     let left : List Point = without_cut plan.cut h.samples in
@@ -71,7 +71,7 @@ kept-after plan h held k made chunks trimmed =
     }
 
 -- the parts of a series after a plan
-pub after-is : (plan : Plan) (h : History) (o : Options) (high : Option ℕ) (held : Held) → o ≡ unwrap_or plan.options h.options → high ≡ high_with plan.wrote h.high
+pub after-is : (plan : Plan) (h : History) (o : Options) (high : Option ℕ) (held : Stored) → o ≡ unwrap_or plan.options h.options → high ≡ high_with plan.wrote h.high
     → at_times (nat_le (low (after plan h))) (points held) ≡ list_of (after plan h) → history_of o high h.born held ≡ record (after plan h) { held = held }
 after-is plan h o high held eo eh is =
     let samples : at_times (nat_le (edge_of o.retention high)) (points held) ≡ (after plan h).samples =

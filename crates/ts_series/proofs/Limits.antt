@@ -1,7 +1,7 @@
 -- The limits of the chunks after a change, and the samples that such chunks can have.
 use Rattle.std.proofs.Common.{◌≡◌, inl, inr, ℕ, zero, suc, ◌-◌, ◌≤◌, List, [], ◌∷◌, ◌++◌, take, drop, refl, sym, ap, subst, arith}
 use Rattle.std.specs.Prelude.{max, slice_range}
-use Rattle.ts_series.specs.Held.{Change, IsAmong, AreAmong, HasLimits, greatest, limits_after}
+use Rattle.ts_series.specs.Stored.{Change, IsAmong, AreAmong, HasLimits, greatest, limits_after}
 use Rattle.ts_series.specs.History.{History, reach, limit_for, KeepsLimits, KeepsReach}
 use Rattle.ts_series.proofs.NewChunks.{among-one, among-append}
 

@@ -8,7 +8,7 @@ use Rattle.ts_spec.specs.Sample.{Point, IsAfter, IsAscending, at_times, is_withi
 use Rattle.ts_spec.proofs.Samples.{IsBefore}
 use Rattle.ts_sample.specs.Chunk.{joined}
 use Rattle.ts_sample.proofs.Lists.{after-left, after-right, ascending-right}
-use Rattle.ts_series.specs.Held.{AreChunks, IsMeeting, AllMeet, IsTrimmed, HaveBegun}
+use Rattle.ts_series.specs.Stored.{AreChunks, IsMeeting, AllMeet, IsTrimmed, HaveBegun}
 use Rattle.ts_series.proofs.EarlyLate.{is_before, is_upto, none-cons, none-head, none-left, none-right, none-both, last-before, before-last, before-first, before-none, some-before, late-some, first-some, first-none, before-some, after-some}
 use Rattle.ts_series.proofs.Joined.{chunk-at, filled-at, map-at}
 

@@ -8,7 +8,7 @@ use Rattle.ts_spec.specs.Mending.{high_with}
 use Rattle.ts_sample.specs.Chunk.{joined}
 use Rattle.ts_sample.proofs.Between.{filter-filter}
 use Rattle.ts_spec.specs.declared.series.Encoding.{Encoding}
-use Rattle.ts_series.specs.Held.{Change, points, pieces_after, IsReady, HasLimits}
+use Rattle.ts_series.specs.Stored.{Change, points, pieces_after, IsReady, HasLimits}
 use Rattle.ts_series.specs.History.{History, low, limit_for, IsKeptIn}
 use Rattle.ts_series.specs.Plan.{Plan, AreWithin, AreMade, places_for, IsForIn}
 use Rattle.ts_series.specs.Mend.{mended_list}

@@ -9,7 +9,7 @@ use Rattle.ts_spec.proofs.Samples.{IsBefore, ascending-times, ascending-put_all}
 use Rattle.ts_sample.specs.Chunk.{IsPast, joined}
 use Rattle.ts_sample.proofs.Between.{filter-filter}
 use Rattle.ts_sample.proofs.Lists.{past-before, ascending-left, ascending-right}
-use Rattle.ts_series.specs.Held.{IsMeeting, replaced}
+use Rattle.ts_series.specs.Stored.{IsMeeting, replaced}
 use Rattle.ts_series.specs.Plan.{AreWithin}
 use Rattle.ts_series.proofs.Joined.{joined-parts}
 use Rattle.ts_series.proofs.EarlyLate.{after-less, none-right}

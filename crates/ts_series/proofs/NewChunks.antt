@@ -7,7 +7,7 @@ use Rattle.ts_spec.specs.Sample.{Point, IsAscending, outside}
 use Rattle.ts_sample.specs.Chunk.{IsLimit, IsChunk, IsCut, Fits, HaveLimit, AreFine, joined}
 use Rattle.ts_sample.proofs.Cuts.{joined-cut, cut-some, cut-fits}
 use Rattle.ts_sample.proofs.Lists.{ascending-left, ascending-right, fine-left, fine-right, fine-append}
-use Rattle.ts_series.specs.Held.{AreChunks, IsAmong, AreAmong, longest}
+use Rattle.ts_series.specs.Stored.{AreChunks, IsAmong, AreAmong, longest}
 use Rattle.ts_series.proofs.Joined.{longest-at}
 use Rattle.ts_series.proofs.TakenOut.{kept-less}
 

@@ -5,7 +5,7 @@ use Rattle.std.proofs.lemmas.List.{take-take, drop-take, length-map}
 use Rattle.ts_spec.specs.Sample.{Point}
 use Rattle.ts_sample.specs.Chunk.{joined}
 use Rattle.ts_sample.proofs.Cuts.{joined-append}
-use Rattle.ts_series.specs.Held.{replaced}
+use Rattle.ts_series.specs.Stored.{replaced}
 use Rattle.ts_series.proofs.Joined.{joined-parts, map-at}
 
 pub more : (i j : ℕ) (pss : List (List Point)) → j ≡ suc i → joined (take j pss) ≡ joined (take i pss) ++ get_or pss i []

@@ -9,7 +9,7 @@ use Rattle.ts_sample.specs.Chunk.{IsChunk, IsPast, IsCut, Fits, HaveLimit, joine
 use Rattle.ts_sample.specs.Sample.{IsFine}
 use Rattle.ts_sample.proofs.Cuts.{joined-cut, joined-append}
 use Rattle.ts_sample.proofs.Lists.{ascending-left, fine-times, fine-put}
-use Rattle.ts_series.specs.Held.{Held, AreChunks, AreKept, IsTrimmed, IsReady, HasRoomFor, IsAmong, AreAmong, IsUpTo, longest, with_last, replaced, points}
+use Rattle.ts_series.specs.Stored.{Stored, AreChunks, AreKept, IsTrimmed, IsReady, HasRoomFor, IsAmong, AreAmong, IsUpTo, longest, with_last, replaced, points}
 use Rattle.ts_series.proofs.Joined.{joined-parts, chunk-at, chunks-length, chunks-take, chunks-append, longest-at}
 use Rattle.ts_series.proofs.Meeting.{last-joined}
 use Rattle.ts_series.proofs.PieceCounts.{mapped-at, joined-replaced}
@@ -17,13 +17,13 @@ use Rattle.ts_series.proofs.PutBetween.{put-past, none-from, put-piece, place-wi
 use Rattle.ts_series.proofs.NewChunks.{longest-both, cut-chunks, among-one, among-range, among-all, among-append}
 use Rattle.ts_series.proofs.EarlyLate.{rest-past}
 
-pub ready-none : (format : List Point → List ℕ) (h : Held) (start end : ℕ) (pieces : List (List Point)) (limits : List ℕ) → start ≤ end → end ≤ length h.pieces → IsAscending (joined (replaced start end pieces h.pieces))
+pub ready-none : (format : List Point → List ℕ) (h : Stored) (start end : ℕ) (pieces : List (List Point)) (limits : List ℕ) → start ≤ end → end ≤ length h.pieces → IsAscending (joined (replaced start end pieces h.pieces))
     → IsReady format h (record { start = start; end = end; pieces = pieces; limits = limits; appended = None })
 ready-none format h start end pieces limits ordered within rises = record { ordered = ordered; within = within; ascending = rises; appends = tt; enough = omega arith }
 
 -- what holds of the chunks, of their value
-pub kept-view : (format : List Point → List ℕ) (k h : Held) (count : ℕ) → k ≡ h → AreKept format k.pieces k.limits count → AreKept format h.pieces h.limits count
-kept-view format k h count is kept = subst (λ (x : Held). AreKept format x.pieces x.limits count) is kept
+pub kept-view : (format : List Point → List ℕ) (k h : Stored) (count : ℕ) → k ≡ h → AreKept format k.pieces k.limits count → AreKept format h.pieces h.limits count
+kept-view format k h count is kept = subst (λ (x : Stored). AreKept format x.pieces x.limits count) is kept
 
 -- the last piece has room for a sample
 pub last-room : (format : List Point → List ℕ) (p : Point) (i : ℕ) (pss : List (List Point)) (ns : List ℕ) → suc i ≡ length pss → length pss ≡ length ns → IsPast (last_of (get_or pss i [])) p.time
@@ -46,14 +46,14 @@ front-only {X} start end xs is =
     ∙ append-nil (take start xs ++ []) ∙ append-nil (take start xs)
 
 -- a sample past those of the chunks before a place
-module _ {X : Type 0} {format : List Point → List ℕ} (list : X → List Point) (most : X → ℕ) (cs : List X) {room count : ℕ} (h : Held)
-    (view : ◌≡◌ {A = Held} (record { pieces = map list cs; limits = map most cs; room = room }) h) (are : AreKept format (map list cs) (map most cs) count) {start end : ℕ} (p : Point)
+module _ {X : Type 0} {format : List Point → List ℕ} (list : X → List Point) (most : X → ℕ) (cs : List X) {room count : ℕ} (h : Stored)
+    (view : ◌≡◌ {A = Stored} (record { pieces = map list cs; limits = map most cs; room = room }) h) (are : AreKept format (map list cs) (map most cs) count) {start end : ℕ} (p : Point)
     (within : start ≤ length h.pieces) (size : end ≡ length h.pieces) (past : IsPast (last_of (joined (take start h.pieces))) p.time) where
   same : map list cs ≡ h.pieces
-  same = ap (λ (k : Held). k.pieces) view
+  same = ap (λ (k : Stored). k.pieces) view
 
   limits : map most cs ≡ h.limits
-  limits = ap (λ (k : Held). k.limits) view
+  limits = ap (λ (k : Stored). k.limits) view
 
   kept : AreKept format h.pieces h.limits count
   kept = kept-view format _ h count view are
@@ -126,20 +126,20 @@ module _ {X : Type 0} {format : List Point → List ℕ} (list : X → List Poin
     new-limits limit ms bound = subst (λ (l : List X). AreAmong limit ms (map most l)) (sym alone) (subst (IsAmong limit ms) (sym bound) (among-one limit ms), tt)
 
 -- one of the chunks, at its place
-pub record IsOne {X : Type 0} (format : List Point → List ℕ) (list : X → List Point) (most : X → ℕ) (h : Held) (i : ℕ) (x : X) : Type 0 where
+pub record IsOne {X : Type 0} (format : List Point → List ℕ) (list : X → List Point) (most : X → ℕ) (h : Stored) (i : ℕ) (x : X) : Type 0 where
   pub within : i < length h.pieces
   pub piece : list x ≡ get_or h.pieces i []
   pub chunk : IsChunk format (most x) (list x)
   pub among : (one start end : ℕ) → start ≤ i → i < end → IsAmong one (slice_range h.limits start end) (most x)
 
-pub one-at : {X : Type 0} {format : List Point → List ℕ} (list : X → List Point) (most : X → ℕ) (cs : List X) {room count : ℕ} (h : Held)
-    → ◌≡◌ {A = Held} (record { pieces = map list cs; limits = map most cs; room = room }) h → AreKept format (map list cs) (map most cs) count
+pub one-at : {X : Type 0} {format : List Point → List ℕ} (list : X → List Point) (most : X → ℕ) (cs : List X) {room count : ℕ} (h : Stored)
+    → ◌≡◌ {A = Stored} (record { pieces = map list cs; limits = map most cs; room = room }) h → AreKept format (map list cs) (map most cs) count
     → (i : ℕ) (x : X) → i < length h.pieces → x ≡ get_or cs i x → IsOne format list most h i x
 one-at {format = format} list most cs {count = count} h view are i x within is =
     let kept : AreKept format h.pieces h.limits count = kept-view format _ h count view are in
     let inside : i < length h.limits = omega (arith, chunks-length format h.pieces h.limits kept.chunks) in
-    let here : list x ≡ get_or h.pieces i [] = mapped-at list i cs h.pieces x [] (ap (λ (k : Held). k.pieces) view) within is in
-    let limit : most x ≡ get_or h.limits i 0 = mapped-at most i cs h.limits x 0 (ap (λ (k : Held). k.limits) view) inside is in
+    let here : list x ≡ get_or h.pieces i [] = mapped-at list i cs h.pieces x [] (ap (λ (k : Stored). k.pieces) view) within is in
+    let limit : most x ≡ get_or h.limits i 0 = mapped-at most i cs h.limits x 0 (ap (λ (k : Stored). k.limits) view) inside is in
     record {
       within = within;
       piece = here;
@@ -149,12 +149,12 @@ one-at {format = format} list most cs {count = count} h view are i x within is =
     }
 
 -- these are chunks with these samples, and with limits of the chunks from one place up to another
-pub record AreNew (format : List Point → List ℕ) (h : Held) (start end : ℕ) (ps : List Point) (pieces : List (List Point)) (limits : List ℕ) : Type 0 where
+pub record AreNew (format : List Point → List ℕ) (h : Stored) (start end : ℕ) (ps : List Point) (pieces : List (List Point)) (limits : List ℕ) : Type 0 where
   pub list : joined pieces ≡ ps
   pub chunks : AreChunks format pieces limits
   pub among : (one : ℕ) → AreAmong one (slice_range h.limits start end) limits
 
-module _ {X : Type 0} {format : List Point → List ℕ} {list : X → List Point} {most : X → ℕ} {h : Held} {i : ℕ} {x : X} (one : IsOne format list most h i x) where
+module _ {X : Type 0} {format : List Point → List ℕ} {list : X → List Point} {most : X → ℕ} {h : Stored} {i : ℕ} {x : X} (one : IsOne format list most h i x) where
   pub piece-short : length (list x) ≤ longest h.pieces
   piece-short = omega (arith, ap length one.piece, longest-at i h.pieces)
 
@@ -178,7 +178,7 @@ module _ {X : Type 0} {format : List Point → List ℕ} {list : X → List Poin
   }
 
 -- where a sample that is not past the last one goes
-module _ {format : List Point → List ℕ} (h : Held) {count : ℕ} (kept : AreKept format h.pieces h.limits count) {t place : ℕ} (p : Point) (time : t ≡ p.time)
+module _ {format : List Point → List ℕ} (h : Stored) {count : ℕ} (kept : AreKept format h.pieces h.limits count) {t place : ℕ} (p : Point) (time : t ≡ p.time)
     (late : IsUpTo p.time (last_of (points h))) (within : place ≤ length h.pieces) (early : at_times (nat_le t) (joined (take place h.pieces)) ≡ []) (reach : IsTrimmed t (drop place h.pieces)) where
   pub place-in : place < length h.pieces
   place-in = place-within t place h.pieces kept.ascending (subst (λ u. IsUpTo u (last_of (points h))) (sym time) late) within early
@@ -213,7 +213,7 @@ module _ {X : Type 0} (list : X → List Point) (most : X → ℕ) (cs ds es : L
   pub both-short : (n : ℕ) → longest (map list cs) ≤ n → longest (map list ds) ≤ n → longest (map list es) ≤ n
   both-short n h k = subst (λ (pss : List (List Point)). longest pss ≤ n) (sym both-lists) (longest-both (map list cs) (map list ds) n h k)
 
-  pub both-new : {format : List Point → List ℕ} {h : Held} {start end : ℕ} {ps qs : List Point} → AreNew format h start end ps (map list cs) (map most cs)
+  pub both-new : {format : List Point → List ℕ} {h : Stored} {start end : ℕ} {ps qs : List Point} → AreNew format h start end ps (map list cs) (map most cs)
       → AreNew format h start end qs (map list ds) (map most ds) → AreNew format h start end (ps ++ qs) (map list es) (map most es)
   both-new {format} {h} {start} {end} one two = record {
     list = both-joined ∙ (λ i. one.list i ++ two.list i);

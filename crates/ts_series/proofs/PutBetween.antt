@@ -7,7 +7,7 @@ use Rattle.ts_spec.specs.Sample.{Point, IsAfter, IsAscending, at_times, put, las
 use Rattle.ts_spec.proofs.Samples.{IsBefore}
 use Rattle.ts_sample.specs.Chunk.{IsPast, joined}
 use Rattle.ts_sample.proofs.Replacing.{none-before, all-past}
-use Rattle.ts_series.specs.Held.{IsUpTo, replaced}
+use Rattle.ts_series.specs.Stored.{IsUpTo, replaced}
 use Rattle.ts_series.proofs.Counting.{times-append}
 use Rattle.ts_series.proofs.Joined.{joined-at}
 use Rattle.ts_series.proofs.PieceCounts.{joined-replaced}

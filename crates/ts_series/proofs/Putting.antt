@@ -15,10 +15,10 @@ use Rattle.ts_sample.proofs.Between.{filter-filter}
 use Rattle.ts_sample.specs.Chunk.{IsPast, joined}
 use Rattle.ts_sample.proofs.Replacing.{none-before}
 use Rattle.ts_series.specs.declared.plan.PutFault.{PutFault}
-use Rattle.ts_series.specs.Held.{points, longest, IsTrimmed, IsUpTo}
+use Rattle.ts_series.specs.Stored.{points, longest, IsTrimmed, IsUpTo}
 use Rattle.ts_series.specs.History.{History, list_of, low, IsKeptIn}
 use Rattle.ts_series.specs.Plan.{Plan, IsForIn}
-use Rattle.ts_series.specs.Put.{met, Answers, IsMerged, IsWrite, nothing_in, sample_of, list_after}
+use Rattle.ts_series.specs.Put.{met, PutAnswers, IsMerged, IsWrite, nothing_in, sample_of, list_after}
 use Rattle.ts_series.proofs.Counting.{one_if, times-append, times-length, length-put, not_full}
 use Rattle.ts_series.proofs.PutBetween.{past-before}
 use Rattle.ts_series.proofs.EdgeQuestions.{at-from, length-from}
@@ -69,24 +69,24 @@ full-late limit edge early p h shows none kept is counted =
 
 -- a value that merges is written
 pub answers-written : (m : Merged) (limit t : ℕ) (h : History) (v : ℤ) (result : Result Plan PutFault) → IsMerged m (Ok (Some v)) → IsWrite limit (sample_of t v h) h result
-    → Answers m limit t h result
+    → PutAnswers m limit t h result
 answers-written (Refuse r) limit t h v result is write = absurd is
 answers-written Keep limit t h v result is write = absurd (cc is)
 answers-written (To w) limit t h v result is write = let same : v ≡ w = cc is in subst (λ (x : ℤ). IsWrite limit (sample_of t x h) h result) same write
 
 -- a new sample at a time that has none
 pub answers-new : (how : Merge) (limit : ℕ) (p : Point) (h : History) (result : Result Plan PutFault) → at p.time (list_of h) ≡ None → p.made ≡ h.born → IsWrite limit p h result
-    → Answers (merge how (value_at p.time (list_of h)) p.value) limit p.time h result
+    → PutAnswers (merge how (value_at p.time (list_of h)) p.value) limit p.time h result
 answers-new how limit p h result none made write =
     let same : p ≡ sample_of p.time p.value h = ap (λ n. record { time = p.time; value = p.value; made = n }) made in
-    subst (λ (o : Option Point). Answers (merge how (option_map (λ (q : Point). q.value) o) p.value) limit p.time h result) (sym none)
+    subst (λ (o : Option Point). PutAnswers (merge how (option_map (λ (q : Point). q.value) o) p.value) limit p.time h result) (sym none)
     (subst (λ (q : Point). IsWrite limit q h result) same write)
 
 -- and a value at the time of a sample
 pub answers-over : (how : Merge) (limit : ℕ) (p q : Point) (h : History) (result : Result Plan PutFault) → at p.time (list_of h) ≡ Some q
-    → Answers (merge how (Some q.value) p.value) limit p.time h result → Answers (merge how (value_at p.time (list_of h)) p.value) limit p.time h result
+    → PutAnswers (merge how (Some q.value) p.value) limit p.time h result → PutAnswers (merge how (value_at p.time (list_of h)) p.value) limit p.time h result
 answers-over how limit p q h result there answers =
-    subst (λ (o : Option Point). Answers (merge how (option_map (λ (r : Point). r.value) o) p.value) limit p.time h result) (sym there) answers
+    subst (λ (o : Option Point). PutAnswers (merge how (option_map (λ (r : Point). r.value) o) p.value) limit p.time h result) (sym there) answers
 
 -- what a write comes to, at the edge or later
 pub met-late : (how : Merge) (t : ℕ) (v : ℤ) (h : History) → low h ≤ t → merge how (value_at t (list_of h)) v ≡ met how t v h

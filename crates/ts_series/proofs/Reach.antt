@@ -1,7 +1,7 @@
 -- No chunk of a series has more samples than its reach.
 use Rattle.std.proofs.Common.{◌≡◌, ℕ, ◌*◌, ◌/◌, ◌≤◌, List, [], ◌∷◌, length, subst, arith}
 use Rattle.ts_spec.specs.Sample.{Point}
-use Rattle.ts_series.specs.Held.{AreChunks, longest, greatest}
+use Rattle.ts_series.specs.Stored.{AreChunks, longest, greatest}
 use Rattle.ts_series.specs.History.{History, reach, limit_for, IsKeptIn}
 use Rattle.ts_series.proofs.Limits.{least}
 

@@ -7,7 +7,7 @@ use Rattle.std.proofs.lemmas.Bool.Decides.{nat_tests}
 use Rattle.std.proofs.lemmas.List.{drop_more, drop-append-le}
 use Rattle.ts_spec.specs.Sample.{Point, IsAfter, IsAscending, at_times, first_of}
 use Rattle.ts_sample.specs.Chunk.{joined}
-use Rattle.ts_series.specs.Held.{IsTrimmed}
+use Rattle.ts_series.specs.Stored.{IsTrimmed}
 use Rattle.ts_series.specs.Reading.{left_at}
 use Rattle.ts_series.proofs.Answering.{get-past, take-past, late-pieces, first-front}
 use Rattle.ts_series.proofs.EarlyLate.{rest-past}

@@ -9,7 +9,7 @@ use Rattle.ts_spec.specs.State.{edge_of}
 use Rattle.ts_spec.specs.Mending.{high_with}
 use Rattle.ts_spec.proofs.ClientChanges.{edge-raised}
 use Rattle.ts_sample.specs.Chunk.{joined}
-use Rattle.ts_series.specs.Held.{Held, points, Change, replaced, pieces_after, IsChangeOf, IsReady, HasLimits}
+use Rattle.ts_series.specs.Stored.{Stored, points, Change, replaced, pieces_after, IsChangeOf, IsReady, HasLimits}
 use Rattle.ts_series.specs.History.{History, list_of, low, limit_for}
 use Rattle.ts_series.specs.Plan.{Plan, AreMade, after, without_cut, places_for, IsForIn}
 use Rattle.ts_series.proofs.Edges.{from-edge}
@@ -21,7 +21,7 @@ length-replaced start end new old ordered =
     all
 
 -- a change that is ready is for the chunks with so much room
-pub with-room : (format : List Point → List ℕ) (room : ℕ) (h : Held) (c : Change) → IsReady format h c → length h.pieces + length c.pieces ≤ room → IsChangeOf format room h.pieces h.limits c
+pub with-room : (format : List Point → List ℕ) (room : ℕ) (h : Stored) (c : Change) → IsReady format h c → length h.pieces + length c.pieces ≤ room → IsChangeOf format room h.pieces h.limits c
 with-room format room h c ready enough = record {
   ordered = ready.ordered;
   within = ready.within;

@@ -3,7 +3,7 @@ use Rattle.std.proofs.Common.{List, ℕ, ◌+◌, ◌≤◌, ◌<◌, length, sy
 use Rattle.std.specs.Prelude.{Option}
 use Rattle.ts_spec.specs.Sample.{Point, last_of}
 use Rattle.ts_sample.specs.Chunk.{IsPast}
-use Rattle.ts_series.specs.Held.{points, longest}
+use Rattle.ts_series.specs.Stored.{points, longest}
 use Rattle.ts_series.specs.History.{History, list_of, low, reach, IsKeptIn}
 use Rattle.ts_series.proofs.Trimmed.{last-trimmed}
 use Rattle.ts_series.proofs.Ready.{Shows}

@@ -4,7 +4,7 @@ use Rattle.std.specs.Prelude.{nat_lt, nat_le}
 use Rattle.std.proofs.lemmas.Bool.Decides.{nat_tests}
 use Rattle.ts_spec.specs.Sample.{Point, at_times, between}
 use Rattle.ts_sample.specs.Chunk.{joined}
-use Rattle.ts_series.specs.Held.{AllMeet}
+use Rattle.ts_series.specs.Stored.{AllMeet}
 use Rattle.ts_series.specs.Seams.{IsSeam, IsSeamed}
 use Rattle.ts_series.proofs.EarlyLate.{none-less}
 use Rattle.ts_series.proofs.TimeFrom.{both-parts, all-between}

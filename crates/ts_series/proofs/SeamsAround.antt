@@ -7,7 +7,7 @@ use Rattle.ts_sample.specs.Chunk.{joined}
 use Rattle.ts_spec.specs.declared.series.Options.{Options}
 use Rattle.ts_spec.specs.State.{edge_of}
 use Rattle.ts_sample.proofs.Lists.{ascending-right}
-use Rattle.ts_series.specs.Held.{Held, AreChunks, IsMeeting, IsTrimmed, HaveBegun, longest, points}
+use Rattle.ts_series.specs.Stored.{Stored, AreChunks, IsMeeting, IsTrimmed, HaveBegun, longest, points}
 use Rattle.ts_series.specs.History.{History, history_of, list_of, reach, IsKeptIn}
 use Rattle.ts_series.specs.Seams.{Around}
 use Rattle.ts_series.proofs.EarlyLate.{none-head, none-left, none-both, after-none, after-some}
@@ -92,7 +92,7 @@ module _ (from to start place end : ℕ) (pss : List (List Point)) (meeting : Is
       }
 
 -- around each interval of a series
-pub around-series : (format : List Point → List ℕ) → ((ps : List Point) → 3 * length ps ≤ length (format ps)) → (o : Options) (high : Option ℕ) (born : ℕ) (held : Held) (h : History)
+pub around-series : (format : List Point → List ℕ) → ((ps : List Point) → 3 * length ps ≤ length (format ps)) → (o : Options) (high : Option ℕ) (born : ℕ) (held : Stored) (h : History)
     → IsKeptIn format (history_of o high born held) → history_of o high born held ≡ h → (from to : ℕ) → Around from to (length (between from to (list_of h)) + 2 * reach h) h.held.pieces
 around-series format at_least o high born held h kept view from to =
     let pss = held.pieces in
@@ -128,7 +128,7 @@ cut t pss rises n le =
       few = omega (arith, le, inner-few x.time y.time a.place end pss (omega arith) x.early y.late, length-more a.place end pss refl, longest-at a.place pss);
     }
 
-pub cut-series : (format : List Point → List ℕ) → ((ps : List Point) → 3 * length ps ≤ length (format ps)) → (o : Options) (high : Option ℕ) (born : ℕ) (held : Held) (h : History)
+pub cut-series : (format : List Point → List ℕ) → ((ps : List Point) → 3 * length ps ≤ length (format ps)) → (o : Options) (high : Option ℕ) (born : ℕ) (held : Stored) (h : History)
     → IsKeptIn format (history_of o high born held) → history_of o high born held ≡ h → (t : ℕ) → Around (suc t) t (reach h) h.held.pieces
 cut-series format at_least o high born held h kept view t =
     subst (λ (k : History). Around (suc t) t (reach k) k.held.pieces) view

@@ -4,7 +4,7 @@ use Rattle.std.specs.Prelude.{nat_le, min, max, Some}
 use Rattle.ts_spec.specs.Sample.{Point, IsAscending, at_times, first_of, last_of}
 use Rattle.ts_sample.specs.Chunk.{joined}
 use Rattle.ts_sample.proofs.Lists.{ascending-right}
-use Rattle.ts_series.specs.Held.{IsTrimmed}
+use Rattle.ts_series.specs.Stored.{IsTrimmed}
 use Rattle.ts_series.specs.Seams.{IsSeam}
 use Rattle.ts_series.proofs.EarlyLate.{after-none, after-some}
 use Rattle.ts_series.proofs.Seams.{both-orders, seam-at, first-early, first-late, last-early, last-late}

@@ -6,7 +6,7 @@ use Rattle.std.proofs.lemmas.Bool.Decides.{nat_tests}
 use Rattle.ts_spec.specs.Sample.{Point, IsAfter, at_times, is_within, between, outside}
 use Rattle.ts_spec.proofs.Samples.{IsBefore}
 use Rattle.ts_sample.specs.Chunk.{joined}
-use Rattle.ts_series.specs.Held.{longest, IsMeeting, replaced}
+use Rattle.ts_series.specs.Stored.{longest, IsMeeting, replaced}
 use Rattle.ts_series.proofs.Counting.{times-append}
 use Rattle.ts_series.proofs.Joined.{longest-at}
 use Rattle.ts_series.proofs.PieceCounts.{three-parts, joined-replaced}

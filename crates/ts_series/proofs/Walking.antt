@@ -8,7 +8,7 @@ use Rattle.ts_spec.specs.Sample.{Point, at_times, is_within, between, outside}
 use Rattle.ts_sample.specs.Chunk.{joined}
 use Rattle.ts_sample.specs.Visit.{visited}
 use Rattle.ts_sample.proofs.Visiting.{room_left}
-use Rattle.ts_series.specs.Held.{IsMeeting, longest}
+use Rattle.ts_series.specs.Stored.{IsMeeting, longest}
 use Rattle.ts_series.proofs.Counting.{times-append}
 use Rattle.ts_series.proofs.Joined.{joined-parts, longest-at, joined-at}
 use Rattle.ts_series.proofs.EarlyLate.{none-less}

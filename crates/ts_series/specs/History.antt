@@ -9,7 +9,7 @@ use Rattle.ts_spec.specs.Valid.{IsOwn, Every}
 use Rattle.ts_sample.specs.Chunk.{least_limit, greatest_limit}
 use Rattle.ts_chunk_packed.specs.Packed.{packed}
 use Rattle.ts_chunk_plain.specs.Plain.{plain}
-use Rattle.ts_series.specs.Held.{Held, points, AreKept, AreAmong, IsTrimmed, greatest}
+use Rattle.ts_series.specs.Stored.{Stored, points, AreKept, AreAmong, IsTrimmed, greatest}
 
 -- how it is kept, its samples, the highest time that it ever had a sample at, how many rules were ever made on it, and the chunks
 -- that hold the samples
@@ -18,10 +18,10 @@ pub record History : Type 0 where
   pub samples : List Point
   pub high : Option ℕ
   pub born : ℕ
-  pub held : Held
+  pub held : Stored
 
 -- a series with these chunks, of whose samples it shows those from its edge on
-abbrev pub history_of : Options → (high : Option ℕ) → (born : ℕ) → Held → History
+abbrev pub history_of : Options → (high : Option ℕ) → (born : ℕ) → Stored → History
 history_of options high born held =
     record { options = options; samples = at_times (nat_le (edge_of options.retention high)) (points held); high = high; born = born; held = held }
 

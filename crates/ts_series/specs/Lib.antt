@@ -1,7 +1,7 @@
 pub mod Cursor
 pub mod Encoded
 pub mod FaultNames
-pub mod Held
+pub mod Stored
 pub mod History
 pub mod Mend
 pub mod Plan

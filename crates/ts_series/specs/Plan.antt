@@ -13,7 +13,7 @@ use Rattle.ts_series.specs.declared.edit.Interval.{Interval}
 use Rattle.ts_series.specs.declared.edit.Rows.{Rows}
 use Rattle.ts_series.specs.declared.edit.Rows.TheVariants.{Empty, One, Many}
 use Rattle.ts_sample.specs.Chunk.{joined}
-use Rattle.ts_series.specs.Held.{Held, Change, no_change, pieces_after, IsChangeOf, HasLimits}
+use Rattle.ts_series.specs.Stored.{Stored, Change, no_change, pieces_after, IsChangeOf, HasLimits}
 use Rattle.ts_series.specs.History.{History, list_of, low, limit_for, format_of}
 
 -- the samples of rows
@@ -102,7 +102,7 @@ options_with retention chunk_size policy ignore old = record {
 }
 
 -- how many chunks there may be once the plan's own room, if it has one, is there
-abbrev pub places_for : Option ℕ → Held → ℕ
+abbrev pub places_for : Option ℕ → Stored → ℕ
 places_for None h = length h.pieces + h.room
 places_for (Some room) h = room
 

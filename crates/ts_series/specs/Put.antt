@@ -10,7 +10,7 @@ use Rattle.ts_spec.specs.Step.{value_at}
 use Rattle.ts_series.specs.declared.plan.PutFault.{PutFault}
 use Rattle.ts_series.specs.declared.plan.PutFault.TheVariants.{TooOld, Duplicate, OutOfRange, Full, Unwritten, Memory}
 use Rattle.ts_series.specs.History.{History, list_of, low}
-use Rattle.ts_series.specs.Held.{no_change}
+use Rattle.ts_series.specs.Stored.{no_change}
 use Rattle.ts_series.specs.Plan.{Plan, after, writes_one}
 
 -- whether a write is refused, keeps what is there, or writes a value
@@ -81,10 +81,10 @@ IsWrite limit p h (Err fault) = IsFullFault limit p h fault
 
 -- A write that is refused answers so, one that keeps what is there plans nothing, and another plans the sample, unless the series
 -- is full or there is no memory.
-abbrev pub Answers : Merged → (limit : ℕ) → (time : ℕ) → History → Result Plan PutFault → Type 0
-Answers (Refuse r) limit t h result = IsRefused r result
-Answers Keep limit t h result = IsNothing result
-Answers (To v) limit t h result = IsWrite limit (sample_of t v h) h result
+abbrev pub PutAnswers : Merged → (limit : ℕ) → (time : ℕ) → History → Result Plan PutFault → Type 0
+PutAnswers (Refuse r) limit t h result = IsRefused r result
+PutAnswers Keep limit t h result = IsNothing result
+PutAnswers (To v) limit t h result = IsWrite limit (sample_of t v h) h result
 
 -- ---- how a value meets the one that is there
 

@@ -3,7 +3,7 @@ ghost use Rattle.std.specs.Prelude.{◌≡◌, ℕ, ◌*◌, nat_le, IfOk};
 ghost use Rattle.ts_spec.specs.Sample.{at_times};
 ghost use Rattle.ts_sample.specs.Chunk.{joined};
 ghost use Rattle.ts_sample.specs.Steps.{Takes};
-ghost use Rattle.ts_series.specs.Held.{longest, pieces_after, IsReady, HasLimits};
+ghost use Rattle.ts_series.specs.Stored.{longest, pieces_after, IsReady, HasLimits};
 ghost use Rattle.ts_series.specs.History.{list_of, reach};
 ghost use Rattle.ts_series.specs.Plan.{IsForIn, Alters, options_with};
 

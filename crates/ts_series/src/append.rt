@@ -3,10 +3,10 @@ ghost use Rattle.std.specs.Prelude.{◌≡◌, ◌≤◌, true, IfSome, Some, Ok
 ghost use Rattle.ts_spec.specs.Sample.{MAX_TIME, last_of};
 ghost use Rattle.ts_spec.specs.declared.series.Merge.{Merge as TheMerge};
 ghost use Rattle.ts_sample.specs.Chunk.{IsPast};
-ghost use Rattle.ts_series.specs.Held.{points, HasRoomFor};
+ghost use Rattle.ts_series.specs.Stored.{points, HasRoomFor};
 ghost use Rattle.ts_series.specs.History.{reach, IsKeptIn, KeepsLimits};
 ghost use Rattle.ts_series.specs.Plan.{IsForIn, after, appends};
-ghost use Rattle.ts_series.specs.Put.{met, Answers};
+ghost use Rattle.ts_series.specs.Put.{met, PutAnswers};
 
 use crate::chunks::Chunks;
 use crate::edge::{edge_at, raise};
@@ -46,7 +46,7 @@ impl<C: Chunk> Line<C> {
     pub(crate) fn plan_append(&self, time: u64, value: Units, limit: u32) -> Option<Append>
         requires { time ≤ MAX_TIME }
         ensures planned { IfSome result (λ plan. IsForIn C.format plan self.now) }
-        ensures answer { (how : TheMerge) → IfSome result (λ plan. Answers (met how time value self.now) limit time self.now (Ok plan)) }
+        ensures answer { (how : TheMerge) → IfSome result (λ plan. PutAnswers (met how time value self.now) limit time self.now (Ok plan)) }
     {
         if time < self.edge() {
             return None;

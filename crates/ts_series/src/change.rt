@@ -3,7 +3,7 @@ ghost use Rattle.std.specs.Prelude.{◌≡◌, ℕ, ◌≤◌, ◌+◌, true, fa
 ghost use Rattle.std.specs.VecDeque.{deque_capacity};
 ghost use Rattle.ts_spec.specs.Sample.{IsAscending, at_times};
 ghost use Rattle.ts_sample.specs.Chunk.{joined};
-ghost use Rattle.ts_series.specs.Held.{points, pieces_after, limits_after, no_change, replaced, with_last, AreAmong, AreChunks, AreKept, HasRoomFor, IsChangeOf, IsTrimmed};
+ghost use Rattle.ts_series.specs.Stored.{points, pieces_after, limits_after, no_change, replaced, with_last, AreAmong, AreChunks, AreKept, HasRoomFor, IsChangeOf, IsTrimmed};
 
 use crate::chunks::Chunks;
 use crate::counts::count_in;
@@ -25,7 +25,7 @@ pub(crate) struct Change<C: Chunk> {
 
 impl<C: Chunk> Model for Change<C> {
     ghost use Rattle.std.specs.Prelude.{map};
-    ghost use Rattle.ts_series.specs.Held.{Change, AreChunks};
+    ghost use Rattle.ts_series.specs.Stored.{Change, AreChunks};
 
     ghost Value = { Change };
 

@@ -6,7 +6,7 @@ ghost use Rattle.ts_sample.specs.Chunk.{IsPast};
 ghost use Rattle.ts_sample.specs.Steps.{Takes};
 ghost use Rattle.ts_series.specs.History.{list_of, reach, IsKept, KeepsLimits};
 ghost use Rattle.ts_series.specs.Plan.{IsFor, after, Cuts, Alters, AreWithin, AreMade, options_with};
-ghost use Rattle.ts_series.specs.Put.{met, Answers};
+ghost use Rattle.ts_series.specs.Put.{met, PutAnswers};
 ghost use Rattle.ts_series.specs.Mend.{IsMend, IsRowPast};
 
 use crate::append::Append;
@@ -30,7 +30,7 @@ impl Series {
     ) -> Result<SeriesPlan, PutFault>
         requires { time ≤ MAX_TIME }
         ensures planned { IfOk result (λ plan. IsFor plan self.now) }
-        ensures answer { Answers (met how time value self.now) limit time self.now result }
+        ensures answer { PutAnswers (met how time value self.now) limit time self.now result }
         ensures steps { Takes steps.old steps.new (3 * reach self.now) }
         ensures easy { length (list_of self.now) + reach self.now < limit → IsPast (last_of (list_of self.now)) time → steps.new ≡ steps.old }
     {
@@ -52,7 +52,7 @@ impl Series {
     pub fn plan_append(&self, time: u64, value: Units, limit: u32) -> Option<Append>
         requires { time ≤ MAX_TIME }
         ensures planned { IfSome result (λ plan. IsFor plan self.now) }
-        ensures answer { (how : TheMerge) → IfSome result (λ plan. Answers (met how time value self.now) limit time self.now (Ok plan)) }
+        ensures answer { (how : TheMerge) → IfSome result (λ plan. PutAnswers (met how time value self.now) limit time self.now (Ok plan)) }
     {
         match &self.lines {
             Lines::Plain(line) => line.plan_append(time, value, limit),

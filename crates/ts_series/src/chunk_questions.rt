@@ -4,7 +4,7 @@ ghost use Rattle.ts_spec.specs.Sample.{at, at_times, between, first_of, last_of}
 ghost use Rattle.ts_sample.specs.Chunk.{joined};
 ghost use Rattle.ts_sample.specs.Visit.{visited};
 ghost use Rattle.ts_sample.specs.Steps.{Takes};
-ghost use Rattle.ts_series.specs.Held.{points, longest};
+ghost use Rattle.ts_series.specs.Stored.{points, longest};
 ghost use Rattle.ts_series.specs.Seams.{IsSeamed};
 
 use crate::chunks::Chunks;

@@ -2,7 +2,7 @@
 ghost use Rattle.std.specs.Prelude.{◌≡◌, ◌≤◌, nat_le, [], length, take, drop};
 ghost use Rattle.ts_spec.specs.Sample.{IsAscending, last_of, at_times};
 ghost use Rattle.ts_sample.specs.Chunk.{joined};
-ghost use Rattle.ts_series.specs.Held.{points, IsMeeting, AllMeet, IsTrimmed, HaveBegun};
+ghost use Rattle.ts_series.specs.Stored.{points, IsMeeting, AllMeet, IsTrimmed, HaveBegun};
 
 use std::alloc::Global;
 use std::collections::VecDeque;
@@ -20,9 +20,9 @@ pub(crate) struct Chunks<C: Chunk> {
 impl<C: Chunk> Model for Chunks<C> {
     ghost use Rattle.std.specs.Prelude.{◌-◌, map};
     ghost use Rattle.std.specs.VecDeque.{deque_len, deque_capacity};
-    ghost use Rattle.ts_series.specs.Held.{Held, AreKept};
+    ghost use Rattle.ts_series.specs.Stored.{Stored, AreKept};
 
-    ghost Value = { Held };
+    ghost Value = { Stored };
 
     ghost view = { λ s. record { pieces = map C.list s.chunks.items; limits = map C.most s.chunks.items; room = deque_capacity s.chunks - deque_len s.chunks } };
 

@@ -3,7 +3,7 @@ ghost use Rattle.std.specs.Prelude.{◌≡◌, ◌≤◌, ◌<◌, ◌+◌, ◌*
 ghost use Rattle.ts_spec.specs.Sample.{between};
 ghost use Rattle.ts_sample.specs.Chunk.{joined};
 ghost use Rattle.ts_sample.specs.Steps.{Takes};
-ghost use Rattle.ts_series.specs.Held.{points, longest};
+ghost use Rattle.ts_series.specs.Stored.{points, longest};
 
 use crate::chunks::Chunks;
 use std::sync::ledger::Ledger;

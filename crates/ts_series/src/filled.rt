@@ -2,7 +2,7 @@
 ghost use Rattle.std.specs.Prelude.{◌≡◌, ◌-◌, ◌∷◌, length, map, take, IfOk};
 ghost use Rattle.ts_spec.specs.Sample.{IsAscending};
 ghost use Rattle.ts_sample.specs.Chunk.{IsLimit, HaveLimit, joined};
-ghost use Rattle.ts_series.specs.Held.{AreChunks};
+ghost use Rattle.ts_series.specs.Stored.{AreChunks};
 
 use crate::planned::begun;
 use std::alloc::{AllocError, Global};

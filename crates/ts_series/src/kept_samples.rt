@@ -3,7 +3,7 @@ ghost use Rattle.std.specs.Prelude.{◌≡◌, ◌+◌, ◌*◌, ◌++◌, nat_l
 ghost use Rattle.ts_spec.specs.Sample.{IsAfter, IsAscending, at_times, outside, put_all};
 ghost use Rattle.ts_sample.specs.Chunk.{joined};
 ghost use Rattle.ts_sample.specs.Steps.{Takes};
-ghost use Rattle.ts_series.specs.Held.{longest, IsMeeting};
+ghost use Rattle.ts_series.specs.Stored.{longest, IsMeeting};
 ghost use Rattle.ts_series.specs.Plan.{AreWithin};
 
 use crate::chunks::Chunks;

@@ -4,10 +4,10 @@ ghost use Rattle.ts_spec.specs.Sample.{at};
 ghost use Rattle.ts_spec.specs.Rules.{merge};
 ghost use Rattle.ts_spec.specs.Step.{value_at};
 ghost use Rattle.ts_sample.specs.Steps.{Takes};
-ghost use Rattle.ts_series.specs.Held.{longest};
+ghost use Rattle.ts_series.specs.Stored.{longest};
 ghost use Rattle.ts_series.specs.History.{list_of, low};
 ghost use Rattle.ts_series.specs.Plan.{IsForIn};
-ghost use Rattle.ts_series.specs.Put.{Answers};
+ghost use Rattle.ts_series.specs.Put.{PutAnswers};
 
 use crate::line::Line;
 use crate::line_plan::LinePlan;
@@ -29,7 +29,7 @@ impl<C: Chunk> Line<C> {
         requires kept { low self.now ≤ sample.time }
         requires made { sample.made ≡ self.now.born }
         ensures planned { IfOk result (λ plan. IsForIn C.format plan self.now) }
-        ensures answer { Answers (merge how (value_at sample.time (list_of self.now)) sample.value) limit sample.time self.now result }
+        ensures answer { PutAnswers (merge how (value_at sample.time (list_of self.now)) sample.value) limit sample.time self.now result }
         ensures steps { Takes steps.old steps.new (3 * longest self.now.held.pieces) }
     {
         if always_writes(how) && self.chunks.len() < limit as usize {
@@ -52,7 +52,7 @@ impl<C: Chunk> Line<C> {
         requires there { at sample.time (list_of self.now) ≢ None }
         requires made { sample.made ≡ self.now.born }
         ensures planned { IfOk result (λ plan. IsForIn C.format plan self.now) }
-        ensures answer { (limit : ℕ) → Answers (merge how (Some old) sample.value) limit sample.time self.now result }
+        ensures answer { (limit : ℕ) → PutAnswers (merge how (Some old) sample.value) limit sample.time self.now result }
         ensures steps { Takes steps.old steps.new (longest self.now.held.pieces) }
     {
         let (time, made) = (sample.time, sample.made);

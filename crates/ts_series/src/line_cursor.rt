@@ -2,7 +2,7 @@
 ghost use Rattle.std.specs.Prelude.{◌≡◌, ◌≢◌, ◌+◌, ◌<◌, ◌≤◌, nat_le, [], length, take, drop, slice_index_or};
 ghost use Rattle.ts_spec.specs.Sample.{at_times, first_of};
 ghost use Rattle.ts_sample.specs.Steps.{Takes};
-ghost use Rattle.ts_series.specs.Held.{points, longest};
+ghost use Rattle.ts_series.specs.Stored.{points, longest};
 
 use crate::chunks::Chunks;
 use std::marker::Model;

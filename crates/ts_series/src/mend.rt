@@ -4,7 +4,7 @@ ghost use Rattle.ts_spec.specs.Sample.{IsAscending, at_times, between, outside, 
 ghost use Rattle.ts_spec.specs.Mending.{high_with};
 ghost use Rattle.ts_sample.specs.Chunk.{joined};
 ghost use Rattle.ts_sample.specs.Steps.{Takes};
-ghost use Rattle.ts_series.specs.Held.{points, pieces_after, IsReady, HasLimits};
+ghost use Rattle.ts_series.specs.Stored.{points, pieces_after, IsReady, HasLimits};
 ghost use Rattle.ts_series.specs.History.{list_of, limit_for, reach};
 ghost use Rattle.ts_series.specs.Plan.{AreWithin, AreMade, IsForIn, after};
 ghost use Rattle.ts_series.specs.Mend.{IsMend, IsRowPast, mended_list};

@@ -3,7 +3,7 @@ ghost use Rattle.std.specs.Prelude.{◌≡◌, ◌≤◌, ◌*◌, ◌∷◌, []
 ghost use Rattle.ts_spec.specs.Sample.{IsAscending, between, last_of, outside, put_all};
 ghost use Rattle.ts_sample.specs.Chunk.{IsLimit, IsPast, joined};
 ghost use Rattle.ts_sample.specs.Steps.{Takes};
-ghost use Rattle.ts_series.specs.Held.{points, longest, pieces_after, replaced, IsMeeting, IsReady, HasLimits};
+ghost use Rattle.ts_series.specs.Stored.{points, longest, pieces_after, replaced, IsMeeting, IsReady, HasLimits};
 ghost use Rattle.ts_series.specs.Plan.{AreWithin};
 
 use crate::change::Change;

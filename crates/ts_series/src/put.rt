@@ -3,10 +3,10 @@ ghost use Rattle.std.specs.Prelude.{◌≡◌, ℕ, ◌≤◌, ◌<◌, ◌+◌,
 ghost use Rattle.ts_spec.specs.Sample.{MAX_TIME, at, last_of, put};
 ghost use Rattle.ts_sample.specs.Chunk.{IsPast, joined};
 ghost use Rattle.ts_sample.specs.Steps.{Takes};
-ghost use Rattle.ts_series.specs.Held.{points, longest, pieces_after, IsReady, HasLimits, IsUpTo};
+ghost use Rattle.ts_series.specs.Stored.{points, longest, pieces_after, IsReady, HasLimits, IsUpTo};
 ghost use Rattle.ts_series.specs.History.{list_of, low, limit_for, reach};
 ghost use Rattle.ts_series.specs.Plan.{IsForIn};
-ghost use Rattle.ts_series.specs.Put.{met, Answers, IsWrite, Writes, Fits, list_after};
+ghost use Rattle.ts_series.specs.Put.{met, PutAnswers, IsWrite, Writes, Fits, list_after};
 
 use crate::change::Change;
 use crate::edge::{edge_at, raise};
@@ -34,7 +34,7 @@ impl<C: Chunk> Line<C> {
     ) -> Result<LinePlan<C>, PutFault>
         requires { time ≤ MAX_TIME }
         ensures planned { IfOk result (λ plan. IsForIn C.format plan self.now) }
-        ensures answer { Answers (met how time value self.now) limit time self.now result }
+        ensures answer { PutAnswers (met how time value self.now) limit time self.now result }
         ensures steps { Takes steps.old steps.new (3 * reach self.now) }
         ensures easy { length (list_of self.now) + reach self.now < limit → IsPast (last_of (list_of self.now)) time → steps.new ≡ steps.old }
     {

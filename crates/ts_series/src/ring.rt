@@ -2,7 +2,7 @@
 // side of the ring moves by one place; the ring is turned only where the difference is greater.
 ghost use Rattle.std.specs.Prelude.{◌≡◌, ◌<◌, ◌≤◌, ◌+◌, ◌-◌, [], length, take, drop};
 ghost use Rattle.std.specs.VecDeque.{deque_capacity};
-ghost use Rattle.ts_series.specs.Held.{replaced};
+ghost use Rattle.ts_series.specs.Stored.{replaced};
 
 use std::collections::VecDeque;
 

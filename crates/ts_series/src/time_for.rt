@@ -2,7 +2,7 @@
 ghost use Rattle.std.specs.Prelude.{◌≡◌, ◌≤◌, ◌+◌, ◌⊎◌, nat_lt, [], length, drop};
 ghost use Rattle.ts_spec.specs.Sample.{at_times, between};
 ghost use Rattle.ts_sample.specs.Chunk.{joined};
-ghost use Rattle.ts_series.specs.Held.{points};
+ghost use Rattle.ts_series.specs.Stored.{points};
 ghost use Rattle.ts_series.specs.History.{list_of};
 ghost use Rattle.ts_series.specs.Seams.{IsSeam};
 

@@ -5,7 +5,7 @@ ghost use Rattle.ts_db.specs.Held.{Carries};
 ghost use Rattle.ts_mux.specs.declared.frame.Frame.{Frame};
 ghost use Rattle.ts_mux.specs.Capture.{framed};
 ghost use Rattle.ts_mux.specs.Order.{Asked, without};
-ghost use Rattle.ts_engine.specs.Replaying.{Answers, GoesOn, Wrote, Replied, WroteOrFault};
+ghost use Rattle.ts_engine.specs.Replaying.{WentAs, GoesOn, Wrote, Replied, WroteOrFault};
 ghost use Rattle.ts_engine.specs.Replays.{frames_in, coming, waiting, standing};
 ghost use Rattle.ts_mux.specs.Muxing.{ahead};
 ghost use Rattle.ts_spec.specs.Text.{fault_text};
@@ -30,7 +30,7 @@ impl Replay {
         out: &mut K,
         steps: &mut Steps<L>,
     ) -> Course
-        ensures goes { Carries db.old db.new (λ from to. Answers result
+        ensures goes { Carries db.old db.new (λ from to. WentAs result
             (standing self.old from (C.readings clock.old)) (standing self.new to (C.readings clock.new))
             (K.has out.old) (K.has out.new) []) }
         ensures asked { result ≡ Course.More → ahead self.new.mux [] ≡ [] }

@@ -1,6 +1,6 @@
 // One line at a time.
 ghost use Rattle.std.specs.Prelude.{◌≡◌, ◌≢◌, ◌<◌, length, slice_index, None, MatchOption};
-ghost use Rattle.ts_resp.specs.Steps.{GoesOn, Answers};
+ghost use Rattle.ts_resp.specs.Steps.{GoesOn, Gives};
 ghost use Rattle.ts_resp.specs.Texts.{IsText, IsTextBegun};
 
 use super::{Next, Reader};
@@ -15,7 +15,7 @@ impl Reader {
         requires between { self.old.so_far ≡ None }
         requires some { 0 < length self.old.unread }
         requires line { slice_index self.old.unread 0 ≢ 42 }
-        ensures { MatchOption result (GoesOn self.old self.new) (Answers self.old self.new) }
+        ensures { MatchOption result (GoesOn self.old self.new) (Gives self.old self.new) }
     {
         match found_text(self.unread.as_slice(), self.scanned, &self.limits) {
             Text::Open => {
@@ -36,7 +36,7 @@ impl Reader {
         requires text { IsText self.old.limits self.old.unread (Text.Whole feed) }
         requires begun { IsTextBegun self.old.limits self.old.unread (Text.Whole feed) }
         requires within { feed < length self.old.unread }
-        ensures { MatchOption result (GoesOn self.old self.new) (Answers self.old self.new) }
+        ensures { MatchOption result (GoesOn self.old self.new) (Gives self.old self.new) }
     {
         let mut words = mem::replace(&mut self.spare, Vec::new(self.alloc));
         words.clear();

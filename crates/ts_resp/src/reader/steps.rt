@@ -1,7 +1,7 @@
 // One header or one word of an array at a time.
 ghost use Rattle.std.specs.Prelude.{◌≡◌, ◌+◌, ◌-◌, ◌<◌, ◌≤◌, [], ◌∷◌, ◌++◌, length, drop, slice_index, slice_range, Some, None, OnOk, OnErr, IfOk, IfErr, MatchOption};
 ghost use Rattle.ts_resp.specs.Headers.{IsCount, IsBegun, IsWord, IsWordWithin};
-ghost use Rattle.ts_resp.specs.Steps.{GoesOn, Answers};
+ghost use Rattle.ts_resp.specs.Steps.{GoesOn, Gives};
 
 use super::{Next, Reader, Unfinished};
 use crate::header::{FoundWord, Header, count_header, found_word};
@@ -17,7 +17,7 @@ const FIRST_WORDS: u32 = 16;
 impl Reader {
     // Takes the header of a request or its words, or answers what `next` answers.
     pub(super) fn step(&mut self) -> Option<Next>
-        ensures { MatchOption result (GoesOn self.old self.new) (Answers self.old self.new) }
+        ensures { MatchOption result (GoesOn self.old self.new) (Gives self.old self.new) }
     {
         match self.so_far.take() {
             None => self.read_request(),
@@ -27,7 +27,7 @@ impl Reader {
 
     fn read_request(&mut self) -> Option<Next>
         requires { self.old.so_far ≡ None }
-        ensures { MatchOption result (GoesOn self.old self.new) (Answers self.old self.new) }
+        ensures { MatchOption result (GoesOn self.old self.new) (Gives self.old self.new) }
     {
         if begins_line(self.unread.as_slice()) {
             return self.read_line();
@@ -38,7 +38,7 @@ impl Reader {
     fn read_count(&mut self) -> Option<Next>
         requires between { self.old.so_far ≡ None }
         requires array { 0 < length self.old.unread → slice_index self.old.unread 0 ≡ 42 }
-        ensures { MatchOption result (GoesOn self.old self.new) (Answers self.old self.new) }
+        ensures { MatchOption result (GoesOn self.old self.new) (Gives self.old self.new) }
     {
         match count_header(self.unread.as_slice(), &self.limits) {
             Header::Open => Some(Next::NotYet),
@@ -53,7 +53,7 @@ impl Reader {
         requires header { IsCount self.old.limits self.old.unread (Header.Whole number (len - 1)) }
         requires begun { IsBegun self.old.limits self.old.unread (Header.Whole number (len - 1)) }
         requires within { (0 < len) × (len ≤ length self.old.unread) }
-        ensures { MatchOption result (GoesOn self.old self.new) (Answers self.old self.new) }
+        ensures { MatchOption result (GoesOn self.old self.new) (Gives self.old self.new) }
     {
         if number == 0 {
             self.pass(len);
@@ -77,7 +77,7 @@ impl Reader {
     // Reads the words that are still to come, as far as they have come.
     fn read_words(&mut self, so_far: Unfinished) -> Next
         requires { self.old.so_far ≡ None }
-        ensures { Answers (record self.old { so_far = Some so_far }) self.new result }
+        ensures { Gives (record self.old { so_far = Some so_far }) self.new result }
     {
         let mut so_far = so_far;
         loop {

@@ -1,8 +1,7 @@
 use Rattle.std.proofs.Common.{refl}
 use Rattle.ts_range.specs.Query.{query_of}
-use Rattle.ts_range.proofs.Whole.{no-limit}
+use Rattle.ts_range.proofs.Whole.{no-limit, none-filled}
 use Rattle.ts_questions.specs.Asking.{samples_asked}
-use Rattle.ts_questions.proofs.FillingIn.{none-filled}
 use Rattle.ts_questions.proofs.told.told_of.Goals as goal
 
 pub returns-in-None-clause-told : goal.returns-in-None-clause-told

@@ -1,6 +1,6 @@
 use Rattle.std.proofs.Common.{◌≡◌, ◌≤◌, ◌-◌, length, take, map}
 use Rattle.ts_sample.specs.Chunk.{HaveLimit, joined}
-use Rattle.ts_series.specs.Held.{AreChunks}
+use Rattle.ts_series.specs.Stored.{AreChunks}
 use Rattle.ts_series.proofs.filled.filled.Given as goal
 
 -- so many samples are in the chunks

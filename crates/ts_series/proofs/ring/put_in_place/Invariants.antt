@@ -1,6 +1,6 @@
 use Rattle.std.proofs.Common.{◌≡◌, ◌+◌, ◌≤◌, length, vec_len}
 use Rattle.std.specs.VecDeque.{deque_capacity}
-use Rattle.ts_series.specs.Held.{replaced}
+use Rattle.ts_series.specs.Stored.{replaced}
 use Rattle.ts_series.proofs.ring.put_in_place.Given as goal
 
 -- the items that are left, in their places, give what all of them do

@@ -14,7 +14,7 @@ use Rattle.ts_db.specs.declared.node.Node.{Node}
 use Rattle.ts_db.specs.declared.store.Store.{Store}
 use Rattle.ts_db.specs.Held.{Stock, reach_at}
 use Rattle.ts_db.specs.Information.{info_of}
-use Rattle.ts_db.specs.Store.{kept_at, stock_of, IsInOrder, Holds}
+use Rattle.ts_db.specs.Store.{kept_node, stock_of, IsInOrder, Holds}
 use Rattle.ts_db.proofs.Applying.{there}
 use Rattle.ts_db.proofs.Asking.{numbered-holds, node-live, finds-no-key, finds-there}
 use Rattle.ts_db.proofs.Indexing.{contains}
@@ -31,7 +31,7 @@ module _ (s : Store) (store : IsInOrder s) (stock : Stock) (view : stock_of s �
     holds : Holds s key id n
     holds = numbered-holds s key id n number (sym at)
 
-    told : kept_info_response (Some (kept_at s.nodes n)) ≡ kept_info_response (get key stock.keys)
+    told : kept_info_response (Some (kept_node s.nodes n)) ≡ kept_info_response (get key stock.keys)
     told = sym (ap kept_info_response (there s store key id n holds)) ∙ ap (λ (st : Stock). kept_info_response (get key st.keys)) view
 
     far : reach_at stock key ≡ reach n.series

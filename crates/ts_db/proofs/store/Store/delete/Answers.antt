@@ -8,7 +8,7 @@ use Rattle.ts_series.proofs.Effects.{cuts-is}
 use Rattle.ts_db.specs.declared.node.Node.{Node}
 use Rattle.ts_db.specs.declared.work.Work.TheVariants.{Delete}
 use Rattle.ts_db.specs.Planning.{changed_by, gone_by, rows_by_work, shares_of}
-use Rattle.ts_db.specs.Store.{key_in, kept_at, contents_of, Contents, IsNode}
+use Rattle.ts_db.specs.Store.{key_in, kept_node, contents_of, Contents, IsNode}
 use Rattle.ts_db.specs.Answering.{node_after}
 use Rattle.ts_db.proofs.Known.{distinct, links}
 use Rattle.ts_db.proofs.Destinations.{key-holds, destination-own}
@@ -96,7 +96,7 @@ returns-clause-deleted g c key n holds =
     subst (λ (x : Node). c.in-Ok.plan ≡ with_change c.in-Ok.plan (cuts c.args.from c.args.to (length (between c.args.from c.args.to (list_of x.series))))) it
     (cuts-is c.args.from c.args.to (length (between c.args.from c.args.to (list_of c.node-node.result.now.series))) c.in-Ok.plan c.in-Ok.ensures.cut) in
     let done = worked c.args.self.now c.requires.db key c.args.id n holds c.apply.new.self c.apply.ensures.elsewhere (rows_by_work work n.series) (gone_by work n.series)
-    (kept_at c.args.self.now.nodes (node_after c.in-Ok.plan None (Some c.in-Ok-plan_rules.planned.rules) n)) (contents_of c.feed.new.self) (c.apply.ensures.applied key n holds)
+    (kept_node c.args.self.now.nodes (node_after c.in-Ok.plan None (Some c.in-Ok-plan_rules.planned.rules) n)) (contents_of c.feed.new.self) (c.apply.ensures.applied key n holds)
     (c.feed.ensures.fed (rows_by_work work n.series) (gone_by work n.series) n.rules.items
     (still-fed c.args.self.now c.requires.db key c.args.id n holds c.apply.new.self c.apply.ensures.elsewhere (rows_by_work work n.series) (gone_by work n.series) c.in-Ok-plan_rules.planned.plans.items planned.fed)
     (distinct c.args.self.now n.rules.items (links c.args.self.now c.requires.db key c.args.id n holds).apart)) in (

@@ -6,7 +6,7 @@ use Rattle.ts_spec.specs.declared.series.Policy.{Policy}
 use Rattle.ts_spec.specs.declared.series.Merge.TheVariants.{By}
 use Rattle.ts_spec.specs.Kept.{Kept}
 use Rattle.ts_spec.specs.KeptStep.{KeptOutcome, kept_write}
-use Rattle.ts_db.specs.Store.{kept_at, stock_of, Holds}
+use Rattle.ts_db.specs.Store.{kept_node, stock_of, Holds}
 use Rattle.ts_db.specs.Answering.{KeptNumber}
 use Rattle.ts_db.specs.PutBy.{kept_put_by}
 use Rattle.ts_db.proofs.Applying.{there}
@@ -18,7 +18,7 @@ returns-clause-put g c key is =
     let holds : Holds c.args.self.now key c.args.id c.node-node.result.now = record { number = is; node = c.node-node.ensures } in
     subst (λ (o : Option Kept). KeptNumber (stock_of c.args.self.now) (kept_put_by c.args.self.now.limits (stock_of c.args.self.now).keys key c.args.time c.args.value c.args.on o) c.write.result (stock_of c.write.new.self))
     (sym (there c.args.self.now c.requires.db.store key c.args.id c.node-node.result.now holds))
-    (subst (λ (p : Policy). KeptNumber (stock_of c.args.self.now) (kept_write c.args.self.now.limits (stock_of c.args.self.now).keys key (kept_at c.args.self.now.nodes c.node-node.result.now) (By p) c.args.time c.args.value) c.write.result (stock_of c.write.new.self))
+    (subst (λ (p : Policy). KeptNumber (stock_of c.args.self.now) (kept_write c.args.self.now.limits (stock_of c.args.self.now).keys key (kept_node c.args.self.now.nodes c.node-node.result.now) (By p) c.args.time c.args.value) c.write.result (stock_of c.write.new.self))
     (c.unwrap_or.ensures ∙ ap (unwrap_or c.args.on) c.policy.ensures)
     (subst (λ (step : KeptOutcome). KeptNumber (stock_of c.args.self.now) step c.write.result (stock_of c.write.new.self))
     (sym (write-unignored c.args.self.now c.requires.db.store key c.args.id c.node-node.result.now holds c.args.time c.args.value (By c.unwrap_or.result) c.in_default.ensures))

@@ -9,13 +9,13 @@ use Rattle.ts_spec.specs.Rules.{Merged, Refuse, Keep, To}
 use Rattle.ts_spec.specs.declared.limits.Limits.{Limits}
 use Rattle.ts_spec.proofs.Tidy.{some-same}
 use Rattle.ts_series.specs.Plan.{Plan}
-use Rattle.ts_series.specs.Put.{Answers, met, sample_of}
+use Rattle.ts_series.specs.Put.{PutAnswers, met, sample_of}
 use Rattle.ts_db.specs.declared.node.Node.{Node}
 use Rattle.ts_db.specs.declared.work.Work.TheVariants.{Write}
 use Rattle.ts_db.specs.Faults.{refusal_of}
 use Rattle.ts_db.specs.Growing.{StaysOpen, kept_grown}
 use Rattle.ts_db.specs.Planning.{changed_by, gone_by, rows_by_work, AllTake, shares_of, AreEasyOf}
-use Rattle.ts_db.specs.Store.{key_in, kept_at, stock_of, contents_of, Contents, IsNode, IsDb, Holds}
+use Rattle.ts_db.specs.Store.{key_in, kept_node, stock_of, contents_of, Contents, IsNode, IsDb, Holds}
 use Rattle.ts_db.specs.Answering.{node_after, IsKeptAnswer}
 use Rattle.ts_db.proofs.Known.{takes, distinct, links}
 use Rattle.ts_db.proofs.Owning.{own-fault}
@@ -37,7 +37,7 @@ pub returns-in_default-sample-clause-written : goal.returns-in_default-sample-cl
 returns-in_default-sample-clause-written g c key n holds =
     let it : c.node-node.result.now ≡ n = some-same c.node-node.result.now n (sym c.node-node.ensures ∙ holds.node) in (
       refused-answers c.args.self.now c.requires.db key c.args.id n holds c.in-Err.fault (refusal_of (stock_of c.args.self.now).ids c.fault_at.result) (met c.args.how c.args.time c.args.value n.series) c.args.time (sym c.in_default-sample.ensures) (c.fault_at.ensures.refusal (stock_of c.args.self.now).ids)
-          (subst (λ (x : Node). Answers (met c.args.how c.args.time c.args.value x.series) c.args.self.now.limits.samples c.args.time x.series (Err c.in-Err.fault)) it c.in-Err.ensures.answer),
+          (subst (λ (x : Node). PutAnswers (met c.args.how c.args.time c.args.value x.series) c.args.self.now.limits.samples c.args.time x.series (Err c.in-Err.fault)) it c.in-Err.ensures.answer),
       refl,
     )
 
@@ -57,7 +57,7 @@ returns-in-Err-clause-written g c key n holds =
     let lost = c.in-Some-sample.lost in
     let p : IsUnwritten c.args.self.now.limits.samples (met c.args.how c.args.time c.args.value n.series) c.args.time n.series lost =
     unwritten-sample c.in-Err.fault (met c.args.how c.args.time c.args.value n.series) c.args.self.now.limits.samples c.args.time n.series lost
-    (subst (λ (x : Node). Answers (met c.args.how c.args.time c.args.value x.series) c.args.self.now.limits.samples c.args.time x.series (Err c.in-Err.fault)) it c.in-Err.ensures.answer) (sym c.in-Some-sample.ensures) in (
+    (subst (λ (x : Node). PutAnswers (met c.args.how c.args.time c.args.value x.series) c.args.self.now.limits.samples c.args.time x.series (Err c.in-Err.fault)) it c.in-Err.ensures.answer) (sym c.in-Some-sample.ensures) in (
       subst (λ (what : Merged). IsKeptAnswer (refusal_of (stock_of c.args.self.now).ids c.unplanned.result) (stock_of c.args.self.now).keys (kept_write_merged c.args.self.now.limits (stock_of c.args.self.now).keys key c.args.time what)) (sym p.sets)
           (unplanned-answers c.args.self.now c.requires.db key c.args.id n holds c.unplanned.result c.args.time p.value p.fits
           (unplanned-for c.args.self.now (Write lost) (Write (sample_of c.args.time p.value n.series)) c.node-node.result.now n c.deref-in-Err.result.now c.unplanned.result (ap (λ (q : Point). Write q) p.sample) it c.deref-in-Err.ensures.value c.unplanned.ensures.refused)),
@@ -73,7 +73,7 @@ returns-in-Err-clause-own g c key is =
 
 -- nothing is to be written
 
-unwritten : (plan : Plan) (what : Merged) (limits : Limits) (m : Keeping) (key : Key) (t : ℕ) (h : History) → Answers what limits.samples t h (Ok plan) → None ≡ first_of plan.wrote
+unwritten : (plan : Plan) (what : Merged) (limits : Limits) (m : Keeping) (key : Key) (t : ℕ) (h : History) → PutAnswers what limits.samples t h (Ok plan) → None ≡ first_of plan.wrote
     → kept_write_merged limits m key t what ≡ record { keys = m; response = Count t }
 unwritten plan (Refuse r) limits m key t h a none = absurd a
 unwritten plan Keep limits m key t h a none = refl
@@ -83,7 +83,7 @@ pub returns-in_default-wrote-clause-written : goal.returns-in_default-wrote-clau
 returns-in_default-wrote-clause-written g c key n holds =
     let it : c.node-node.result.now ≡ n = some-same c.node-node.result.now n (sym c.node-node.ensures ∙ holds.node) in (
       unwritten c.in-Ok.plan (met c.args.how c.args.time c.args.value n.series) c.args.self.now.limits (stock_of c.args.self.now).keys key c.args.time n.series
-          (subst (λ (x : Node). Answers (met c.args.how c.args.time c.args.value x.series) c.args.self.now.limits.samples c.args.time x.series (Ok c.in-Ok.plan)) it c.in-Ok.ensures.answer) c.in_default-wrote.ensures,
+          (subst (λ (x : Node). PutAnswers (met c.args.how c.args.time c.args.value x.series) c.args.self.now.limits.samples c.args.time x.series (Ok c.in-Ok.plan)) it c.in-Ok.ensures.answer) c.in_default-wrote.ensures,
       refl,
     )
 
@@ -99,7 +99,7 @@ returns-in-Err-plan_rules-clause-written g c key n holds =
     let it : c.node-node.result.now ≡ n = some-same c.node-node.result.now n (sym c.node-node.ensures ∙ holds.node) in
     let p : IsWritten c.args.self.now.limits.samples (met c.args.how c.args.time c.args.value n.series) c.args.time n.series c.in-Some-wrote.wrote c.in-Ok.plan =
     written-sample c.in-Ok.plan (met c.args.how c.args.time c.args.value n.series) c.args.self.now.limits.samples c.args.time n.series c.in-Some-wrote.wrote
-    (subst (λ (x : Node). Answers (met c.args.how c.args.time c.args.value x.series) c.args.self.now.limits.samples c.args.time x.series (Ok c.in-Ok.plan)) it c.in-Ok.ensures.answer) c.in-Some-wrote.ensures in (
+    (subst (λ (x : Node). PutAnswers (met c.args.how c.args.time c.args.value x.series) c.args.self.now.limits.samples c.args.time x.series (Ok c.in-Ok.plan)) it c.in-Ok.ensures.answer) c.in-Some-wrote.ensures in (
       subst (λ (what : Merged). IsKeptAnswer (refusal_of (stock_of c.args.self.now).ids c.in-Err-plan_rules.fault) (stock_of c.args.self.now).keys (kept_write_merged c.args.self.now.limits (stock_of c.args.self.now).keys key c.args.time what)) (sym p.sets)
           (unplanned-answers c.args.self.now c.requires.db key c.args.id n holds c.in-Err-plan_rules.fault c.args.time p.value p.writes.1
           (unplanned-for c.args.self.now (Write c.in-Some-wrote.wrote) (Write (sample_of c.args.time p.value n.series)) c.node-node.result.now n c.deref-2.result.now c.in-Err-plan_rules.fault (ap (λ (q : Point). Write q) p.sample) it c.deref-2.ensures.value c.in-Err-plan_rules.ensures.refused)),
@@ -148,18 +148,18 @@ returns-clause-written g c key n holds =
     let it : c.node-node.result.now ≡ n = some-same c.node-node.result.now n (sym c.node-node.ensures ∙ holds.node) in
     let p : IsWritten c.args.self.now.limits.samples (met c.args.how c.args.time c.args.value n.series) c.args.time n.series c.in-Some-wrote.wrote c.in-Ok.plan =
     written-sample c.in-Ok.plan (met c.args.how c.args.time c.args.value n.series) c.args.self.now.limits.samples c.args.time n.series c.in-Some-wrote.wrote
-    (subst (λ (x : Node). Answers (met c.args.how c.args.time c.args.value x.series) c.args.self.now.limits.samples c.args.time x.series (Ok c.in-Ok.plan)) it c.in-Ok.ensures.answer) c.in-Some-wrote.ensures in
+    (subst (λ (x : Node). PutAnswers (met c.args.how c.args.time c.args.value x.series) c.args.self.now.limits.samples c.args.time x.series (Ok c.in-Ok.plan)) it c.in-Ok.ensures.answer) c.in-Some-wrote.ensures in
     let work = Write (sample_of c.args.time p.value n.series) in
     let planned : ArePlanned c.args.self.now work n.series n.rules.items c.in-Ok-plan_rules.planned.rules.items c.in-Ok-plan_rules.planned.plans.items =
     planned-for c.args.self.now (Write c.in-Some-wrote.wrote) work c.node-node.result.now n c.deref-2.result.now c.in-Ok-plan_rules.planned.rules.items c.in-Ok-plan_rules.planned.plans.items (ap (λ (q : Point). Write q) p.sample) it c.deref-2.ensures.value
     (record { changed = c.in-Ok-plan_rules.ensures.rules; fed = c.in-Ok-plan_rules.ensures.fed; fit = c.in-Ok-plan_rules.ensures.fit }) in
     let done = worked c.args.self.now c.requires.db key c.args.id n holds c.apply.new.self c.apply.ensures.elsewhere (rows_by_work work n.series) (gone_by work n.series)
-    (kept_at c.args.self.now.nodes (node_after c.in-Ok.plan None (Some c.in-Ok-plan_rules.planned.rules) n)) (contents_of c.feed.new.self) (c.apply.ensures.applied key n holds)
+    (kept_node c.args.self.now.nodes (node_after c.in-Ok.plan None (Some c.in-Ok-plan_rules.planned.rules) n)) (contents_of c.feed.new.self) (c.apply.ensures.applied key n holds)
     (c.feed.ensures.fed (rows_by_work work n.series) (gone_by work n.series) n.rules.items
     (still-fed c.args.self.now c.requires.db key c.args.id n holds c.apply.new.self c.apply.ensures.elsewhere (rows_by_work work n.series) (gone_by work n.series) c.in-Ok-plan_rules.planned.plans.items planned.fed)
     (distinct c.args.self.now n.rules.items (links c.args.self.now c.requires.db key c.args.id n holds).apart)) in (
       subst (λ (what : Merged). kept_write_merged c.args.self.now.limits (stock_of c.args.self.now).keys key c.args.time what ≡ record { keys = (stock_of c.feed.new.self).keys; response = Count c.args.time }) (sym p.sets)
-          (planned-answers c.args.self.now c.requires.db key c.args.id n holds c.in-Ok.plan (kept_at c.args.self.now.nodes (node_after c.in-Ok.plan None (Some c.in-Ok-plan_rules.planned.rules) n)) c.args.time p.value (contents_of c.feed.new.self) p.writes
+          (planned-answers c.args.self.now c.requires.db key c.args.id n holds c.in-Ok.plan (kept_node c.args.self.now.nodes (node_after c.in-Ok.plan None (Some c.in-Ok-plan_rules.planned.rules) n)) c.args.time p.value (contents_of c.feed.new.self) p.writes
           (writes-after (key_in c.args.self.now.nodes) n c.in-Ok.plan c.in-Ok-plan_rules.planned.rules c.args.time p.value p.writes.0 planned.changed) planned.fit done),
       ap (λ (x : Contents). x.limits) done,
     )
@@ -194,7 +194,7 @@ returns-then-stays_open-clause-written g c key n holds =
     let it : c.node-node.result.now ≡ n = some-same c.node-node.result.now n (sym c.node-node.ensures ∙ holds.node) in
     let p : IsWritten c.args.self.now.limits.samples (met c.args.how c.args.time c.args.value n.series) c.args.time n.series c.sample-wrote.result c.in-Some.plan =
     written-sample c.in-Some.plan (met c.args.how c.args.time c.args.value n.series) c.args.self.now.limits.samples c.args.time n.series c.sample-wrote.result
-    (subst (λ (x : Node). Answers (met c.args.how c.args.time c.args.value x.series) c.args.self.now.limits.samples c.args.time x.series (Ok c.in-Some.plan)) it (c.in-Some.ensures.answer c.args.how)) (sym (ap (λ (q : Plan). first_of q.wrote) c.sample-wrote.ensures)) in
+    (subst (λ (x : Node). PutAnswers (met c.args.how c.args.time c.args.value x.series) c.args.self.now.limits.samples c.args.time x.series (Ok c.in-Some.plan)) it (c.in-Some.ensures.answer c.args.how)) (sym (ap (λ (q : Plan). first_of q.wrote) c.sample-wrote.ensures)) in
     let sample : Point = sample_of c.args.time p.value n.series in
     let open_there : StaysOpen n.series sample n.rules.items =
     open-for c.sample-wrote.result sample c.node-node.result.now n c.deref.result.now p.sample it c.deref.ensures.value (c.stays_open.ensures c.if-stays_open.true) in

@@ -3,7 +3,7 @@ use Rattle.std.specs.Prelude.{slice_set, Some}
 use Rattle.std.specs.VecDeque.{deque_len}
 use Rattle.ts_spec.specs.Sample.{IsAscending, last_of}
 use Rattle.ts_sample.specs.Chunk.{IsPast, Fits, joined}
-use Rattle.ts_series.specs.Held.{Held, AreKept, HasRoomFor, with_last}
+use Rattle.ts_series.specs.Stored.{Stored, AreKept, HasRoomFor, with_last}
 use Rattle.ts_series.proofs.Changed.{few-kept}
 use Rattle.ts_series.proofs.Appended.{map-last, map-same, room-last, list-taken, kept-last}
 use Rattle.ts_series.proofs.chunks.Chunks.append.Goals as goal
@@ -14,7 +14,7 @@ last-has-room : (g : _) (c : After-known g) → (length c.self.inside.chunks.ite
     × HasRoomFor g.C.Chunk.format (Some c.args.sample.now) (map g.C.Chunk.list c.self.inside.chunks.items) (map g.C.Chunk.most c.self.inside.chunks.items)
 last-has-room g c = (
   omega (arith, c.self.inside.chunks.ok.0, c.in-Some.ensures.variant.0 refl),
-  subst (λ (h : Held). HasRoomFor g.C.Chunk.format (Some c.args.sample.now) h.pieces h.limits) (sym c.self.view_is) c.requires.room,
+  subst (λ (h : Stored). HasRoomFor g.C.Chunk.format (Some c.args.sample.now) h.pieces h.limits) (sym c.self.view_is) c.requires.room,
 )
 
 -- it took the sample
@@ -39,7 +39,7 @@ kept-then g c =
     let p = c.args.sample.now in
     let chunks = c.self.inside.chunks in
     let open_last = last-has-room g c in
-    let up = subst (λ (h : Held). IsAscending (joined (with_last (Some p) h.pieces))) (sym c.self.view_is) c.requires.ascending in
+    let up = subst (λ (h : Stored). IsAscending (joined (with_last (Some p) h.pieces))) (sym c.self.view_is) c.requires.ascending in
     kept-last g.C.Chunk.format g.C.Chunk.list g.C.Chunk.most p (deque_len chunks - 1) chunks.items c.try_append-fits.new.self c.in-Some.last.now c.self.inside.count open_last.0
     (took g c) c.known.ensures open_last.1 up c.self.invariant
 
@@ -48,7 +48,7 @@ try_append-fits-requires g c =
     let p = c.args.sample.now in
     let chunks = c.self.inside.chunks in
     let long : length chunks.items ≡ suc (deque_len chunks - 1) = omega (arith, chunks.ok.0, c.in-Some.ensures.variant.0 refl) in
-    let room = subst (λ (h : Held). HasRoomFor g.C.Chunk.format (Some p) h.pieces h.limits) (sym c.self.view_is) c.requires.room in
+    let room = subst (λ (h : Stored). HasRoomFor g.C.Chunk.format (Some p) h.pieces h.limits) (sym c.self.view_is) c.requires.room in
     record {
       past = subst (λ k. IsPast (last_of (g.C.Chunk.list k)) p.time) (sym c.in-Some.ensures.value)
           (room-last g.C.Chunk.format g.C.Chunk.list g.C.Chunk.most p (deque_len chunks - 1) chunks.items c.in-Some.last.now long room).0;
@@ -68,10 +68,10 @@ returns-in-Some-clause-pieces g c =
     let chunks = c.self.inside.chunks in
     let known = (goal.at.returns-in-Some-clause-pieces g c).After-known in
     map-last g.C.Chunk.list p (deque_len chunks - 1) chunks.items c.try_append-fits.new.self c.in-Some.last.now (last-has-room g known).0 (took g known)
-    ∙ ap (λ (h : Held). with_last (Some p) h.pieces) c.self.view_is
+    ∙ ap (λ (h : Stored). with_last (Some p) h.pieces) c.self.view_is
 
 pub returns-in-Some-clause-limits : goal.returns-in-Some-clause-limits
 returns-in-Some-clause-limits g c =
     let chunks = c.self.inside.chunks in
     map-same g.C.Chunk.most (deque_len chunks - 1) chunks.items c.try_append-fits.new.self c.in-Some.last.now (c.try_append-fits.ensures.limit ∙ ap g.C.Chunk.most c.in-Some.ensures.value)
-    ∙ ap (λ (h : Held). h.limits) c.self.view_is
+    ∙ ap (λ (h : Stored). h.limits) c.self.view_is

@@ -1,7 +1,7 @@
 use Rattle.std.proofs.Common.{sym, subst}
 use Rattle.ts_spec.specs.Sample.{IsAscending}
 use Rattle.ts_sample.specs.Chunk.{joined}
-use Rattle.ts_series.specs.Held.{Change, replaced}
+use Rattle.ts_series.specs.Stored.{Change, replaced}
 use Rattle.ts_series.proofs.Appended.{ascending-before}
 use Rattle.ts_series.proofs.chunks.Chunks.apply.Goals as goal
 

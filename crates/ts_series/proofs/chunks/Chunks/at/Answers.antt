@@ -1,7 +1,7 @@
 use Rattle.std.proofs.Common.{◌≡◌, ◌≤◌, [], length, get_or, refl, sym, ◌∙◌, ap, subst, arith}
 use Rattle.ts_spec.specs.Sample.{IsAscending, at, between}
 use Rattle.ts_series.specs.declared.ends.Ends.{Ends}
-use Rattle.ts_series.specs.Held.{Held, points}
+use Rattle.ts_series.specs.Stored.{Stored, points}
 use Rattle.ts_series.proofs.Joined.{longest-at}
 use Rattle.ts_series.proofs.Answering.{IsPiece, pieces-length, piece, at-piece, get-past, not-less}
 use Rattle.ts_series.proofs.OneChunk.{few, room-for, ends-last, at-last}
@@ -11,7 +11,7 @@ use Rattle.ts_series.proofs.chunks.Chunks.at.Goals.{After-before-2, After-new-en
 -- the sample is in the chunk at the place, if there is one
 there : (g : _) (c : After-before-2 g) → at c.args.time (points c.args.self.now) ≡ at c.args.time (get_or c.args.self.now.pieces c.before-2.result [])
 there g c =
-    let rises : IsAscending (points c.args.self.now) = subst (λ (k : Held). IsAscending (points k)) c.self.view_is c.self.invariant.ascending in
+    let rises : IsAscending (points c.args.self.now) = subst (λ (k : Stored). IsAscending (points k)) c.self.view_is c.self.invariant.ascending in
     at-piece c.args.time c.before-2.result c.args.self.now.pieces rises c.before-2.ensures.earlier c.before-2.ensures.reached
 
 one : (g : _) (c : After-new-ends g) → IsPiece g.C.Chunk.format c.args.self.now c.before-2.result (g.C.Chunk.list c.in_ok-chunk.chunk.now)

@@ -3,7 +3,7 @@ use Rattle.std.specs.Prelude.{nat_le}
 use Rattle.std.proofs.lemmas.List.Sorted.{IsPartitionPoint-from_clause}
 use Rattle.ts_spec.specs.Sample.{last_of, at_times}
 use Rattle.ts_sample.specs.Chunk.{joined}
-use Rattle.ts_series.specs.Held.{Held, IsTrimmed}
+use Rattle.ts_series.specs.Stored.{Stored, IsTrimmed}
 use Rattle.ts_series.proofs.EarlyLate.{is_before}
 use Rattle.ts_series.proofs.Meeting.{ends-parted, earlier, reached}
 use Rattle.ts_series.proofs.chunks.Chunks.before.Goals as goal
@@ -20,8 +20,8 @@ returns g c =
     parted (λ a r f h. search rules) in
     record {
       within = omega (arith, c.partition_point.ensures.bound, pieces-length g.C.Chunk.list cs _ _ c.args.self.now c.self.view_is);
-      earlier = subst (λ (k : Held). at_times (nat_le c.args.time) (joined (take i k.pieces)) ≡ []) c.self.view_is
+      earlier = subst (λ (k : Stored). at_times (nat_le c.args.time) (joined (take i k.pieces)) ≡ []) c.self.view_is
           (earlier g.C.Chunk.format g.C.Chunk.list cs (map g.C.Chunk.most cs) kept.chunks kept.ascending c.args.time i point (omega (arith, c.partition_point.ensures.bound)));
-      reached = subst (λ (k : Held). IsTrimmed c.args.time (drop i k.pieces)) c.self.view_is
+      reached = subst (λ (k : Stored). IsTrimmed c.args.time (drop i k.pieces)) c.self.view_is
           (reached g.C.Chunk.format g.C.Chunk.list cs (map g.C.Chunk.most cs) kept.chunks kept.ascending c.args.time i point);
     }

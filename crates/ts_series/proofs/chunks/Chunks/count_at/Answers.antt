@@ -1,5 +1,5 @@
 use Rattle.std.proofs.Common.{sym, ◌∙◌, ap}
-use Rattle.ts_series.specs.Held.{points}
+use Rattle.ts_series.specs.Stored.{points}
 use Rattle.ts_series.proofs.PlannedPieces.{kept-view}
 use Rattle.ts_series.proofs.OneRow.{count-at, found}
 use Rattle.ts_series.proofs.chunks.Chunks.count_at.Goals as goal

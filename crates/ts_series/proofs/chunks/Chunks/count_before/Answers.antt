@@ -2,7 +2,7 @@ use Rattle.std.proofs.Common.{◌≡◌, ◌+◌, ◌≤◌, length, take, sym, 
 use Rattle.std.specs.Prelude.{nat_lt}
 use Rattle.ts_spec.specs.Sample.{IsAscending}
 use Rattle.ts_sample.specs.Chunk.{joined}
-use Rattle.ts_series.specs.Held.{Held, points}
+use Rattle.ts_series.specs.Stored.{Stored, points}
 use Rattle.ts_series.proofs.Counting.{times-length}
 use Rattle.ts_series.proofs.Answering.{pieces-length, piece, length-before, all-before}
 use Rattle.ts_series.proofs.chunks.Chunks.count_before.Goals as goal
@@ -30,7 +30,7 @@ loop-earlier-preserved g c =
     sum
 
 rises : (g : _) (c : After-len g) → IsAscending (points c.args.self.now)
-rises g c = subst (λ (k : Held). IsAscending (points k)) c.self.view_is c.self.invariant.ascending
+rises g c = subst (λ (k : Stored). IsAscending (points k)) c.self.view_is c.self.invariant.ascending
 
 pub overflow_add-result : goal.overflow_add-result
 overflow_add-result g c =

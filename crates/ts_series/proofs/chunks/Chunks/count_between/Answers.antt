@@ -1,5 +1,5 @@
 use Rattle.std.proofs.Common.{◌∙◌}
-use Rattle.ts_series.specs.Held.{points}
+use Rattle.ts_series.specs.Stored.{points}
 use Rattle.ts_series.proofs.IntervalCount.{between-count}
 use Rattle.ts_series.proofs.NewChunks.{fine-joined}
 use Rattle.ts_series.proofs.PlannedPieces.{kept-view}

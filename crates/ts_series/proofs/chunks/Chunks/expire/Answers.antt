@@ -2,7 +2,7 @@ use Rattle.std.proofs.Common.{◌≡◌, ◌-◌, nat_le, List, ◌∷◌, lengt
 use Rattle.std.proofs.lemmas.List.{length-map}
 use Rattle.ts_spec.specs.Sample.{Point, at_times}
 use Rattle.ts_sample.specs.Chunk.{joined}
-use Rattle.ts_series.specs.Held.{Held, AreAmong, AreKept, IsTrimmed}
+use Rattle.ts_series.specs.Stored.{Stored, AreAmong, AreKept, IsTrimmed}
 use Rattle.ts_series.proofs.Expired.{kept-past, kept-rest}
 use Rattle.ts_series.proofs.Limits.{among-self}
 use Rattle.ts_series.proofs.chunks.Chunks.expire.Goals as goal
@@ -22,17 +22,17 @@ loop-self-preserved-in-Some g c =
     let edge = c.args.edge in
     let before = c.self.inside.chunks in
     let after = c.pop_front.new.self in
-    let pieces : map g.C.Chunk.list (c.in-Some.chunk ∷ after.items) ≡ c.loop-self.self.pieces = ap (map g.C.Chunk.list) (sym c.in-Some.ensures.items) ∙ ap (λ (h : Held). h.pieces) c.self.view_is in
+    let pieces : map g.C.Chunk.list (c.in-Some.chunk ∷ after.items) ≡ c.loop-self.self.pieces = ap (map g.C.Chunk.list) (sym c.in-Some.ensures.items) ∙ ap (λ (h : Stored). h.pieces) c.self.view_is in
     let gone = subst (λ (pss : List (List Point)). ¬ IsTrimmed edge pss) (sym pieces) (c.has_expired.ensures.expired c.loop-self-test.true) in
     record {
       kept = kept-past g.C.Chunk.list edge c.in-Some.chunk after.items gone ∙ ap (λ (pss : List (List Point)). at_times (nat_le edge) (joined pss)) pieces ∙ c.loop-self.invariant.kept;
-      limits = λ one. (subst (AreAmong one c.args.self.now.limits) (ap (λ (h : Held). h.limits) (sym c.self.view_is) ∙ ap (map g.C.Chunk.most) c.in-Some.ensures.items)
+      limits = λ one. (subst (AreAmong one c.args.self.now.limits) (ap (λ (h : Stored). h.limits) (sym c.self.view_is) ∙ ap (map g.C.Chunk.most) c.in-Some.ensures.items)
           (c.loop-self.invariant.limits one)).1;
       room = omega (
         arith,
         c.loop-self.invariant.room,
-        ap (λ (h : Held). length h.pieces) c.self.view_is,
-        ap (λ (h : Held). h.room) c.self.view_is,
+        ap (λ (h : Stored). length h.pieces) c.self.view_is,
+        ap (λ (h : Stored). h.room) c.self.view_is,
         length-map before.items g.C.Chunk.list,
         length-map after.items g.C.Chunk.list,
         before.ok.0,

@@ -1,6 +1,6 @@
 use Rattle.std.proofs.Common.{◌≡◌, ℕ, ◌+◌, nat_le, length}
 use Rattle.ts_spec.specs.Sample.{at_times}
-use Rattle.ts_series.specs.Held.{points, AreAmong}
+use Rattle.ts_series.specs.Stored.{points, AreAmong}
 use Rattle.ts_series.proofs.chunks.Chunks.expire.Given as goal
 
 -- the samples from the edge on stay, no limit comes, and the places for chunks stay

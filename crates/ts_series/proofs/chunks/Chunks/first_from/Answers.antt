@@ -2,7 +2,7 @@ use Rattle.std.proofs.Common.{◌≡◌, ◌≤◌, List, length, get_or, refl, 
 use Rattle.std.specs.Prelude.{nat_le}
 use Rattle.ts_spec.specs.Sample.{Point, IsAscending, at_times, between, first_of}
 use Rattle.ts_series.specs.declared.ends.Ends.{Ends}
-use Rattle.ts_series.specs.Held.{Held, points}
+use Rattle.ts_series.specs.Stored.{Stored, points}
 use Rattle.ts_series.proofs.Joined.{longest-at}
 use Rattle.ts_series.proofs.Answering.{IsPiece, pieces-length, piece, first-late, none-late, not-less}
 use Rattle.ts_series.proofs.OneChunk.{few, room-for, ends-first, all-late, late-is, empty-first}
@@ -18,7 +18,7 @@ one g c =
 -- the first sample is the first one of the chunk at the place
 there : (g : _) (c : After-first g) → first_of (at_times (nat_le c.args.time) (points c.args.self.now)) ≡ first_of (at_times (nat_le c.args.time) (g.C.Chunk.list c.in_ok-chunk.chunk.now))
 there g c =
-    let rises : IsAscending (points c.args.self.now) = subst (λ (k : Held). IsAscending (points k)) c.self.view_is c.self.invariant.ascending in
+    let rises : IsAscending (points c.args.self.now) = subst (λ (k : Stored). IsAscending (points k)) c.self.view_is c.self.invariant.ascending in
     let b = c.before-2.ensures in
     let it = one g c in
     first-late c.args.time c.before-2.result c.args.self.now.pieces rises b.earlier b.reached it.within ∙ ap (λ (ps : List Point). first_of (at_times (nat_le c.args.time) ps)) (sym it.here)
@@ -27,7 +27,7 @@ pub returns-in_err-chunk-clause-first : goal.returns-in_err-chunk-clause-first
 returns-in_err-chunk-clause-first g c =
     let pss = c.args.self.now.pieces in
     let place = c.before-2.result in
-    let rises : IsAscending (points c.args.self.now) = subst (λ (k : Held). IsAscending (points k)) c.self.view_is c.self.invariant.ascending in
+    let rises : IsAscending (points c.args.self.now) = subst (λ (k : Stored). IsAscending (points k)) c.self.view_is c.self.invariant.ascending in
     let b = c.before-2.ensures in
     let ok = c.self.inside.chunks.ok in
     let past : length pss ≤ place = omega (arith, not-less place c.self.inside.chunks.len c.in_err-chunk.ensures.variant.1, pieces-length g.C.Chunk.list c.self.inside.chunks.items _ _ c.args.self.now c.self.view_is) in

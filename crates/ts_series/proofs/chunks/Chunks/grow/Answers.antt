@@ -1,6 +1,6 @@
 use Rattle.std.proofs.Common.{◌≡◌, [], ◌++◌, map, sym, ◌∙◌, ap, subst, arith, append-nil}
 use Rattle.std.proofs.lemmas.List.{nil_from_length}
-use Rattle.ts_series.specs.Held.{AreKept}
+use Rattle.ts_series.specs.Stored.{AreKept}
 use Rattle.ts_series.proofs.chunks.Chunks.grow.Goals as goal
 
 pub invariant_of-self : goal.invariant_of-self

@@ -4,7 +4,7 @@ use Rattle.std.specs.VecDeque.{deque_len}
 use Rattle.ts_spec.specs.Sample.{Point, IsAscending}
 use Rattle.ts_sample.specs.Chunk.{joined}
 use Rattle.ts_sample.proofs.Lists.{ascending-left}
-use Rattle.ts_series.specs.Held.{Held, IsTrimmed}
+use Rattle.ts_series.specs.Stored.{Stored, IsTrimmed}
 use Rattle.ts_series.proofs.Expired.{begins-with, none-last, none-kept, last-kept}
 use Rattle.ts_series.proofs.chunks.Chunks.has_expired.Goals as goal
 use Rattle.ts_series.proofs.chunks.Chunks.has_expired.Goals.{In-Some}
@@ -14,7 +14,7 @@ first : (g : _) (c : In-Some g) → c.self.inside.chunks.items ≡ c.in-Some.chu
 first g c = begins-with c.self.inside.chunks.items (deque_len c.self.inside.chunks) c.in-Some.chunk.now c.self.inside.chunks.ok.0 (c.in-Some.ensures.variant.0 refl) c.in-Some.ensures.lookup
 
 pieces : (g : _) (c : In-Some g) → c.args.self.now.pieces ≡ g.C.Chunk.list c.in-Some.chunk.now ∷ map g.C.Chunk.list (drop 1 c.self.inside.chunks.items)
-pieces g c = sym (ap (λ (h : Held). h.pieces) c.self.view_is) ∙ ap (map g.C.Chunk.list) (first g c)
+pieces g c = sym (ap (λ (h : Stored). h.pieces) c.self.view_is) ∙ ap (map g.C.Chunk.list) (first g c)
 
 pub returns-in-None-last-clause-expired : goal.returns-in-None-last-clause-expired
 returns-in-None-last-clause-expired g c =

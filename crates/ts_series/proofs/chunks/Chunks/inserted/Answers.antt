@@ -1,7 +1,7 @@
 use Rattle.std.proofs.Common.{◌+◌, length, map, refl, ap, arith}
 use Rattle.std.proofs.lemmas.List.{length-map}
 use Rattle.ts_spec.specs.Sample.{Point}
-use Rattle.ts_series.specs.Held.{Held}
+use Rattle.ts_series.specs.Stored.{Stored}
 use Rattle.ts_series.proofs.PlannedPieces.{IsOne, kept-view, one-at, piece-short, with-it, place-in, inserted-list, inserted-ready}
 use Rattle.ts_series.proofs.chunks.Chunks.inserted.Goals as goal
 use Rattle.ts_series.proofs.chunks.Chunks.inserted.Goals.{After-upsert}
@@ -12,7 +12,7 @@ index-requires g c =
     let ok = c.self.inside.chunks.ok in
     let inside = place-in c.args.self.now (kept-view g.C.Chunk.format _ c.args.self.now c.self.inside.count c.self.view_is c.self.invariant) c.args.sample.now (ap (λ (p : Point). p.time) c.sample.view_is)
     c.requires.late b.within b.earlier b.reached in
-    omega (arith, inside, length-map c.self.inside.chunks.items g.C.Chunk.list, ap (λ (k : Held). length k.pieces) c.self.view_is)
+    omega (arith, inside, length-map c.self.inside.chunks.items g.C.Chunk.list, ap (λ (k : Stored). length k.pieces) c.self.view_is)
 
 -- the chunk that the sample goes into
 one : (g : _) (c : After-upsert g) → IsOne g.C.Chunk.format g.C.Chunk.list g.C.Chunk.most c.args.self.now c.before-place.result c.index.result.now

@@ -1,5 +1,5 @@
 use Rattle.std.proofs.Common.{◌-◌, ◌≤◌, ◌∙◌, length, map, sym, arith}
-use Rattle.ts_series.specs.Held.{longest}
+use Rattle.ts_series.specs.Stored.{longest}
 use Rattle.ts_series.proofs.NewChunks.{longest-cut}
 use Rattle.ts_series.proofs.PlannedPieces.{IsOne, one-at, piece-short, without-it, both-new, both-short}
 use Rattle.ts_series.proofs.TakenOut.{left-one, left-two}

@@ -1,12 +1,12 @@
 use Rattle.std.proofs.Common.{subst}
 use Rattle.ts_spec.specs.Sample.{IsAscending}
-use Rattle.ts_series.specs.Held.{Held, points}
+use Rattle.ts_series.specs.Stored.{Stored, points}
 use Rattle.ts_series.proofs.Meeting.{meets, all-meet}
 use Rattle.ts_series.proofs.chunks.Chunks.meeting.Goals as goal
 
 pub returns : goal.returns
 returns g c =
-    let rises : IsAscending (points c.args.self.now) = subst (λ (k : Held). IsAscending (points k)) c.self.view_is c.self.invariant.ascending in
+    let rises : IsAscending (points c.args.self.now) = subst (λ (k : Stored). IsAscending (points k)) c.self.view_is c.self.invariant.ascending in
     let b = c.before-start.ensures in
     let u = c.upto.ensures in
     record {

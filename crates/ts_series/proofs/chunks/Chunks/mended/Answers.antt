@@ -2,7 +2,7 @@ use Rattle.std.proofs.Common.{◌≡◌, List, ap, sym, subst, ◌∙◌, arith}
 use Rattle.std.specs.Prelude.{IfOk}
 use Rattle.ts_spec.specs.Sample.{Point, outside, put_all}
 use Rattle.ts_sample.specs.Chunk.{joined}
-use Rattle.ts_series.specs.Held.{points, pieces_after}
+use Rattle.ts_series.specs.Stored.{points, pieces_after}
 use Rattle.ts_series.specs.Plan.{AreWithin}
 use Rattle.ts_series.proofs.MendedPieces.{alone-is}
 use Rattle.ts_series.proofs.OneRow.{row-at-its-time}

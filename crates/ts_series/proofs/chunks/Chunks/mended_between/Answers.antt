@@ -2,7 +2,7 @@ use Rattle.std.proofs.Common.{◌≡◌, ◌-◌, ◌∙◌, length, sym, ap, su
 use Rattle.std.specs.Prelude.{List, IfOk, nat_le, slice_range}
 use Rattle.ts_spec.specs.Sample.{Point, IsAfter, IsAscending, at_times, between, outside, put_all}
 use Rattle.ts_sample.specs.Chunk.{joined}
-use Rattle.ts_series.specs.Held.{points, pieces_after}
+use Rattle.ts_series.specs.Stored.{points, pieces_after}
 use Rattle.ts_series.proofs.PlannedPieces.{kept-view}
 use Rattle.ts_series.proofs.TakenOut.{kept-less, count-removed}
 use Rattle.ts_series.proofs.MendedPieces.{left-past, left-rises, rows-placed, placed-rises}

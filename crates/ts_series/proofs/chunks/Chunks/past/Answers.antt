@@ -1,7 +1,7 @@
 use Rattle.std.proofs.Common.{◌≡◌, ◌∙◌, length, sym, ap, arith}
 use Rattle.std.specs.Prelude.{slice_range}
 use Rattle.std.proofs.lemmas.List.{length-map}
-use Rattle.ts_series.specs.Held.{Held}
+use Rattle.ts_series.specs.Stored.{Stored}
 use Rattle.ts_series.proofs.PlannedPieces.{past-chunk, into-list, into-ready, new-list, new-ready, new-limits}
 use Rattle.ts_series.proofs.chunks.Chunks.past.Goals as goal
 use Rattle.ts_series.proofs.chunks.Chunks.past.Goals.{After-new-chunks}
@@ -9,7 +9,7 @@ use Rattle.ts_series.proofs.chunks.Chunks.past.Goals.{After-new-chunks}
 size : (g : _) (c : After-new-chunks g) → c.len-end.result ≡ length c.args.self.now.pieces
 size g c =
     let ok = c.self.inside.chunks.ok in
-    omega (arith, length-map c.self.inside.chunks.items g.C.Chunk.list, ap (λ (k : Held). length k.pieces) c.self.view_is, c.len-end.ensures)
+    omega (arith, length-map c.self.inside.chunks.items g.C.Chunk.list, ap (λ (k : Stored). length k.pieces) c.self.view_is, c.len-end.ensures)
 
 pub fits-requires : goal.fits-requires
 fits-requires g c =

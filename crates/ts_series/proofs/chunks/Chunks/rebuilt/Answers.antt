@@ -3,7 +3,7 @@ use Rattle.std.specs.Prelude.{List, IfOk, slice_range}
 use Rattle.std.proofs.lemmas.List.{length-map}
 use Rattle.ts_spec.specs.Sample.{Point, IsAscending}
 use Rattle.ts_sample.specs.Chunk.{joined}
-use Rattle.ts_series.specs.Held.{Held, pieces_after}
+use Rattle.ts_series.specs.Stored.{Stored, pieces_after}
 use Rattle.ts_series.proofs.NewChunks.{among-one, among-all}
 use Rattle.ts_series.proofs.PlannedPieces.{ready-none}
 use Rattle.ts_series.proofs.MendedPieces.{alone-is, samples-rise, same-samples, one-past, one-put}
@@ -13,7 +13,7 @@ pub past-requires-clause-past : goal.past-requires-clause-past
 past-requires-clause-past g c =
     let now = c.args.self.now in
     let cs = c.self.inside.chunks in
-    let size : c.len.result ≡ length now.pieces = omega (arith, c.len.ensures, cs.ok.0, length-map cs.items g.C.Chunk.list, ap (λ (h : Held). length h.pieces) c.self.view_is) in
+    let size : c.len.result ≡ length now.pieces = omega (arith, c.len.ensures, cs.ok.0, length-map cs.items g.C.Chunk.list, ap (λ (h : Stored). length h.pieces) c.self.view_is) in
     let one = alone-is c.args.samples.now c.sample-item.result c.in-len1.len_at_least c.in-len1.len_below c.sample-item.is in
     one-past c.args.start c.args.end now.pieces c.args.samples.now c.sample-item.result (c.if-end-len.true ∙ size) one c.requires.ascending
 
@@ -21,7 +21,7 @@ pub returns-in-len1-clause-list : goal.returns-in-len1-clause-list
 returns-in-len1-clause-list g c =
     let now = c.args.self.now in
     let cs = c.self.inside.chunks in
-    let size : c.len.result ≡ length now.pieces = omega (arith, c.len.ensures, cs.ok.0, length-map cs.items g.C.Chunk.list, ap (λ (h : Held). length h.pieces) c.self.view_is) in
+    let size : c.len.result ≡ length now.pieces = omega (arith, c.len.ensures, cs.ok.0, length-map cs.items g.C.Chunk.list, ap (λ (h : Stored). length h.pieces) c.self.view_is) in
     let one = alone-is c.args.samples.now c.sample-item.result c.in-len1.len_at_least c.in-len1.len_below c.sample-item.is in
     subst (λ (l : List Point). IfOk c.past.result (λ k. joined (pieces_after k now.pieces) ≡ l))
     (one-put c.args.start c.args.end now.pieces c.args.samples.now c.sample-item.result (c.if-end-len.true ∙ size) one c.requires.ascending) c.past.ensures.list

@@ -2,7 +2,7 @@ use Rattle.std.proofs.Common.{◌≡◌, ◌+◌, ◌≤◌, length, map, sym, �
 use Rattle.std.specs.Prelude.{None, Option}
 use Rattle.ts_spec.specs.Sample.{Point, IsAscending, put}
 use Rattle.ts_sample.specs.Chunk.{joined}
-use Rattle.ts_series.specs.Held.{Change, points, pieces_after, replaced, with_last}
+use Rattle.ts_series.specs.Stored.{Change, points, pieces_after, replaced, with_last}
 use Rattle.ts_series.proofs.PlannedPieces.{kept-view}
 use Rattle.ts_series.proofs.PieceCounts.{joined-same}
 use Rattle.ts_series.proofs.Changed.{few-new, count-changed}

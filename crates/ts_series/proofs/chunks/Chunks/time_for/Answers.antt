@@ -2,7 +2,7 @@ use Rattle.std.proofs.Common.{◌≡◌, suc, ◌+◌, ◌≤◌, ◌∙◌, [],
 use Rattle.std.specs.Prelude.{min}
 use Rattle.ts_spec.specs.Sample.{Point, IsAscending, last_of}
 use Rattle.ts_sample.specs.Chunk.{joined}
-use Rattle.ts_series.specs.Held.{Held, points}
+use Rattle.ts_series.specs.Stored.{Stored, points}
 use Rattle.ts_series.proofs.PieceCounts.{counted-item, counted-part}
 use Rattle.ts_series.proofs.Answering.{pieces-length, piece}
 use Rattle.ts_series.proofs.TimeFor.{counted-from, last-from, earlier-end}
@@ -15,7 +15,7 @@ more : (g : _) (c : After-index-chunk g) → length (joined (take (c.loop-place.
 more g c =
     let i = c.loop-place.place in
     let size = pieces-length g.C.Chunk.list c.self.inside.chunks.items _ _ c.args.self.now c.self.view_is in
-    counted-item g.C.Chunk.list i (i + 1) c.self.inside.chunks.items c.args.self.now.pieces c.index-chunk.result.now (ap (λ (k : Held). k.pieces) c.self.view_is)
+    counted-item g.C.Chunk.list i (i + 1) c.self.inside.chunks.items c.args.self.now.pieces c.index-chunk.result.now (ap (λ (k : Stored). k.pieces) c.self.view_is)
     (omega (arith, size, c.loop-place-test.true, c.len-place-end.ensures)) c.index-chunk.ensures (omega arith)
 
 pub overflow_add-found : goal.overflow_add-found
@@ -40,7 +40,7 @@ returns-in-Some g c =
     let i = c.loop-place.place in
     let later = c.begun_before-start.ensures.later in
     let start : c.begun_before-start.result ≤ i = omega (arith, c.loop-place.auto.place) in
-    let rises : IsAscending (points c.args.self.now) = subst (λ (k : Held). IsAscending (points k)) c.self.view_is c.self.invariant.ascending in
+    let rises : IsAscending (points c.args.self.now) = subst (λ (k : Stored). IsAscending (points k)) c.self.view_is c.self.invariant.ascending in
     let last = last-is g at.After-last ∙ c.in-Some.is in
     let low = last-from c.args.from c.in-Some.last c.begun_before-start.result i pss start later last in
     let all = counted-from c.args.from c.in-Some.last c.begun_before-start.result i pss start rises later last in

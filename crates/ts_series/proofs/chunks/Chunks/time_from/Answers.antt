@@ -2,7 +2,7 @@ use Rattle.std.proofs.Common.{◌≡◌, ◌-◌, ◌+◌, ◌<◌, [], length, 
 use Rattle.std.specs.Prelude.{max}
 use Rattle.ts_spec.specs.Sample.{Point, IsAscending, first_of}
 use Rattle.ts_sample.specs.Chunk.{joined}
-use Rattle.ts_series.specs.Held.{Held, points}
+use Rattle.ts_series.specs.Stored.{Stored, points}
 use Rattle.ts_series.proofs.PieceCounts.{counted-item, counted-part}
 use Rattle.ts_series.proofs.Answering.{pieces-length, piece}
 use Rattle.ts_series.proofs.TimeFrom.{counted-upto, first-upto, later-start}
@@ -15,7 +15,7 @@ more : (g : _) (c : After-index-chunk g) → length (joined (take c.loop-place.p
 more g c =
     let i = c.loop-place.place in
     let size = pieces-length g.C.Chunk.list c.self.inside.chunks.items _ _ c.args.self.now c.self.view_is in
-    counted-item g.C.Chunk.list (i - 1) i c.self.inside.chunks.items c.args.self.now.pieces c.index-chunk.result.now (ap (λ (k : Held). k.pieces) c.self.view_is)
+    counted-item g.C.Chunk.list (i - 1) i c.self.inside.chunks.items c.args.self.now.pieces c.index-chunk.result.now (ap (λ (k : Stored). k.pieces) c.self.view_is)
     (omega (arith, size, c.loop-place.auto.place, c.ended_by-end.ensures.within)) c.index-chunk.ensures (omega arith)
 
 pub overflow_add-found : goal.overflow_add-found
@@ -41,7 +41,7 @@ returns-in-Some g c =
     let i = c.loop-place.place - 1 in
     let first = first-is g at.After-first ∙ c.in-Some.is in
     let less : i < c.ended_by-end.result = omega (arith, c.loop-place.auto.place) in
-    let rises : IsAscending (points c.args.self.now) = subst (λ (k : Held). IsAscending (points k)) c.self.view_is c.self.invariant.ascending in
+    let rises : IsAscending (points c.args.self.now) = subst (λ (k : Stored). IsAscending (points k)) c.self.view_is c.self.invariant.ascending in
     let high = first-upto c.args.to c.in-Some.first i c.ended_by-end.result pss less c.ended_by-end.ensures.earlier first in
     let all = counted-upto c.args.to c.in-Some.first i c.ended_by-end.result pss less rises c.ended_by-end.ensures.earlier first in
     let start : c.max.result ≡ max c.in-Some.first.time c.args.from = omega (arith, c.max.ensures, ap (λ (p : Point). p.time) c.first-in-Some.view_is) in

@@ -3,7 +3,7 @@ use Rattle.std.specs.Prelude.{nat_le}
 use Rattle.std.proofs.lemmas.List.Sorted.{IsPartitionPoint-from_clause}
 use Rattle.ts_spec.specs.Sample.{first_of, at_times}
 use Rattle.ts_sample.specs.Chunk.{joined}
-use Rattle.ts_series.specs.Held.{Held, HaveBegun}
+use Rattle.ts_series.specs.Stored.{Stored, HaveBegun}
 use Rattle.ts_series.proofs.EarlyLate.{is_upto}
 use Rattle.ts_series.proofs.Meeting.{begins-parted, later, begun}
 use Rattle.ts_series.proofs.chunks.Chunks.upto.Goals as goal
@@ -20,8 +20,8 @@ returns g c =
     parted (λ a r f h. search rules) in
     record {
       within = omega (arith, c.partition_point.ensures.bound, pieces-length g.C.Chunk.list cs _ _ c.args.self.now c.self.view_is);
-      later = subst (λ (k : Held). at_times (λ t. nat_le t c.args.time) (joined (drop i k.pieces)) ≡ []) c.self.view_is
+      later = subst (λ (k : Stored). at_times (λ t. nat_le t c.args.time) (joined (drop i k.pieces)) ≡ []) c.self.view_is
           (later g.C.Chunk.format g.C.Chunk.list cs (map g.C.Chunk.most cs) kept.chunks kept.ascending c.args.time i point);
-      begun = subst (λ (k : Held). HaveBegun c.args.time (take i k.pieces)) c.self.view_is
+      begun = subst (λ (k : Stored). HaveBegun c.args.time (take i k.pieces)) c.self.view_is
           (begun g.C.Chunk.format g.C.Chunk.list cs (map g.C.Chunk.most cs) kept.chunks kept.ascending c.args.time i point (omega (arith, c.partition_point.ensures.bound)));
     }

@@ -1,7 +1,7 @@
 use Rattle.std.proofs.Common.{sym, ap, subst, ◌∙◌}
 use Rattle.ts_spec.specs.Sample.{Point, last_of}
 use Rattle.ts_sample.specs.Chunk.{IsPast}
-use Rattle.ts_series.specs.Held.{points}
+use Rattle.ts_series.specs.Stored.{points}
 use Rattle.ts_series.proofs.PlannedPieces.{kept-view}
 use Rattle.ts_series.proofs.OneRow.{count-at, found}
 use Rattle.ts_series.proofs.Putting.{at-past}

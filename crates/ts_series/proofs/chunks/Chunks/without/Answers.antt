@@ -3,7 +3,7 @@ use Rattle.std.specs.Prelude.{not, slice_range}
 use Rattle.ts_spec.specs.Sample.{IsAscending, is_within, outside}
 use Rattle.ts_spec.proofs.Samples.{ascending-times}
 use Rattle.ts_sample.specs.Chunk.{joined}
-use Rattle.ts_series.specs.Held.{points}
+use Rattle.ts_series.specs.Stored.{points}
 use Rattle.ts_series.proofs.PlannedPieces.{kept-view, ready-none}
 use Rattle.ts_series.proofs.TakenOut.{kept-less, joined-without, count-removed}
 use Rattle.ts_series.proofs.PieceCounts.{joined-same}

@@ -5,7 +5,7 @@ use Rattle.ts_spec.specs.declared.series.Options.{Options}
 use Rattle.ts_spec.specs.State.{edge_of}
 use Rattle.ts_spec.specs.Sample.{at_times}
 use Rattle.ts_sample.specs.Chunk.{joined}
-use Rattle.ts_series.specs.Held.{pieces_after}
+use Rattle.ts_series.specs.Stored.{pieces_after}
 use Rattle.ts_series.specs.History.{History, limit_for, list_of}
 use Rattle.ts_series.specs.Plan.{Plan, places_for}
 use Rattle.ts_series.proofs.Ready.{is-for}

@@ -1,6 +1,6 @@
 use Rattle.std.proofs.Common.{◌∙◌, ap, arith}
 use Rattle.ts_spec.specs.Sample.{at}
-use Rattle.ts_series.specs.Held.{points}
+use Rattle.ts_series.specs.Stored.{points}
 use Rattle.ts_series.proofs.EdgeQuestions.{shown, at-from, at-below}
 use Rattle.ts_series.proofs.line.Line.at.Goals as goal
 

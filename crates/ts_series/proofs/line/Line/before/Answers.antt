@@ -1,6 +1,6 @@
 use Rattle.std.proofs.Common.{nat_lt, sym, ◌∙◌, ap, arith}
 use Rattle.ts_spec.specs.Sample.{Point, at_times, last_of}
-use Rattle.ts_series.specs.Held.{points}
+use Rattle.ts_series.specs.Stored.{points}
 use Rattle.ts_series.specs.History.{history_of, list_of, low}
 use Rattle.ts_series.proofs.EdgeQuestions.{shown, last-none, last-below, last-within}
 use Rattle.ts_series.proofs.line.Line.before.Goals as goal

@@ -5,7 +5,7 @@ use Rattle.ts_spec.specs.Sample.{at_times}
 use Rattle.ts_spec.specs.State.{edge_of}
 use Rattle.ts_spec.specs.Mending.{high_with}
 use Rattle.ts_sample.specs.Chunk.{joined}
-use Rattle.ts_series.specs.Held.{Change, AreAmong, HasLimits, limits_after, points, pieces_after, IsTrimmed}
+use Rattle.ts_series.specs.Stored.{Change, AreAmong, HasLimits, limits_after, points, pieces_after, IsTrimmed}
 use Rattle.ts_series.specs.History.{History, history_of, low, limit_for, list_of, IsKeptIn}
 use Rattle.ts_series.specs.Plan.{Plan, listed, IsForIn, after}
 use Rattle.ts_series.proofs.Keeping.{kept-after, after-is}

@@ -4,7 +4,7 @@ use Rattle.ts_spec.specs.Sample.{Point, at_times}
 use Rattle.ts_spec.specs.State.{edge_of}
 use Rattle.ts_spec.specs.Rules.{raised}
 use Rattle.ts_sample.specs.Chunk.{joined}
-use Rattle.ts_series.specs.Held.{points, AreAmong, IsTrimmed}
+use Rattle.ts_series.specs.Stored.{points, AreAmong, IsTrimmed}
 use Rattle.ts_series.specs.History.{History, history_of, low, limit_for, list_of, IsKeptIn}
 use Rattle.ts_series.specs.Plan.{Plan, IsForIn, appends, after}
 use Rattle.ts_series.proofs.Keeping.{kept-after, after-is}

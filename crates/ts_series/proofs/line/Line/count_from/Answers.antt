@@ -1,5 +1,5 @@
 use Rattle.std.proofs.Common.{length, ap, arith}
-use Rattle.ts_series.specs.Held.{points}
+use Rattle.ts_series.specs.Stored.{points}
 use Rattle.ts_series.proofs.EdgeQuestions.{from-shown, length-from}
 use Rattle.ts_series.proofs.line.Line.count_from.Goals as goal
 

@@ -1,7 +1,7 @@
 use Rattle.std.proofs.Common.{◌≡◌, ◌<◌, ◌+◌, ◌≤◌, length, ap, arith}
 use Rattle.std.specs.Prelude.{nat_lt, nat_le, ◌&&◌}
 use Rattle.ts_spec.specs.Sample.{at_times, between, outside}
-use Rattle.ts_series.specs.Held.{points}
+use Rattle.ts_series.specs.Stored.{points}
 use Rattle.ts_series.specs.History.{History}
 use Rattle.ts_series.proofs.Counting.{times-length}
 use Rattle.ts_series.proofs.MendedCount.{count-past, count-left}

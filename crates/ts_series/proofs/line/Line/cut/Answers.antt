@@ -2,7 +2,7 @@ use Rattle.std.proofs.Common.{◌≡◌, [], ◌∙◌, sym, ap, subst, length, 
 use Rattle.std.specs.Prelude.{nat_le, max, option_map, None, Some}
 use Rattle.std.specs.VecDeque.{deque_capacity}
 use Rattle.ts_spec.specs.Sample.{at_times, outside}
-use Rattle.ts_series.specs.Held.{points}
+use Rattle.ts_series.specs.Stored.{points}
 use Rattle.ts_series.specs.History.{history_of, low, limit_for}
 use Rattle.ts_series.specs.Plan.{Plan, IsForIn}
 use Rattle.ts_series.proofs.EdgeQuestions.{between-shown}

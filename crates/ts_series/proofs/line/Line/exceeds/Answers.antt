@@ -1,7 +1,7 @@
 use Rattle.std.proofs.Common.{◌≡◌, nat_lt, length, le-ltb, refl, sym, ◌∙◌, ap, subst, arith}
 use Rattle.ts_spec.specs.State.{edge_of}
 use Rattle.ts_spec.specs.Mending.{high_with}
-use Rattle.ts_series.specs.Held.{points}
+use Rattle.ts_series.specs.Stored.{points}
 use Rattle.ts_series.specs.History.{History, IsKeptIn}
 use Rattle.ts_series.specs.Mend.{mended_list}
 use Rattle.ts_series.proofs.MendedCount.{mended-most, mended-exceeds}

@@ -1,7 +1,7 @@
 use Rattle.std.proofs.Common.{◌≡◌, ◌∙◌, sym, ap}
 use Rattle.std.specs.Prelude.{nat_lt, nat_le, max, length}
 use Rattle.ts_spec.specs.Sample.{Point, between, at_times, first_of}
-use Rattle.ts_series.specs.Held.{points}
+use Rattle.ts_series.specs.Stored.{points}
 use Rattle.ts_series.specs.History.{history_of, History, low, list_of}
 use Rattle.ts_series.proofs.FirstUpTo.{has-between, is_upto}
 use Rattle.ts_series.proofs.line.Line.has_between.Goals as goal

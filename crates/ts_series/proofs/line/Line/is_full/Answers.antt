@@ -3,7 +3,7 @@ use Rattle.std.specs.Prelude.{nat_lt, nat_le}
 use Rattle.ts_spec.specs.Sample.{Point, at_times}
 use Rattle.ts_spec.specs.State.{edge_of}
 use Rattle.ts_spec.specs.Rules.{raised}
-use Rattle.ts_series.specs.Held.{points}
+use Rattle.ts_series.specs.Stored.{points}
 use Rattle.ts_series.specs.History.{History}
 use Rattle.ts_series.proofs.Counting.{times-length}
 use Rattle.ts_series.proofs.Ready.{Shows}

@@ -1,7 +1,7 @@
 use Rattle.std.proofs.Common.{◌≤◌, length, refl, sym, ap, subst, arith}
 use Rattle.std.specs.Prelude.{Some}
 use Rattle.ts_spec.specs.Sample.{Point}
-use Rattle.ts_series.specs.Held.{points, HasRoomFor}
+use Rattle.ts_series.specs.Stored.{points, HasRoomFor}
 use Rattle.ts_series.specs.History.{History, low, IsKeptIn}
 use Rattle.ts_series.specs.Plan.{IsForIn, appends}
 use Rattle.ts_series.proofs.Ready.{Shows}

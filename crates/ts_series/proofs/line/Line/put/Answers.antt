@@ -3,9 +3,9 @@ use Rattle.std.specs.Prelude.{Option}
 use Rattle.ts_spec.specs.Sample.{Point, last_of}
 use Rattle.ts_spec.specs.Rules.{Merged}
 use Rattle.ts_sample.specs.Chunk.{IsPast}
-use Rattle.ts_series.specs.Held.{points}
+use Rattle.ts_series.specs.Stored.{points}
 use Rattle.ts_series.specs.History.{History, list_of, low, IsKeptIn}
-use Rattle.ts_series.specs.Put.{Answers}
+use Rattle.ts_series.specs.Put.{PutAnswers}
 use Rattle.ts_series.proofs.Trimmed.{last-trimmed}
 use Rattle.ts_series.proofs.Reach.{within_reach}
 use Rattle.ts_series.proofs.Ready.{Shows}
@@ -35,7 +35,7 @@ returns-clause-answer g c =
     let kept : IsKeptIn g.C.Chunk.format h = subst (IsKeptIn g.C.Chunk.format) c.self.view_is c.self.invariant in
     let late : low h ≤ c.args.time = omega (arith, c.edge.ensures, c.if-time-edge.false) in
     let none = at-shown c.args.time h (subst Shows c.self.view_is refl) late ∙ at-past c.args.time (points h.held) kept.chunks.ascending (c.is_late.ensures.past c.if-is_late.false) in
-    subst (λ (m : Merged). Answers m c.args.limit c.args.time h c.added.result) (met-late c.args.how c.args.time c.args.value h late)
+    subst (λ (m : Merged). PutAnswers m c.args.limit c.args.time h c.added.result) (met-late c.args.how c.args.time c.args.value h late)
     (answers-new c.args.how c.args.limit (record { time = c.args.time; value = c.args.value; made = c.self.inside.born }) h c.added.result none (ap (λ (x : History). x.born) c.self.view_is) c.added.ensures.answer)
 
 pub returns-clause-easy : goal.returns-clause-easy

@@ -1,11 +1,11 @@
 use Rattle.std.proofs.Common.{◌≡◌, ◌<◌, refl, sym, ◌∙◌, length, ap, subst, arith, ltb-false}
 use Rattle.std.specs.Prelude.{None, Some, Ok}
 use Rattle.ts_spec.specs.Sample.{Point, at}
-use Rattle.ts_series.specs.Held.{points}
+use Rattle.ts_series.specs.Stored.{points}
 use Rattle.ts_series.specs.History.{History, list_of}
 use Rattle.ts_spec.specs.Rules.{Merged, merge}
 use Rattle.ts_spec.specs.Step.{value_at}
-use Rattle.ts_series.specs.Put.{Answers, Fits, IsMerged, IsWrite, list_after}
+use Rattle.ts_series.specs.Put.{PutAnswers, Fits, IsMerged, IsWrite, list_after}
 use Rattle.ts_series.proofs.Ready.{Shows}
 use Rattle.ts_series.proofs.Putting.{at-shown, full-early, answers-written, answers-new, answers-over}
 use Rattle.ts_series.proofs.line.Line.put_late.Goals as goal
@@ -36,7 +36,7 @@ returns-in-Some-clause-answer g c =
     let h = c.args.self.now in
     let there = found g (goal.at.returns-in-Some-clause-answer g c).After-at ∙ c.in-Some.is in
     answers-over c.args.how c.args.limit c.args.sample c.in-Some.there h c.put_over.result there
-    (subst (λ (q : Point). Answers (merge c.args.how (Some q.value) c.args.sample.value) c.args.limit c.args.sample.time h c.put_over.result) c.there.view_is
+    (subst (λ (q : Point). PutAnswers (merge c.args.how (Some q.value) c.args.sample.value) c.args.limit c.args.sample.time h c.put_over.result) c.there.view_is
     (c.put_over.ensures.answer c.args.limit))
 
 pub returns-then-len-limit-clause-answer : goal.returns-then-len-limit-clause-answer

@@ -1,7 +1,7 @@
 use Rattle.std.proofs.Common.{◌≡◌, sym, refl, subst}
 use Rattle.ts_spec.specs.Sample.{outside, put_all}
 use Rattle.ts_sample.specs.Chunk.{joined}
-use Rattle.ts_series.specs.Held.{points, pieces_after, IsReady, HasLimits}
+use Rattle.ts_series.specs.Stored.{points, pieces_after, IsReady, HasLimits}
 use Rattle.ts_series.specs.History.{History, history_of, limit_for}
 use Rattle.ts_series.proofs.MendedCount.{mends-for}
 use Rattle.ts_series.proofs.line.Line.with_change.Goals as goal

@@ -2,7 +2,7 @@ use Rattle.std.proofs.Common.{◌≡◌, ◌-◌, ◌<◌, ◌≤◌, ◌∙◌,
 use Rattle.std.specs.Prelude.{nat_le}
 use Rattle.ts_spec.specs.Sample.{at_times, outside}
 use Rattle.ts_sample.specs.Chunk.{joined}
-use Rattle.ts_series.specs.Held.{points, pieces_after, Change, HasLimits}
+use Rattle.ts_series.specs.Stored.{points, pieces_after, Change, HasLimits}
 use Rattle.ts_series.specs.History.{history_of, History, low, list_of}
 use Rattle.ts_series.proofs.TakenFromEdge.{fallen, risen}
 use Rattle.ts_series.proofs.line.Line.without_expired.Goals as goal

@@ -12,14 +12,14 @@ use ts_series::{Cursor, Series};
 
 // The samples that are left.
 #[derive(Drop)]
-pub(crate) struct Walk<'a> {
+pub(crate) struct IntervalCursor<'a> {
     head: Option<Sample>,
     // Those past the head, also those past the last time.
     rest: Cursor<'a>,
     to: u64,
 }
 
-impl<'a> Model for Walk<'a> {
+impl<'a> Model for IntervalCursor<'a> {
     ghost use Rattle.std.specs.Prelude.{List};
     ghost use Rattle.ts_spec.specs.Sample.{Point, IsAscending};
     ghost use Rattle.ts_rules.specs.Walks.{walk_left};
@@ -31,21 +31,21 @@ impl<'a> Model for Walk<'a> {
     ghost invariant = { λ w. IsAscending w.rest };
 }
 
-impl<'a> Walk<'a> {
+impl<'a> IntervalCursor<'a> {
     // Those of a series from one time to another, both included.
     pub(crate) fn new<L: Ledger>(
         series: &'a Series,
         from: u64,
         to: u64,
         steps: &mut Steps<L>,
-    ) -> Walk<'a>
+    ) -> IntervalCursor<'a>
         ensures left { result ≡ between from to (list_of series.now) }
         ensures steps { Takes steps.old steps.new (reach series.now + 1) }
     {
         series.known();
         let mut rest = series.read_from(from, steps);
         let head = next_upto(&mut rest, to, steps);
-        Walk { head, rest, to }
+        IntervalCursor { head, rest, to }
     }
 
     // The first of them.

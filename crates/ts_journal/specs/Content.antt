@@ -1,8 +1,8 @@
 -- What is known of a record before the reply is.
 use Rattle.std.specs.Prelude.{ℕ, List, [], drop, if◌then◌else◌}
 use Rattle.ts_journal.specs.declared.record.Record.{Record}
-use Rattle.ts_journal.specs.declared.record.Held.{Held}
-use Rattle.ts_journal.specs.declared.record.Held.TheVariants as held
+use Rattle.ts_journal.specs.declared.record.Content.{Content}
+use Rattle.ts_journal.specs.declared.record.Content.TheVariants as content
 use Rattle.ts_journal.specs.declared.triples.Triples.{Triples}
 use Rattle.ts_journal.specs.Lines.{items_text, pieces, taken_by, taken_text, begins_error}
 
@@ -11,12 +11,12 @@ abbrev pub pieces_of : Triples → List (List ℕ)
 pieces_of t = pieces t.lens.items (drop 24 t.words.bytes)
 
 -- the bytes, where the reply has this text and is no error
-abbrev pub written_by : Held → (reply : List ℕ) → List ℕ
-written_by (held.Fixed out) reply = out.bytes
-written_by (held.Triples t) reply = taken_text (taken_by (items_text reply) (pieces_of t))
+abbrev pub written_by : Content → (reply : List ℕ) → List ℕ
+written_by (content.Fixed out) reply = out.bytes
+written_by (content.Triples t) reply = taken_text (taken_by (items_text reply) (pieces_of t))
 
 -- the record, where the reply has this text
-abbrev pub written : Held → (reply : List ℕ) → List ℕ
+abbrev pub written : Content → (reply : List ℕ) → List ℕ
 written h reply = if begins_error reply then [] else written_by h reply
 
 -- what a record tells, where the reply has this text

@@ -3,7 +3,7 @@ use Rattle.std.specs.Prelude.{◌≡◌, ◌≢◌, ◌⊎◌, ℕ, suc, ◌≤�
 use Rattle.ts_spec.specs.Sample.{Point, IsAscending, at_times, outside, last_of}
 use Rattle.ts_sample.specs.Chunk.{IsChunk, IsPast, Fits, joined}
 
-pub record Held : Type 0 where
+pub record Stored : Type 0 where
   -- the samples of each chunk
   pub pieces : List (List Point)
   -- the limit of each chunk, in bytes
@@ -12,7 +12,7 @@ pub record Held : Type 0 where
   pub room : ℕ
 
 -- the samples of all chunks, one after another
-abbrev pub points : Held → List Point
+abbrev pub points : Stored → List Point
 points h = joined h.pieces
 
 -- how many samples the longest piece has
@@ -113,7 +113,7 @@ pub record IsChangeOf (format : List Point → List ℕ) (room : ℕ) (pieces : 
   pub enough : length (replaced c.start c.end c.pieces pieces) ≤ room
 
 -- the change is for these chunks, once there is room for so many more as it makes
-abbrev pub IsReady : (format : List Point → List ℕ) → Held → Change → Type 0
+abbrev pub IsReady : (format : List Point → List ℕ) → Stored → Change → Type 0
 IsReady format h c = IsChangeOf format (length (replaced c.start c.end c.pieces h.pieces)) h.pieces h.limits c
 
 -- each limit is among these or is this one

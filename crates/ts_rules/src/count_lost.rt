@@ -5,8 +5,8 @@ ghost use Rattle.ts_spec.specs.Rules.{is_past};
 ghost use Rattle.ts_spec.specs.Mending.{lies_in};
 ghost use Rattle.ts_sample.specs.Steps.{Takes};
 
+use crate::interval_cursor::IntervalCursor;
 use crate::rule::Rule;
-use crate::walk::Walk;
 use std::sync::ledger::Ledger;
 use ts_sample::Steps;
 
@@ -14,8 +14,8 @@ use ts_sample::Steps;
 // that of a start and a sample the earlier one is done with.
 pub(crate) fn count_lost<L: Ledger>(
     rule: &Rule,
-    mut gone: Walk<'_>,
-    mut shown: Walk<'_>,
+    mut gone: IntervalCursor<'_>,
+    mut shown: IntervalCursor<'_>,
     steps: &mut Steps<L>,
 ) -> usize
     requires gone { IsAscending gone }

@@ -1,6 +1,6 @@
 use Rattle.std.proofs.Common.{drop, ◌∙◌, ap}
 use Rattle.ts_rules.proofs.Walks.{walk-next}
-use Rattle.ts_rules.proofs.walk.Walk.advance.Goals as goal
+use Rattle.ts_rules.proofs.interval_cursor.IntervalCursor.advance.Goals as goal
 
 pub returns-clause-left : goal.returns-clause-left
 returns-clause-left g c =

@@ -3,7 +3,7 @@ use Rattle.ts_spec.specs.Sample.{IsAscending, at_times}
 use Rattle.ts_spec.proofs.Samples.{ascending-times}
 use Rattle.ts_series.specs.History.{list_of}
 use Rattle.ts_rules.proofs.Walks.{walk-between, ascending-rest}
-use Rattle.ts_rules.proofs.walk.Walk.new.Goals as goal
+use Rattle.ts_rules.proofs.interval_cursor.IntervalCursor.new.Goals as goal
 
 pub invariant_of-result : goal.invariant_of-result
 invariant_of-result g c =
