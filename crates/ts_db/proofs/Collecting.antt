@@ -13,7 +13,7 @@ use Rattle.ts_spec.proofs.Maps.{get-with, get-without, maps-same}
 use Rattle.ts_spec.proofs.Tidy.{some-same}
 use Rattle.ts_sample.specs.declared.id.Id.{Id}
 use Rattle.ts_rules.specs.declared.rule.Rule.{Rule}
-use Rattle.ts_rules.specs.Rules.{kept_rule_to}
+use Rattle.ts_rules.specs.Rules.{kept_with_dest}
 use Rattle.ts_db.specs.declared.node.Node.{Node}
 use Rattle.ts_db.specs.Store.{Nodes, Numbers, rules_by, key_at, key_in, kept_series, kept_named, kept_node, kept_numbered, with_found, collected, ids_of, has_key, number_of, HasNode, AreLive, IsLiveSource, HasLiveLinks}
 
@@ -75,7 +75,7 @@ same-rules nodes new old [] live same = refl
 same-rules nodes new old (r ∷ rs) live same =
     let rest : rules_by new rs ≡ rules_by old rs = same-rules nodes new old rs live.1 same in
     let here : new r.dest ≡ old r.dest = same r.dest live.0 in
-    λ i. kept_rule_to (here i) r ∷ rest i
+    λ i. kept_with_dest (here i) r ∷ rest i
 
 same-source : (nodes : Nodes) (new old : Id → Key) (o : Option Id) → IsLiveSource nodes o → ((id : Id) → HasNode nodes id → new id ≡ old id) → option_map new o ≡ option_map old o
 same-source nodes new old None live same = refl

@@ -20,7 +20,7 @@ use Rattle.ts_sample.specs.Chunk.{IsPast, greatest_limit}
 use Rattle.ts_sample.specs.declared.id.Id.{Id}
 use Rattle.ts_series.specs.History.{History, list_of, reach, limit_for, format_of, IsKept}
 use Rattle.ts_rules.specs.declared.rule.Rule.{Rule}
-use Rattle.ts_rules.specs.Rules.{kept_rule_to}
+use Rattle.ts_rules.specs.Rules.{kept_with_dest}
 use Rattle.ts_rules.specs.Shares as shares
 use Rattle.ts_rules.specs.Shares.{in_buckets}
 use Rattle.ts_db.specs.declared.node.Node.{Node}
@@ -85,7 +85,7 @@ module _ (s : Store) (db : IsDb s) (key : Key) (id : Id) (n : Node) (holds : Hol
   -- ---- a write
 
   share-write : (p : Point) (r : Rule) (d : Node) → slab.get s.nodes r.dest.0 ≡ Some d
-      → share_at (Write p) n.series r (slab.get s.nodes r.dest.0) ≡ rule_steps (stock_of s) key p.time (kept_rule_to (key_in s.nodes r.dest) r)
+      → share_at (Write p) n.series r (slab.get s.nodes r.dest.0) ≡ rule_steps (stock_of s) key p.time (kept_with_dest (key_in s.nodes r.dest) r)
   share-write p r d at =
       let dest_far : reach_at (stock_of s) (key_in s.nodes r.dest) ≡ reach d.series = reach-held s (key_in s.nodes r.dest) r.dest d (holds-dest r d at) in
       ap (share_at (Write p) n.series r) at
@@ -96,7 +96,7 @@ module _ (s : Store) (db : IsDb s) (key : Key) (id : Id) (n : Node) (holds : Hol
   shares-write p (r ∷ rs) nodes =
       let one = share-write p r nodes.0.node nodes.0.there in
       let rest = shares-write p rs nodes.1 in
-      (λ i. one i + rest i) ∙ sym (sum_by-cons (rule_steps (stock_of s) key p.time) (kept_rule_to (key_in s.nodes r.dest) r) (rules_by (key_in s.nodes) rs))
+      (λ i. one i + rest i) ∙ sym (sum_by-cons (rule_steps (stock_of s) key p.time) (kept_with_dest (key_in s.nodes r.dest) r) (rules_by (key_in s.nodes) rs))
 
   -- what the key and its rules take
   pub write-total : (p : Point) → 3 * reach n.series + shares_of s.nodes (Write p) n.series n.rules.items ≡ write_steps (stock_of s) key p.time
@@ -146,7 +146,7 @@ module _ (s : Store) (db : IsDb s) (key : Key) (id : Id) (n : Node) (holds : Hol
   -- ---- a deletion
 
   share-delete : (from to : ℕ) (r : Rule) (d : Node) → slab.get s.nodes r.dest.0 ≡ Some d
-      → share_at (Delete from to) n.series r (slab.get s.nodes r.dest.0) ≡ rule_deletion_steps (stock_of s) key from to (kept_rule_to (key_in s.nodes r.dest) r)
+      → share_at (Delete from to) n.series r (slab.get s.nodes r.dest.0) ≡ rule_deletion_steps (stock_of s) key from to (kept_with_dest (key_in s.nodes r.dest) r)
   share-delete from to r d at =
       let dest : get (key_in s.nodes r.dest) (stock_of s).keys ≡ Some (kept_node s.nodes d) = there s db.store (key_in s.nodes r.dest) r.dest d (holds-dest r d at) in
       let dest_far : reach_at (stock_of s) (key_in s.nodes r.dest) ≡ reach d.series = reach-held s (key_in s.nodes r.dest) r.dest d (holds-dest r d at) in
@@ -159,7 +159,7 @@ module _ (s : Store) (db : IsDb s) (key : Key) (id : Id) (n : Node) (holds : Hol
   shares-delete from to (r ∷ rs) nodes =
       let one = share-delete from to r nodes.0.node nodes.0.there in
       let rest = shares-delete from to rs nodes.1 in
-      (λ i. one i + rest i) ∙ sym (sum_by-cons (rule_deletion_steps (stock_of s) key from to) (kept_rule_to (key_in s.nodes r.dest) r) (rules_by (key_in s.nodes) rs))
+      (λ i. one i + rest i) ∙ sym (sum_by-cons (rule_deletion_steps (stock_of s) key from to) (kept_with_dest (key_in s.nodes r.dest) r) (rules_by (key_in s.nodes) rs))
 
   -- what the key and its rules take
   pub deletion-total : (from to : ℕ) → 3 * reach n.series + shares_of s.nodes (Delete from to) n.series n.rules.items ≡ deletion_steps (stock_of s) key from to

@@ -12,7 +12,7 @@ use Rattle.ts_sample.specs.declared.id.Id.{Id}
 use Rattle.ts_series.specs.Plan.{Plan}
 use Rattle.ts_rules.specs.declared.rule.Rule.{Rule}
 use Rattle.ts_rules.specs.declared.plan.RulePlan.{RulePlan}
-use Rattle.ts_rules.specs.Rules.{kept_rule_to}
+use Rattle.ts_rules.specs.Rules.{kept_with_dest}
 use Rattle.ts_rules.specs.Plans.{IsMendedBy, after_plan}
 use Rattle.ts_db.specs.declared.node.Node.{Node}
 use Rattle.ts_db.specs.declared.store.Store.{Store}
@@ -102,7 +102,7 @@ fed-elsewhere now new id rows gone (r ∷ rs) (x ∷ xs) else none fed = (
     there = else.others r.dest.0 none.0 ∙ fed.0.there;
     mended = subst (λ (limit : ℕ). IsMendedBy limit (gone (kept_rule_in new.nodes r)) (rows fed.0.node.series.born (kept_rule_in new.nodes r)) fed.0.node.series x.dest)
         (sym (ap (λ l. l.samples) else.limits))
-        (subst (λ (k : Key). IsMendedBy now.limits.samples (gone (kept_rule_to k r)) (rows fed.0.node.series.born (kept_rule_to k r)) fed.0.node.series x.dest) (sym (else.names r.dest)) fed.0.mended);
+        (subst (λ (k : Key). IsMendedBy now.limits.samples (gone (kept_with_dest k r)) (rows fed.0.node.series.born (kept_with_dest k r)) fed.0.node.series x.dest) (sym (else.names r.dest)) fed.0.mended);
   },
   fed-elsewhere now new id rows gone rs xs else none.1 fed.1,
 )

@@ -5,7 +5,7 @@ use Rattle.ts_spec.specs.Key.{Key}
 use Rattle.ts_spec.specs.Kept.{KeptRule}
 use Rattle.ts_sample.specs.declared.id.Id.{Id}
 use Rattle.ts_rules.specs.declared.rule.Rule.{Rule}
-use Rattle.ts_rules.specs.Rules.{kept_rule_to}
+use Rattle.ts_rules.specs.Rules.{kept_with_dest}
 use Rattle.ts_db.specs.declared.store.Store.{Store}
 use Rattle.ts_db.specs.Answering.{IsElsewhere}
 use Rattle.ts_db.specs.Linking.{kept_sourced, keep_freed, IsKeptBy}
@@ -30,7 +30,7 @@ pub same-rules-by : (new old : Id → Key) → ((i : Id) → new i ≡ old i) �
 same-rules-by new old same [] = refl
 same-rules-by new old same (r ∷ rs) =
     let rest : rules_by new rs ≡ rules_by old rs = same-rules-by new old same rs in
-    λ i. kept_rule_to (same r.dest i) r ∷ rest i
+    λ i. kept_with_dest (same r.dest i) r ∷ rest i
 
 -- what is left to do, and that it comes to the same
 pub record Freeing (init now : Store) (all rest : List Rule) : Type 0 where

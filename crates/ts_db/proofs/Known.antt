@@ -12,7 +12,7 @@ use Rattle.ts_spec.proofs.Keys.{same-refl}
 use Rattle.ts_spec.proofs.BucketRoom.{HaveRoom, stands-room}
 use Rattle.ts_sample.specs.declared.id.Id.{Id}
 use Rattle.ts_rules.specs.declared.rule.Rule.{Rule}
-use Rattle.ts_rules.specs.Rules.{kept_rule_to}
+use Rattle.ts_rules.specs.Rules.{kept_with_dest}
 use Rattle.ts_db.specs.declared.node.Node.{Node}
 use Rattle.ts_db.specs.declared.store.Store.{Store}
 use Rattle.ts_db.specs.declared.work.Work.TheVariants.{Write}
@@ -71,7 +71,7 @@ distinct s (r ∷ rs) x = (go rs x.0, distinct s rs x.1)
     go [] e = tt
     go (p ∷ ps) e = pick (same (key_in s.nodes p.dest) (key_in s.nodes r.dest)) refl e (λ y. go ps y)
       where
-        pick : (b : Bool) → same (key_in s.nodes p.dest) (key_in s.nodes r.dest) ≡ b → (if b then Some (kept_rule_to (key_in s.nodes p.dest) p) else kept_rule_to (key_in s.nodes r.dest) (rules_by (key_in s.nodes) ps)) ≡ None
+        pick : (b : Bool) → same (key_in s.nodes p.dest) (key_in s.nodes r.dest) ≡ b → (if b then Some (kept_with_dest (key_in s.nodes p.dest) p) else kept_rule_to (key_in s.nodes r.dest) (rules_by (key_in s.nodes) ps)) ≡ None
             → (kept_rule_to (key_in s.nodes r.dest) (rules_by (key_in s.nodes) ps) ≡ None → NoneTo r.dest.0 ps) → NoneTo r.dest.0 (p ∷ ps)
         pick true x e ih = absurd (cc e)
         pick false x e ih =

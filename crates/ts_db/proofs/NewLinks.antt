@@ -16,7 +16,7 @@ use Rattle.ts_sample.specs.declared.id.Id.{Id}
 use Rattle.ts_bucket.specs.Grid.{IsGrid}
 use Rattle.ts_series.specs.History.{IsKept}
 use Rattle.ts_rules.specs.declared.rule.Rule.{Rule}
-use Rattle.ts_rules.specs.Rules.{kept_rule_to}
+use Rattle.ts_rules.specs.Rules.{kept_with_dest}
 use Rattle.ts_db.specs.declared.node.Node.{Node}
 use Rattle.ts_db.specs.declared.store.Store.{Store}
 use Rattle.ts_db.specs.Store.{rules_by, key_at, key_in, kept_node, collected, number_of, stock_of, contents_of, Nodes, HasNode, AreLive, IsLiveSource, HasLiveLinks, HaveGrids, IsNode, IsStore, IsInOrder, Holds}
@@ -99,13 +99,13 @@ module _ (s : Store) (store : IsInOrder s) (dest : Id) (to : HasNode s.nodes des
   unruled [] live = refl
   unruled (r ∷ rs) live =
       go (left r) (unruled rs live.1)
-      ∙ ap (λ b. cond (not b) (kept_rule_to (key_in s.nodes r.dest) r ∷ filter (λ q. not (same q.dest (key_in s.nodes dest))) (rules_by (key_in s.nodes) rs)) (filter (λ q. not (same q.dest (key_in s.nodes dest))) (rules_by (key_in s.nodes) rs)))
+      ∙ ap (λ b. cond (not b) (kept_with_dest (key_in s.nodes r.dest) r ∷ filter (λ q. not (same q.dest (key_in s.nodes dest))) (rules_by (key_in s.nodes) rs)) (filter (λ q. not (same q.dest (key_in s.nodes dest))) (rules_by (key_in s.nodes) rs)))
       (sym (same-name s store r.dest dest live.0 to))
     where
       go : (b : Bool) → rules_by (key_in s.nodes) (filter left rs) ≡ filter (λ q. not (same q.dest (key_in s.nodes dest))) (rules_by (key_in s.nodes) rs)
           → rules_by (key_in s.nodes) (cond b (r ∷ filter left rs) (filter left rs))
-          ≡ cond b (kept_rule_to (key_in s.nodes r.dest) r ∷ filter (λ q. not (same q.dest (key_in s.nodes dest))) (rules_by (key_in s.nodes) rs)) (filter (λ q. not (same q.dest (key_in s.nodes dest))) (rules_by (key_in s.nodes) rs))
-      go true ih = ap (λ (qs : List KeptRule). kept_rule_to (key_in s.nodes r.dest) r ∷ qs) ih
+          ≡ cond b (kept_with_dest (key_in s.nodes r.dest) r ∷ filter (λ q. not (same q.dest (key_in s.nodes dest))) (rules_by (key_in s.nodes) rs)) (filter (λ q. not (same q.dest (key_in s.nodes dest))) (rules_by (key_in s.nodes) rs))
+      go true ih = ap (λ (qs : List KeptRule). kept_with_dest (key_in s.nodes r.dest) r ∷ qs) ih
       go false ih = ih
 
   pub live-left : (rs : List Rule) → AreLive s.nodes rs → AreLive s.nodes (filter left rs)
@@ -134,9 +134,9 @@ grids-more : (rs : List Rule) (r : Rule) → HaveGrids rs → IsGrid r.grid → 
 grids-more [] r g here = (here, tt)
 grids-more (q ∷ rs) r g here = (g.0, grids-more rs r g.1 here)
 
-rules-more : (names : Id → Key) (rs : List Rule) (r : Rule) → rules_by names (rs ++ r ∷ []) ≡ rules_by names rs ++ kept_rule_to (names r.dest) r ∷ []
+rules-more : (names : Id → Key) (rs : List Rule) (r : Rule) → rules_by names (rs ++ r ∷ []) ≡ rules_by names rs ++ kept_with_dest (names r.dest) r ∷ []
 rules-more names [] r = refl
-rules-more names (q ∷ rs) r = ap (λ (qs : List KeptRule). kept_rule_to (names q.dest) q ∷ qs) (rules-more names rs r)
+rules-more names (q ∷ rs) r = ap (λ (qs : List KeptRule). kept_with_dest (names q.dest) q ∷ qs) (rules-more names rs r)
 
 module _ (nodes : Nodes) (dest : Id) (agg : Aggregator) (grid : Grid) (old new : Node) (h : HasMore dest agg grid old new) where
   pub more-name : new.key ≡ old.key
@@ -163,7 +163,7 @@ module _ (nodes : Nodes) (dest : Id) (agg : Aggregator) (grid : Grid) (old new :
       ∙ ap (λ (qs : List KeptRule). record (kept_node nodes old) { born = old.series.born + 1; rules = qs })
       (ap (rules_by (key_in nodes)) h.rules
       ∙ rules-more (key_in nodes) old.rules.items h.rule
-      ∙ ap (λ (q : KeptRule). rules_by (key_in nodes) old.rules.items ++ q ∷ []) (ap (λ (i : Id). kept_rule_to (key_in nodes i) h.rule) h.leads ∙ h.kept (key_in nodes dest)))
+      ∙ ap (λ (q : KeptRule). rules_by (key_in nodes) old.rules.items ++ q ∷ []) (ap (λ (i : Id). kept_with_dest (key_in nodes i) h.rule) h.leads ∙ h.kept (key_in nodes dest)))
 
 -- a node that has one more rule, or the rules that it had where there was no memory
 module _ (s : Store) (store : IsInOrder s) (id : Id) (new : Nodes) (dest : Id) (agg : Aggregator) (grid : Grid) (to : HasNode s.nodes dest) where

@@ -12,7 +12,7 @@ use Rattle.ts_spec.specs.Mending.{kept_rule_to}
 use Rattle.ts_spec.proofs.Keys.{same-true}
 use Rattle.ts_sample.specs.declared.id.Id.{Id}
 use Rattle.ts_rules.specs.declared.rule.Rule.{Rule}
-use Rattle.ts_rules.specs.Rules.{kept_rule_to}
+use Rattle.ts_rules.specs.Rules.{kept_with_dest}
 use Rattle.ts_db.specs.declared.node.Node.{Node}
 use Rattle.ts_db.specs.declared.store.Store.{Store}
 use Rattle.ts_db.specs.Answering.{IsElsewhere}
@@ -27,11 +27,11 @@ use Rattle.ts_db.proofs.NewLinks.{same-name}
 pub rule-some : (s : Store) → IsInOrder s → (dest : Id) → HasNode s.nodes dest → (rs : List Rule) → AreLive s.nodes rs → is_some (kept_rule_to (key_in s.nodes dest) (rules_by (key_in s.nodes) rs)) ≡ any_to dest.0 rs
 rule-some s store dest to [] live = refl
 rule-some s store dest to (r ∷ rs) live =
-    ap (λ b. is_some (if b then Some (kept_rule_to (key_in s.nodes r.dest) r) else kept_rule_to (key_in s.nodes dest) (rules_by (key_in s.nodes) rs))) (same-name s store r.dest dest live.0 to)
+    ap (λ b. is_some (if b then Some (kept_with_dest (key_in s.nodes r.dest) r) else kept_rule_to (key_in s.nodes dest) (rules_by (key_in s.nodes) rs))) (same-name s store r.dest dest live.0 to)
     ∙ go (r.dest.0 == dest.0) (rule-some s store dest to rs live.1)
   where
     go : (b : Bool) → is_some (kept_rule_to (key_in s.nodes dest) (rules_by (key_in s.nodes) rs)) ≡ any_to dest.0 rs
-        → is_some (if b then Some (kept_rule_to (key_in s.nodes r.dest) r) else kept_rule_to (key_in s.nodes dest) (rules_by (key_in s.nodes) rs)) ≡ (b || any_to dest.0 rs)
+        → is_some (if b then Some (kept_with_dest (key_in s.nodes r.dest) r) else kept_rule_to (key_in s.nodes dest) (rules_by (key_in s.nodes) rs)) ≡ (b || any_to dest.0 rs)
     go true ih = refl
     go false ih = ih
 
@@ -41,7 +41,7 @@ none-to-missing s store dest none [] live = refl
 none-to-missing s store dest none (r ∷ rs) live = go (same (key_in s.nodes r.dest) dest) refl (none-to-missing s store dest none rs live.1)
   where
     go : (b : Bool) → same (key_in s.nodes r.dest) dest ≡ b → kept_rule_to dest (rules_by (key_in s.nodes) rs) ≡ None
-        → (if b then Some (kept_rule_to (key_in s.nodes r.dest) r) else kept_rule_to dest (rules_by (key_in s.nodes) rs)) ≡ None
+        → (if b then Some (kept_with_dest (key_in s.nodes r.dest) r) else kept_rule_to dest (rules_by (key_in s.nodes) rs)) ≡ None
     go true e ih =
         let alike : live.0.node.key ≡ dest = sym (ap key_at live.0.there) ∙ same-true (key_in s.nodes r.dest) dest e in
         absurd (cc (sym (store.owned r.dest.0 live.0.node live.0.there) ∙ ap (λ (k : Key). number_of k s.keys.entries) alike ∙ none))

@@ -14,7 +14,7 @@ use Rattle.ts_spec.proofs.Tidy.{some-same}
 use Rattle.ts_sample.specs.declared.id.Id.{Id}
 use Rattle.ts_series.specs.History.{list_of, low}
 use Rattle.ts_rules.specs.declared.rule.Rule.{Rule}
-use Rattle.ts_rules.specs.Rules.{kept_rule_to}
+use Rattle.ts_rules.specs.Rules.{kept_with_dest}
 use Rattle.ts_db.specs.declared.node.Node.{Node}
 use Rattle.ts_db.specs.declared.store.Store.{Store}
 use Rattle.ts_db.specs.Latest.{rule_among}
@@ -52,14 +52,14 @@ module _ (s : Store) (store : IsInOrder s) (key : Key) (id : Id) (n : Node) (hol
       go false x = other (same (key_in s.nodes i) key) refl x ∙ sym x
 
   -- the rule to the key is that to the number
-  rule-number : (rs : List Rule) → AreLive s.nodes rs → kept_rule_to key (rules_by (key_in s.nodes) rs) ≡ option_map (λ r. kept_rule_to (key_in s.nodes r.dest) r) (rule_among id.0 rs)
+  rule-number : (rs : List Rule) → AreLive s.nodes rs → kept_rule_to key (rules_by (key_in s.nodes) rs) ≡ option_map (λ r. kept_with_dest (key_in s.nodes r.dest) r) (rule_among id.0 rs)
   rule-number [] live = refl
   rule-number (r ∷ rs) live =
-      ap (λ b. if b then Some (kept_rule_to (key_in s.nodes r.dest) r) else kept_rule_to key (rules_by (key_in s.nodes) rs)) (same-number r.dest live.0)
+      ap (λ b. if b then Some (kept_with_dest (key_in s.nodes r.dest) r) else kept_rule_to key (rules_by (key_in s.nodes) rs)) (same-number r.dest live.0)
       ∙ go (r.dest.0 == id.0) (rule-number rs live.1)
     where
-      go : (b : Bool) → kept_rule_to key (rules_by (key_in s.nodes) rs) ≡ option_map (λ r. kept_rule_to (key_in s.nodes r.dest) r) (rule_among id.0 rs)
-          → (if b then Some (kept_rule_to (key_in s.nodes r.dest) r) else kept_rule_to key (rules_by (key_in s.nodes) rs)) ≡ option_map (λ r. kept_rule_to (key_in s.nodes r.dest) r) (if b then Some r else rule_among id.0 rs)
+      go : (b : Bool) → kept_rule_to key (rules_by (key_in s.nodes) rs) ≡ option_map (λ r. kept_with_dest (key_in s.nodes r.dest) r) (rule_among id.0 rs)
+          → (if b then Some (kept_with_dest (key_in s.nodes r.dest) r) else kept_rule_to key (rules_by (key_in s.nodes) rs)) ≡ option_map (λ r. kept_with_dest (key_in s.nodes r.dest) r) (if b then Some r else rule_among id.0 rs)
       go true ih = refl
       go false ih = ih
 
@@ -71,7 +71,7 @@ module _ (s : Store) (store : IsInOrder s) (key : Key) (id : Id) (n : Node) (hol
         ap (λ (k : Key). kept_rules_at (get k (stock_of s).keys)) (ap key_at at)
         ∙ ap kept_rules_at (there s store g.key j g (record { number = store.owned j.0 g at; node = at }))
 
-    asked-from : kept_asked (stock_of s).keys true key ≡ with_open (option_map (λ r. kept_rule_to (key_in s.nodes r.dest) r) (rule_among id.0 g.rules.items)) (kept_node s.nodes n)
+    asked-from : kept_asked (stock_of s).keys true key ≡ with_open (option_map (λ r. kept_with_dest (key_in s.nodes r.dest) r) (rule_among id.0 g.rules.items)) (kept_node s.nodes n)
     asked-from =
         asked-latest
         ∙ ap (λ (o : Option Id). with_open (rule_from (stock_of s).keys key (option_map (key_in s.nodes) o)) (kept_node s.nodes n)) from
@@ -80,15 +80,15 @@ module _ (s : Store) (store : IsInOrder s) (key : Key) (id : Id) (n : Node) (hol
 
     -- whose rules do not lead to it
     pub asked-missing : None ≡ rule_among id.0 g.rules.items → kept_asked (stock_of s).keys true key ≡ list_at (get key (stock_of s).keys)
-    asked-missing none = asked-from ∙ ap (λ (o : Option Rule). with_open (option_map (λ r. kept_rule_to (key_in s.nodes r.dest) r) o) (kept_node s.nodes n)) (sym none) ∙ own
+    asked-missing none = asked-from ∙ ap (λ (o : Option Rule). with_open (option_map (λ r. kept_with_dest (key_in s.nodes r.dest) r) o) (kept_node s.nodes n)) (sym none) ∙ own
 
     -- with the rule that does
-    pub asked-row : (r : Rule) (row : List Point) → Some r ≡ rule_among id.0 g.rules.items → row ≡ open_row (low n.series) n.series.born (kept_rule_to [] r) r.current
+    pub asked-row : (r : Rule) (row : List Point) → Some r ≡ rule_among id.0 g.rules.items → row ≡ open_row (low n.series) n.series.born (kept_with_dest [] r) r.current
         → kept_asked (stock_of s).keys true key ≡ put_all row (list_at (get key (stock_of s).keys))
     asked-row r row found is =
-        asked-from ∙ ap (λ (o : Option Rule). with_open (option_map (λ r. kept_rule_to (key_in s.nodes r.dest) r) o) (kept_node s.nodes n)) (sym found)
+        asked-from ∙ ap (λ (o : Option Rule). with_open (option_map (λ r. kept_with_dest (key_in s.nodes r.dest) r) o) (kept_node s.nodes n)) (sym found)
         ∙ shown r.current ∙ (λ i. put_all (sym is i) (own i))
       where
-        shown : (o : Option ℕ) → put_all (open_row (low n.series) n.series.born (kept_rule_to (key_in s.nodes r.dest) r) o) (list_of n.series) ≡ put_all (open_row (low n.series) n.series.born (kept_rule_to [] r) o) (list_of n.series)
+        shown : (o : Option ℕ) → put_all (open_row (low n.series) n.series.born (kept_with_dest (key_in s.nodes r.dest) r) o) (list_of n.series) ≡ put_all (open_row (low n.series) n.series.born (kept_with_dest [] r) o) (list_of n.series)
         shown None = refl
         shown (Some t) = refl

@@ -11,7 +11,7 @@ use Rattle.ts_rules.specs.declared.rule.Rule.{Rule}
 use Rattle.ts_rules.specs.declared.plan.RulePlan.{RulePlan}
 use Rattle.ts_rules.specs.declared.fault.RuleFault.{RuleFault}
 use Rattle.ts_rules.specs.declared.fault.RuleFault.TheVariants.{Full, Memory}
-use Rattle.ts_rules.specs.Rules.{kept_rule_to, IsChanged}
+use Rattle.ts_rules.specs.Rules.{kept_with_dest, IsChanged}
 use Rattle.ts_rules.specs.Plans.{IsPlanned}
 use Rattle.ts_rules.specs.PlansOfDeletions.{IsPlanOfDeletion}
 use Rattle.ts_db.specs.declared.node.Node.{Node}
@@ -22,22 +22,22 @@ use Rattle.ts_db.specs.Planning.{changed_by, gone_by, rows_by_work, IsFedBy, fir
 use Rattle.ts_db.proofs.Plans.{fits-one, full-one}
 
 -- the rows of buckets do not tell the key of a destination
-rows-named : (left : List Point) (born : ℕ) (k : Key) (r : Rule) (bs : List ℕ) → rows_of left born (kept_rule_to [] r) bs ≡ rows_of left born (kept_rule_to k r) bs
+rows-named : (left : List Point) (born : ℕ) (k : Key) (r : Rule) (bs : List ℕ) → rows_of left born (kept_with_dest [] r) bs ≡ rows_of left born (kept_with_dest k r) bs
 rows-named left born k r [] = refl
-rows-named left born k r (b ∷ bs) = ap (λ (rows : List Point). bucket_row r.agg born b (counted_anew (kept_rule_to k r) b left) ++ rows) (rows-named left born k r bs)
+rows-named left born k r (b ∷ bs) = ap (λ (rows : List Point). bucket_row r.agg born b (counted_anew (kept_with_dest k r) b left) ++ rows) (rows-named left born k r bs)
 
 -- the plan of a deletion, by any key of the destination
 pub deletion-named : (limit : ℕ) (k : Key) (r : Rule) (source : History) (from to : ℕ) (dest : History) (result : Result RulePlan RuleFault) → IsPlanOfDeletion limit r source from to dest result
-    → IsPlanned limit (changed_by (Delete from to) source) (gone_by (Delete from to) source (kept_rule_to k r)) (rows_by_work (Delete from to) source dest.born (kept_rule_to k r)) r dest result
+    → IsPlanned limit (changed_by (Delete from to) source) (gone_by (Delete from to) source (kept_with_dest k r)) (rows_by_work (Delete from to) source dest.born (kept_with_dest k r)) r dest result
 deletion-named limit k r source from to dest result planned =
-    subst (λ (rows : List Point). IsPlanned limit (changed_by (Delete from to) source) (gone_by (Delete from to) source (kept_rule_to k r)) rows r dest result)
-    (rows-named (outside from to (list_of source)) dest.born k r (filter (loses (between from to (list_of source)) (kept_rule_to k r)) (starts r.grid (outside from to (list_of source)))))
+    subst (λ (rows : List Point). IsPlanned limit (changed_by (Delete from to) source) (gone_by (Delete from to) source (kept_with_dest k r)) rows r dest result)
+    (rows-named (outside from to (list_of source)) dest.born k r (filter (loses (between from to (list_of source)) (kept_with_dest k r)) (starts r.grid (outside from to (list_of source)))))
     planned
 
 module _ (limit : ℕ) (nodes : Nodes) (work : Work) (source : History) (r : Rule) (n : Node) (is : slab.get nodes r.dest.0 ≡ Some n) where
   -- what is planned for a rule, by any key of the destination
   abbrev pub IsPlan : Result RulePlan RuleFault → Type 0
-  IsPlan result = (k : Key) → IsPlanned limit (changed_by work source) (gone_by work source (kept_rule_to k r)) (rows_by_work work source n.series.born (kept_rule_to k r)) r n.series result
+  IsPlan result = (k : Key) → IsPlanned limit (changed_by work source) (gone_by work source (kept_with_dest k r)) (rows_by_work work source n.series.born (kept_with_dest k r)) r n.series result
 
   pub planned-changed : (result : Result RulePlan RuleFault) → IsPlan result → IfOk result (λ x. IsChanged (changed_by work source) r x.rule)
   planned-changed (Ok x) p = (p []).0

@@ -12,7 +12,7 @@ use Rattle.ts_spec.proofs.Maps.{get-each, get-without}
 use Rattle.ts_spec.proofs.Tidy.{some-same}
 use Rattle.ts_sample.specs.declared.id.Id.{Id}
 use Rattle.ts_rules.specs.declared.rule.Rule.{Rule}
-use Rattle.ts_rules.specs.Rules.{kept_rule_to}
+use Rattle.ts_rules.specs.Rules.{kept_with_dest}
 use Rattle.ts_db.specs.declared.node.Node.{Node}
 use Rattle.ts_db.specs.Linking.{AreFreeOf, IsFreeOf}
 use Rattle.ts_db.specs.Store.{Nodes, Numbers, rules_by, key_at, key_in, kept_node, collected, has_key, number_of, HasNode, AreLive, IsLiveSource, HasLiveLinks, IsStore}
@@ -83,7 +83,7 @@ module _ (limits : Limits) (nodes : Nodes) (es : Numbers) (store : IsStore limit
     rules-live [] none live = tt
     rules-live (r ∷ rs) none live = go (same (key_in nodes r.dest) key) refl none (λ e. rules-live rs e live.1)
       where
-        go : (b : Bool) → same (key_in nodes r.dest) key ≡ b → (if b then Some (kept_rule_to (key_in nodes r.dest) r) else kept_rule_to key (rules_by (key_in nodes) rs)) ≡ None
+        go : (b : Bool) → same (key_in nodes r.dest) key ≡ b → (if b then Some (kept_with_dest (key_in nodes r.dest) r) else kept_rule_to key (rules_by (key_in nodes) rs)) ≡ None
             → (kept_rule_to key (rules_by (key_in nodes) rs) ≡ None → AreLive new rs) → AreLive new (r ∷ rs)
         go true x e ih = absurd (cc e)
         go false x e ih =

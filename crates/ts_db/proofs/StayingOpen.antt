@@ -14,7 +14,7 @@ use Rattle.ts_series.specs.Plan.{Plan, after}
 use Rattle.ts_series.specs.Put.{Writes, sample_of}
 use Rattle.ts_rules.specs.declared.rule.Rule.{Rule}
 use Rattle.ts_rules.specs.declared.plan.RulePlan.{RulePlan}
-use Rattle.ts_rules.specs.Rules.{kept_rule_to}
+use Rattle.ts_rules.specs.Rules.{kept_with_dest}
 use Rattle.ts_rules.specs.Plans.{mended_list, IsMendedBy}
 use Rattle.ts_rules.proofs.Mended.{unmended}
 use Rattle.ts_db.specs.declared.node.Node.{Node}
@@ -58,8 +58,8 @@ module _ (h : History) (p : Point) (append : is_append p.time h.high ≡ true) w
   grown-rules : (names : Id → _) (rs : List Rule) → AreOpenAt p rs → map (grown p) (rules_by names rs) ≡ map (changed_by (Write p) h) (rules_by names rs)
   grown-rules names [] o = refl
   grown-rules names (r ∷ rs) o =
-      ap (λ (q : KeptRule). q ∷ map (grown p) (rules_by names rs)) (grows (kept_rule_to (names r.dest) r) o.0)
-      ∙ ap (λ (qs : List KeptRule). changed_by (Write p) h (kept_rule_to (names r.dest) r) ∷ qs) (grown-rules names rs o.1)
+      ap (λ (q : KeptRule). q ∷ map (grown p) (rules_by names rs)) (grows (kept_with_dest (names r.dest) r) o.0)
+      ∙ ap (λ (qs : List KeptRule). changed_by (Write p) h (kept_with_dest (names r.dest) r) ∷ qs) (grown-rules names rs o.1)
 
 -- what is kept of the node is what is kept after the write
 pub grown-after : (s : Store) (n : Node) (plan : Plan) (t : ℕ) (v : ℤ) → Writes (sample_of t v n.series) plan → StaysOpen n.series (sample_of t v n.series) n.rules.items

@@ -9,7 +9,7 @@ use Rattle.ts_bucket.specs.Grid.{IsGrid}
 use Rattle.ts_series.specs.History.{History}
 use Rattle.ts_rules.specs.declared.rule.Rule.{Rule}
 use Rattle.ts_rules.specs.declared.plan.RulePlan.{RulePlan}
-use Rattle.ts_rules.specs.Rules.{kept_rule_to}
+use Rattle.ts_rules.specs.Rules.{kept_with_dest}
 use Rattle.ts_db.specs.declared.fault.DbFault.{DbFault}
 use Rattle.ts_db.specs.declared.node.Node.{Node}
 use Rattle.ts_db.specs.declared.store.Store.{Store}
@@ -30,8 +30,8 @@ changed-rules names change [] [] c = refl
 changed-rules names change [] (x ∷ xs) c = absurd c
 changed-rules names change (r ∷ rs) [] c = absurd c
 changed-rules names change (r ∷ rs) (x ∷ xs) c =
-    ap (λ (q : KeptRule). q ∷ rules_by names xs) (ap (λ (i : Id). kept_rule_to (names i) x) c.0.dest ∙ c.0.kept (names r.dest))
-    ∙ ap (λ (qs : List KeptRule). change (kept_rule_to (names r.dest) r) ∷ qs) (changed-rules names change rs xs c.1)
+    ap (λ (q : KeptRule). q ∷ rules_by names xs) (ap (λ (i : Id). kept_with_dest (names i) x) c.0.dest ∙ c.0.kept (names r.dest))
+    ∙ ap (λ (qs : List KeptRule). change (kept_with_dest (names r.dest) r) ∷ qs) (changed-rules names change rs xs c.1)
 
 -- they lead to the same series
 pub changed-live : (s : Store) (change : KeptRule → KeptRule) (rs xs : List Rule) → AreChanged change rs xs → AreLive s.nodes rs → AreLive s.nodes xs
@@ -50,7 +50,7 @@ changed-grids work h [] [] c g = tt
 changed-grids work h [] (x ∷ xs) c g = absurd c
 changed-grids work h (r ∷ rs) [] c g = absurd c
 changed-grids work h (r ∷ rs) (x ∷ xs) c g = (
-  subst IsGrid (sym (ap (λ (q : KeptRule). q.grid) (c.0.kept []) ∙ same-grid work h (kept_rule_to [] r))) g.0,
+  subst IsGrid (sym (ap (λ (q : KeptRule). q.grid) (c.0.kept []) ∙ same-grid work h (kept_with_dest [] r))) g.0,
   changed-grids work h rs xs c.1 g.1,
 )
 

@@ -13,7 +13,7 @@ use Rattle.ts_spec.specs.Mending.{kept_rule_to}
 use Rattle.ts_spec.specs.Keeping.{keep_changed, keep_dropped}
 use Rattle.ts_sample.specs.declared.id.Id.{Id}
 use Rattle.ts_rules.specs.declared.rule.Rule.{Rule}
-use Rattle.ts_rules.specs.Rules.{kept_rule_to}
+use Rattle.ts_rules.specs.Rules.{kept_with_dest}
 use Rattle.ts_db.specs.declared.node.Node.{Node}
 use Rattle.ts_db.specs.declared.store.Store.{Store}
 use Rattle.ts_db.specs.declared.fault.DbFault.{DbFault}
@@ -102,7 +102,7 @@ IsReason limits s d (Some fault) = (ids : Keyed Id) → refusal_of ids fault ≡
 pub record HasMore (dest : Id) (agg : Aggregator) (grid : Grid) (old new : Node) : Type 0 where
   pub rule : Rule
   pub leads : rule.dest ≡ dest
-  pub kept : (k : Key) → kept_rule_to k rule ≡ record { dest = k; agg = agg; grid = grid; made = old.series.born + 1; current = None; running = nothing }
+  pub kept : (k : Key) → kept_with_dest k rule ≡ record { dest = k; agg = agg; grid = grid; made = old.series.born + 1; current = None; running = nothing }
   pub rules : new.rules.items ≡ old.rules.items ++ rule ∷ []
   pub rest : new ≡ record old { series = record old.series { born = old.series.born + 1 }; rules = new.rules }
 

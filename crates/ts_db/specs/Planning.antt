@@ -12,7 +12,7 @@ use Rattle.ts_rules.specs.declared.plan.RulePlan.{RulePlan}
 use Rattle.ts_rules.specs.declared.fault.RuleFault.{RuleFault}
 use Rattle.ts_rules.specs.declared.fault.RuleFault.TheVariants as rule_fault
 use Rattle.ts_rules.specs.declared.fault.RuleFault.TheVariants.{Full}
-use Rattle.ts_rules.specs.Rules.{kept_rule_to, IsChanged, TakesAppended}
+use Rattle.ts_rules.specs.Rules.{kept_with_dest, IsChanged, TakesAppended}
 use Rattle.ts_rules.specs.Writes.{rule_after}
 use Rattle.ts_rules.specs.Deletions.{rule_left}
 use Rattle.ts_rules.specs.Plans.{IsMendedBy}
@@ -55,7 +55,7 @@ AllTake work source (r ∷ rs) = TakesWork work source r × AllTake work source 
 
 -- a rule as what is kept of it
 abbrev pub kept_rule_in : Nodes → Rule → KeptRule
-kept_rule_in nodes r = kept_rule_to (key_in nodes r.dest) r
+kept_rule_in nodes r = kept_with_dest (key_in nodes r.dest) r
 
 -- The plan for a rule: it changes so, and its destination is mended so.
 pub record IsFedBy (limit : ℕ) (nodes : Nodes) (rows : Rows) (gone : Gone) (r : Rule) (x : RulePlan) : Type 0 where

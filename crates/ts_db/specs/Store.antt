@@ -17,7 +17,7 @@ use Rattle.ts_sample.specs.declared.id.Id.{Id}
 use Rattle.ts_bucket.specs.Grid.{IsGrid}
 use Rattle.ts_series.specs.History.{History, list_of, reach, IsKept}
 use Rattle.ts_rules.specs.declared.rule.Rule.{Rule}
-use Rattle.ts_rules.specs.Rules.{kept_rule_to}
+use Rattle.ts_rules.specs.Rules.{kept_with_dest}
 use Rattle.ts_db.specs.declared.node.Node.{Node}
 use Rattle.ts_db.specs.declared.store.Store.{Store}
 use Rattle.ts_db.specs.Held.{Stock, Leads, reach_at, pieces_at}
@@ -28,7 +28,7 @@ kept_series labels h = record { options = h.options; labels = labels; list = lis
 
 -- what is kept of rules, by the keys of their destinations
 abbrev pub rules_by : (Id → Key) → List Rule → List KeptRule
-rules_by names rs = map (λ r. kept_rule_to (names r.dest) r) rs
+rules_by names rs = map (λ r. kept_with_dest (names r.dest) r) rs
 
 -- what is kept of a node, by the keys of numbers
 abbrev pub kept_named : (Id → Key) → Node → Kept

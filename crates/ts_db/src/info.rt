@@ -5,7 +5,7 @@ ghost use Rattle.ts_spec.specs.Questions.{time_or_0};
 ghost use Rattle.ts_spec.specs.Response.{Told};
 ghost use Rattle.ts_sample.specs.Steps.{Takes};
 ghost use Rattle.ts_series.specs.History.{reach};
-ghost use Rattle.ts_rules.specs.Rules.{kept_rule_to};
+ghost use Rattle.ts_rules.specs.Rules.{kept_with_dest};
 ghost use Rattle.ts_db.specs.Information.{rule_info_of, info_of};
 ghost use Rattle.ts_db.specs.Store.{rules_by, key_in, kept_node, HasNode, AreLive, IsLiveSource, HasLiveLinks, IsInOrder};
 
@@ -99,7 +99,7 @@ impl Store {
     fn rule_info(&self, rule: &Rule) -> Result<RuleInfo, AllocError>
         requires store { IsInOrder self.now }
         requires live { HasNode self.now.nodes rule.now.dest }
-        ensures { IfOk result (λ info. rule_info_of info ≡ kept_rule_info (kept_rule_to (key_in self.now.nodes rule.now.dest) rule.now)) }
+        ensures { IfOk result (λ info. rule_info_of info ≡ kept_rule_info (kept_with_dest (key_in self.now.nodes rule.now.dest) rule.now)) }
     {
         Ok(RuleInfo {
             dest: self.copied_key(rule.dest)?,

@@ -6,7 +6,7 @@ ghost use Rattle.ts_spec.specs.KeptQuestions.{kept_asked, open_row};
 ghost use Rattle.ts_spec.specs.KeptStep.{list_at};
 ghost use Rattle.ts_spec.specs.Sample.{put_all};
 ghost use Rattle.ts_series.specs.History.{list_of, low};
-ghost use Rattle.ts_rules.specs.Rules.{kept_rule_to, one_of};
+ghost use Rattle.ts_rules.specs.Rules.{kept_with_dest, one_of};
 ghost use Rattle.ts_db.specs.declared.node.Node.{Node as TheNode};
 ghost use Rattle.ts_db.specs.Held.{IsLive};
 ghost use Rattle.ts_db.specs.Latest.{rule_among};
@@ -55,7 +55,7 @@ fn rule_to(rules: &[Rule], id: Id) -> Option<Rule>
 
 // The row of the open bucket of a rule for its destination; none before the edge of that.
 fn row_for(rule: &Rule, dest: &Series) -> Option<Sample>
-    ensures { one_of result ≡ open_row (low dest.now) dest.now.born (kept_rule_to [] rule.now) rule.now.current }
+    ensures { one_of result ≡ open_row (low dest.now) dest.now.born (kept_with_dest [] rule.now) rule.now.current }
 {
     let row = latest(rule, dest.born())?;
     if row.time < dest.edge() {

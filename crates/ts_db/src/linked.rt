@@ -3,7 +3,7 @@ ghost use Rattle.std.specs.Prelude.{◌≡◌, ◌<◌, ◌-◌, ◌^◌, ◌==�
 ghost use Rattle.ts_spec.specs.Aggregate.{nothing};
 ghost use Rattle.ts_spec.specs.Key.{Key};
 ghost use Rattle.ts_series.specs.History.{IsKept};
-ghost use Rattle.ts_rules.specs.Rules.{kept_rule_to};
+ghost use Rattle.ts_rules.specs.Rules.{kept_with_dest};
 ghost use Rattle.ts_db.specs.Linking.{any_to, HasMore, HasRules, IsReason};
 
 use crate::fault::DbFault;
@@ -62,7 +62,7 @@ impl Node {
 // A rule that counts nothing yet.
 fn begun(dest: Id, agg: Aggregator, grid: Grid, made: u32) -> Rule
     ensures leads { result.dest ≡ dest }
-    ensures begun { (k : Key) → kept_rule_to k result ≡ record { dest = k; agg = agg; grid = grid; made = made; current = None; running = nothing } }
+    ensures begun { (k : Key) → kept_with_dest k result ≡ record { dest = k; agg = agg; grid = grid; made = made; current = None; running = nothing } }
 {
     Rule {
         dest,

@@ -3,7 +3,7 @@ ghost use Rattle.std.specs.Prelude.{◌≡◌, ◌≤◌, [], ◌∷◌, None, l
 ghost use Rattle.ts_sample.specs.Steps.{Takes};
 ghost use Rattle.slab.specs.Slab as slab;
 ghost use Rattle.ts_series.specs.History.{list_of};
-ghost use Rattle.ts_rules.specs.Rules.{kept_rule_to, IsChanged};
+ghost use Rattle.ts_rules.specs.Rules.{kept_with_dest, IsChanged};
 ghost use Rattle.ts_rules.specs.Plans.{IsPlanned as IsPlannedSo};
 ghost use Rattle.ts_spec.specs.Key.{Key};
 ghost use Rattle.ts_db.specs.Planning.{changed_by, gone_by, rows_by_work, TakesWork, AllTake, AreChanged, IsFedBy, AreFedBy, first_full, IsRuleUnplanned, IsUnplanned, share_of, share_at, shares_of, IsEasyOf, IsEasyAt, AreEasyOf};
@@ -117,7 +117,7 @@ fn made_plan<L: Ledger>(
 ) -> Result<RulePlan, RuleFault>
     requires room { TakesWork work source.now rule.now }
     requires fits { length (list_of dest.now) ≤ limit }
-    ensures planned { (k : Key) → IsPlannedSo limit (changed_by work source.now) (gone_by work source.now (kept_rule_to k rule.now)) (rows_by_work work source.now dest.now.born (kept_rule_to k rule.now)) rule.now dest.now result }
+    ensures planned { (k : Key) → IsPlannedSo limit (changed_by work source.now) (gone_by work source.now (kept_with_dest k rule.now)) (rows_by_work work source.now dest.now.born (kept_with_dest k rule.now)) rule.now dest.now result }
     ensures steps { Takes steps.old steps.new (share_of work source.now rule.now dest.now) }
     ensures easy { IsEasyOf limit work source.now rule.now dest.now → steps.new ≡ steps.old }
 {

@@ -14,7 +14,7 @@ use Rattle.ts_series.specs.History.{History, IsKept, list_of}
 use Rattle.ts_rules.specs.declared.rule.Rule.{Rule}
 use Rattle.ts_rules.specs.declared.plan.RulePlan.{RulePlan}
 use Rattle.ts_rules.specs.declared.fault.RuleFault.{RuleFault}
-use Rattle.ts_rules.specs.Rules.{kept_rule_to, IsChanged}
+use Rattle.ts_rules.specs.Rules.{kept_with_dest, IsChanged}
 use Rattle.ts_rules.specs.Plans.{IsMendedBy, IsPlanned}
 use Rattle.ts_rules.specs.PlansOfDeletions.{IsPlanOfDeletion}
 use Rattle.ts_rules.specs.Deletions.{gone_of, left_of, is_lost, rows_left, rule_left}
@@ -30,9 +30,9 @@ empty [] e = refl
 empty (p ∷ ps) e = absurd (omega (arith, e))
 
 same-rule : (left : List Point) (r : Rule) → IsChanged (deleted_rule [] left) r r
-same-rule left r = record { dest = refl; kept = λ k. (λ i. record (kept_rule_to k r) { running = go k r.current i }) }
+same-rule left r = record { dest = refl; kept = λ k. (λ i. record (kept_with_dest k r) { running = go k r.current i }) }
   where
-    go : (k : Key) (o : Option ℕ) → r.running ≡ running_without [] left (kept_rule_to k r) o
+    go : (k : Key) (o : Option ℕ) → r.running ≡ running_without [] left (kept_with_dest k r) o
     go k None = refl
     go k (Some o) = refl
 
@@ -48,7 +48,7 @@ module _ (r : Rule) (source h : History) (from to limit : ℕ) (none : length (b
   nothing-left = (
     subst (λ (ps : List Point). IsChanged (deleted_rule ps (left_of source from to)) r r) (sym gone-none) (same-rule (left_of source from to) r),
     stays limit (is_lost r source from to) (rows_left r source from to h.born) h kept fits
-        (ap (rows_of (left_of source from to) h.born (kept_rule_to [] r)) (none-pass (is_lost r source from to) (starts r.grid (left_of source from to)) lost-none)) lost-none,
+        (ap (rows_of (left_of source from to) h.born (kept_with_dest [] r)) (none-pass (is_lost r source from to) (starts r.grid (left_of source from to)) lost-none)) lost-none,
   )
 
   -- So the plan that leaves both as they are is that of the deletion.
@@ -103,5 +103,5 @@ module _ (source : History) (from to : ℕ) (a : IsAscending (list_of source)) (
   -- A plan up to the greatest time is one past it.
   pub plan-clamped : (r : Rule) (dest : History) (limit end : ℕ) (result : Result RulePlan RuleFault) → end ≡ min to MAX_TIME → IsPlanOfDeletion limit r source from end dest result → IsPlanOfDeletion limit r source from to dest result
   plan-clamped r dest limit end result e x =
-      subst (λ (ps : List Point × List Point). IsPlanned limit (deleted_rule ps.0 ps.1) (loses ps.0 (kept_rule_to [] r)) (deleted_rows ps.0 ps.1 dest.born (kept_rule_to [] r)) r dest result)
+      subst (λ (ps : List Point × List Point). IsPlanned limit (deleted_rule ps.0 ps.1) (loses ps.0 (kept_with_dest [] r)) (deleted_rows ps.0 ps.1 dest.born (kept_with_dest [] r)) r dest result)
       (λ i. (gone-clamped i, left-clamped i)) (subst (λ n. IsPlanOfDeletion limit r source from n dest result) e x)

@@ -16,7 +16,7 @@ use Rattle.ts_series.specs.History.{History, list_of, reach, limit_for}
 use Rattle.ts_series.proofs.Counting.{length-put, length-cons_if, one_if, times-fewer}
 use Rattle.ts_series.proofs.Reach.{new-within-reach}
 use Rattle.ts_rules.specs.declared.rule.Rule.{Rule}
-use Rattle.ts_rules.specs.Rules.{kept_rule_to}
+use Rattle.ts_rules.specs.Rules.{kept_with_dest}
 use Rattle.ts_rules.specs.Plans.{mended_list}
 use Rattle.ts_rules.specs.Deletions.{gone_of, left_of, is_lost, rows_left}
 use Rattle.ts_rules.proofs.Times.{same-test, within, within-from, within-to}
@@ -73,7 +73,7 @@ rows-stand gone left born q (b ∷ bs) = go (gone b) refl (rows-stand gone left 
 
 pub rows_left-ascending : (r : Rule) (source : History) (from to born : ℕ) → IsAscending (list_of source) → IsAscending (rows_left r source from to born)
 rows_left-ascending r source from to born a =
-    deleted_rows-ascending (gone_of source from to) (left_of source from to) born (kept_rule_to [] r) (ascending-times (λ t. not (is_within from to t)) (list_of source) a)
+    deleted_rows-ascending (gone_of source from to) (left_of source from to) born (kept_with_dest [] r) (ascending-times (λ t. not (is_within from to t)) (list_of source) a)
 
 module _ (r : Rule) (source h : History) (from to : ℕ) (ascending : IsAscending (list_of source)) where
   abbrev lost : ℕ → Bool
@@ -90,7 +90,7 @@ module _ (r : Rule) (source h : History) (from to : ℕ) (ascending : IsAscendin
       let low : max (start r.grid from) edge ≤ t = within-from (max (start r.grid from) edge) (start r.grid to) t x.0 in
       and_from (nat_le edge t) (lost t) (le-leb edge t (omega (arith, low))) x.1))
       (λ e. (let x = and_parts (nat_le edge t) (lost t) e in
-      let inside = loses-within (kept_rule_to [] r) from to t (list_of source) x.1 in
+      let inside = loses-within (kept_with_dest [] r) from to t (list_of source) x.1 in
       let low : start r.grid from ≤ t = within-from (start r.grid from) (start r.grid to) t inside in
       let since : edge ≤ t = leb-true edge t x.0 in
       and_from (is_within (max (start r.grid from) edge) (start r.grid to) t) (lost t)
@@ -113,7 +113,7 @@ module _ (r : Rule) (source h : History) (from to : ℕ) (ascending : IsAscendin
         let all : length (at_times (nat_le edge) (put_all rows (at_times (λ t. not (lost t)) (list_of h)))) ≡ length (at_times (nat_le edge) rows) + length (at_times (nat_le edge) (at_times (λ t. not (lost t)) (list_of h))) =
         mended-count (nat_le edge) lost rows (list_of h)
         (subst IsAscending (sym is_rows) (rows_left-ascending r source from to h.born ascending))
-        (subst (StandFor lost) (sym is_rows) (rows-stand lost (left_of source from to) h.born (kept_rule_to [] r) (starts r.grid (left_of source from to)))) in
+        (subst (StandFor lost) (sym is_rows) (rows-stand lost (left_of source from to) h.born (kept_with_dest [] r) (starts r.grid (left_of source from to)))) in
         let same : length (at_times (nat_le edge) (put_all rows (at_times (λ t. not (lost t)) (list_of h)))) ≡ length (mended_list lost (rows_left r source from to h.born) h) =
         (λ i. length (at_times (nat_le (is_edge i)) (put_all rows (at_times (λ t. not (lost t)) (list_of h))))) ∙ ap (λ (qs : List Point). length (mended_list lost qs h)) is_rows in
         omega (arith, all-removed, is_count, is_written, all, same, stay-and-go (nat_le edge) lost (list_of h))

@@ -18,7 +18,7 @@ use Rattle.ts_spec.proofs.KeptWritten.{kept-written}
 use Rattle.ts_spec.proofs.Deleted.{source-free, kept-deleted}
 use Rattle.ts_series.specs.History.{History, list_of}
 use Rattle.ts_rules.specs.declared.rule.Rule.{Rule}
-use Rattle.ts_rules.specs.Rules.{kept_rule_to}
+use Rattle.ts_rules.specs.Rules.{kept_with_dest}
 use Rattle.ts_rules.specs.Plans.{mended_list}
 use Rattle.ts_rules.specs.States.{IsOfState, IsLawOfWrites, IsLawOfDeletions}
 
@@ -38,8 +38,8 @@ module _ (limits : Limits) (m : State) (key to : Key) (r : Rule) (source dest : 
   origin = mapped-from (kept_record (link_to m key)) (get key m) s (sym (get-kept m key) ∙ h.source_there)
 
   -- the rule in it
-  led : From kept_rule (rule_to to origin.value.rules) (kept_rule_to to r)
-  led = mapped-from kept_rule (rule_to to origin.value.rules) (kept_rule_to to r) (sym (rule_to-kept to origin.value.rules) ∙ ap (λ (c : Kept). kept_rule_to to c.rules) origin.gives ∙ h.rule)
+  led : From kept_rule (rule_to to origin.value.rules) (kept_with_dest to r)
+  led = mapped-from kept_rule (rule_to to origin.value.rules) (kept_with_dest to r) (sym (rule_to-kept to origin.value.rules) ∙ ap (λ (c : Kept). kept_rule_to to c.rules) origin.gives ∙ h.rule)
 
   -- a source is no destination of its own
   apart : same to key ≡ false
@@ -70,7 +70,7 @@ module _ (limits : Limits) (m : State) (key to : Key) (r : Rule) (source dest : 
         ∙ ap (λ (o : Option Kept). option_map (after_write key t v o key) o) h.source_there
         ∙ ap (λ (b : Bool). Some (if b then kept_with t v s else fed_by_write t v s (kept_rule_to key s.rules) s)) (same-refl key)
 
-    dest-after : get to (kept (written key t v m)) ≡ Some (fed_by_write t v s (Some (kept_rule_to to r)) d)
+    dest-after : get to (kept (written key t v m)) ≡ Some (fed_by_write t v s (Some (kept_with_dest to r)) d)
     dest-after =
         ap (get to) (kept-written limits m key origin.value t v h.valid origin.is)
         ∙ get-each (after_write key t v (get key (kept m))) to (kept m)
@@ -79,21 +79,21 @@ module _ (limits : Limits) (m : State) (key to : Key) (r : Rule) (source dest : 
         ∙ ap (λ (q : Option KeptRule). Some (fed_by_write t v s q d)) h.rule
 
     -- the list of the destination
-    list-after : (fed_by_write t v s (Some (kept_rule_to to r)) d).list ≡ mended_list (λ u. false) (written_row p (put p (list_of source)) dest.born (kept_rule_to [] r)) dest
-    list-after = λ i. mended (h.dest_options i).retention (h.dest_high i) (λ u. false) (written_row p (put p (h.source_list i)) (h.dest_born i) (kept_rule_to to r)) (h.dest_list i)
+    list-after : (fed_by_write t v s (Some (kept_with_dest to r)) d).list ≡ mended_list (λ u. false) (written_row p (put p (list_of source)) dest.born (kept_with_dest [] r)) dest
+    list-after = λ i. mended (h.dest_options i).retention (h.dest_high i) (λ u. false) (written_row p (put p (h.source_list i)) (h.dest_born i) (kept_with_dest to r)) (h.dest_list i)
 
-    high-after : (fed_by_write t v s (Some (kept_rule_to to r)) d).high ≡ high_with (written_row p (put p (list_of source)) dest.born (kept_rule_to [] r)) dest.high
-    high-after = λ i. high_with (written_row p (put p (h.source_list i)) (h.dest_born i) (kept_rule_to to r)) (h.dest_high i)
+    high-after : (fed_by_write t v s (Some (kept_with_dest to r)) d).high ≡ high_with (written_row p (put p (list_of source)) dest.born (kept_with_dest [] r)) dest.high
+    high-after = λ i. high_with (written_row p (put p (h.source_list i)) (h.dest_born i) (kept_with_dest to r)) (h.dest_high i)
 
-    shown-after : shown (written key t v m) to ≡ mended_list (λ u. false) (written_row p (put p (list_of source)) dest.born (kept_rule_to [] r)) dest
+    shown-after : shown (written key t v m) to ≡ mended_list (λ u. false) (written_row p (put p (list_of source)) dest.born (kept_with_dest [] r)) dest
     shown-after = sym (list-kept (written key t v m) to) ∙ ap list_at dest-after ∙ list-after
 
-    rule-after : (n : Rule) → kept_rule_to to n ≡ written_rule (is_append t source.high) p (put p (list_of source)) (kept_rule_to to r) → kept_rule_to to (kept_rules_at (get key (kept (written key t v m)))) ≡ Some (kept_rule_to to n)
+    rule-after : (n : Rule) → kept_with_dest to n ≡ written_rule (is_append t source.high) p (put p (list_of source)) (kept_with_dest to r) → kept_rule_to to (kept_rules_at (get key (kept (written key t v m)))) ≡ Some (kept_with_dest to n)
     rule-after n e =
         ap (λ (o : Option Kept). kept_rule_to to (kept_rules_at o)) source-after
         ∙ changed-to to (written_rule (is_append t s.high) p (put p s.list)) s.rules (λ q. refl)
         ∙ ap (option_map (written_rule (is_append t s.high) p (put p s.list))) h.rule
-        ∙ (λ i. Some (written_rule (is_append t (h.source_high i)) p (put p (h.source_list i)) (kept_rule_to to r)))
+        ∙ (λ i. Some (written_rule (is_append t (h.source_high i)) p (put p (h.source_list i)) (kept_with_dest to r)))
         ∙ ap (λ (q : KeptRule). Some q) (sym e)
 
     pub law-of-writes : IsLawOfWrites limits m key to r source dest s d limit t v
@@ -122,7 +122,7 @@ module _ (limits : Limits) (m : State) (key to : Key) (r : Rule) (source dest : 
         ∙ ap (λ (o : Option Kept). option_map (after_deletion key first last o key) o) h.source_there
         ∙ ap (λ (b : Bool). Some (if b then kept_without first last s else fed_by_deletion first last s (kept_rule_to key s.rules) s)) (same-refl key)
 
-    dest-left : get to (kept (deleted key first last m)) ≡ Some (fed_by_deletion first last s (Some (kept_rule_to to r)) d)
+    dest-left : get to (kept (deleted key first last m)) ≡ Some (fed_by_deletion first last s (Some (kept_with_dest to r)) d)
     dest-left =
         ap (get to) (kept-deleted limits m key origin.value first last h.valid origin.is)
         ∙ get-each (after_deletion key first last (get key (kept m))) to (kept m)
@@ -130,23 +130,23 @@ module _ (limits : Limits) (m : State) (key to : Key) (r : Rule) (source dest : 
         ∙ ap (λ (b : Bool). Some (if b then kept_without first last d else fed_by_deletion first last s (kept_rule_to to s.rules) d)) apart
         ∙ ap (λ (q : Option KeptRule). Some (fed_by_deletion first last s q d)) h.rule
 
-    list-left : (fed_by_deletion first last s (Some (kept_rule_to to r)) d).list ≡
-        mended_list (loses (gone (list_of source)) (kept_rule_to [] r)) (deleted_rows (gone (list_of source)) (left (list_of source)) dest.born (kept_rule_to [] r)) dest
-    list-left = λ i. mended (h.dest_options i).retention (h.dest_high i) (loses (gone (h.source_list i)) (kept_rule_to to r))
-        (deleted_rows (gone (h.source_list i)) (left (h.source_list i)) (h.dest_born i) (kept_rule_to to r)) (h.dest_list i)
+    list-left : (fed_by_deletion first last s (Some (kept_with_dest to r)) d).list ≡
+        mended_list (loses (gone (list_of source)) (kept_with_dest [] r)) (deleted_rows (gone (list_of source)) (left (list_of source)) dest.born (kept_with_dest [] r)) dest
+    list-left = λ i. mended (h.dest_options i).retention (h.dest_high i) (loses (gone (h.source_list i)) (kept_with_dest to r))
+        (deleted_rows (gone (h.source_list i)) (left (h.source_list i)) (h.dest_born i) (kept_with_dest to r)) (h.dest_list i)
 
-    high-left : (fed_by_deletion first last s (Some (kept_rule_to to r)) d).high ≡ high_with (deleted_rows (gone (list_of source)) (left (list_of source)) dest.born (kept_rule_to [] r)) dest.high
-    high-left = λ i. high_with (deleted_rows (gone (h.source_list i)) (left (h.source_list i)) (h.dest_born i) (kept_rule_to to r)) (h.dest_high i)
+    high-left : (fed_by_deletion first last s (Some (kept_with_dest to r)) d).high ≡ high_with (deleted_rows (gone (list_of source)) (left (list_of source)) dest.born (kept_with_dest [] r)) dest.high
+    high-left = λ i. high_with (deleted_rows (gone (h.source_list i)) (left (h.source_list i)) (h.dest_born i) (kept_with_dest to r)) (h.dest_high i)
 
-    shown-left : shown (deleted key first last m) to ≡ mended_list (loses (gone (list_of source)) (kept_rule_to [] r)) (deleted_rows (gone (list_of source)) (left (list_of source)) dest.born (kept_rule_to [] r)) dest
+    shown-left : shown (deleted key first last m) to ≡ mended_list (loses (gone (list_of source)) (kept_with_dest [] r)) (deleted_rows (gone (list_of source)) (left (list_of source)) dest.born (kept_with_dest [] r)) dest
     shown-left = sym (list-kept (deleted key first last m) to) ∙ ap list_at dest-left ∙ list-left
 
-    rule-left : (n : Rule) → kept_rule_to to n ≡ deleted_rule (gone (list_of source)) (left (list_of source)) (kept_rule_to to r) → kept_rule_to to (kept_rules_at (get key (kept (deleted key first last m)))) ≡ Some (kept_rule_to to n)
+    rule-left : (n : Rule) → kept_with_dest to n ≡ deleted_rule (gone (list_of source)) (left (list_of source)) (kept_with_dest to r) → kept_rule_to to (kept_rules_at (get key (kept (deleted key first last m)))) ≡ Some (kept_with_dest to n)
     rule-left n e =
         ap (λ (o : Option Kept). kept_rule_to to (kept_rules_at o)) source-left
         ∙ changed-to to (deleted_rule (gone s.list) (left s.list)) s.rules (λ q. refl)
         ∙ ap (option_map (deleted_rule (gone s.list) (left s.list))) h.rule
-        ∙ (λ i. Some (deleted_rule (gone (h.source_list i)) (left (h.source_list i)) (kept_rule_to to r)))
+        ∙ (λ i. Some (deleted_rule (gone (h.source_list i)) (left (h.source_list i)) (kept_with_dest to r)))
         ∙ ap (λ (q : KeptRule). Some q) (sym e)
 
     pub law-of-deletions : IsLawOfDeletions limits m key to r source dest d limit first last

@@ -8,7 +8,7 @@ use Rattle.ts_spec.specs.Kept.{KeptRule}
 use Rattle.ts_spec.specs.Mending.{bucket_row, by_bucket, counted_anew, closing_row, written_rule, written_row}
 use Rattle.ts_spec.proofs.WrittenRules.{by-here, by-past}
 use Rattle.ts_rules.specs.declared.rule.Rule.{Rule}
-use Rattle.ts_rules.specs.Rules.{kept_rule_to, IsChanged, IsOpenAt}
+use Rattle.ts_rules.specs.Rules.{kept_with_dest, IsChanged, IsOpenAt}
 
 module _ (append : Bool) (p : Point) (ps : List Point) (born : ℕ) (q : KeptRule) where
   abbrev b : ℕ
@@ -57,18 +57,18 @@ module _ (append : Bool) (p : Point) (ps : List Point) (old new : Rule) (b : ℕ
   pub told-none : IsOpenAt (Some b) running old new → running ≡ push nothing p → old.current ≡ None → IsChanged (written_rule append p ps) old new
   told-none x e h = record {
     dest = x.dest;
-    kept = λ k. x.kept k ∙ (λ i. record (kept_rule_to k old) { current = Some (begins i); running = e i }) ∙ sym (rule-none append p ps 0 (kept_rule_to k old) h);
+    kept = λ k. x.kept k ∙ (λ i. record (kept_with_dest k old) { current = Some (begins i); running = e i }) ∙ sym (rule-none append p ps 0 (kept_with_dest k old) h);
   }
 
   pub told-past : (o : ℕ) → IsOpenAt (Some b) running old new → running ≡ push nothing p → old.current ≡ Some o → o < b → IsChanged (written_rule append p ps) old new
   told-past o x e h past = record {
     dest = x.dest;
-    kept = λ k. x.kept k ∙ (λ i. record (kept_rule_to k old) { current = Some (begins i); running = e i }) ∙ sym (rule-past append p ps 0 (kept_rule_to k old) o h (omega (arith, past, begins)));
+    kept = λ k. x.kept k ∙ (λ i. record (kept_with_dest k old) { current = Some (begins i); running = e i }) ∙ sym (rule-past append p ps 0 (kept_with_dest k old) o h (omega (arith, past, begins)));
   }
 
-  pub told-here : (o : ℕ) → IsOpenAt (Some o) running old new → running ≡ (if append then push old.running p else counted_anew (kept_rule_to [] old) (start old.grid p.time) ps) →
+  pub told-here : (o : ℕ) → IsOpenAt (Some o) running old new → running ≡ (if append then push old.running p else counted_anew (kept_with_dest [] old) (start old.grid p.time) ps) →
       old.current ≡ Some o → o ≤ b → b ≤ o → IsChanged (written_rule append p ps) old new
   told-here o x e h low up = record {
     dest = x.dest;
-    kept = λ k. x.kept k ∙ (λ i. record (kept_rule_to k old) { current = Some o; running = e i }) ∙ sym (rule-here append p ps 0 (kept_rule_to k old) o h (omega (arith, low, up, begins)));
+    kept = λ k. x.kept k ∙ (λ i. record (kept_with_dest k old) { current = Some o; running = e i }) ∙ sym (rule-here append p ps 0 (kept_with_dest k old) o h (omega (arith, low, up, begins)));
   }

@@ -5,7 +5,7 @@ use Rattle.ts_spec.specs.Kept.{KeptRule}
 use Rattle.ts_spec.specs.Mending.{bucket_row, counted_anew, deleted_rule, loses, deleted_rows}
 use Rattle.ts_series.specs.History.{History, list_of}
 use Rattle.ts_rules.specs.declared.rule.Rule.{Rule}
-use Rattle.ts_rules.specs.Rules.{kept_rule_to}
+use Rattle.ts_rules.specs.Rules.{kept_with_dest}
 
 -- the samples that go, and those that are left
 abbrev pub gone_of : (source : History) → (from to : ℕ) → List Point
@@ -20,16 +20,16 @@ rule_left source from to q = deleted_rule (gone_of source from to) (left_of sour
 
 -- whether the bucket that starts there is closed, and loses a sample
 abbrev pub is_lost : Rule → (source : History) → (from to : ℕ) → ℕ → Bool
-is_lost r source from to b = loses (gone_of source from to) (kept_rule_to [] r) b
+is_lost r source from to b = loses (gone_of source from to) (kept_with_dest [] r) b
 
 -- the rows that the destination is told, which has this many rules ever made
 abbrev pub rows_left : Rule → (source : History) → (from to : ℕ) → (born : ℕ) → List Point
-rows_left r source from to born = deleted_rows (gone_of source from to) (left_of source from to) born (kept_rule_to [] r)
+rows_left r source from to born = deleted_rows (gone_of source from to) (left_of source from to) born (kept_with_dest [] r)
 
 -- the row of one bucket, if it is closed and lost a sample
 abbrev pub row_left : Rule → (source : History) → (from to : ℕ) → (born b : ℕ) → List Point
 row_left r source from to born b =
-    if is_lost r source from to b then bucket_row r.agg born b (counted_anew (kept_rule_to [] r) b (left_of source from to)) else []
+    if is_lost r source from to b then bucket_row r.agg born b (counted_anew (kept_with_dest [] r) b (left_of source from to)) else []
 
 -- what a list has from one start to another after it: the row of the first bucket, the samples that stay, and the row of the last
 abbrev pub span_left : Rule → (source : History) → (from to : ℕ) → (born first last : ℕ) → List Point → List Point

@@ -11,13 +11,13 @@ use Rattle.ts_series.specs.History.{History}
 use Rattle.ts_rules.specs.declared.rule.Rule.{Rule}
 
 -- what is kept of a rule whose destination has this key
-abbrev pub kept_rule_to : Key → Rule → KeptRule
-kept_rule_to k r = record { dest = k; agg = r.agg; grid = r.grid; made = r.made; current = r.current; running = r.running }
+abbrev pub kept_with_dest : Key → Rule → KeptRule
+kept_with_dest k r = record { dest = k; agg = r.agg; grid = r.grid; made = r.made; current = r.current; running = r.running }
 
 -- a change of what is kept of a rule: its destination stays
 pub record IsChanged (change : KeptRule → KeptRule) (old new : Rule) : Type 0 where
   pub dest : new.dest ≡ old.dest
-  pub kept : (k : Key) → kept_rule_to k new ≡ change (kept_rule_to k old)
+  pub kept : (k : Key) → kept_with_dest k new ≡ change (kept_with_dest k old)
 
 -- the rule with this open bucket
 abbrev pub IsOpenAt : (current : Option ℕ) → (running : Summary) → (old new : Rule) → Type 0
@@ -30,7 +30,7 @@ one_of (Some p) = p ∷ []
 
 -- the row of the open bucket, for a destination with this many rules ever made; none where nothing is counted there
 abbrev pub open_row : (born : ℕ) → Rule → List Point
-open_row born r = closing_row born (kept_rule_to [] r) r.current
+open_row born r = closing_row born (kept_with_dest [] r) r.current
 
 -- the open bucket takes one more sample where that is appended to it
 abbrev pub TakesAppended : Rule → History → Point → Type 0

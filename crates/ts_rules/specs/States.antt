@@ -13,7 +13,7 @@ use Rattle.ts_series.specs.History.{History, list_of}
 use Rattle.ts_rules.specs.declared.rule.Rule.{Rule}
 use Rattle.ts_rules.specs.declared.plan.RulePlan.{RulePlan}
 use Rattle.ts_rules.specs.declared.fault.RuleFault.TheVariants.{Full}
-use Rattle.ts_rules.specs.Rules.{kept_rule_to}
+use Rattle.ts_rules.specs.Rules.{kept_with_dest}
 use Rattle.ts_rules.specs.Plans.{after_plan}
 use Rattle.ts_rules.specs.PlansOfWrites.{IsPlanOfWrite}
 use Rattle.ts_rules.specs.PlansOfDeletions.{IsPlanOfDeletion}
@@ -24,7 +24,7 @@ pub record IsOfState (limits : Limits) (m : State) (key to : Key) (r : Rule) (so
   pub source_there : get key (kept m) ≡ Some s
   pub source_list : s.list ≡ list_of source
   pub source_high : s.high ≡ source.high
-  pub rule : kept_rule_to to s.rules ≡ Some (kept_rule_to to r)
+  pub rule : kept_rule_to to s.rules ≡ Some (kept_with_dest to r)
   pub dest_there : get to (kept m) ≡ Some d
   pub dest_options : d.options ≡ dest.options
   pub dest_list : d.list ≡ list_of dest
@@ -33,7 +33,7 @@ pub record IsOfState (limits : Limits) (m : State) (key to : Key) (r : Rule) (so
 
 -- what is kept of the rule and of the destination in this state is what was planned, and the destination shows no more than the limit
 pub record IsAfterPlan (limit : ℕ) (m : State) (key to : Key) (dest : History) (d : Kept) (plan : RulePlan) : Type 0 where
-  pub rule : kept_rule_to to (kept_rules_at (get key (kept m))) ≡ Some (kept_rule_to to plan.rule)
+  pub rule : kept_rule_to to (kept_rules_at (get key (kept m))) ≡ Some (kept_with_dest to plan.rule)
   pub destination : get to (kept m) ≡ Some (record d { list = list_of (after_plan plan.dest dest); high = (after_plan plan.dest dest).high })
   pub fits : length (shown m to) ≤ limit
 

@@ -6,7 +6,7 @@ use Rattle.ts_spec.specs.Kept.{KeptRule}
 use Rattle.ts_spec.specs.Mending.{written_rule, written_row}
 use Rattle.ts_series.specs.History.{History, list_of}
 use Rattle.ts_rules.specs.declared.rule.Rule.{Rule}
-use Rattle.ts_rules.specs.Rules.{kept_rule_to}
+use Rattle.ts_rules.specs.Rules.{kept_with_dest}
 
 -- the rule after it
 abbrev pub rule_after : (source : History) → Point → KeptRule → KeptRule
@@ -14,4 +14,4 @@ rule_after source p q = written_rule (is_append p.time source.high) p (put p (li
 
 -- the row that the destination is told, which has this many rules ever made
 abbrev pub row_for_dest : (source : History) → Point → (born : ℕ) → Rule → List Point
-row_for_dest source p born r = written_row p (put p (list_of source)) born (kept_rule_to [] r)
+row_for_dest source p born r = written_row p (put p (list_of source)) born (kept_with_dest [] r)

@@ -6,7 +6,7 @@ ghost use Rattle.ts_spec.specs.Mending.{counted_anew};
 ghost use Rattle.ts_sample.specs.Visit.{visited};
 ghost use Rattle.ts_sample.specs.Steps.{Takes};
 ghost use Rattle.ts_series.specs.History.{list_of, reach};
-ghost use Rattle.ts_rules.specs.Rules.{kept_rule_to};
+ghost use Rattle.ts_rules.specs.Rules.{kept_with_dest};
 ghost use Rattle.ts_rules.specs.Shares.{in_buckets, source_share};
 ghost use Rattle.ts_rules.specs.Spans.{from_until};
 
@@ -23,7 +23,7 @@ pub(crate) fn count_written<L: Ledger>(
     wrote: &Sample,
     steps: &mut Steps<L>,
 ) -> Running
-    ensures running { result ≡ counted_anew (kept_rule_to [] rule.now) (start_of rule.now.grid wrote.now.time) (put wrote.now (list_of source.now)) }
+    ensures running { result ≡ counted_anew (kept_with_dest [] rule.now) (start_of rule.now.grid wrote.now.time) (put wrote.now (list_of source.now)) }
     ensures steps { Takes steps.old steps.new (source_share rule.now source.now wrote.now.time) }
 {
     source.known();
@@ -49,8 +49,8 @@ pub(crate) fn ends_left<L: Ledger>(
 ) -> (Running, Running)
     requires order { from ≤ to }
     requires time { to ≤ MAX_TIME }
-    ensures first { result.0 ≡ counted_anew (kept_rule_to [] rule.now) (start_of rule.now.grid from) (outside from to (list_of source.now)) }
-    ensures last { result.1 ≡ counted_anew (kept_rule_to [] rule.now) (start_of rule.now.grid to) (outside from to (list_of source.now)) }
+    ensures first { result.0 ≡ counted_anew (kept_with_dest [] rule.now) (start_of rule.now.grid from) (outside from to (list_of source.now)) }
+    ensures last { result.1 ≡ counted_anew (kept_with_dest [] rule.now) (start_of rule.now.grid to) (outside from to (list_of source.now)) }
     ensures counted { steps.old ≤ steps.new }
     ensures bounded { steps.new + length (between from to (list_of source.now))
         ≤ steps.old + length (in_buckets rule.now.grid from to (list_of source.now)) + 4 * reach source.now }

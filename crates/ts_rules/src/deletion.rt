@@ -5,7 +5,7 @@ ghost use Rattle.ts_spec.specs.Sample.{MAX_TIME};
 ghost use Rattle.ts_spec.specs.Bucket.{start as start_of};
 ghost use Rattle.ts_spec.specs.Answer.{is_listed};
 ghost use Rattle.ts_spec.specs.Mending.{counted_anew, lies_in};
-ghost use Rattle.ts_rules.specs.Rules.{kept_rule_to};
+ghost use Rattle.ts_rules.specs.Rules.{kept_with_dest};
 ghost use Rattle.ts_rules.specs.Deletions.{gone_of, left_of};
 
 use crate::rule::Rule;
@@ -29,6 +29,6 @@ pub(crate) struct Deletion<'a> {
     pub ghost in_time: { to ≤ MAX_TIME },
     pub ghost rising: { IsNonDecreasing lost.now },
     pub ghost lies: { (b : ℕ) → is_listed lost.now b ≡ lies_in rule.now.grid (gone_of source.now from to) b },
-    pub ghost first_left: { first ≡ counted_anew (kept_rule_to [] rule.now) (start_of rule.now.grid from) (left_of source.now from to) },
-    pub ghost last_left: { last ≡ counted_anew (kept_rule_to [] rule.now) (start_of rule.now.grid to) (left_of source.now from to) },
+    pub ghost first_left: { first ≡ counted_anew (kept_with_dest [] rule.now) (start_of rule.now.grid from) (left_of source.now from to) },
+    pub ghost last_left: { last ≡ counted_anew (kept_with_dest [] rule.now) (start_of rule.now.grid to) (left_of source.now from to) },
 }

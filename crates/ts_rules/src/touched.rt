@@ -2,7 +2,7 @@
 ghost use Rattle.std.specs.Prelude.{◌≡◌, ◌≤◌, true, []};
 ghost use Rattle.ts_spec.specs.Sample.{MAX_TIME};
 ghost use Rattle.ts_spec.specs.Mending.{counted_anew, lies_in};
-ghost use Rattle.ts_rules.specs.Rules.{kept_rule_to, one_of, IsChanged};
+ghost use Rattle.ts_rules.specs.Rules.{kept_with_dest, one_of, IsChanged};
 ghost use Rattle.ts_rules.specs.Deletions.{gone_of, is_lost, left_of, row_left, rule_left};
 
 use crate::deletion::Deletion;
@@ -28,7 +28,7 @@ impl Deletion<'_> {
     // What is left in a bucket that holds a sample that goes.
     fn left_in(&self, start: u64) -> Running
         requires { lies_in self.now.rule.now.grid (gone_of self.now.source.now self.now.from self.now.to) start ≡ true }
-        ensures { result ≡ counted_anew (kept_rule_to [] self.now.rule.now) start (left_of self.now.source.now self.now.from self.now.to) }
+        ensures { result ≡ counted_anew (kept_with_dest [] self.now.rule.now) start (left_of self.now.source.now self.now.from self.now.to) }
     {
         let grid = &self.rule.grid;
         if start == grid.start_of(self.from) {
@@ -44,7 +44,7 @@ impl Deletion<'_> {
     // `born` is the destination's.
     pub(crate) fn row_left(&self, start: u64, left: &Running, born: u32) -> Option<Sample>
         requires time { start ≤ MAX_TIME }
-        requires left { left.now ≡ counted_anew (kept_rule_to [] self.now.rule.now) start (left_of self.now.source.now self.now.from self.now.to) }
+        requires left { left.now ≡ counted_anew (kept_with_dest [] self.now.rule.now) start (left_of self.now.source.now self.now.from self.now.to) }
         ensures { one_of result ≡ row_left self.now.rule.now self.now.source.now self.now.from self.now.to born start }
     {
         if !self.loses(start) {

@@ -7,7 +7,7 @@ ghost use Rattle.ts_spec.specs.Rules.{is_append};
 ghost use Rattle.ts_spec.specs.Mending.{counted_anew};
 ghost use Rattle.ts_sample.specs.Steps.{Takes};
 ghost use Rattle.ts_series.specs.History.{list_of};
-ghost use Rattle.ts_rules.specs.Rules.{kept_rule_to, one_of, IsChanged, TakesAppended};
+ghost use Rattle.ts_rules.specs.Rules.{kept_with_dest, one_of, IsChanged, TakesAppended};
 ghost use Rattle.ts_rules.specs.Shares.{source_share, IsNotClosed};
 ghost use Rattle.ts_rules.specs.Writes.{rule_after, row_for_dest};
 
@@ -54,7 +54,7 @@ pub(crate) fn written<L: Ledger>(
 fn grown<L: Ledger>(rule: &Rule, source: &Series, wrote: &Sample, steps: &mut Steps<L>) -> Running
     requires { is_append wrote.now.time source.now.high ≡ true → rule.now.running.count < 10 ^ 14 }
     ensures running { result ≡ (if is_append wrote.now.time source.now.high then push rule.now.running wrote.now
-        else counted_anew (kept_rule_to [] rule.now) (start_of rule.now.grid wrote.now.time) (put wrote.now (list_of source.now))) }
+        else counted_anew (kept_with_dest [] rule.now) (start_of rule.now.grid wrote.now.time) (put wrote.now (list_of source.now))) }
     ensures steps { Takes steps.old steps.new (source_share rule.now source.now wrote.now.time) }
     ensures easy { is_append wrote.now.time source.now.high ≡ true → steps.new ≡ steps.old }
 {

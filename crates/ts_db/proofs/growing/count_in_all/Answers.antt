@@ -2,7 +2,7 @@ use Rattle.std.proofs.Common.{◌<◌, ℕ, List, length, slice_index_or, refl, 
 use Rattle.std.proofs.lemmas.List.{drop_more}
 use Rattle.ts_spec.specs.Aggregate.{Summary}
 use Rattle.ts_rules.specs.declared.rule.Rule.{Rule}
-use Rattle.ts_rules.specs.Rules.{kept_rule_to}
+use Rattle.ts_rules.specs.Rules.{kept_with_dest}
 use Rattle.ts_db.specs.Growing.{grown, HaveRoom}
 use Rattle.ts_db.proofs.Grown.{one-more, others-same}
 use Rattle.ts_db.proofs.growing.count_in_all.Goals as goal
@@ -16,7 +16,7 @@ loop-rule-preserved c =
     let below : i < length now = omega (arith, c.loop-rule-test.true, c.loop-rule.auto.rule-items) in
     record {
       done = one-more (grown c.args.wrote.now) all now i c.rule-item.result _ c.loop-rule-test.true below c.loop-rule.invariant.others c.loop-rule.invariant.done
-          (record { dest = refl; kept = λ k. ap (λ (s : Summary). record (kept_rule_to k r) { running = s }) c.push.ensures.pushed });
+          (record { dest = refl; kept = λ k. ap (λ (s : Summary). record (kept_with_dest k r) { running = s }) c.push.ensures.pushed });
       others = others-same all now i _ c.loop-rule.invariant.others;
       room = (subst HaveRoom (drop_more all i c.rule-item.result c.loop-rule-test.true) c.loop-rule.invariant.room).1;
     }
