@@ -8,7 +8,7 @@ use Rattle.slab.specs.Slab as slab
 use Rattle.slab.proofs.SlabLemmas.{Updates-with_value}
 use Rattle.ts_spec.specs.State.{Label}
 use Rattle.ts_sample.specs.declared.id.Id.{Id}
-use Rattle.ts_index.specs.Index.{Labelled, labels_of, Gives}
+use Rattle.ts_index.specs.Index.{Labelled, labels_of, Relabels}
 use Rattle.ts_series.specs.History.{History, IsKept}
 use Rattle.ts_series.specs.Plan.{Plan, after}
 use Rattle.ts_rules.specs.declared.rule.Rule.{Rule}
@@ -22,7 +22,7 @@ abbrev pub node_labels : Option Node → Option (List Label)
 node_labels o = option_map (λ n. n.labels) o
 
 -- a number has other labels in both
-pub indexed-updates : (nodes new : Nodes) (index fresh : Labelled) (id : Id) (o : Option Node) → slab.Updates nodes new id.0 o → Gives id (node_labels o) index fresh → IsIndexed nodes index → IsIndexed new fresh
+pub indexed-updates : (nodes new : Nodes) (index fresh : Labelled) (id : Id) (o : Option Node) → slab.Updates nodes new id.0 o → Relabels id (node_labels o) index fresh → IsIndexed nodes index → IsIndexed new fresh
 indexed-updates nodes new index fresh id o change gives is i = pick (cases_eq i id.0)
   where
     pick : (i ≡ id.0) ⊎ (i ≢ id.0) → labels_of i fresh ≡ node_labels (slab.get new i)
@@ -34,7 +34,7 @@ pub contains : (nodes : Nodes) (id : Id) (n : Node) → slab.get nodes id.0 ≡ 
 contains nodes id n there = subst (λ (o : Option Node). IsSome o) (sym there) refl
 
 -- a node has other labels in both
-pub indexed-altered : (nodes : Nodes) (index fresh : Labelled) (id : Id) (n changed : Node) → slab.get nodes id.0 ≡ Some n → Gives id (Some changed.labels) index fresh → IsIndexed nodes index
+pub indexed-altered : (nodes : Nodes) (index fresh : Labelled) (id : Id) (n changed : Node) → slab.get nodes id.0 ≡ Some n → Relabels id (Some changed.labels) index fresh → IsIndexed nodes index
     → IsIndexed (slab.with_value nodes id.0 changed) fresh
 indexed-altered nodes index fresh id n changed there gives is =
     indexed-updates nodes (slab.with_value nodes id.0 changed) index fresh id (Some changed) (Updates-with_value nodes id.0 changed (contains nodes id n there)) gives is

@@ -2,7 +2,7 @@
 ghost use Rattle.std.specs.Prelude.{◌≡◌, ◌<◌, ◌-◌, ◌^◌, ◌==◌, [], not, filter, None, Some, IfOk, OnOk, OnErr};
 ghost use Rattle.std.specs.Option.{unwrap_or};
 ghost use Rattle.slab.specs.Slab as slab;
-ghost use Rattle.ts_index.specs.Index.{Gives, labels_of};
+ghost use Rattle.ts_index.specs.Index.{Relabels, labels_of};
 ghost use Rattle.ts_series.specs.Plan.{IsFor};
 ghost use Rattle.ts_db.specs.declared.node.Node.{Node as TheNode};
 ghost use Rattle.ts_db.specs.Growing.{HaveRoom};
@@ -107,7 +107,7 @@ impl Nodes {
 // Gives a number these labels in the place of those that it has, where they are given.
 fn take_up(index: &mut Index, id: Id, old: &Labels, new: &Option<Labels>) -> Result<(), AllocError>
     requires { labels_of id.0 index.old ≡ Some old.now }
-    ensures ok { OnOk result (Gives id (Some (unwrap_or new.now old.now)) index.old index.new) }
+    ensures ok { OnOk result (Relabels id (Some (unwrap_or new.now old.now)) index.old index.new) }
     ensures err { OnErr result (index.new ≡ index.old) }
 {
     match new {

@@ -6,7 +6,7 @@ use Rattle.std.specs.Ordering.{nat_cmp}
 use Rattle.std.specs.BTreeMap.{BTreeMap, is_at}
 use Rattle.ts_spec.specs.State.{Label}
 use Rattle.ts_sample.specs.declared.id.Id.{Id}
-use Rattle.ts_index.specs.Index.{Labelled, Gives, labels_of, numbers_where, has_pair}
+use Rattle.ts_index.specs.Index.{Labelled, Relabels, labels_of, numbers_where, has_pair}
 use Rattle.ts_index.specs.Numbers.{AreInOrder, AreAscending, has_number, pass}
 use Rattle.ts_index.specs.Postings.{posting_in, ArePosted}
 use Rattle.ts_index.proofs.NumberLemmas.{has_number-where, AreAscending-where, is_at-number}
@@ -40,7 +40,7 @@ module _ {Z : Type 0} where
 
   -- one number has other labels
   pub posted-after : (es new : Labelled) (after : BTreeMap (List ℕ) (BTreeMap (List ℕ) (Vec Id Z))) (id : Id) (labels : Option (List Label))
-      → AreInOrder new → Gives id labels es new → ((l v : List ℕ) → AreAscending (posting_in l v after))
+      → AreInOrder new → Relabels id labels es new → ((l v : List ℕ) → AreAscending (posting_in l v after))
       → ((l v : List ℕ) → has_number id.0 (posting_in l v after) ≡ pass (has_pair l v) labels)
       → ((l v : List ℕ) (q : ℕ) → (q == id.0) ≡ false → has_number q (posting_in l v after) ≡ pass (has_pair l v) (labels_of q es))
       → ArePosted new after
@@ -83,7 +83,7 @@ other-take x own before e = rw e (none_own before)
 
 -- what a map has after a change at one number
 pub gives-updated : (id : Id) (labels : Option (List Label)) (es new : Labelled)
-    → labels_of id.0 new ≡ labels → ((q : ℕ) → is_at (nat_cmp id.0) q ≡ false → labels_of q new ≡ labels_of q es) → Gives id labels es new
+    → labels_of id.0 new ≡ labels → ((q : ℕ) → is_at (nat_cmp id.0) q ≡ false → labels_of q new ≡ labels_of q es) → Relabels id labels es new
 gives-updated id labels es new h g = record {
   here = h;
   others = λ q ne. g q (is_at-number id.0 q ∙ ne_eqb id.0 q (λ e. ne (sym e)));

@@ -16,7 +16,7 @@ abbrev pub labels_of : ℕ → Labelled → Option (List Label)
 labels_of i es = lookup (is_at (nat_cmp i)) es
 
 -- A number has these labels, or is not there, and the others are as they were.
-pub record Gives (id : Id) (labels : Option (List Label)) (old new : Labelled) : Type 0 where
+pub record Relabels (id : Id) (labels : Option (List Label)) (old new : Labelled) : Type 0 where
   pub here : labels_of id.0 new ≡ labels
   pub others : (i : ℕ) → i ≢ id.0 → labels_of i new ≡ labels_of i old
 

@@ -1,6 +1,6 @@
 // The index, and how it changes.
 ghost use Rattle.std.specs.Prelude.{◌≡◌, [], None, Some, IsSome, OnOk, OnErr};
-ghost use Rattle.ts_index.specs.Index.{Gives, labels_of, numbers_where, has_pair};
+ghost use Rattle.ts_index.specs.Index.{Relabels, labels_of, numbers_where, has_pair};
 ghost use Rattle.ts_index.specs.Numbers.{AreInOrder};
 
 use crate::lists::{Lists, listed};
@@ -54,7 +54,7 @@ impl Index {
     /// Takes up a number that is not there, with these labels.
     pub fn insert(&mut self, id: Id, labels: &Labels) -> Result<(), AllocError>
         requires absent { labels_of id.0 self.old ≡ None }
-        ensures ok { OnOk result (Gives id (Some labels.now) self.old self.new) }
+        ensures ok { OnOk result (Relabels id (Some labels.now) self.old self.new) }
         ensures err { OnErr result (self.new ≡ self.old) }
     {
         self.known();
@@ -73,7 +73,7 @@ impl Index {
     /// Takes a number away that has these labels. Takes no memory.
     pub fn remove(&mut self, id: Id, labels: &Labels)
         requires there { labels_of id.0 self.old ≡ Some labels.now }
-        ensures { Gives id None self.old self.new }
+        ensures { Relabels id None self.old self.new }
     {
         self.known();
         let none = Labels::new(self.alloc);
@@ -84,7 +84,7 @@ impl Index {
     /// Gives a number new labels in the place of those that it has.
     pub fn replace(&mut self, id: Id, old: &Labels, new: &Labels) -> Result<(), AllocError>
         requires there { labels_of id.0 self.old ≡ Some old.now }
-        ensures ok { OnOk result (Gives id (Some new.now) self.old self.new) }
+        ensures ok { OnOk result (Relabels id (Some new.now) self.old self.new) }
         ensures err { OnErr result (self.new ≡ self.old) }
     {
         self.known();
@@ -106,7 +106,7 @@ impl Index {
 // Puts labels in the place of those that a number has.
 fn swap(labels: &mut BTreeMap<usize, Labels>, id: Id, new: Labels)
     requires there { IsSome (labels_of id.0 labels.old.entries) }
-    ensures gives { Gives id (Some new) labels.old.entries labels.new.entries }
+    ensures gives { Relabels id (Some new) labels.old.entries labels.new.entries }
     ensures order { AreInOrder labels.new.entries }
 {
     if let Some(kept) = labels.get_mut(&id.0) {

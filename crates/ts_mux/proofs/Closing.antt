@@ -13,7 +13,7 @@ use Rattle.ts_mux.specs.declared.turn.Turn.{Turn}
 use Rattle.ts_mux.specs.declared.turn.Turn.TheVariants as turn
 use Rattle.ts_mux.specs.Order.{Connection, Asked, Failed, events_of, news_of, items_of, items_from, without, closes_none}
 use Rattle.ts_mux.specs.Links.{at_hand, stream_or, reader_or, connections, left_of, ahead_of, hand_without, Marks}
-use Rattle.ts_mux.specs.Turns.{SaysOf, Gives}
+use Rattle.ts_mux.specs.Turns.{SaysOf, GivesTurn}
 use Rattle.ts_mux.proofs.OrderLemmas.{AreAlikeBut, IsDone, without-append, without-own, without-other, without-done}
 use Rattle.ts_mux.proofs.MuxLemmas.{ahead_same, ahead_asked}
 
@@ -50,7 +50,7 @@ ahead_failed limits closed readers link old new p broken same frames =
 
 gives_here : (limits : WireLimits) (closed : List Bool) (readers : BTreeMap ℕ Reading) (turn : Turn) (link : ℕ) (old new : Reading)
     → SaysOf turn link old new
-    → Gives turn (ahead_of limits closed readers (Some (record { link = link; reader = old }))) (ahead_of limits closed readers (Some (record { link = link; reader = new })))
+    → GivesTurn turn (ahead_of limits closed readers (Some (record { link = link; reader = old }))) (ahead_of limits closed readers (Some (record { link = link; reader = new })))
 gives_here limits closed readers (turn.Request at words) link old new says =
     subst (λ to. (frames : List Frame) → ahead_of limits closed readers (Some (record { link = link; reader = old })) frames
     ≡ record { link = to; event = Asked words.items } ∷ ahead_of limits closed readers (Some (record { link = link; reader = new })) frames)
@@ -64,9 +64,9 @@ gives_here limits closed readers turn.NotYet link old new says =
 gives_here limits closed readers turn.Memory link old new says = λ frames. ahead_same limits closed readers link old new says frames
 
 pub gives : (limits : WireLimits) (closed : List Bool) (readers : BTreeMap ℕ Reading) (turn : Turn) (old new : Hand) → new.link ≡ old.link → SaysOf turn old.link old.reader new.reader
-    → Gives turn (ahead_of limits closed readers (Some old)) (ahead_of limits closed readers (Some new))
+    → GivesTurn turn (ahead_of limits closed readers (Some old)) (ahead_of limits closed readers (Some new))
 gives limits closed readers turn old new e says =
-    subst (λ at. Gives turn (ahead_of limits closed readers (Some old)) (ahead_of limits closed readers (Some (record { link = at; reader = new.reader }))))
+    subst (λ at. GivesTurn turn (ahead_of limits closed readers (Some old)) (ahead_of limits closed readers (Some (record { link = at; reader = new.reader }))))
     (sym e) (gives_here limits closed readers turn old.link old.reader new.reader says)
 
 -- ---- a connection that is closed

@@ -9,7 +9,7 @@ use Rattle.ts_mux.specs.declared.part.Part.TheVariants as part
 use Rattle.ts_mux.specs.declared.frames.NextFrame.TheVariants as next
 use Rattle.ts_mux.specs.Capture.{Then, Mode, Link, Length, Body, Goto, Whole, Wrong, MOST_BYTES, move, start, at_end, read_on, capture_at}
 use Rattle.ts_mux.specs.Framing.{Framing, IsLink, IsOpen, IsBegun, mode_of, goto_of, capture_of, begun_at, begun_on, ended_at}
-use Rattle.ts_mux.specs.NextFrames.{GoesOn, Gives}
+use Rattle.ts_mux.specs.NextFrames.{GoesOn, Delivers}
 use Rattle.ts_mux.proofs.CaptureLemmas.{read_on-nil, read_on-first, body_is_whole, body_is_open}
 
 -- a frame is at hand once a byte came
@@ -40,7 +40,7 @@ ends place begin mode [] h = read_on-nil place begin mode ∙ at_end-begun mode 
 ends place begin mode (byte ∷ bytes) h = absurd (omega arith)
 
 -- no byte is left
-pub not_yet-none : (r : Framing) → length r.unread ≤ 0 → r.begin ≤ r.place → Gives r r next.NotYet
+pub not_yet-none : (r : Framing) → length r.unread ≤ 0 → r.begin ≤ r.place → Delivers r r next.NotYet
 not_yet-none r h b = record {
   whole = tt;
   link = tt;
@@ -58,7 +58,7 @@ not_yet-none r h b = record {
 }
 
 -- bytes of the frame are still to come
-pub not_yet-body : (r : Framing) (link len : ℕ) → r.mode ≡ Body link len [] → length r.unread < len → r.begin ≤ r.place → Gives r r next.NotYet
+pub not_yet-body : (r : Framing) (link len : ℕ) → r.mode ≡ Body link len [] → length r.unread < len → r.begin ≤ r.place → Delivers r r next.NotYet
 not_yet-body r link len e h b = record {
   whole = tt;
   link = tt;
@@ -80,7 +80,7 @@ not_yet-body r link len e h b = record {
 }
 
 -- the first byte can't go on with the frame
-pub broken : (r : Framing) → 0 < length r.unread → move r.mode (slice_index r.unread 0) ≡ Wrong → r.begin ≤ r.place → Gives r r (next.Broken r.place)
+pub broken : (r : Framing) → 0 < length r.unread → move r.mode (slice_index r.unread 0) ≡ Wrong → r.begin ≤ r.place → Delivers r r (next.Broken r.place)
 broken r h e b = record {
   whole = tt;
   link = tt;
@@ -99,7 +99,7 @@ broken r h e b = record {
 
 -- a frame that was not taken
 pub memory : (r : Framing) (frame : Frame) (len : ℕ)
-    → ((more : List ℕ) → capture_of r more ≡ Then frame (capture_at (r.place + len) (drop len r.unread ++ more))) → r.begin ≤ r.place → Gives r r next.Memory
+    → ((more : List ℕ) → capture_of r more ≡ Then frame (capture_at (r.place + len) (drop len r.unread ++ more))) → r.begin ≤ r.place → Delivers r r next.Memory
 memory r frame len e b = record {
   whole = tt;
   link = tt;
@@ -122,7 +122,7 @@ past r len = record { begin = r.place + len; place = r.place + len; mode = start
 
 pub whole : (r : Framing) (frame : Frame) (len : ℕ) → 0 < len → len ≤ length r.unread → r.begin ≤ r.place → IsLink frame.link → length frame.bytes ≤ MOST_BYTES → length frame.bytes ≤ len
     → ((more : List ℕ) → capture_of r more ≡ Then frame (capture_at (r.place + len) (drop len r.unread ++ more)))
-    → Gives r (past r len) (next.Whole frame)
+    → Delivers r (past r len) (next.Whole frame)
 whole r frame len some fits b link size within e = record {
   whole = e;
   link = link;
@@ -142,10 +142,10 @@ whole r frame len some fits b link size within e = record {
 -- the last byte of the header of a frame without bytes
 pub empty : (r new : Framing) (link : ℕ) (bytes : List ℕ) → 0 < length r.unread
     → move r.mode (slice_index r.unread 0) ≡ Whole (record { link = link; bytes = [] }) → IsLink link → r.begin ≤ r.place → bytes ≡ [] → new ≡ past r 1
-    → Gives r new (next.Whole (record { link = link; bytes = bytes }))
+    → Delivers r new (next.Whole (record { link = link; bytes = bytes }))
 empty r new link bytes some e is b none n =
-    subst (λ bytes. Gives r new (next.Whole (record { link = link; bytes = bytes }))) (sym none)
-    (subst (λ new. Gives r new (next.Whole (record { link = link; bytes = [] }))) (sym n)
+    subst (λ bytes. Delivers r new (next.Whole (record { link = link; bytes = bytes }))) (sym none)
+    (subst (λ new. Delivers r new (next.Whole (record { link = link; bytes = [] }))) (sym n)
     (whole r (record { link = link; bytes = [] }) 1 (omega arith) (omega (arith, some)) b is (omega arith) (omega arith)
     (read_on-first r.place r.begin r.mode r.unread _ some e)))
 
@@ -156,11 +156,11 @@ frame_is_whole r link len e some fits more =
     ap (λ mode. read_on r.place r.begin mode (r.unread ++ more)) e ∙ body_is_whole link len r.unread r.place r.begin some fits more
 
 pub frame_taken : (r new : Framing) (link len : ℕ) (bytes : List ℕ) → r.mode ≡ Body link len [] → 0 < len → len ≤ MOST_BYTES → len ≤ length r.unread → IsLink link
-    → r.begin ≤ r.place → bytes ≡ take len r.unread → new ≡ past r len → Gives r new (next.Whole (record { link = link; bytes = bytes }))
+    → r.begin ≤ r.place → bytes ≡ take len r.unread → new ≡ past r len → Delivers r new (next.Whole (record { link = link; bytes = bytes }))
 frame_taken r new link len bytes e some most fits is b all n =
     let size : length (take len r.unread) ≡ len = length-take-le len r.unread fits in
-    subst (λ bytes. Gives r new (next.Whole (record { link = link; bytes = bytes }))) (sym all)
-    (subst (λ new. Gives r new (next.Whole (record { link = link; bytes = take len r.unread }))) (sym n)
+    subst (λ bytes. Delivers r new (next.Whole (record { link = link; bytes = bytes }))) (sym all)
+    (subst (λ new. Delivers r new (next.Whole (record { link = link; bytes = take len r.unread }))) (sym n)
     (whole r (record { link = link; bytes = take len r.unread }) len some fits b is (omega (arith, size, most)) (omega (arith, size))
     (frame_is_whole r link len e some fits)))
 

@@ -55,7 +55,7 @@ pub record GoesOn (old new : Framing) : Type 0 where
   pub place : unfinished new ≡ unfinished old
 
 -- what is answered says how the capture goes on
-pub record Gives (old new : Framing) (next : NextFrame) : Type 0 where
+pub record Delivers (old new : Framing) (next : NextFrame) : Type 0 where
   pub whole : IfWhole next (λ frame. (more : List ℕ) → capture_of old more ≡ capture.Then frame (capture_of new more))
   pub link : IfWhole next (λ frame. IsLink frame.link)
   pub taken : IfWhole next (λ frame. old.begin + length frame.bytes ≤ new.begin)

@@ -52,8 +52,8 @@ SaysOf NotYet at old new = ((more : List ℕ) → stream_of new more ≡ stream_
 SaysOf Memory at old new = (more : List ℕ) → stream_of new more ≡ stream_of old more
 
 -- what is still to come, before an answer and after it: a fault has not closed its connection yet
-abbrev pub Gives : Turn → (old new : List Frame → List Item) → Type 0
-Gives (Request link words) old new = (frames : List Frame) → old frames ≡ record { link = link; event = Asked words.items } ∷ new frames
-Gives (Fault link protocol) old new = (frames : List Frame) → old frames ≡ record { link = link; event = Failed protocol } ∷ without link (new frames)
-Gives NotYet old new = ((frames : List Frame) → new frames ≡ old frames) × (new [] ≡ [])
-Gives Memory old new = (frames : List Frame) → new frames ≡ old frames
+abbrev pub GivesTurn : Turn → (old new : List Frame → List Item) → Type 0
+GivesTurn (Request link words) old new = (frames : List Frame) → old frames ≡ record { link = link; event = Asked words.items } ∷ new frames
+GivesTurn (Fault link protocol) old new = (frames : List Frame) → old frames ≡ record { link = link; event = Failed protocol } ∷ without link (new frames)
+GivesTurn NotYet old new = ((frames : List Frame) → new frames ≡ old frames) × (new [] ≡ [])
+GivesTurn Memory old new = (frames : List Frame) → new frames ≡ old frames

@@ -41,7 +41,7 @@ impl Mux {
     ghost use Rattle.ts_mux.specs.Framing.{IsFrame};
     ghost use Rattle.ts_mux.specs.Order.{open_order, without};
     ghost use Rattle.ts_mux.specs.Muxing.{ahead, delivered_to};
-    ghost use Rattle.ts_mux.specs.Turns.{IfItem, IfRequest, IfFault, UnlessItem, OnNotYet, Gives};
+    ghost use Rattle.ts_mux.specs.Turns.{IfItem, IfRequest, IfFault, UnlessItem, OnNotYet, GivesTurn};
 
     /// A Mux to which no frame was delivered. Takes no memory.
     pub fn new(alloc: Global, limits: WireLimits) -> Mux
@@ -117,7 +117,7 @@ impl Mux {
     // The same, but that a fault closes nothing.
     fn ask(&mut self) -> Turn
         ensures words { IfRequest result (λ words. words ≢ []) }
-        ensures gives { Gives result (ahead self.old) (ahead self.new) }
+        ensures gives { GivesTurn result (ahead self.old) (ahead self.new) }
         ensures delivered { delivered_to self.new ≡ delivered_to self.old }
     {
         match &mut self.hand {

@@ -2,7 +2,7 @@
 ghost use Rattle.std.specs.Prelude.{◌≡◌, ◌+◌, ◌<◌, ◌≤◌, [], length, drop, slice_index, IfSome, MatchOption};
 ghost use Rattle.ts_mux.specs.Capture.{Link, Length, Body, Whole, MOST_BYTES, move, start};
 ghost use Rattle.ts_mux.specs.Framing.{IsLink, IsLinkSoFar, IsLengthSoFar, IsPart, IsBegun, IsOpen, mode_of, goto_of, move_of};
-ghost use Rattle.ts_mux.specs.NextFrames.{GoesOn, Gives};
+ghost use Rattle.ts_mux.specs.NextFrames.{GoesOn, Delivers};
 
 use super::{Frames, NextFrame};
 use crate::Frame;
@@ -12,7 +12,7 @@ use ts_resp::Word;
 impl Frames {
     // Takes a byte of a header, or answers what `next` answers.
     pub(super) fn step(&mut self) -> Option<NextFrame>
-        ensures { MatchOption result (GoesOn self.old self.new) (Gives self.old self.new) }
+        ensures { MatchOption result (GoesOn self.old self.new) (Delivers self.old self.new) }
     {
         match self.part {
             Part::Link { number } => self.read_link(number),
@@ -25,7 +25,7 @@ impl Frames {
     fn read_link(&mut self, number: Option<u32>) -> Option<NextFrame>
         requires mode { self.old.mode ≡ Link number }
         requires range { IsLinkSoFar number }
-        ensures { MatchOption result (GoesOn self.old self.new) (Gives self.old self.new) }
+        ensures { MatchOption result (GoesOn self.old self.new) (Delivers self.old self.new) }
     {
         match self.first() {
             None => Some(NextFrame::NotYet),
@@ -38,7 +38,7 @@ impl Frames {
         requires mode { self.old.mode ≡ Length link number }
         requires link { IsLink link }
         requires range { IsLengthSoFar number }
-        ensures { MatchOption result (GoesOn self.old self.new) (Gives self.old self.new) }
+        ensures { MatchOption result (GoesOn self.old self.new) (Delivers self.old self.new) }
     {
         match self.first() {
             None => Some(NextFrame::NotYet),
@@ -61,7 +61,7 @@ impl Frames {
         requires part { move self.old.mode (slice_index self.old.unread 0) ≡ move_of part }
         requires ranges { IfSome part IsPart }
         requires begun { IfSome part IsBegun }
-        ensures { MatchOption result (GoesOn self.old self.new) (Gives self.old self.new) }
+        ensures { MatchOption result (GoesOn self.old self.new) (Delivers self.old self.new) }
     {
         match part {
             None => Some(NextFrame::Broken(self.place)),
@@ -78,7 +78,7 @@ impl Frames {
         requires some { 0 < length self.old.unread }
         requires whole { move self.old.mode (slice_index self.old.unread 0) ≡ Whole (record { link = link; bytes = [] }) }
         requires link { IsLink link }
-        ensures { Gives self.old self.new result }
+        ensures { Delivers self.old self.new result }
     {
         let Ok(bytes) = Word::from_slice(self.alloc, &[]) else {
             return NextFrame::Memory;
@@ -93,7 +93,7 @@ impl Frames {
         requires some { 0 < len }
         requires most { len ≤ MOST_BYTES }
         requires link { IsLink link }
-        ensures { Gives self.old self.new result }
+        ensures { Delivers self.old self.new result }
     {
         let len = len as usize;
         if self.unread.len() < len {

@@ -3,7 +3,7 @@ use Rattle.std.specs.Prelude.{None, Some}
 use Rattle.std.specs.Option.{unwrap_or}
 use Rattle.ts_spec.specs.State.{Label}
 use Rattle.ts_spec.proofs.Tidy.{some-same}
-use Rattle.ts_index.specs.Index.{Gives}
+use Rattle.ts_index.specs.Index.{Relabels}
 use Rattle.ts_db.specs.declared.node.Node.{Node}
 use Rattle.ts_db.proofs.Indexing.{turned, is-after, indexed-altered}
 use Rattle.ts_db.proofs.nodes.Nodes.alter.Goals as goal
@@ -14,7 +14,7 @@ invariant_of-self-2 c =
     let labels : unwrap_or c.args.labels c.index.result.now.labels ≡ c.change.new.self.labels =
     ap (λ (n : Node). unwrap_or c.args.labels n.labels) one ∙ sym (ap (λ (n : Node). n.labels) c.change.ensures) in
     indexed-altered c.self.inside.slab c.self.inside.index c.take_up.new.index c.args.id c.index_mut-node.result.now c.change.new.self (c.index_mut-node.ensures.value)
-    (subst (λ (ls : List Label). Gives c.args.id (Some ls) c.self.inside.index c.take_up.new.index) labels c.in_ok-take_up.ensures.ok) c.self.invariant
+    (subst (λ (ls : List Label). Relabels c.args.id (Some ls) c.self.inside.index c.take_up.new.index) labels c.in_ok-take_up.ensures.ok) c.self.invariant
 
 pub returns-clause-altered : goal.returns-clause-altered
 returns-clause-altered c =

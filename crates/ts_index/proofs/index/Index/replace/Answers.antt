@@ -1,5 +1,5 @@
 use Rattle.std.proofs.Common.{◌≡◌, ◌∙◌, ◌==◌, ◌&&◌, not, ap, sym, subst, take, Some}
-use Rattle.ts_index.specs.Index.{Gives, labels_of, has_pair}
+use Rattle.ts_index.specs.Index.{Relabels, labels_of, has_pair}
 use Rattle.ts_index.specs.Numbers.{AreInOrder, has_number, pass}
 use Rattle.ts_index.specs.Pairs.{is_own}
 use Rattle.ts_index.specs.Postings.{posting_in}
@@ -41,7 +41,7 @@ invariant_of-self-2 c =
     let old = c.args.old.now in
     let new = c.args.new.now in
     posted-after es c.swap.new.labels.entries c.take_own.new.lists c.args.id (Some new) c.swap.ensures.order
-    (subst (λ labels. Gives c.args.id (Some labels) es c.swap.new.labels.entries) c.in_ok-shared.ensures c.swap.ensures.gives)
+    (subst (λ labels. Relabels c.args.id (Some labels) es c.swap.new.labels.entries) c.in_ok-shared.ensures c.swap.ensures.gives)
     c.take_own.ensures.ascending
     (λ l v. c.take_own.ensures.lists l v id
     ∙ ap (λ ls. has_number id (posting_in l v c.put_own.new.lists) && not ((id == id) && is_own l v ls new)) (whole old c.len.result c.len.ensures.len)
