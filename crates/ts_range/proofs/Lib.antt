@@ -18,6 +18,7 @@ pub mod Order
 pub mod Parts
 pub mod Reversed
 pub mod Saying
+pub mod Shown
 pub mod Spans
 pub mod Turns
 pub mod WantedParts

@@ -1,5 +1,5 @@
 // The answer to a question whose samples were gathered.
-ghost use Rattle.std.specs.Prelude.{◌≡◌, ◌≢◌, ◌++◌, ℕ, List, [], map, Some, None, IfOk, IfErr};
+ghost use Rattle.std.specs.Prelude.{◌≡◌, ◌≢◌, ◌≤◌, ◌^◌, ℕ, List, [], length, map, Some, None, IfOk, IfErr};
 ghost use Rattle.ts_spec.specs.Sample.{Point, IsAscending, between};
 ghost use Rattle.ts_spec.specs.Answer as spec;
 ghost use Rattle.ts_range.specs.Filters.{passes};
@@ -18,9 +18,9 @@ use crate::query::{Buckets, Query};
 use crate::row::{Asked, Row};
 use crate::stretch::Stretch;
 use crate::take::Take;
-use crate::walked::{MOST, turned, walked, walked_rows};
+use crate::walked::{MOST, show_all, turned, walked, walked_rows};
 use std::alloc::{AllocError, Global};
-use ts_sample::{Sample, Visit, places_between};
+use ts_sample::{Sample, places_between};
 
 /// The rows of a question over a series, of what the series holds of it. `empty_rows` is the limit on the rows
 /// of a question that tells of empty buckets.
@@ -108,18 +108,10 @@ fn stretch_rows(
 
 // The taker of a line that has not begun, after all samples.
 fn seen_by<T: Take>(samples: &[Sample], mut line: LastValues<'_, T>) -> T
-    requires { line.seen ≡ [] }
+    requires room { length samples.now ≤ 10 ^ 14 }
+    requires none { line.seen ≡ [] }
     ensures { (lo hi : ℕ) → IsLine lo hi (record line.entry { seen = samples.now }) → T.has result (last_rows (record line.entry { seen = samples.now })) }
 {
     show_all(samples, &mut line);
     line.finish()
-}
-
-// Gives all samples to a line.
-fn show_all<T: Take>(samples: &[Sample], line: &mut LastValues<'_, T>)
-    ensures { line.new ≡ record line.old { seen = line.old.seen ++ samples.now } }
-{
-    for sample in samples {
-        line.sample(sample);
-    }
 }

@@ -92,7 +92,7 @@ impl<T: Take> Visit for LastValues<'_, T> {
 
     ghost step = { with_one };
 
-    ghost room = { λ w. 2 ^ 32 };
+    ghost room = { λ w. 10 ^ 14 };
 
     #[inline(always)]
     fn sample(&mut self, sample: &Sample) {

@@ -1,7 +1,8 @@
 // The rows of a question that tells of no empty buckets, by one walk over the samples.
-ghost use Rattle.std.specs.Prelude.{◌≡◌, ◌≤◌, ◌+◌, ◌-◌, ◌^◌, ◌++◌, List, [], map, filter, reverse, length, option_map, IfOk};
+ghost use Rattle.std.specs.Prelude.{◌≡◌, ◌≤◌, ◌^◌, List, [], map, filter, reverse, length, option_map, IfOk};
 ghost use Rattle.ts_spec.specs.Sample.{Point, IsAscending};
 ghost use Rattle.ts_spec.specs.Answer as spec;
+ghost use Rattle.ts_sample.specs.Visit.{visited};
 ghost use Rattle.ts_range.specs.Query.{buckets_of, row_of};
 ghost use Rattle.ts_range.specs.Filters.{passes};
 ghost use Rattle.ts_range.specs.Walking.{lets, rows_chosen};
@@ -68,16 +69,16 @@ pub(crate) fn walked<T: Take>(samples: &[Sample], mut walk: Walk<'_, T>) -> T
     ensures rows { (asked : List Point) → T.has result (rows_chosen walk.entry.buckets asked (filter (lets walk.entry) samples.now)) }
     ensures limit { T.limit result ≡ walk.entry.limit }
 {
-    walk_over(samples, &mut walk);
+    show_all(samples, &mut walk);
     walk.finish()
 }
 
-// Gives all samples to a walk.
-fn walk_over<T: Take>(samples: &[Sample], walk: &mut Walk<'_, T>)
-    requires { length samples.now ≤ 10 ^ 14 - length walk.old.seen }
-    ensures { walk.new ≡ record walk.old { seen = walk.old.seen ++ samples.now } }
+// Shows all samples to a visitor, in their order.
+pub(crate) fn show_all<V: Visit>(samples: &[Sample], visit: &mut V)
+    requires { length samples.now ≤ V.room visit.old }
+    ensures { visit.new ≡ visited V.step visit.old samples.now }
 {
     for sample in samples {
-        walk.sample(sample);
+        visit.sample(sample);
     }
 }
