@@ -12,13 +12,14 @@ use Rattle.ts_rules.specs.declared.plan.RulePlan.{RulePlan}
 use Rattle.ts_rules.specs.declared.fault.RuleFault.{RuleFault}
 use Rattle.ts_rules.specs.declared.fault.RuleFault.TheVariants.{Full, Memory}
 use Rattle.ts_rules.specs.Rules.{kept_with_dest, IsChanged}
+use Rattle.ts_rules.specs.SharedBucket.{TheSharedBucket, IsShared}
 use Rattle.ts_rules.specs.Plans.{IsPlanned}
 use Rattle.ts_rules.specs.PlansOfDeletions.{IsPlanOfDeletion}
 use Rattle.ts_db.specs.declared.node.Node.{Node}
 use Rattle.ts_db.specs.declared.work.Work.{Work}
-use Rattle.ts_db.specs.declared.work.Work.TheVariants.{Delete}
+use Rattle.ts_db.specs.declared.work.Work.TheVariants.{Write, Delete}
 use Rattle.ts_db.specs.Store.{Nodes, key_in}
-use Rattle.ts_db.specs.Planning.{changed_by, gone_by, rows_by_work, IsFedBy, first_full, IsRuleUnplanned}
+use Rattle.ts_db.specs.Planning.{changed_by, gone_by, rows_by_work, IsSharedOf, IsFedBy, first_full, IsRuleUnplanned}
 use Rattle.ts_db.proofs.Plans.{fits-one, full-one}
 
 -- the rows of buckets do not tell the key of a destination
@@ -33,6 +34,11 @@ deletion-named limit k r source from to dest result planned =
     subst (λ (rows : List Point). IsPlanned limit (changed_by (Delete from to) source) (gone_by (Delete from to) source (kept_with_dest k r)) rows r dest result)
     (rows-named (outside from to (list_of source)) dest.born k r (filter (loses (between from to (list_of source)) (kept_with_dest k r)) (starts r.grid (outside from to (list_of source)))))
     planned
+
+-- what the first rule has of others
+pub shared-first : (work : Work) (source : History) (t : TheSharedBucket) → ((ps : List Point) (p : Point) → IsShared ps p t) → IsSharedOf work source t
+shared-first (Write p) source t h = h (list_of source) p
+shared-first (Delete from to) source t h = tt
 
 module _ (limit : ℕ) (nodes : Nodes) (work : Work) (source : History) (r : Rule) (n : Node) (is : slab.get nodes r.dest.0 ≡ Some n) where
   -- what is planned for a rule, by any key of the destination

@@ -14,6 +14,7 @@ use Rattle.ts_rules.specs.declared.fault.RuleFault.TheVariants as rule_fault
 use Rattle.ts_rules.specs.declared.fault.RuleFault.TheVariants.{Full}
 use Rattle.ts_rules.specs.Rules.{kept_with_dest, IsChanged, TakesAppended}
 use Rattle.ts_rules.specs.Writes.{rule_after}
+use Rattle.ts_rules.specs.SharedBucket.{TheSharedBucket, IsShared}
 use Rattle.ts_rules.specs.Deletions.{rule_left}
 use Rattle.ts_rules.specs.Plans.{IsMendedBy}
 use Rattle.ts_db.specs.declared.fault.DbFault.{DbFault}
@@ -50,6 +51,11 @@ TakesWork (Delete from to) source r = ⊤
 abbrev pub AllTake : Work → (source : History) → List Rule → Type 0
 AllTake work source [] = ⊤
 AllTake work source (r ∷ rs) = TakesWork work source r × AllTake work source rs
+
+-- what goes from the plan of one rule to that of the next is what was counted in the source for a write; for a deletion it says nothing
+abbrev pub IsSharedOf : Work → (source : History) → TheSharedBucket → Type 0
+IsSharedOf (Write p) source t = IsShared (list_of source) p t
+IsSharedOf (Delete from to) source t = ⊤
 
 -- ---- plans
 

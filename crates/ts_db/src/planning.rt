@@ -6,7 +6,7 @@ ghost use Rattle.ts_series.specs.History.{list_of};
 ghost use Rattle.ts_rules.specs.Rules.{kept_with_dest, IsChanged};
 ghost use Rattle.ts_rules.specs.Plans.{IsPlanned as IsPlannedSo};
 ghost use Rattle.ts_spec.specs.Key.{Key};
-ghost use Rattle.ts_db.specs.Planning.{changed_by, gone_by, rows_by_work, TakesWork, AllTake, AreChanged, IsFedBy, AreFedBy, first_full, IsRuleUnplanned, IsUnplanned, share_of, share_at, shares_of, IsEasyOf, IsEasyAt, AreEasyOf};
+ghost use Rattle.ts_db.specs.Planning.{changed_by, gone_by, rows_by_work, TakesWork, AllTake, IsSharedOf, AreChanged, IsFedBy, AreFedBy, first_full, IsRuleUnplanned, IsUnplanned, share_of, share_at, shares_of, IsEasyOf, IsEasyAt, AreEasyOf};
 ghost use Rattle.ts_db.specs.Store.{IsInOrder, HasNode, AreLive};
 
 use crate::fault::DbFault;
@@ -15,7 +15,7 @@ use crate::unplanned::full_at;
 use crate::work::Work;
 use std::alloc::Global;
 use std::sync::ledger::Ledger;
-use ts_rules::{Rule, RuleFault, RulePlan, plan_delete, plan_put};
+use ts_rules::{Rule, RuleFault, RulePlan, SharedBucket, plan_delete, plan_put_shared};
 use ts_sample::Steps;
 use ts_series::Series;
 
@@ -54,8 +54,9 @@ impl Store {
             Ok(plans) => plans,
             Err(_) => return Err(self.unplanned(rules, source, work, steps)),
         };
+        let mut shared = SharedBucket::new();
         for rule in rules {
-            match self.plan_rule(rule, source, *work, steps) {
+            match self.plan_next(rule, source, *work, &mut shared, steps) {
                 Ok(plan) => {
                     let after = &plan.rule;
                     changed.push_reserved(*after);
@@ -92,6 +93,31 @@ impl Store {
         ensures steps { Takes steps.old steps.new (share_at work source.now rule.now (slab.get self.now.nodes rule.now.dest.0)) }
         ensures easy { IsEasyAt self.now.limits.samples work source.now rule.now (slab.get self.now.nodes rule.now.dest.0) → steps.new ≡ steps.old }
     {
+        let mut shared = SharedBucket::new();
+        self.plan_next(rule, source, work, &mut shared, steps)
+    }
+
+    // The same for one rule of the source after another, where `shared` goes from each to the next.
+    fn plan_next<L: Ledger>(
+        &self,
+        rule: &Rule,
+        source: &Series,
+        work: Work,
+        shared: &mut SharedBucket,
+        steps: &mut Steps<L>,
+    ) -> Result<RulePlan, RuleFault>
+        requires store { IsInOrder self.now }
+        requires live { HasNode self.now.nodes rule.now.dest }
+        requires room { TakesWork work source.now rule.now }
+        requires shared { IsSharedOf work source.now shared.old }
+        ensures changed { IfOk result (λ plan. IsChanged (changed_by work source.now) rule.now plan.rule) }
+        ensures fed { IfOk result (λ plan. IsFedBy self.now.limits.samples self.now.nodes (rows_by_work work source.now) (gone_by work source.now) rule.now plan) }
+        ensures fits { IfOk result (λ _. first_full self.now.limits.samples self.now.nodes (rows_by_work work source.now) (gone_by work source.now) (rule.now ∷ []) ≡ None) }
+        ensures refused { IfErr result (IsRuleUnplanned rule.now (first_full self.now.limits.samples self.now.nodes (rows_by_work work source.now) (gone_by work source.now) (rule.now ∷ []))) }
+        ensures shared { IsSharedOf work source.now shared.new }
+        ensures steps { Takes steps.old steps.new (share_at work source.now rule.now (slab.get self.now.nodes rule.now.dest.0)) }
+        ensures easy { IsEasyAt self.now.limits.samples work source.now rule.now (slab.get self.now.nodes rule.now.dest.0) → steps.new ≡ steps.old }
+    {
         let dest = self.nodes.node(rule.dest);
         made_plan(
             self.alloc,
@@ -100,6 +126,7 @@ impl Store {
             source,
             &dest.series,
             self.limits.samples,
+            shared,
             steps,
         )
     }
@@ -113,16 +140,19 @@ fn made_plan<L: Ledger>(
     source: &Series,
     dest: &Series,
     limit: u32,
+    shared: &mut SharedBucket,
     steps: &mut Steps<L>,
 ) -> Result<RulePlan, RuleFault>
     requires room { TakesWork work source.now rule.now }
     requires fits { length (list_of dest.now) ≤ limit }
+    requires shared { IsSharedOf work source.now shared.old }
     ensures planned { (k : Key) → IsPlannedSo limit (changed_by work source.now) (gone_by work source.now (kept_with_dest k rule.now)) (rows_by_work work source.now dest.now.born (kept_with_dest k rule.now)) rule.now dest.now result }
+    ensures shared { IsSharedOf work source.now shared.new }
     ensures steps { Takes steps.old steps.new (share_of work source.now rule.now dest.now) }
     ensures easy { IsEasyOf limit work source.now rule.now dest.now → steps.new ≡ steps.old }
 {
     match work {
-        Work::Write(wrote) => plan_put(rule, source, &wrote, dest, limit, steps),
+        Work::Write(wrote) => plan_put_shared(rule, source, &wrote, dest, limit, shared, steps),
         Work::Delete(from, to) => plan_delete(alloc, rule, source, from, to, dest, limit, steps),
     }
 }

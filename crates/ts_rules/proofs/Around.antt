@@ -1,67 +1,16 @@
--- The samples of a bucket after a write or a deletion: those before it, the sample that is written, and those after it.
-use Rattle.std.proofs.Common.{◌≡◌, ℕ, suc, ◌+◌, ◌^◌, ◌<◌, ◌≤◌, Bool, true, false, not, ◌&&◌, max, min, nat_lt, nat_le, cond, if◌then◌else◌, None, List, ◌∷◌, ◌++◌, length, length-append, ◌⊎◌, Some, inl, inr, refl, sym, ap, ◌∙◌, subst, arith, ltb-true, lt-ltb, leb-true, le-leb}
+-- The samples of a bucket after a deletion: those before it, and those after it.
+use Rattle.std.proofs.Common.{◌≡◌, ℕ, ◌+◌, ◌<◌, ◌≤◌, Bool, true, false, not, ◌&&◌, max, min, nat_lt, nat_le, if◌then◌else◌, None, List, ◌++◌, ◌⊎◌, Some, inl, inr, sym, ap, ◌∙◌, subst, arith, ltb-true, lt-ltb, leb-true, le-leb}
 use Rattle.std.proofs.lemmas.Bool.{cases_lt, false≢true, and_parts, and_from}
 use Rattle.std.proofs.lemmas.List.Elements.{filter-append}
-use Rattle.ts_spec.specs.Sample.{Point, MAX_TIME, IsAscending, at, at_times, between, outside, is_within, put}
+use Rattle.ts_spec.specs.Sample.{Point, MAX_TIME, IsAscending, at, at_times, between, outside, is_within}
 use Rattle.ts_spec.specs.Bucket.{Grid, start, members}
 use Rattle.ts_spec.specs.Valid.{Every}
-use Rattle.ts_spec.proofs.Buckets.{start-le}
 use Rattle.ts_spec.proofs.BucketSpan.{members-between}
-use Rattle.ts_spec.proofs.BucketSize.{members-few}
-use Rattle.ts_spec.proofs.Samples.{at-time, at-times, ascending-times, ascending-put}
-use Rattle.ts_spec.proofs.SoundWrites.{put-from}
+use Rattle.ts_spec.proofs.Samples.{at-time, at-times, ascending-times}
 use Rattle.ts_sample.proofs.Between.{times-alike, times-both}
 use Rattle.ts_bucket.specs.Grid.{IsGrid, IsLastOf}
 use Rattle.ts_rules.specs.Spans.{from_until}
 use Rattle.ts_rules.proofs.Times.{same-test, not-true, within, within-from, within-to, without, in-span, span-from, span-end, parts}
-
--- ---- a write
-
--- The samples of the bucket of a written sample.
-pub members-written : (g : Grid) (p : Point) (last : ℕ) (ps : List Point) → IsGrid g → IsAscending ps → Every (λ q. q.time ≤ MAX_TIME) ps → p.time ≤ MAX_TIME → IsLastOf g p.time last →
-    members g (start g p.time) (put p ps) ≡ from_until (start g p.time) p.time ps ++ p ∷ between (p.time + 1) last ps
-members-written g p last ps h a times time of =
-    members-between g p.time last (put p ps) h.some (ascending-put p ps a) of.same (λ u q x s. of.latest u (bounded u q x) s)
-    ∙ filter-append (λ q. is_within (start g p.time) last q.time) (at_times (λ t. nat_lt t p.time) ps) (p ∷ at_times (nat_lt p.time) ps)
-    ∙ ap (λ (qs : List Point). qs ++ between (start g p.time) last (p ∷ at_times (nat_lt p.time) ps)) early
-    ∙ ap (λ (qs : List Point). from_until (start g p.time) p.time ps ++ qs) (ap (λ (x : Bool). cond x (p ∷ between (start g p.time) last (at_times (nat_lt p.time) ps)) (between (start g p.time) last (at_times (nat_lt p.time) ps))) here ∙ ap (λ (qs : List Point). p ∷ qs) late)
-  where
-    low : start g p.time ≤ p.time
-    low = start-le g p.time h.some
-
-    up : p.time ≤ last
-    up = of.latest p.time time refl
-
-    bounded : (u : ℕ) (q : Point) → at u (put p ps) ≡ Some q → u ≤ MAX_TIME
-    bounded u q x = subst (λ (t : ℕ). t ≤ MAX_TIME) (at-time u (put p ps) q x) (go (put-from p ps u q x))
-      where
-        go : (p ≡ q) ⊎ (at u ps ≡ Some q) → q.time ≤ MAX_TIME
-        go (inl e) = subst (λ (r : Point). r.time ≤ MAX_TIME) e time
-        go (inr e) = times u q e
-
-    early : between (start g p.time) last (at_times (λ t. nat_lt t p.time) ps) ≡ from_until (start g p.time) p.time ps
-    early =
-        times-both (is_within (start g p.time) last) (λ t. nat_lt t p.time) ps
-        ∙ times-alike (λ t. nat_lt t p.time && is_within (start g p.time) last t) (λ t. nat_le (start g p.time) t && nat_lt t p.time) ps
-        (λ t. same-test (nat_lt t p.time && is_within (start g p.time) last t) (nat_le (start g p.time) t && nat_lt t p.time)
-        (λ e. (let b = and_parts (nat_lt t p.time) (is_within (start g p.time) last t) e in in-span (start g p.time) p.time t (within-from (start g p.time) last t b.1) (ltb-true t p.time b.0)))
-        (λ e. (let x : t < p.time = span-end (start g p.time) p.time t e in
-        and_from (nat_lt t p.time) (is_within (start g p.time) last t) (lt-ltb t p.time x) (within (start g p.time) last t (span-from (start g p.time) p.time t e) (omega (arith, x, up))))))
-
-    here : is_within (start g p.time) last p.time ≡ true
-    here = within (start g p.time) last p.time low up
-
-    late : between (start g p.time) last (at_times (nat_lt p.time) ps) ≡ between (p.time + 1) last ps
-    late =
-        times-both (is_within (start g p.time) last) (nat_lt p.time) ps
-        ∙ times-alike (λ t. nat_lt p.time t && is_within (start g p.time) last t) (is_within (p.time + 1) last) ps
-        (λ t. same-test (nat_lt p.time t && is_within (start g p.time) last t) (is_within (p.time + 1) last t)
-        (λ e. (let b = and_parts (nat_lt p.time t) (is_within (start g p.time) last t) e in
-        let x : p.time < t = ltb-true p.time t b.0 in within (p.time + 1) last t (omega (arith, x)) (within-to (start g p.time) last t b.1)))
-        (λ e. (let x : p.time + 1 ≤ t = within-from (p.time + 1) last t e in
-        and_from (nat_lt p.time t) (is_within (start g p.time) last t) (lt-ltb p.time t (omega (arith, x))) (within (start g p.time) last t (omega (arith, x, low)) (within-to (p.time + 1) last t e)))))
-
--- ---- a deletion
 
 -- The samples that a deletion leaves in the bucket that starts at b.
 pub members-left : (g : Grid) (b last from to : ℕ) (ps : List Point) → IsGrid g → IsAscending ps → Every (λ q. q.time ≤ MAX_TIME) ps → start g b ≡ b → IsLastOf g b last → from ≤ to →
@@ -116,14 +65,3 @@ members-left g b last from to ps h a times begins of order =
             go : (to < t) ⊎ (t ≤ to) → to < t
             go (inl y) = y
             go (inr y) = absurd (false≢true (sym e ∙ within from to t x y))
-
--- ---- how many they are
-
-pub written-few : (g : Grid) (p : Point) (last : ℕ) (ps : List Point) → IsGrid g → IsAscending ps → Every (λ q. q.time ≤ MAX_TIME) ps → p.time ≤ MAX_TIME → IsLastOf g p.time last →
-    length (from_until (start g p.time) p.time ps) + suc (length (between (p.time + 1) last ps)) ≤ 10 ^ 14
-written-few g p last ps h a times time of =
-    let few : length (members g (start g p.time) (put p ps)) ≤ g.duration = members-few g (start g p.time) (put p ps) h.some (ascending-put p ps a) in
-    let same : length (members g (start g p.time) (put p ps)) ≡ length (from_until (start g p.time) p.time ps) + suc (length (between (p.time + 1) last ps)) =
-    ap length (members-written g p last ps h a times time of) ∙ length-append (from_until (start g p.time) p.time ps) (p ∷ between (p.time + 1) last ps) in
-    let short : g.duration ≤ 10 ^ 14 = h.short in
-    omega arith

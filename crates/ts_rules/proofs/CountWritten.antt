@@ -1,66 +1,85 @@
--- A bucket counted anew with a written sample: the samples before it, then it, then those after it.
-use Rattle.std.proofs.Common.{◌≡◌, ℕ, suc, ◌+◌, ◌-◌, ◌^◌, ◌≤◌, nat_le, List, [], ◌∷◌, ◌++◌, length, length-append, append_assoc, refl, sym, ap, ◌∙◌, subst, arith}
+-- A bucket counted anew with a written sample: its samples, and that one at its time.
+use Rattle.std.proofs.Common.{◌≡◌, ℕ, ◌-◌, ◌^◌, ◌≤◌, ◌==◌, true, nat_le, List, length, Some, refl, sym, ap, ◌∙◌, subst, arith, eq-eqb}
 use Rattle.std.specs.Prelude.{filter}
-use Rattle.ts_spec.specs.Sample.{Point, MAX_TIME, IsAscending, between, put}
+use Rattle.ts_spec.specs.Sample.{Point, MAX_TIME, IsAscending, between, is_within, put}
 use Rattle.ts_spec.specs.Bucket.{Grid, start, members}
 use Rattle.ts_spec.specs.Valid.{Every}
-use Rattle.ts_spec.specs.Aggregate.{nothing, summary}
+use Rattle.ts_spec.specs.Aggregate.{Summary, nothing, summary}
+use Rattle.ts_spec.proofs.Buckets.{start-le}
+use Rattle.ts_spec.proofs.BucketSpan.{members-between}
+use Rattle.ts_spec.proofs.BucketSize.{members-few}
+use Rattle.ts_spec.proofs.Samples.{at-time, ascending-times, ascending-put}
 use Rattle.ts_sample.specs.Visit.{visited}
 use Rattle.ts_bucket.specs.Grid.{IsGrid, IsLastOf}
-use Rattle.ts_agg.specs.Counted.{Counting, counted_one}
-use Rattle.ts_rules.specs.Spans.{from_until}
-use Rattle.ts_rules.proofs.Around.{members-written, written-few}
-use Rattle.ts_rules.proofs.Counts.{visited-append, room-after}
+use Rattle.ts_rules.specs.Rules.{one_of}
+use Rattle.ts_rules.specs.CountedWith.{CountingWith, with_next, whole}
+use Rattle.ts_rules.specs.SharedBucket.{IsShared, counted_between}
+use Rattle.ts_rules.proofs.Times.{within}
+use Rattle.ts_rules.proofs.Putting.{room-last, times-put}
 
-module _ (g : Grid) (p : Point) (time first last : ℕ) (ps : List Point) (made : ℕ) (fresh : Counting) (grid : IsGrid g) (a : IsAscending ps) (times : Every (λ q. q.time ≤ MAX_TIME) ps) (bounded : p.time ≤ MAX_TIME)
-    (at_time : time ≡ p.time) (begins : first ≡ start g time) (of : IsLastOf g time last) (new : fresh ≡ record { made = made; running = nothing }) where
-  -- those before it, and those after it
-  abbrev before : List Point
-  before = from_until (start g p.time) p.time ps
+-- what a rule counts of these, which was made at this number
+abbrev counted_by : ℕ → List Point → Summary
+counted_by made ps = summary (filter (λ q. nat_le made q.made) ps)
 
-  abbrev after : List Point
-  after = between (p.time + 1) last ps
+module _ (g : Grid) (p : Point) (time first last : ℕ) (ps : List Point) (grid : IsGrid g) (a : IsAscending ps) (times : Every (λ q. q.time ≤ MAX_TIME) ps)
+    (bounded : time ≤ MAX_TIME) (at_time : time ≡ p.time) (begins : first ≡ start g time) (of : IsLastOf g time last) where
+  -- its samples, as they were
+  abbrev bucket : List Point
+  bucket = members g (start g p.time) ps
 
-  before-is : from_until first time ps ≡ before
-  before-is = λ i. from_until ((begins ∙ ap (start g) at_time) i) (at_time i) ps
+  pub bucket-is : between first last ps ≡ bucket
+  bucket-is =
+      ap (λ (b : ℕ). between b last ps) begins
+      ∙ sym (members-between g time last ps grid.some a of.same (λ u q x s. of.latest u (subst (λ (t : ℕ). t ≤ MAX_TIME) (at-time u ps q x) (times u q x)) s))
+      ∙ ap (λ (t : ℕ). members g (start g t) ps) at_time
 
-  after-is : between (time + 1) last ps ≡ after
-  after-is = ap (λ t. between (t + 1) last ps) at_time
+  few : (qs : List Point) → IsAscending qs → length (members g (start g p.time) qs) ≤ 10 ^ 14
+  few qs x = let most : length (members g (start g p.time) qs) ≤ g.duration = members-few g (start g p.time) qs grid.some x in let short : g.duration ≤ 10 ^ 14 = grid.short in omega (arith, most, short)
 
-  of_p : IsLastOf g p.time last
-  of_p = subst (λ (t : ℕ). IsLastOf g t last) at_time of
+  with-it : put p bucket ≡ members g (start g p.time) (put p ps)
+  with-it = sym (times-put (λ t. start g t == start g p.time) p ps (eq-eqb (start g p.time) (start g p.time) refl))
 
-  few : length before + suc (length after) ≤ 10 ^ 14
-  few = written-few g p last ps grid a times bounded of_p
+  between-is : between first last (put p ps) ≡ put p bucket
+  between-is = times-put (is_within first last) p ps (subst (λ (t : ℕ). is_within first last t ≡ true) at_time (within first last time low up)) ∙ ap (put p) bucket-is
+    where
+      low : first ≤ time
+      low = subst (λ (b : ℕ). b ≤ time) (sym begins) (start-le g time grid.some)
 
-  pub room-before : length (from_until first time ps) ≤ 10 ^ 14 - fresh.running.count
-  room-before =
-      let same : length (from_until first time ps) ≡ length before = ap length before-is in
-      let enough : length before ≤ 10 ^ 14 - fresh.running.count = room-after fresh fresh made [] (length before) new refl (omega (arith, few)) in
-      omega (arith, same, enough)
+      up : time ≤ last
+      up = of.latest time bounded refl
 
-  module _ (one two : Counting) (e : one ≡ visited counted_one fresh (from_until first time ps)) (f : two ≡ counted_one one p) where
-    one-is : one ≡ visited counted_one fresh before
-    one-is = e ∙ ap (visited counted_one fresh) before-is
+  -- What was told of the bucket is what a rule counts in it.
+  pub found-written : (made : ℕ) (running : Summary) → running ≡ counted_between made first last (put p ps) → running ≡ counted_by made (members g (start g p.time) (put p ps))
+  found-written made running e = e ∙ ap (counted_by made) (between-is ∙ with-it)
 
-    two-is : two ≡ visited counted_one fresh (before ++ p ∷ [])
-    two-is = f ∙ ap (λ (c : Counting). counted_one c p) one-is ∙ visited-append fresh before (p ∷ [])
+  ascends : IsAscending bucket
+  ascends = ascending-times (λ t. start g t == start g p.time) ps a
 
-    pub room-one : 1 ≤ 10 ^ 14 - one.running.count
-    room-one = room-after fresh one made before 1 new one-is (omega (arith, few))
+  module _ (made : ℕ) (fresh : CountingWith) (new : fresh ≡ record { counting = record { made = made; running = nothing }; held = Some p; least = p.made }) where
+    pub room-bucket : length (between first last ps) ≤ 10 ^ 14 - fresh.counting.running.count
+    room-bucket =
+        let none : fresh.counting.running.count ≡ 0 = ap (λ (c : CountingWith). c.counting.running.count) new in
+        let same : length (between first last ps) ≡ length bucket = ap length bucket-is in
+        omega (arith, none, same, few ps a)
 
-    pub room-past : length (between (time + 1) last ps) ≤ 10 ^ 14 - two.running.count
-    room-past =
-        let same : length (between (time + 1) last ps) ≡ length after = ap length after-is in
-        let long : length (before ++ p ∷ []) ≡ length before + 1 = length-append before (p ∷ []) in
-        let enough : length after ≤ 10 ^ 14 - two.running.count = room-after fresh two made (before ++ p ∷ []) (length after) new two-is (omega (arith, few, long)) in
-        omega (arith, same, enough)
+    module _ (v : CountingWith) (e : v ≡ visited with_next fresh (between first last ps)) where
+      is : v ≡ visited with_next fresh bucket
+      is = e ∙ ap (visited with_next fresh) bucket-is
 
-    pub counts-written : (three : Counting) → three ≡ visited counted_one two (between (time + 1) last ps) →
-        ((qs : List Point) → (visited counted_one fresh qs).running ≡ summary (filter (λ q. nat_le made q.made) qs)) →
-        three.running ≡ summary (filter (λ q. nat_le made q.made) (members g (start g p.time) (put p ps)))
-    counts-written three h told =
-        ap (λ (c : Counting). c.running)
-        (h ∙ (λ i. visited counted_one (two-is i) (after-is i)) ∙ visited-append fresh (before ++ p ∷ []) after ∙ ap (visited counted_one fresh) (append_assoc before (p ∷ []) after))
-        ∙ told (before ++ p ∷ after)
-        ∙ ap (λ (qs : List Point). summary (filter (λ q. nat_le made q.made) qs)) (sym (members-written g p last ps grid a times bounded of_p))
+      pub room-held : length (one_of v.held) ≤ 10 ^ 14 - v.counting.running.count
+      room-held =
+          let same : length (put p bucket) ≡ length (members g (start g p.time) (put p ps)) = ap length with-it in
+          room-last made p fresh new v bucket ascends is (omega (arith, same, few (put p ps) (ascending-put p ps a)))
+
+      module _ (running : Summary) (h : running ≡ whole v) (told : (qs : List Point) → IsAscending qs → whole (visited with_next fresh qs) ≡ counted_by made (put p qs)) where
+        pub counts-written : running ≡ counted_by made (members g (start g p.time) (put p ps))
+        counts-written = h ∙ ap whole is ∙ told bucket ascends ∙ ap (counted_by made) with-it
+
+        -- Where it counts all of them, this is told to each rule that does so.
+        pub tells-written : ((qs : List Point) (n : ℕ) → n ≤ (visited with_next fresh qs).least → filter (λ q. nat_le n q.made) (put p qs) ≡ put p qs) →
+            (least : ℕ) → least ≡ v.least → made ≤ least → IsShared ps p (record { first = first; last = last; running = running; least = least })
+        tells-written all least x counts_all n less =
+            h ∙ ap whole is ∙ told bucket ascends ∙ ap summary (each made counts_all) ∙ sym (ap summary (each n less)) ∙ ap (counted_by n) (sym between-is)
+          where
+            each : (n : ℕ) → n ≤ least → filter (λ q. nat_le n q.made) (put p bucket) ≡ put p bucket
+            each n less = all bucket n (subst (λ (k : ℕ). n ≤ k) (x ∙ ap (λ (u : CountingWith). u.least) is) less)

@@ -4,6 +4,9 @@ pub mod Walks
 pub mod Sizes
 pub mod Meeting
 pub mod Counts
+pub mod Putting
+pub mod Least
+pub mod Shared
 pub mod CountWritten
 pub mod EndsLeft
 pub mod Losing

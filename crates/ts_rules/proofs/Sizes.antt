@@ -1,7 +1,7 @@
 -- How many samples pass tests of which no two pass at once.
-use Rattle.std.proofs.Common.{◌≡◌, ℕ, ◌+◌, ◌<◌, ◌≤◌, Bool, true, false, ◌&&◌, ◌==◌, nat_lt, nat_le, List, [], ◌∷◌, length, refl, ap, ◌∙◌, arith, eq-eqb}
+use Rattle.std.proofs.Common.{◌≡◌, ℕ, ◌+◌, ◌<◌, ◌≤◌, Bool, true, false, ◌&&◌, nat_lt, nat_le, List, [], ◌∷◌, length, refl, ap, ◌∙◌, arith}
 use Rattle.ts_spec.specs.Sample.{Point, at_times, between, is_within}
-use Rattle.ts_spec.specs.Bucket.{Grid, start, members}
+use Rattle.ts_spec.specs.Bucket.{Grid, start}
 use Rattle.ts_spec.proofs.Buckets.{start-order, start-start}
 use Rattle.ts_bucket.specs.Grid.{IsGrid, IsLastOf}
 use Rattle.ts_series.proofs.Counting.{one_if, length-cons_if, times-fewer}
@@ -41,26 +41,6 @@ three a b c d (p ∷ ps) h =
 -- ---- buckets
 
 module _ (g : Grid) (grid : IsGrid g) where
-  -- The samples of a bucket before a time of it, and those past that.
-  pub around : (t first last : ℕ) (ps : List Point) → first ≡ start g t → IsLastOf g t last →
-      length (from_until first t ps) + length (between (t + 1) last ps) ≤ length (members g (start g t) ps)
-  around t first last ps begins of =
-      let all = three (λ u. nat_le first u && nat_lt u t) (is_within (t + 1) last) (λ u. false) (λ u. start g u == start g t) ps (record {
-        first = λ u e. (let low : first ≤ u = span-from first t u e in let up : u < t = span-end first t u e in
-            let one : start g first ≤ start g u = start-order g first u low in let two : start g u ≤ start g t = start-order g u t (omega arith) in
-            let same : start g first ≡ start g t = ap (start g) begins ∙ start-start g t grid.some in
-            eq-eqb (start g u) (start g t) (omega (arith, one, two, same)));
-        second = λ u e. (let low : t + 1 ≤ u = within-from (t + 1) last u e in let up : u ≤ last = within-to (t + 1) last u e in
-            let one : start g t ≤ start g u = start-order g t u (omega arith) in let two : start g u ≤ start g last = start-order g u last up in
-            let same : start g last ≡ start g t = of.same in
-            eq-eqb (start g u) (start g t) (omega (arith, one, two, same)));
-        third = λ u e. absurd (cc e);
-        first_second = λ u e f. (let up : u < t = span-end first t u e in let low : t + 1 ≤ u = within-from (t + 1) last u f in absurd (omega arith));
-        first_third = λ u e f. absurd (cc f);
-        second_third = λ u e f. absurd (cc f);
-      }) in
-      omega (arith, all)
-
   -- The samples of the buckets that meet an interval: those before it, those in it, and those past it.
   pub around-span : (from to first last : ℕ) (ps : List Point) → from ≤ to → first ≡ start g from → IsLastOf g to last →
       length (from_until first from ps) + length (between from to ps) + length (between (to + 1) last ps) ≤ length (in_buckets g from to ps)

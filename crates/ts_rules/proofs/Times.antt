@@ -71,7 +71,7 @@ pub none-past : (test : ℕ → Bool) (u : ℕ) (ps : List Point) → IsAfter u 
 none-past test u [] a h = refl
 none-past test u (p ∷ ps) a h = ap (λ (x : Bool). cond x (p ∷ at_times test ps) (at_times test ps)) (h p.time a.0) ∙ none-past test u ps a.1 h
 
-all-past : (test : ℕ → Bool) (u : ℕ) (ps : List Point) → IsAfter u ps → ((t : ℕ) → u < t → test t ≡ true) → at_times test ps ≡ ps
+pub all-past : (test : ℕ → Bool) (u : ℕ) (ps : List Point) → IsAfter u ps → ((t : ℕ) → u < t → test t ≡ true) → at_times test ps ≡ ps
 all-past test u [] a h = refl
 all-past test u (p ∷ ps) a h = ap (λ (x : Bool). cond x (p ∷ at_times test ps) (at_times test ps)) (h p.time a.0) ∙ ap (λ (qs : List Point). p ∷ qs) (all-past test u ps a.1 h)
 

@@ -12,3 +12,5 @@ pub mod Shares
 pub mod Lost
 pub mod FaultNames
 pub mod Walks
+pub mod CountedWith
+pub mod SharedBucket

@@ -9,21 +9,28 @@ ghost use Rattle.ts_series.specs.History.{list_of, reach};
 ghost use Rattle.ts_rules.specs.Rules.{kept_with_dest};
 ghost use Rattle.ts_rules.specs.Shares.{in_buckets, source_share};
 ghost use Rattle.ts_rules.specs.Spans.{from_until};
+ghost use Rattle.ts_rules.specs.SharedBucket.{IsShared};
 
+use crate::counted_with::CountedWith;
 use crate::rule::Rule;
+use crate::shared_bucket::SharedBucket;
 use std::sync::ledger::Ledger;
 use ts_agg::{Counted, Running};
 use ts_sample::{Sample, Steps, Visit};
 use ts_series::Series;
 
-// The bucket of a sample that is written, with that sample in its place.
+// The bucket of a sample that is written, with that sample in its place: what an earlier rule of the same write was told
+// of it, if that is known, and else it is walked.
 pub(crate) fn count_written<L: Ledger>(
     rule: &Rule,
     source: &Series,
     wrote: &Sample,
+    shared: &mut SharedBucket,
     steps: &mut Steps<L>,
 ) -> Running
+    requires shared { IsShared (list_of source.now) wrote.now shared.old }
     ensures running { result ≡ counted_anew (kept_with_dest [] rule.now) (start_of rule.now.grid wrote.now.time) (put wrote.now (list_of source.now)) }
+    ensures shared { IsShared (list_of source.now) wrote.now shared.new }
     ensures steps { Takes steps.old steps.new (source_share rule.now source.now wrote.now.time) }
 {
     source.known();
@@ -31,11 +38,15 @@ pub(crate) fn count_written<L: Ledger>(
     rule.grid.known();
     let first = rule.grid.start_of(wrote.time);
     let last = rule.grid.last_of(wrote.time);
-    let mut counted = Counted::new(rule.made);
-    scan_until(source, first, wrote.time, &mut counted, steps);
-    counted.sample(wrote);
-    source.scan(wrote.time + 1, last, &mut counted, steps);
-    counted.running()
+    if let Some(running) = shared.find(first, last, rule.made) {
+        return running;
+    }
+    let mut counted = CountedWith::new(rule.made, wrote);
+    source.scan(first, last, &mut counted, steps);
+    let least = counted.least();
+    let running = counted.running();
+    shared.keep(first, last, running, least, rule.made);
+    running
 }
 
 // What is left in the bucket of one time, and in that of a later one, once the samples from the one to the other are

@@ -4,6 +4,7 @@
 
 mod count;
 mod count_lost;
+mod counted_with;
 mod deletion;
 mod end_rows;
 mod fault;
@@ -17,6 +18,7 @@ mod plan;
 mod planned;
 mod room;
 mod rule;
+mod shared_bucket;
 mod span;
 mod touched;
 mod write;
@@ -25,5 +27,6 @@ pub use fault::RuleFault;
 pub use laws::plans_are_what_is_kept;
 pub use open_bucket::latest;
 pub use plan::RulePlan;
-pub use planned::{plan_delete, plan_put};
+pub use planned::{plan_delete, plan_put, plan_put_shared};
 pub use rule::Rule;
+pub use shared_bucket::SharedBucket;

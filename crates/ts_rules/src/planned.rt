@@ -1,4 +1,4 @@
-// The two public calls that plan a change of a source for a rule.
+// The public calls that plan a change of a source for a rule.
 ghost use Rattle.std.specs.Prelude.{◌≡◌, ◌≤◌, ◌+◌, None, length};
 ghost use Rattle.ts_spec.specs.Sample.{MAX_TIME, between};
 ghost use Rattle.ts_sample.specs.Steps.{Takes};
@@ -8,6 +8,7 @@ ghost use Rattle.ts_rules.specs.PlansOfWrites.{IsPlanOfWrite};
 ghost use Rattle.ts_rules.specs.PlansOfDeletions.{IsPlanOfDeletion};
 ghost use Rattle.ts_rules.specs.Lost.{HasStartRoom};
 ghost use Rattle.ts_rules.specs.Room.{HasRoom, count_touched};
+ghost use Rattle.ts_rules.specs.SharedBucket.{IsShared};
 ghost use Rattle.ts_rules.specs.Shares.{write_share, deletion_share, IsEasyWrite};
 
 use crate::count::ends_left;
@@ -18,6 +19,7 @@ use crate::mending::with_row;
 use crate::plan::RulePlan;
 use crate::room::Room;
 use crate::rule::Rule;
+use crate::shared_bucket::SharedBucket;
 use crate::write::written;
 use std::alloc::Global;
 use std::sync::ledger::Ledger;
@@ -41,7 +43,30 @@ pub fn plan_put<L: Ledger>(
     ensures steps { Takes steps.old steps.new (write_share rule.now source.now wrote.now dest.now) }
     ensures easy { IsEasyWrite limit rule.now source.now wrote.now dest.now → steps.new ≡ steps.old }
 {
-    let (rule, row) = written(rule, source, wrote, dest.born(), steps);
+    let mut shared = SharedBucket::new();
+    plan_put_shared(rule, source, wrote, dest, limit, &mut shared, steps)
+}
+
+/// Plans the same for one rule of the source after another: what those before counted of the source goes into it, and
+/// what this one counts goes on to the next.
+pub fn plan_put_shared<L: Ledger>(
+    rule: &Rule,
+    source: &Series,
+    wrote: &Sample,
+    dest: &Series,
+    limit: u32,
+    shared: &mut SharedBucket,
+    steps: &mut Steps<L>,
+) -> Result<RulePlan, RuleFault>
+    requires append { TakesAppended rule.now source.now wrote.now }
+    requires fits { length (list_of dest.now) ≤ limit }
+    requires shared { IsShared (list_of source.now) wrote.now shared.old }
+    ensures planned { IsPlanOfWrite limit rule.now source.now wrote.now dest.now result }
+    ensures shared { IsShared (list_of source.now) wrote.now shared.new }
+    ensures steps { Takes steps.old steps.new (write_share rule.now source.now wrote.now dest.now) }
+    ensures easy { IsEasyWrite limit rule.now source.now wrote.now dest.now → steps.new ≡ steps.old }
+{
+    let (rule, row) = written(rule, source, wrote, dest.born(), shared, steps);
     let dest = with_row(dest, row, limit, steps)?;
     Ok(RulePlan { rule, dest })
 }

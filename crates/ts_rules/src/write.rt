@@ -9,11 +9,13 @@ ghost use Rattle.ts_sample.specs.Steps.{Takes};
 ghost use Rattle.ts_series.specs.History.{list_of};
 ghost use Rattle.ts_rules.specs.Rules.{kept_with_dest, one_of, IsChanged, TakesAppended};
 ghost use Rattle.ts_rules.specs.Shares.{source_share, IsNotClosed};
+ghost use Rattle.ts_rules.specs.SharedBucket.{IsShared};
 ghost use Rattle.ts_rules.specs.Writes.{rule_after, row_for_dest};
 
 use crate::count::count_written;
 use crate::open_bucket::{latest, opened, row};
 use crate::rule::Rule;
+use crate::shared_bucket::SharedBucket;
 use std::sync::ledger::Ledger;
 use ts_agg::Running;
 use ts_sample::{Sample, Steps};
@@ -26,11 +28,14 @@ pub(crate) fn written<L: Ledger>(
     source: &Series,
     wrote: &Sample,
     born: u32,
+    shared: &mut SharedBucket,
     steps: &mut Steps<L>,
 ) -> (Rule, Option<Sample>)
-    requires { TakesAppended rule.now source.now wrote.now }
+    requires append { TakesAppended rule.now source.now wrote.now }
+    requires shared { IsShared (list_of source.now) wrote.now shared.old }
     ensures rule { IsChanged (rule_after source.now wrote.now) rule.now result.0 }
     ensures row { one_of result.1 ≡ row_for_dest source.now wrote.now born rule.now }
+    ensures shared { IsShared (list_of source.now) wrote.now shared.new }
     ensures steps { Takes steps.old steps.new (source_share rule.now source.now wrote.now.time) }
     ensures easy { is_append wrote.now.time source.now.high ≡ true → IsNotClosed rule.now wrote.now.time → steps.new ≡ steps.old }
 {
@@ -40,28 +45,36 @@ pub(crate) fn written<L: Ledger>(
         return (opened(rule, Some(start), of_one(wrote)), None);
     };
     if start < open {
-        let running = count_written(rule, source, wrote, steps);
+        let running = count_written(rule, source, wrote, shared, steps);
         return (*rule, row(rule.agg, born, start, &running));
     }
     if open < start {
         return (opened(rule, Some(start), of_one(wrote)), latest(rule, born));
     }
-    let running = grown(rule, source, wrote, steps);
+    let running = grown(rule, source, wrote, shared, steps);
     (opened(rule, Some(open), running), None)
 }
 
 // The open bucket after a write to it: an appended sample is pushed, and after another one the bucket is told anew.
-fn grown<L: Ledger>(rule: &Rule, source: &Series, wrote: &Sample, steps: &mut Steps<L>) -> Running
-    requires { is_append wrote.now.time source.now.high ≡ true → rule.now.running.count < 10 ^ 14 }
+fn grown<L: Ledger>(
+    rule: &Rule,
+    source: &Series,
+    wrote: &Sample,
+    shared: &mut SharedBucket,
+    steps: &mut Steps<L>,
+) -> Running
+    requires shared { IsShared (list_of source.now) wrote.now shared.old }
+    requires room { is_append wrote.now.time source.now.high ≡ true → rule.now.running.count < 10 ^ 14 }
     ensures running { result ≡ (if is_append wrote.now.time source.now.high then push rule.now.running wrote.now
         else counted_anew (kept_with_dest [] rule.now) (start_of rule.now.grid wrote.now.time) (put wrote.now (list_of source.now))) }
+    ensures shared { IsShared (list_of source.now) wrote.now shared.new }
     ensures steps { Takes steps.old steps.new (source_share rule.now source.now wrote.now.time) }
     ensures easy { is_append wrote.now.time source.now.high ≡ true → steps.new ≡ steps.old }
 {
     if is_past(wrote.time, source.high()) {
         pushed(rule.running, wrote)
     } else {
-        count_written(rule, source, wrote, steps)
+        count_written(rule, source, wrote, shared, steps)
     }
 }
 

@@ -9,8 +9,8 @@ use Rattle.ts_db.specs.Planning.{changed_by, gone_by, rows_by_work, AllTake, Are
 use Rattle.ts_db.proofs.Plans.{full-past, fed-more, changed-more}
 use Rattle.ts_db.proofs.store.Store.plan_rules.Goals as goal
 
-pub plan_rule-requires-clause-live : goal.plan_rule-requires-clause-live
-plan_rule-requires-clause-live g c =
+pub plan_next-requires-clause-live : goal.plan_next-requires-clause-live
+plan_next-requires-clause-live g c =
     (subst (AreLive c.args.self.now.nodes)
     (drop_more c.args.rules.now c.loop-rule.rule-index c.rule-item.result c.loop-rule-test.true
     ∙ ap (λ (r : Rule). r ∷ drop (c.loop-rule.rule-index + 1) c.args.rules.now) (sym c.rule-item.is))
@@ -30,22 +30,23 @@ loop-rule-preserved g c =
     record {
       changed = subst (λ (rs : List Rule). AreChanged (changed_by work source) rs c.push_reserved.new.self.items) (sym so_far)
           (subst (λ (xs : List Rule). AreChanged (changed_by work source) (take i all ++ r ∷ []) xs) (sym c.push_reserved.ensures.items)
-          (changed-more (changed_by work source) (take i all) c.loop-rule.changed.items r c.in-Ok-plan_rule.plan.rule c.loop-rule.invariant.changed c.in-Ok-plan_rule.ensures.changed));
-      fed = subst (λ (rs : List Rule). AreFedBy limit nodes (rows_by_work work source) (gone_by work source) rs c.push_reserved-in-Ok-plan_rule.new.self.items) (sym so_far)
-          (subst (λ (xs : List RulePlan). AreFedBy limit nodes (rows_by_work work source) (gone_by work source) (take i all ++ r ∷ []) xs) (sym c.push_reserved-in-Ok-plan_rule.ensures.items)
-          (fed-more limit nodes (rows_by_work work source) (gone_by work source) (take i all) c.loop-rule.plans.items r c.in-Ok-plan_rule.plan c.loop-rule.invariant.fed c.in-Ok-plan_rule.ensures.fed));
+          (changed-more (changed_by work source) (take i all) c.loop-rule.changed.items r c.in-Ok-plan_next.plan.rule c.loop-rule.invariant.changed c.in-Ok-plan_next.ensures.changed));
+      fed = subst (λ (rs : List Rule). AreFedBy limit nodes (rows_by_work work source) (gone_by work source) rs c.push_reserved-in-Ok-plan_next.new.self.items) (sym so_far)
+          (subst (λ (xs : List RulePlan). AreFedBy limit nodes (rows_by_work work source) (gone_by work source) (take i all ++ r ∷ []) xs) (sym c.push_reserved-in-Ok-plan_next.ensures.items)
+          (fed-more limit nodes (rows_by_work work source) (gone_by work source) (take i all) c.loop-rule.plans.items r c.in-Ok-plan_next.plan c.loop-rule.invariant.fed c.in-Ok-plan_next.ensures.fed));
       fit = sym (ap (first_full limit nodes (rows_by_work work source) (gone_by work source)) left
-          ∙ full-past limit nodes (rows_by_work work source) (gone_by work source) r (drop (i + 1) all) c.in-Ok-plan_rule.ensures.fits) ∙ c.loop-rule.invariant.fit;
+          ∙ full-past limit nodes (rows_by_work work source) (gone_by work source) r (drop (i + 1) all) c.in-Ok-plan_next.ensures.fits) ∙ c.loop-rule.invariant.fit;
       live = (subst (AreLive nodes) left c.loop-rule.invariant.live).1;
+      shared = c.plan_next.ensures.shared;
       takes = (subst (AllTake work source) left c.loop-rule.invariant.takes).1;
       many_changed = omega (arith, c.push_reserved.ensures.len, c.loop-rule.invariant.many_changed);
-      many = omega (arith, c.push_reserved-in-Ok-plan_rule.ensures.len, c.loop-rule.invariant.many);
+      many = omega (arith, c.push_reserved-in-Ok-plan_next.ensures.len, c.loop-rule.invariant.many);
       room_changed = omega (arith, c.push_reserved.ensures.capacity, c.loop-rule.invariant.room_changed);
-      room = omega (arith, c.push_reserved-in-Ok-plan_rule.ensures.capacity, c.loop-rule.invariant.room);
-      counted = omega (arith, c.plan_rule.ensures.steps.counted, c.loop-rule.invariant.counted);
-      steps = omega (arith, c.plan_rule.ensures.steps.bounded, c.loop-rule.invariant.steps, ap (shares_of nodes work source) left);
+      room = omega (arith, c.push_reserved-in-Ok-plan_next.ensures.capacity, c.loop-rule.invariant.room);
+      counted = omega (arith, c.plan_next.ensures.steps.counted, c.loop-rule.invariant.counted);
+      steps = omega (arith, c.plan_next.ensures.steps.bounded, c.loop-rule.invariant.steps, ap (shares_of nodes work source) left);
       easy = λ all_easy. (
-        c.plan_rule.ensures.easy (subst (AreEasyOf limit nodes work source) left (c.loop-rule.invariant.easy all_easy).1).0 ∙ (c.loop-rule.invariant.easy all_easy).0,
+        c.plan_next.ensures.easy (subst (AreEasyOf limit nodes work source) left (c.loop-rule.invariant.easy all_easy).1).0 ∙ (c.loop-rule.invariant.easy all_easy).0,
         (subst (AreEasyOf limit nodes work source) left (c.loop-rule.invariant.easy all_easy).1).1,
       );
     }

@@ -1,5 +1,5 @@
 use Rattle.std.proofs.Common.{◌≡◌, ◌≤◌, ◌+◌, take, drop, length, vec_len, vec_capacity}
-use Rattle.ts_db.specs.Planning.{changed_by, gone_by, rows_by_work, AllTake, AreChanged, AreFedBy, first_full, shares_of, AreEasyOf}
+use Rattle.ts_db.specs.Planning.{changed_by, gone_by, rows_by_work, AllTake, IsSharedOf, AreChanged, AreFedBy, first_full, shares_of, AreEasyOf}
 use Rattle.ts_db.specs.Store.{AreLive}
 use Rattle.ts_db.proofs.store.Store.plan_rules.Given as goal
 
@@ -11,6 +11,7 @@ invariant-loop-rule g l = record {
   fit : first_full l.self.limits.samples l.self.nodes (rows_by_work l.work l.source) (gone_by l.work l.source) (drop l.rule-index l.rules)
       ≡ first_full l.self.limits.samples l.self.nodes (rows_by_work l.work l.source) (gone_by l.work l.source) l.rules;
   live : AreLive l.self.nodes (drop l.rule-index l.rules);
+  shared : IsSharedOf l.work l.source l.shared;
   takes : AllTake l.work l.source (drop l.rule-index l.rules);
   many_changed : vec_len l.changed ≡ l.rule-index;
   many : vec_len l.plans ≡ l.rule-index;

@@ -1,7 +1,7 @@
 use Rattle.std.proofs.Common.{sym, ap, ◌∙◌}
 use Rattle.ts_rules.specs.Rules.{one_of}
 use Rattle.ts_rules.proofs.EasyWrites.{easy-row}
-use Rattle.ts_rules.proofs.planned.plan_put.Goals as goal
+use Rattle.ts_rules.proofs.planned.plan_put_shared.Goals as goal
 
 pub returns-in_err-dest-clause-easy : goal.returns-in_err-dest-clause-easy
 returns-in_err-dest-clause-easy g c = λ h.
