@@ -20,6 +20,7 @@ pub mod Destinations
 pub mod Working
 pub mod StayingOpen
 pub mod GrownNode
+pub mod SamplesWritten
 pub mod Writing
 pub mod Ignoring
 pub mod NewLinks
@@ -41,6 +42,8 @@ pub mod Reaches
 pub mod Rows
 pub mod RowWalks
 pub mod EasyWrites
+pub mod WriteDone
+pub mod WriteEnds
 pub mod Selecting
 pub mod Totals
 pub mod ShownTotals

@@ -6,7 +6,6 @@ use Rattle.ts_spec.specs.declared.series.Merge.{Merge}
 use Rattle.ts_spec.specs.declared.series.Merge.TheVariants.{Set}
 use Rattle.ts_spec.specs.Refusal as refusal
 use Rattle.ts_spec.specs.Refusal.{Refusal}
-use Rattle.ts_spec.specs.Sample.{Point, first_of}
 use Rattle.ts_spec.specs.Key.{Key}
 use Rattle.ts_spec.specs.Keyed.{get, with_key}
 use Rattle.ts_spec.specs.Kept.{Kept, Keeping}
@@ -17,7 +16,6 @@ use Rattle.ts_spec.specs.Response.{Count}
 use Rattle.ts_spec.specs.Step.{value_at}
 use Rattle.ts_spec.specs.KeptStep.{KeptOutcome, kept_refused, list_at, kept_unless_full, kept_within_destinations, kept_within_samples, kept_write_merged, kept_unless_ignored, kept_write}
 use Rattle.ts_spec.specs.Ignoring.{kept_ignored}
-use Rattle.ts_spec.proofs.Tidy.{some-same}
 use Rattle.ts_sample.specs.declared.id.Id.{Id}
 use Rattle.ts_series.specs.History.{History, list_of, low, IsKept}
 use Rattle.ts_series.specs.Plan.{Plan, after}
@@ -42,13 +40,6 @@ use Rattle.ts_db.proofs.Known.{links}
 use Rattle.ts_db.proofs.Destinations.{none-full-yields, destination-refused}
 use Rattle.ts_db.proofs.Working.{changed-rules}
 
--- what a plan writes where it writes this sample
-pub record IsWritten (limit : ℕ) (what : Merged) (t : ℕ) (h : History) (p : Point) (plan : Plan) : Type 0 where
-  pub value : ℤ
-  pub sets : what ≡ To value
-  pub sample : p ≡ sample_of t value h
-  pub writes : IsWrite limit (sample_of t value h) h (Ok plan)
-
 -- a plan that writes a sample, to a source whose rules change with it
 pub writes-after : (names : Id → Key) (n : Node) (plan : Plan) (rules : Vec Rule Global) (t : ℕ) (v : ℤ) → Writes (sample_of t v n.series) plan
     → AreChanged (changed_by (Write (sample_of t v n.series)) n.series) n.rules.items rules.items → kept_named names (node_after plan None (Some rules) n) ≡ kept_with t v (kept_named names n)
@@ -63,39 +54,6 @@ within-planned h plan limit t v kept a le =
     let same : list_of (after plan h) ≡ list_after (sample_of t v h) h =
     λ i. list_of (after (record { cut = a.0.cut i; removed = 0; encoding = plan.encoding; wrote = a.0.wrote i; options = a.0.options i; change = plan.change; room = None }) h) in
     subst (λ ps. length ps ≤ limit) (sym same) (length-after limit (edge_of h.options.retention (raised t h.high)) (sample_of t v h) h.samples kept.ascending a.1 le)
-
--- what a plan writes is the sample of a write, where it writes one
-pub written-sample : (plan : Plan) (what : Merged) (limit t : ℕ) (h : History) (p : Point) → PutAnswers what limit t h (Ok plan) → Some p ≡ first_of plan.wrote → IsWritten limit what t h p plan
-written-sample plan (Refuse r) limit t h p a is = absurd a
-written-sample plan Keep limit t h p a is = let none : Some p ≡ None = is ∙ ap (λ (x : Plan). first_of x.wrote) a in absurd (cc none)
-written-sample plan (To v) limit t h p a is = record {
-  value = v;
-  sets = refl;
-  sample = some-same p (sample_of t v h) (is ∙ ap first_of a.0.wrote);
-  writes = a;
-}
-
--- the sample of a write that fits and for which there was no memory
-pub record IsUnwritten (limit : ℕ) (what : Merged) (t : ℕ) (h : History) (p : Point) : Type 0 where
-  pub value : ℤ
-  pub sets : what ≡ To value
-  pub sample : p ≡ sample_of t value h
-  pub fits : Fits limit (sample_of t value h) h
-
-pub unwritten-sample : (fault : PutFault) (what : Merged) (limit t : ℕ) (h : History) (p : Point) → PutAnswers what limit t h (Err fault) → unwritten_of fault ≡ Some p → IsUnwritten limit what t h p
-unwritten-sample TooOld what limit t h p a is = absurd (cc is)
-unwritten-sample Duplicate what limit t h p a is = absurd (cc is)
-unwritten-sample OutOfRange what limit t h p a is = absurd (cc is)
-unwritten-sample Full what limit t h p a is = absurd (cc is)
-unwritten-sample (Memory e) what limit t h p a is = absurd (cc is)
-unwritten-sample (Unwritten q) (Refuse r) limit t h p a is = let none : None ≡ Some r = a in absurd (cc none)
-unwritten-sample (Unwritten q) Keep limit t h p a is = absurd a
-unwritten-sample (Unwritten q) (To v) limit t h p a is = record {
-  value = v;
-  sets = refl;
-  sample = some-same p (sample_of t v h) (sym is ∙ ap (λ (x : Point). Some x) a.1);
-  fits = a.0;
-}
 
 module _ (s : Store) (db : IsDb s) (key : Key) (id : Id) (n : Node) (holds : Holds s key id n) where
   abbrev rows : ℕ → ℤ → Rows
