@@ -62,6 +62,13 @@ module _ (s : Store) (store : IsInOrder s) (i : Id) (live : HasNode s.nodes i) w
   pub only-key : (k : Key) → number_of k s.keys.entries ≡ Some i → key_in s.nodes i ≡ k
   only-key k is = ap key_at live.there ∙ store.named k i live.node is live.there
 
+  -- so it is with the key of the number, by what contracts see
+  pub with-number : get (key_with (stock_of s).ids i) (stock_of s).ids ≡ Some i
+  with-number = ap (λ (k : Key). get k (stock_of s).ids) key-with ∙ get-ids (key_in s.nodes i) s.keys.entries ∙ key-holds.number
+
+  pub only-with : (k : Key) → get k (stock_of s).ids ≡ Some i → key_with (stock_of s).ids i ≡ k
+  only-with k is = key-with ∙ only-key k (sym (get-ids k s.keys.entries) ∙ is)
+
   pub live-number : IsLive (stock_of s).ids i
   live-number = record { key = live.node.key; is = numbered }
 

@@ -72,9 +72,10 @@ impl Db {
         self.store.is_full()
     }
 
-    /// How much it may hold.
+    /// How much it may hold. There is a state that it stands for.
     pub fn limits(&self) -> Limits
-        ensures { result ≡ self.now.limits }
+        ensures limits { result ≡ self.now.limits }
+        ensures stands { Leads self.now (λ held. ⊤) }
     {
         self.store.limits
     }
@@ -82,13 +83,6 @@ impl Db {
     /// Where it takes memory.
     pub fn alloc(&self) -> Global {
         self.store.alloc
-    }
-
-    /// Does nothing: it tells a caller that there is a state that it stands for.
-    pub fn known(&self)
-        ensures stands { Leads self.now (λ held. ⊤) }
-    {
-        let _limits = self.store.limits;
     }
 }
 

@@ -10,6 +10,7 @@ ghost use Rattle.ts_spec.specs.Sample.{at_times, last_of, put_all};
 ghost use Rattle.ts_sample.specs.Steps.{Takes};
 ghost use Rattle.ts_series.specs.History.{list_of, reach, IsKept};
 ghost use Rattle.ts_rules.specs.Rules.{one_of};
+ghost use Rattle.ts_db.specs.Faults.{key_with};
 ghost use Rattle.ts_db.specs.Held.{Held, Stands, IsLive, AreTimes, ends_of, reach_at};
 ghost use Rattle.ts_db.specs.Store.{Shows};
 
@@ -27,6 +28,8 @@ impl Db {
     // The node of a number.
     pub(crate) fn node(&self, id: Id) -> &Node
         requires { IsLive self.now.ids id }
+        ensures numbered { get (key_with self.now.ids id) self.now.ids ≡ Some id }
+        ensures one { (key : Key) → get key self.now.ids ≡ Some id → key_with self.now.ids id ≡ key }
         ensures shows { (key : Key) → get key self.now.ids ≡ Some id → Shows self.now key result.now }
         ensures kept { IsKept result.now.series }
         ensures within { length (list_of result.now.series) ≤ self.now.limits.samples }
@@ -34,10 +37,12 @@ impl Db {
         self.store.nodes.node(id)
     }
 
-    /// The key of a number. Takes no memory.
+    /// The key of a number, which is the only one that has it. Takes no memory.
     pub fn key_of(&self, id: Id) -> &Word
         requires { IsLive self.now.ids id }
-        ensures { (key : Key) → get key self.now.ids ≡ Some id → result.now ≡ key }
+        ensures key { result.now ≡ key_with self.now.ids id }
+        ensures numbered { get (key_with self.now.ids id) self.now.ids ≡ Some id }
+        ensures one { (key : Key) → get key self.now.ids ≡ Some id → key_with self.now.ids id ≡ key }
     {
         &self.node(id).key
     }

@@ -1,11 +1,10 @@
 // Walks over the samples of a key by its number, reads of them one after another, and the times at which they can be cut.
-ghost use Rattle.std.specs.Prelude.{◌≡◌, ◌≤◌, ◌^◌, ◌⊎◌, ℕ, suc, nat_le, false, length, Some, ◌+◌};
+ghost use Rattle.std.specs.Prelude.{◌≡◌, ◌≤◌, ◌^◌, ◌⊎◌, ℕ, suc, nat_le, false, length, ◌+◌};
 ghost use Rattle.ts_sample.specs.Visit.{visited};
-ghost use Rattle.ts_spec.specs.Key.{Key};
-ghost use Rattle.ts_spec.specs.Keyed.{get};
 ghost use Rattle.ts_spec.specs.KeptQuestions.{kept_asked};
 ghost use Rattle.ts_spec.specs.Sample.{at_times, between};
 ghost use Rattle.ts_series.specs.Seams.{IsSeam, IsSeamed, Around};
+ghost use Rattle.ts_db.specs.Faults.{key_with};
 ghost use Rattle.ts_db.specs.Held.{IsLive, reach_at, pieces_at};
 ghost use Rattle.ts_db.specs.Bounds.{walk_steps};
 
@@ -29,11 +28,10 @@ impl Db {
     )
         requires live { IsLive self.now.ids id }
         requires room { 2 ^ 32 ≤ V.room visit.old }
-        ensures visited { (key : Key) → get key self.now.ids ≡ Some id
-            → visit.new ≡ visited V.step visit.old (between from to (kept_asked self.now.keys latest key)) }
+        ensures visited { visit.new ≡ visited V.step visit.old (between from to (kept_asked self.now.keys latest (key_with self.now.ids id))) }
         ensures counted { steps.old ≤ steps.new }
-        ensures steps { (key : Key) → get key self.now.ids ≡ Some id → steps.new ≤ steps.old + walk_steps self.now key from to }
-        ensures seams { (key : Key) → get key self.now.ids ≡ Some id → IsSeamed (pieces_at self.now key) from to steps.old steps.new }
+        ensures steps { steps.new ≤ steps.old + walk_steps self.now (key_with self.now.ids id) from to }
+        ensures seams { IsSeamed (pieces_at self.now (key_with self.now.ids id)) from to steps.old steps.new }
     {
         // It does nothing: it tells a bound that the limit has.
         let _limit = self.limits().samples;
@@ -45,10 +43,9 @@ impl Db {
     /// not among them. Takes no memory.
     pub fn read_of<L: Ledger>(&self, id: Id, from: u64, steps: &mut Steps<L>) -> Cursor<'_>
         requires { IsLive self.now.ids id }
-        ensures left { (key : Key) → get key self.now.ids ≡ Some id
-            → result ≡ at_times (nat_le from) (kept_asked self.now.keys false key) }
+        ensures left { result ≡ at_times (nat_le from) (kept_asked self.now.keys false (key_with self.now.ids id)) }
         ensures counted { steps.old ≤ steps.new }
-        ensures steps { (key : Key) → get key self.now.ids ≡ Some id → steps.new ≤ steps.old + reach_at self.now key }
+        ensures steps { steps.new ≤ steps.old + reach_at self.now (key_with self.now.ids id) }
     {
         self.node(id).series.read_from(from, steps)
     }
@@ -59,9 +56,8 @@ impl Db {
         requires live { IsLive self.now.ids id }
         requires ordered { from ≤ to }
         ensures within { (from ≤ result) × (result ≤ to) }
-        ensures reach { (key : Key) → get key self.now.ids ≡ Some id
-            → (result ≡ to) ⊎ (count ≤ length (between from result (kept_asked self.now.keys false key))) }
-        ensures seam { (key : Key) → get key self.now.ids ≡ Some id → (result ≡ to) ⊎ IsSeam (result + 1) (pieces_at self.now key) }
+        ensures reach { (result ≡ to) ⊎ (count ≤ length (between from result (kept_asked self.now.keys false (key_with self.now.ids id)))) }
+        ensures seam { (result ≡ to) ⊎ IsSeam (result + 1) (pieces_at self.now (key_with self.now.ids id)) }
     {
         self.node(id).series.time_for(from, to, count)
     }
@@ -73,36 +69,23 @@ impl Db {
         requires live { IsLive self.now.ids id }
         requires ordered { from ≤ to }
         ensures within { (from ≤ result) × (result ≤ to) }
-        ensures reach { (key : Key) → get key self.now.ids ≡ Some id
-            → (result ≡ from) ⊎ (count ≤ length (between result to (kept_asked self.now.keys false key))) }
-        ensures seam { (key : Key) → get key self.now.ids ≡ Some id → (result ≡ from) ⊎ IsSeam result (pieces_at self.now key) }
+        ensures reach { (result ≡ from) ⊎ (count ≤ length (between result to (kept_asked self.now.keys false (key_with self.now.ids id)))) }
+        ensures seam { (result ≡ from) ⊎ IsSeam result (pieces_at self.now (key_with self.now.ids id)) }
     {
         self.node(id).series.time_from(from, to, count)
     }
 
-    /// How many samples a new chunk of the key of a number has room for at most.
+    /// How many samples a new chunk of the key of a number has room for at most. Between one time and the next at most one
+    /// chunk is cut, and near each interval there are times that cut none.
     pub fn chunk_reach_of(&self, id: Id) -> u64
         requires live { IsLive self.now.ids id }
-        ensures { (key : Key) → get key self.now.ids ≡ Some id → result ≤ reach_at self.now key }
+        ensures within { result ≤ reach_at self.now (key_with self.now.ids id) }
+        ensures around { (from to : ℕ) → Around from to (walk_steps self.now (key_with self.now.ids id) from to) (pieces_at self.now (key_with self.now.ids id)) }
+        ensures cuts { (t : ℕ) → Around (suc t) t (reach_at self.now (key_with self.now.ids id)) (pieces_at self.now (key_with self.now.ids id)) }
     {
-        self.node(id).series.chunk_reach()
-    }
-
-    /// Does nothing: it tells a caller that between one time and the next at most one chunk of the key of a number is cut.
-    pub fn cuts_of(&self, id: Id)
-        requires live { IsLive self.now.ids id }
-        ensures { (key : Key) → get key self.now.ids ≡ Some id
-            → (t : ℕ) → Around (suc t) t (reach_at self.now key) (pieces_at self.now key) }
-    {
-        self.node(id).series.cuts();
-    }
-
-    /// Does nothing: it tells a caller that there are times near each interval that cut no chunk of the key of a number.
-    pub fn seams_of(&self, id: Id)
-        requires live { IsLive self.now.ids id }
-        ensures { (key : Key) → get key self.now.ids ≡ Some id
-            → (from to : ℕ) → Around from to (walk_steps self.now key from to) (pieces_at self.now key) }
-    {
-        self.node(id).series.seams();
+        let series = &self.node(id).series;
+        series.seams();
+        series.cuts();
+        series.chunk_reach()
     }
 }

@@ -1,6 +1,7 @@
 use Rattle.std.proofs.Common.{sym, subst}
 use Rattle.ts_db.specs.Held.{Stock, IsLive}
 use Rattle.ts_db.proofs.Asking.{numbered-holds, node-live, node-shows}
+use Rattle.ts_db.proofs.Destinations.{with-number, only-with}
 use Rattle.ts_db.proofs.Indexing.{contains}
 use Rattle.ts_db.proofs.db.Db.node.Goals as goal
 
@@ -8,6 +9,14 @@ pub node-requires : goal.node-requires
 node-requires c =
     let of = node-live c.self.inside.store c.self.invariant.store c.args.id (subst (λ (stock : Stock). IsLive stock.ids c.args.id) (sym c.self.view_is) c.requires) in
     contains c.self.inside.store.nodes c.args.id of.0 of.1
+
+pub returns-clause-numbered : goal.returns-clause-numbered
+returns-clause-numbered c = rw (← c.self.view_is)
+    (with-number c.self.inside.store c.self.invariant.store c.args.id (record { node = c.node.result.now; there = c.node.ensures }))
+
+pub returns-clause-one : goal.returns-clause-one
+returns-clause-one c = rw (← c.self.view_is)
+    (only-with c.self.inside.store c.self.invariant.store c.args.id (record { node = c.node.result.now; there = c.node.ensures }))
 
 pub returns-clause-shows : goal.returns-clause-shows
 returns-clause-shows c = rw (← c.self.view_is) (λ key at.
