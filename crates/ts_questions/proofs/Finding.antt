@@ -1,11 +1,13 @@
 -- What the database finds of a question.
-use Rattle.std.proofs.Common.{◌≡◌, Bool, true, false, List, [], ◌∷◌, refl, sym, ◌∙◌, ap, subst}
+use Rattle.std.proofs.Common.{◌≡◌, Bool, true, false, ℕ, List, [], ◌∷◌, refl, sym, ◌∙◌, ap, subst}
 use Rattle.std.specs.Prelude.{⊤, Option, None, Some, is_some, Ok, Err}
 use Rattle.std.proofs.lemmas.Bool.{false≢true}
 use Rattle.ts_spec.specs.declared.limits.Limits.{Limits}
+use Rattle.ts_spec.specs.Answer.{answer}
+use Rattle.ts_spec.specs.Command.{Query}
 use Rattle.ts_spec.specs.Key.{Key}
 use Rattle.ts_spec.specs.Keyed.{get}
-use Rattle.ts_spec.specs.Questions.{asked}
+use Rattle.ts_spec.specs.Questions.{asked, rows_response, range_response}
 use Rattle.ts_spec.specs.Rules.{open_of, opened, shown_by, shown_at, latest_at, closed_rows}
 use Rattle.ts_spec.specs.Sample.{Point, IsAscending, first_of, last_of}
 use Rattle.ts_spec.specs.State.{Rule, Record, State, rule_into, edge}
@@ -17,6 +19,7 @@ use Rattle.ts_spec.specs.Kept.{Keeping}
 use Rattle.ts_spec.specs.KeptQuestions.{kept_asked}
 use Rattle.ts_spec.proofs.KeptAsked.{asked-kept}
 use Rattle.ts_db.specs.Held.{Held, Stock, Stands, Leads, Finds, ends_of}
+use Rattle.ts_questions.specs.Answering.{IsReplyText}
 
 -- an answer that was found
 pub found : {T : Type 0} (o : Option Record) (what : T → Type 0) (x : T) → Finds o what (Ok x) → what x
@@ -61,3 +64,9 @@ asked_stands stock latest k from stands = ap (λ (keys : Keeping). kept_asked ke
 pub finds_none : {T : Type 0} (o : Option Record) (what : T → Type 0) → false ≡ is_some o → Finds o what (Err NoKey)
 finds_none None what here = refl
 finds_none (Some d) what here = absurd (false≢true here)
+
+-- a key that is there is answered with its rows, or that they are too many
+pub answer_here : (limits : Limits) (m : State) (key : Key) (with_open : Bool) (q : Query) (o : Option Record) (written : List ℕ) → true ≡ is_some o
+    → IsReplyText (rows_response (answer limits.empty_rows q (asked m with_open key))) written → IsReplyText (range_response limits m key with_open q o) written
+answer_here limits m key with_open q None written here told = absurd (false≢true (sym here))
+answer_here limits m key with_open q (Some d) written here told = told

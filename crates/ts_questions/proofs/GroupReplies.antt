@@ -1,6 +1,7 @@
 -- What is told in groups is the answer of the definitions.
 use Rattle.std.proofs.Common.{◌≡◌, ◌+◌, ◌≤◌, inl, inr, Bool, true, false, ℕ, All, List, [], ◌∷◌, ◌++◌, map, refl, sym, ap, subst, ◌∙◌, arith}
 use Rattle.std.specs.Prelude.{flat_map, filter, Option, None, Some, option_map, is_none, is_some, if◌then◌else◌, sum_by}
+use Rattle.std.specs.List.{list_any}
 use Rattle.std.proofs.lemmas.List.Elements.{All-head, All-tail}
 use Rattle.std.proofs.lemmas.List.Sums.{sum_by-cons}
 use Rattle.ts_spec.specs.declared.limits.Limits.{Limits}
@@ -25,13 +26,13 @@ use Rattle.ts_command.specs.GroupBy.{group_of}
 use Rattle.ts_group.specs.Sorted.{having_of}
 use Rattle.ts_group.proofs.Sorted.{having-series}
 use Rattle.ts_sample.specs.declared.id.Id.{Id}
-use Rattle.ts_db.specs.Bounds.{selection_steps}
 use Rattle.ts_db.specs.Faults.{key_with}
 use Rattle.ts_db.specs.Held.{Held, Stock, Stands, AreNumbersOf, YieldsToMemory}
 use Rattle.ts_questions.specs.declared.grouping.Grouping.{Grouping}
-use Rattle.ts_questions.specs.Answering.{IsReplyText}
-use Rattle.ts_questions.specs.Grouping.{IsGrouping, IsNumbered, counted, has_label, alone, themselves, series_told, group_steps, rows_at_number, rows_or_none, numbered, is_too_long, number_steps, numbers_steps, one_if, refusals, group_reply, groups_of_numbers, groups_response}
+use Rattle.ts_questions.specs.Answering.{IsReplyText, IsManyText}
+use Rattle.ts_questions.specs.Grouping.{IsGrouping, IsNumbered, counted, has_label, alone, themselves, series_told, is_group_refused, group_steps, rows_at_number, rows_or_none, numbered, is_too_long, number_steps, numbers_steps, one_if, refusals, group_reply, groups_of_numbers, kept_groups, groups_response}
 use Rattle.ts_questions.specs.Members.{told_then, each_told}
+use Rattle.ts_questions.proofs.ManyReplies.{none-by, none-any}
 
 -- all series that are told, one after another
 abbrev flat : List (List Labelled) → List Labelled
@@ -159,17 +160,17 @@ module _ (stock : Stock) (g : Grouping) where
   -- ---- steps
 
   -- those with the label take what the keys take
-  pub steps-numbered : (ns : List Id) → numbers_steps stock g ns ≡ sum_by (group_steps g stock) (map key_of ns)
+  steps-numbered : (ns : List Id) → numbers_steps stock g ns ≡ sum_by (group_steps g stock) (map key_of ns)
   steps-numbered [] = refl
   steps-numbered (n ∷ ns) =
       let one = λ (m : Id). if has_label stock g.by.label (key_of m) then number_steps stock g m else 0 in
       omega (arith, sum_by-cons one n ns, sum_by-cons (group_steps g stock) (key_of n) (map key_of ns), steps-numbered ns)
 
 -- the steps of all
-pub numbers-few : (stock : Stock) (g : Grouping) (fs : List Filter) (ns : List Id) (old mid new : ℕ) → AreNumbersOf stock.ids (kept_selection stock.keys fs) ns → All (IsNumbered stock.ids) ns
-    → mid ≤ old + selection_steps stock fs → new ≤ mid + numbers_steps stock g ns → new ≤ old + (selection_steps stock fs + sum_by (group_steps g stock) (kept_selection stock.keys fs))
-numbers-few stock g fs ns old mid new numbers all first later =
-    omega (arith, first, later, steps-numbered stock g ns, ap (sum_by (group_steps g stock)) (keys-numbered stock.ids (kept_selection stock.keys fs) ns numbers all))
+pub numbers-steps : (stock : Stock) (g : Grouping) (keys : List Key) (ns : List Id) (old new : ℕ) → AreNumbersOf stock.ids keys ns → All (IsNumbered stock.ids) ns
+    → new ≤ old + numbers_steps stock g ns → new ≤ old + sum_by (group_steps g stock) keys
+numbers-steps stock g keys ns old new numbers all few =
+    omega (arith, few, steps-numbered stock g ns, ap (sum_by (group_steps g stock)) (keys-numbered stock.ids keys ns numbers all))
 
 module _ (stock : Stock) (g : Grouping) (is : IsGrouping g) where
   abbrev rows_of : Query → Key → Option (List Row)
@@ -182,20 +183,17 @@ module _ (stock : Stock) (g : Grouping) (is : IsGrouping g) where
   abbrev response_by : Option (List Labelled) → Response
   response_by o = members_response (option_map (groups (group_of g.by) (show_of g.show) g.count g.query.reverse) o)
 
-  abbrev kept_groups : List Key → Response
-  kept_groups ks = kept_ranges_response stock.limits stock.keys g.latest (show_of g.show) (counted g) (Some (group_of g.by)) ks
-
   -- the question asks all rows
   asks-all : uncounted (counted g) ≡ query_of g.query
   asks-all = λ i. record (query_of g.query) { count = sym is.all i }
 
-  kept-groups : (ks : List Key) → kept_groups ks ≡ response_by (option_map flat (each_told (series_told stock g) ks))
+  kept-groups : (ks : List Key) → kept_groups stock g ks ≡ response_by (option_map flat (each_told (series_told stock g) ks))
   kept-groups ks =
       ap (λ (q : Query). response_by (labelled labels_of (rows_of q) (labelled_keys g.by.label labels_of ks))) asks-all
       ∙ ap response_by (sym (labelled-told labels_of (rows_of (query_of g.query)) g.by.label ks))
 
   -- it is the response of each state that is stood for
-  kept-stands : (fs : List Filter) (from : Held) → Stands stock from → kept_groups (kept_selection stock.keys fs) ≡ groups_response from g fs
+  kept-stands : (fs : List Filter) (from : Held) → Stands stock from → kept_groups stock g (kept_selection stock.keys fs) ≡ groups_response from g fs
   kept-stands fs from stands =
       ap (λ (keys : Keeping). kept_ranges_response stock.limits keys g.latest (show_of g.show) (counted g) (Some (group_of g.by)) (kept_selection keys fs)) stands.state.kept
       ∙ ap (kept_ranges_response stock.limits (kept from.state) g.latest (show_of g.show) (counted g) (Some (group_of g.by))) (selection-kept from.state fs)
@@ -210,7 +208,7 @@ module _ (stock : Stock) (g : Grouping) (is : IsGrouping g) where
     as-told from stands = sym (kept-groups (kept_selection stock.keys fs)) ∙ kept-stands fs from stands
 
     -- the rows of one are too many
-    pub groups-refused : told ≡ None → after ≡ text (refusal_reply EmptyRows) → (from : Held) → Stands stock from → IsReplyText (groups_response from g fs) after
+    groups-refused : told ≡ None → after ≡ text (refusal_reply EmptyRows) → (from : Held) → Stands stock from → IsReplyText (groups_response from g fs) after
     groups-refused none written from stands =
         inl (written ∙ ap (λ r. text (reply_to r)) (sym (ap (λ (o : Option (List (List Labelled))). response_by (option_map flat o)) none) ∙ as-told from stands))
 
@@ -219,32 +217,43 @@ module _ (stock : Stock) (g : Grouping) (is : IsGrouping g) where
     yields (Some all) some = tt
 
     -- there was no memory
-    pub groups-lost : is_none told ≡ false → after ≡ text memory_reply → (from : Held) → Stands stock from → IsReplyText (groups_response from g fs) after
+    groups-lost : is_none told ≡ false → after ≡ text memory_reply → (from : Held) → Stands stock from → IsReplyText (groups_response from g fs) after
     groups-lost some written from stands = inr (subst YieldsToMemory (as-told from stands) (yields told some), written)
 
-    -- ---- by the numbers of the keys
+    -- what was written answers in groups over the series that pass filters
+    pub groups-written : IsManyText (list_any (is_group_refused g stock) (kept_selection stock.keys fs)) (kept_groups stock g (kept_selection stock.keys fs)) after
+        → (from : Held) → Stands stock from → IsReplyText (groups_response from g fs) after
+    groups-written = go (list_any (is_group_refused g stock) (kept_selection stock.keys fs)) (none-any (series_told stock g) (kept_selection stock.keys fs))
+      where
+        go : (b : Bool) → is_none told ≡ b → IsManyText b (kept_groups stock g (kept_selection stock.keys fs)) after → (from : Held) → Stands stock from → IsReplyText (groups_response from g fs) after
+        go true any is = groups-refused (none-by told any) is
+        go false any (inl is) = λ from stands. inl (is ∙ ap (λ r. text (reply_to r)) (kept-stands fs from stands))
+        go false any (inr is) = groups-lost any is
 
-    module _ (ns : List Id) (numbers : AreNumbersOf stock.ids (kept_selection stock.keys fs) ns) (each : All (IsNumbered stock.ids) ns) where
-      told-by : told ≡ each_told (series_told stock g) (map (key_with stock.ids) ns)
-      told-by = ap (each_told (series_told stock g)) (keys-numbered stock.ids (kept_selection stock.keys fs) ns numbers each)
+  -- ---- by the numbers of keys
 
-      -- the rows of one are too many
-      pub numbers-refused : 1 ≤ refusals stock g ns → after ≡ text (refusal_reply EmptyRows) → (from : Held) → Stands stock from → IsReplyText (groups_response from g fs) after
-      numbers-refused some = groups-refused (told-by ∙ refused-told stock g ns some)
+  module _ (keys : List Key) (ns : List Id) (numbers : AreNumbersOf stock.ids keys ns) (each : All (IsNumbered stock.ids) ns) where
+    told-by : each_told (series_told stock g) keys ≡ each_told (series_told stock g) (map (key_with stock.ids) ns)
+    told-by = ap (each_told (series_told stock g)) (keys-numbered stock.ids keys ns numbers each)
 
-      all-told : refusals stock g ns ≡ 0 → option_map flat told ≡ Some (map (numbered stock g) (with_label stock g ns))
-      all-told none = ap (option_map flat) told-by ∙ flat-told stock g ns none
+    -- the rows of one are too many
+    pub numbers-over : 1 ≤ refusals stock g ns → list_any (is_group_refused g stock) keys ≡ true
+    numbers-over some = sym (none-any (series_told stock g) keys) ∙ ap (λ (o : Option (List (List Labelled))). is_none o) (told-by ∙ refused-told stock g ns some)
 
-      is-told : (o : Option (List (List Labelled))) (all : List Labelled) → option_map flat o ≡ Some all → is_none o ≡ false
-      is-told None all e = absurd (cc e)
-      is-told (Some xs) all e = refl
+    all-told : refusals stock g ns ≡ 0 → option_map flat (each_told (series_told stock g) keys) ≡ Some (map (numbered stock g) (with_label stock g ns))
+    all-told none = ap (option_map flat) told-by ∙ flat-told stock g ns none
 
-      -- the groups are told, or want of memory in their place
-      pub numbers-settled : (before mid : List ℕ) (lost : Bool) → before ≡ [] → refusals stock g ns ≡ 0 → (lost ≡ false → mid ≡ before ++ text (array (groups_of_numbers stock g ns)))
-          → (lost ≡ false → after ≡ mid) → (lost ≡ true → after ≡ text memory_reply) → (from : Held) → Stands stock from → IsReplyText (groups_response from g fs) after
-      numbers-settled before mid true empty none added keeps said = groups-lost (is-told told (map (numbered stock g) (with_label stock g ns)) (all-told none)) (said refl)
-      numbers-settled before mid false empty none added keeps said = λ from stands.
-          let response = sym (ap response_by (all-told none)) ∙ as-told from stands in
-          inl (keeps refl ∙ added refl ∙ ap (λ (l : List ℕ). l ++ text (array (groups_of_numbers stock g ns))) empty
-          ∙ ap (λ (rs : List Reply). text (array rs)) (sym (groups-numbered stock g ns))
-          ∙ ap (λ r. text (reply_to r)) response)
+    is-told : (o : Option (List (List Labelled))) (all : List Labelled) → option_map flat o ≡ Some all → is_none o ≡ false
+    is-told None all e = absurd (cc e)
+    is-told (Some xs) all e = refl
+
+    -- those of none are
+    pub numbers-few : refusals stock g ns ≡ 0 → list_any (is_group_refused g stock) keys ≡ false
+    numbers-few none = sym (none-any (series_told stock g) keys) ∙ is-told (each_told (series_told stock g) keys) (map (numbered stock g) (with_label stock g ns)) (all-told none)
+
+    -- the text of the groups is that of the response
+    pub numbers-text : (before after : List ℕ) → before ≡ [] → refusals stock g ns ≡ 0 → after ≡ before ++ text (array (groups_of_numbers stock g ns)) → after ≡ text (reply_to (kept_groups stock g keys))
+    numbers-text before after empty none added =
+        added ∙ ap (λ (l : List ℕ). l ++ text (array (groups_of_numbers stock g ns))) empty
+        ∙ ap (λ (rs : List Reply). text (array rs)) (sym (groups-numbered stock g ns))
+        ∙ ap (λ r. text (reply_to r)) (sym (ap response_by (all-told none)) ∙ sym (kept-groups keys))

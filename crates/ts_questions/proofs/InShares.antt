@@ -13,7 +13,7 @@ use Rattle.ts_sample.proofs.Lists.{ascending-left}
 use Rattle.ts_sample.proofs.Parted.{filter_alike}
 use Rattle.ts_range.specs.Walking.{Walking, lets, with_seen, rows_chosen, rows_of_walk}
 use Rattle.ts_range.proofs.Filtered.{length-filter}
-use Rattle.ts_questions.proofs.Handing.{seen-visited}
+use Rattle.ts_range.proofs.Shown.{seen-visited}
 use Rattle.ts_questions.proofs.Reaching.{parts}
 
 -- of what was seen and the rest, which ascend and are few, the same is let through as of the whole

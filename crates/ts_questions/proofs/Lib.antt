@@ -1,13 +1,12 @@
 pub mod Asking
 pub mod Few
 pub mod FewRead
-pub mod FillingIn
 pub mod Finding
 pub mod FromBack
 pub mod Gathered
 pub mod GroupReplies
-pub mod Handing
 pub mod RowsSplit
+pub mod ManyWritten
 pub mod ManyTexts
 pub mod ManyReplies
 pub mod MemberTexts

@@ -21,18 +21,12 @@ use Rattle.ts_range.specs.Query.{query_of}
 use Rattle.ts_db.specs.Held.{Held, Stock, Stands, YieldsToMemory}
 use Rattle.ts_questions.specs.declared.wanted.Wanted.{Wanted}
 use Rattle.ts_questions.specs.declared.wanted.Wanted.TheVariants as wanted
-use Rattle.ts_questions.specs.Answering.{IsReplyText}
-use Rattle.ts_questions.specs.Members.{rows_at, reply_at, told_then, each_told, AreAddedOrLost, many_response}
+use Rattle.ts_questions.specs.Answering.{IsReplyText, IsManyText}
+use Rattle.ts_questions.specs.Members.{rows_at, reply_at, is_too_much_at, told_then, each_told, AreAddedOrLost, kept_many, many_response}
 
 -- the text of an array of replies was added
 abbrev AreAdded : Option (List Reply) → (before after : List ℕ) → Type 0
 AreAdded o before after = AreAddedOrLost false o before after
-
--- the response to what is wanted of keys, by what is kept of them
-abbrev kept_many : Limits → Keeping → Wanted → List Key → Response
-kept_many limits m wanted.Key ks = Keys ks
-kept_many limits m (wanted.Last latest show) ks = LastRows (map (kept_last_member m latest (show_of show)) ks)
-kept_many limits m (wanted.Rows latest show query filters) ks = members_response (kept_members_of limits m latest (show_of show) (query_of query) ks)
 
 -- a reply to each
 each-replied : (reply : Key → Reply) (ks : List Key) → each_told (λ k. Some (reply k)) ks ≡ Some (map reply ks)
@@ -98,12 +92,7 @@ kept-stands stock w fs from stands =
         ranges-kept stock.limits from.state latest (show_of show) (query_of query) None (selection from.state fs)
         ∙ ap (λ (l : Limits). members_response (members_of l from.state latest (show_of show) (query_of query) (selection from.state fs))) (sym stands.limits)
 
-pub many-told : (stock : Stock) (w : Wanted) (fs : List Filter) (before after : List ℕ) → before ≡ [] → AreAdded (each_told (reply_at stock.limits stock.keys w) (kept_selection stock.keys fs)) before after
-    → (from : Held) → Stands stock from → IsReplyText (many_response from w fs) after
-many-told stock w fs before after empty added from stands =
-    inl (kept-told stock.limits stock.keys w (kept_selection stock.keys fs) before after empty added ∙ ap (λ r. text (reply_to r)) (kept-stands stock w fs from stands))
-
-pub many-refused : (stock : Stock) (w : Wanted) (fs : List Filter) (after : List ℕ) → each_told (reply_at stock.limits stock.keys w) (kept_selection stock.keys fs) ≡ None
+many-refused : (stock : Stock) (w : Wanted) (fs : List Filter) (after : List ℕ) → each_told (reply_at stock.limits stock.keys w) (kept_selection stock.keys fs) ≡ None
     → after ≡ text (refusal_reply EmptyRows) → (from : Held) → Stands stock from → IsReplyText (many_response from w fs) after
 many-refused stock w fs after none is from stands =
     inl (is ∙ ap (λ r. text (reply_to r)) (sym (kept-none stock.limits stock.keys w (kept_selection stock.keys fs) none) ∙ kept-stands stock w fs from stands))
@@ -120,24 +109,10 @@ kept-yields limits m (wanted.Rows latest show query filters) ks told =
     go None is = absurd (cc is)
     go (Some members) is = tt
 
-pub many-lost : (stock : Stock) (w : Wanted) (fs : List Filter) (after : List ℕ) → is_none (each_told (reply_at stock.limits stock.keys w) (kept_selection stock.keys fs)) ≡ false
+many-lost : (stock : Stock) (w : Wanted) (fs : List Filter) (after : List ℕ) → is_none (each_told (reply_at stock.limits stock.keys w) (kept_selection stock.keys fs)) ≡ false
     → after ≡ text memory_reply → (from : Held) → Stands stock from → IsReplyText (many_response from w fs) after
 many-lost stock w fs after told is from stands =
     inr (subst YieldsToMemory (kept-stands stock w fs from stands) (kept-yields stock.limits stock.keys w (kept_selection stock.keys fs) told), is)
-
--- in place of what was lost there was something to tell of each
-some-lost : (o : Option (List Reply)) (before after : List ℕ) → AreAddedOrLost true o before after → is_none o ≡ false
-some-lost None before after is = absurd is
-some-lost (Some replies) before after is = refl
-
--- what was written stays, or want of memory is told in its place
-pub many-settled : (stock : Stock) (w : Wanted) (fs : List Filter) (before mid after : List ℕ) (lost : Bool) → before ≡ []
-    → AreAddedOrLost lost (each_told (reply_at stock.limits stock.keys w) (kept_selection stock.keys fs)) before mid → (lost ≡ false → after ≡ mid) → (lost ≡ true → after ≡ text memory_reply)
-    → (from : Held) → Stands stock from → IsReplyText (many_response from w fs) after
-many-settled stock w fs before mid after false empty added kept said =
-    subst (λ (l : List ℕ). (from : Held) → Stands stock from → IsReplyText (many_response from w fs) l) (sym (kept refl)) (many-told stock w fs before mid empty added)
-many-settled stock w fs before mid after true empty added kept said =
-    many-lost stock w fs after (some-lost (each_told (reply_at stock.limits stock.keys w) (kept_selection stock.keys fs)) before mid added) (said refl)
 
 -- whether there is none, by cases
 pub none-by : {T : Type 0} (o : Option T) → is_none o ≡ true → o ≡ None
@@ -153,3 +128,38 @@ none-any {X = X} told (k ∷ ks) = go (told k) (each_told told ks) ∙ ap (λ (b
     go None others = refl
     go (Some x) None = refl
     go (Some x) (Some xs) = refl
+
+module _ (stock : Stock) (w : Wanted) where
+  -- what there is to tell of a key
+  abbrev replied : Key → Option Reply
+  replied = reply_at stock.limits stock.keys w
+
+  -- where something was told of each of them, or memory was lost, it is too much of none
+  pub many-few : (ks : List Key) (before after : List ℕ) (lost : Bool) → AreAddedOrLost lost (each_told replied ks) before after → list_any (is_too_much_at w stock) ks ≡ false
+  many-few ks before after lost added = sym (none-any replied ks) ∙ go (each_told replied ks) added
+    where
+      go : (o : Option (List Reply)) → AreAddedOrLost lost o before after → is_none o ≡ false
+      go None is = absurd is
+      go (Some replies) is = refl
+
+  -- and where there is nothing to tell of one, it is too much of that one
+  pub many-over : (ks : List Key) → each_told replied ks ≡ None → list_any (is_too_much_at w stock) ks ≡ true
+  many-over ks none = sym (none-any replied ks) ∙ ap (λ (o : Option (List Reply)). is_none o) none
+
+  -- where no memory was lost, the text is that of the response
+  pub many-text : (ks : List Key) (before after : List ℕ) (lost : Bool) → before ≡ [] → AreAddedOrLost lost (each_told replied ks) before after → lost ≡ false
+      → after ≡ text (reply_to (kept_many stock.limits stock.keys w ks))
+  many-text ks before after lost empty added kept =
+      kept-told stock.limits stock.keys w ks before after empty (subst (λ (b : Bool). AreAddedOrLost b (each_told replied ks) before after) kept added)
+
+  -- what was written answers what is wanted of the series that pass filters
+  pub many-written : (fs : List Filter) (after : List ℕ)
+      → IsManyText (list_any (is_too_much_at w stock) (kept_selection stock.keys fs)) (kept_many stock.limits stock.keys w (kept_selection stock.keys fs)) after
+      → (from : Held) → Stands stock from → IsReplyText (many_response from w fs) after
+  many-written fs after = go (list_any (is_too_much_at w stock) (kept_selection stock.keys fs)) (none-any replied (kept_selection stock.keys fs))
+    where
+      go : (b : Bool) → is_none (each_told replied (kept_selection stock.keys fs)) ≡ b → IsManyText b (kept_many stock.limits stock.keys w (kept_selection stock.keys fs)) after
+          → (from : Held) → Stands stock from → IsReplyText (many_response from w fs) after
+      go true any is = many-refused stock w fs after (none-by (each_told replied (kept_selection stock.keys fs)) any) is
+      go false any (inl is) = λ from stands. inl (is ∙ ap (λ r. text (reply_to r)) (kept-stands stock w fs from stands))
+      go false any (inr is) = many-lost stock w fs after any is

@@ -11,7 +11,7 @@ use Rattle.ts_spec.specs.Response.{Response}
 use Rattle.ts_spec.specs.Groups.{Labelled, group, ranges_response}
 use Rattle.ts_spec.specs.Replies.{member_reply}
 use Rattle.ts_spec.specs.Text.{Reply}
-use Rattle.ts_spec.specs.KeptQuestions.{kept_asked, kept_labels_at}
+use Rattle.ts_spec.specs.KeptQuestions.{kept_asked, kept_labels_at, kept_ranges_response}
 use Rattle.ts_labels.specs.Show.{show_of}
 use Rattle.ts_range.specs.Filters.{passes}
 use Rattle.ts_range.specs.Query.{query_of}
@@ -118,6 +118,10 @@ numbers_steps stock g ns = sum_by (λ n. if has_label stock g.by.label (key_with
 abbrev pub groups_of_numbers : Stock → Grouping → List Id → List Reply
 groups_of_numbers stock g ns =
     map (λ v. group_reply stock g v (having_of (numbered stock g) g.by.label v ns)) (values_of (numbered stock g) g.by.label ns)
+
+-- the response in groups over keys, by what is kept of them
+abbrev pub kept_groups : Stock → Grouping → List Key → Response
+kept_groups stock g ks = kept_ranges_response stock.limits stock.keys g.latest (show_of g.show) (counted g) (Some (group_of g.by)) ks
 
 -- the response in groups over the series that pass filters
 abbrev pub groups_response : Held → Grouping → List Filter → Response

@@ -13,7 +13,7 @@ use Rattle.ts_spec.specs.Response.{Response, Keys, LastRows}
 use Rattle.ts_spec.specs.Replies.{member_reply, last_member_reply, array}
 use Rattle.ts_spec.specs.Text.{Reply, Bulk, text}
 use Rattle.ts_spec.specs.Kept.{Keeping}
-use Rattle.ts_spec.specs.KeptQuestions.{kept_asked, kept_labels_at, kept_member, kept_last_member}
+use Rattle.ts_spec.specs.KeptQuestions.{kept_asked, kept_labels_at, kept_member, kept_last_member, kept_members_of}
 use Rattle.ts_spec.specs.Questions.{members_of, members_response, last_member}
 use Rattle.ts_labels.specs.Show.{show_of}
 use Rattle.ts_range.specs.Filters.{passes}
@@ -87,6 +87,12 @@ abbrev pub AreAsAsked : Wanted → Type 0
 AreAsAsked wanted.Key = ⊤
 AreAsAsked (wanted.Last latest show) = ⊤
 AreAsAsked (wanted.Rows latest show query filters) = ForSome filters (λ f. (p : Point) → passes f p ≡ is_let_through (query_of query) p)
+
+-- the response to what is wanted of keys, by what is kept of them
+abbrev pub kept_many : Limits → Keeping → Wanted → List Key → Response
+kept_many limits m wanted.Key ks = Keys ks
+kept_many limits m (wanted.Last latest show) ks = LastRows (map (kept_last_member m latest (show_of show)) ks)
+kept_many limits m (wanted.Rows latest show query filters) ks = members_response (kept_members_of limits m latest (show_of show) (query_of query) ks)
 
 -- the response over the series that pass filters
 abbrev pub many_response : Held → Wanted → List Filter → Response

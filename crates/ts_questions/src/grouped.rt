@@ -1,89 +1,28 @@
-// The answers over many series in groups.
-ghost use Rattle.std.specs.Prelude.{◌≡◌, ◌+◌, ◌≤◌, ◌++◌, All, true, false, [], length, sum_by, IfErr, IfOk};
+// The groups of many series.
+ghost use Rattle.std.specs.Prelude.{◌≡◌, ◌+◌, ◌≤◌, ◌++◌, All, true, false, length, sum_by, IfErr, IfOk};
 ghost use Rattle.std.specs.List.{list_any};
 ghost use Rattle.std.specs.Result.{is_err};
-ghost use Rattle.ts_spec.specs.KeptQuestions.{kept_selection};
 ghost use Rattle.ts_spec.specs.Replies.{array};
 ghost use Rattle.ts_spec.specs.Text.{text};
-ghost use Rattle.ts_db.specs.Bounds.{selection_steps};
 ghost use Rattle.ts_db.specs.Faults.{key_with};
-ghost use Rattle.ts_db.specs.Held.{Held, Stands};
-ghost use Rattle.ts_questions.specs.Answering.{IsReplyText};
-ghost use Rattle.ts_questions.specs.Grouping.{IsGrouping, IsNumbered, group_reply, is_group_refused, group_steps, groups_of_numbers, groups_response, is_too_long, number_steps, numbers_steps, refusals};
+ghost use Rattle.ts_questions.specs.Grouping.{IsGrouping, IsNumbered, group_reply, is_group_refused, group_steps, groups_of_numbers, is_too_long, number_steps, numbers_steps, refusals};
 
-use crate::by_value::{by_value, known_numbers};
-use crate::faults::too_many_rows;
+use crate::by_value::by_value;
 use crate::gathering::gather;
 use crate::grouping::Grouping;
-use crate::members::{begin_members, settle};
-use crate::room::put_no_memory;
-use crate::search::is_one_refused;
+use crate::members::begin_members;
 use crate::telling::Telling;
 use std::alloc::AllocError;
 use std::sync::ledger::Ledger;
 use ts_db::{Db, Id};
 use ts_group::{Group, encode_one};
-use ts_labels::Filter;
 use ts_range::RangeFault;
-use ts_resp::{Out, Word, put};
+use ts_resp::{Out, Word};
 use ts_sample::Steps;
 
-/// Writes the groups of the series that pass filters, in the order of their values. Where the rows of a series that has
-/// the label are too many, that alone is said, also where there is no memory for the others.
-pub(crate) fn put_groups<L: Ledger>(
-    db: &Db,
-    filters: &[Filter],
-    grouping: &Grouping,
-    out: &mut Out,
-    steps: &mut Steps<L>,
-)
-    requires grouping { IsGrouping grouping.now }
-    requires empty { out.old.bytes ≡ [] }
-    requires room { 128 ≤ out.old.spare }
-    ensures reply { (from : Held) → Stands db.now from → IsReplyText (groups_response from grouping.now filters.now) out.new.bytes }
-    ensures room { 128 ≤ length out.new.bytes + out.new.spare }
-    ensures steps { steps.new ≤ steps.old + (selection_steps db.now filters.now + sum_by (group_steps grouping.now db.now) (kept_selection db.now.keys filters.now)) }
-{
-    let Ok(ids) = db.select(filters, steps) else {
-        put_unselected(db, filters, grouping, out, steps);
-        return;
-    };
-    let numbers = ids.as_slice();
-    known_numbers(db, numbers);
-    match add_groups(db, numbers, grouping, out, steps) {
-        Ok(lost) => settle(lost, out),
-        Err(_) => {
-            out.clear();
-            put(&too_many_rows(), out);
-        }
-    }
-}
-
-// Writes that the rows of a series that passes filters and has the label are too many, or else that there is no memory.
-fn put_unselected<L: Ledger>(
-    db: &Db,
-    filters: &[Filter],
-    grouping: &Grouping,
-    out: &mut Out,
-    steps: &mut Steps<L>,
-)
-    requires grouping { IsGrouping grouping.now }
-    requires empty { out.old.bytes ≡ [] }
-    requires room { 128 ≤ out.old.spare }
-    ensures reply { (from : Held) → Stands db.now from → IsReplyText (groups_response from grouping.now filters.now) out.new.bytes }
-    ensures room { 128 ≤ length out.new.bytes + out.new.spare }
-    ensures steps { steps.new ≤ steps.old + (selection_steps db.now filters.now + sum_by (group_steps grouping.now db.now) (kept_selection db.now.keys filters.now)) }
-{
-    if is_one_refused(db, filters, grouping, steps) {
-        put(&too_many_rows(), out);
-        return;
-    }
-    put_no_memory(out);
-}
-
-// Adds an array of the groups of these numbers, unless the rows of one that has the label are too many. Answers whether
-// memory was lost: then there may be a part of it, as there may be after an Err.
-fn add_groups<L: Ledger>(
+/// Adds an array of the groups of these numbers, unless the rows of one that has the label are too many. Answers whether
+/// memory was lost: then there may be a part of it, as there may be after an Err.
+pub(crate) fn add_groups<L: Ledger>(
     db: &Db,
     ids: &[Id],
     grouping: &Grouping,

@@ -4,15 +4,18 @@ ghost use Rattle.ts_spec.specs.Key.{Key};
 ghost use Rattle.ts_spec.specs.Keyed.{get};
 ghost use Rattle.ts_range.specs.Query.{query_of};
 ghost use Rattle.ts_db.specs.Held.{IsLive};
-ghost use Rattle.ts_questions.specs.Grouping.{IsGrouping, counted, has_label, is_group_refused, group_steps};
+ghost use Rattle.ts_questions.specs.Grouping.{IsGrouping, counted, has_label, is_group_refused, group_steps, kept_groups};
 
+use crate::by_value::known_numbers;
+use crate::grouped::add_groups;
 use crate::telling::Telling;
 use crate::told::has_too_many_rows;
 use std::sync::ledger::Ledger;
 use ts_command::GroupBy;
 use ts_db::{Db, Id};
 use ts_labels::Show;
-use ts_range::{Filters, Query};
+use ts_range::{Filters, Query, RangeFault};
+use ts_resp::Out;
 use ts_sample::Steps;
 
 /// What an answer in groups asks of each series that has the label, and how it tells the groups.
@@ -79,11 +82,26 @@ impl Telling for Grouping {
 
     ghost most = { λ g stock key. group_steps g stock key };
 
+    ghost is_ready = { λ g. IsGrouping g };
+
+    ghost response = { λ g stock keys. kept_groups stock g keys };
+
     fn can_be_refused(&self) -> bool {
         true
     }
 
     fn is_refused<L: Ledger>(&self, db: &Db, id: Id, steps: &mut Steps<L>) -> bool {
         self.is_too_much_of(db, id, steps)
+    }
+
+    fn put_all<L: Ledger>(
+        &self,
+        db: &Db,
+        ids: &[Id],
+        out: &mut Out,
+        steps: &mut Steps<L>,
+    ) -> Result<bool, RangeFault> {
+        known_numbers(db, ids);
+        add_groups(db, ids, self, out, steps)
     }
 }

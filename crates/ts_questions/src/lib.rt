@@ -10,6 +10,7 @@ mod gathering;
 mod grouped;
 mod grouping;
 mod last_rows;
+mod many;
 mod member;
 mod members;
 mod narrowed;

@@ -4,7 +4,6 @@ ghost use Rattle.std.specs.Fmt.{decimal};
 ghost use Rattle.ts_spec.specs.Key.{Key};
 ghost use Rattle.ts_spec.specs.Keyed.{get};
 ghost use Rattle.ts_spec.specs.KeptQuestions.{kept_selection};
-ghost use Rattle.ts_spec.specs.Replies.{memory_reply};
 ghost use Rattle.ts_spec.specs.Text.{line_text, text};
 ghost use Rattle.ts_db.specs.Bounds.{selection_steps};
 ghost use Rattle.ts_db.specs.Held.{Held, Stands, IsLive, AreNumbersOf};
@@ -12,17 +11,15 @@ ghost use Rattle.ts_questions.specs.Answering.{IsReplyText};
 ghost use Rattle.ts_questions.specs.Bounds.{wanted_steps};
 ghost use Rattle.ts_questions.specs.Members.{reply_at, each_told, AreAsAsked, IsAddedOrLost, AreAddedOrLost, many_response};
 
-use crate::faults::too_many_rows;
+use crate::many::put_many;
 use crate::member::add_member;
-use crate::room::put_no_memory;
-use crate::search::put_unselected;
 use crate::telling::Telling;
 use crate::wanted::Wanted;
 use std::sync::ledger::Ledger;
 use ts_db::{Db, Id};
 use ts_labels::Filter;
 use ts_range::RangeFault;
-use ts_resp::{Out, encode_count, put};
+use ts_resp::{Out, encode_count};
 use ts_sample::Steps;
 
 /// Writes what is told of each series that passes filters, one after another in the order of their keys. Where the
@@ -41,35 +38,12 @@ pub fn put_members<L: Ledger>(
     ensures room { 128 ≤ length out.new.bytes + out.new.spare }
     ensures steps { steps.new ≤ steps.old + (selection_steps db.now filters.now + sum_by (wanted_steps db.now wanted.now) (kept_selection db.now.keys filters.now)) }
 {
-    let Ok(ids) = db.select(filters, steps) else {
-        put_unselected(db, filters, wanted, out, steps);
-        return;
-    };
-    match add_members(db, &ids, wanted, out, steps) {
-        Ok(lost) => settle(lost, out),
-        Err(_) => {
-            out.clear();
-            put(&too_many_rows(), out);
-        }
-    }
+    put_many(db, filters, wanted, out, steps);
 }
 
-/// Says that there is no memory in the place of what was written, where memory was lost.
-pub(crate) fn settle(lost: bool, out: &mut Out)
-    requires { 128 ≤ length out.old.bytes + out.old.spare }
-    ensures kept { lost ≡ false → out.new.bytes ≡ out.old.bytes }
-    ensures said { lost ≡ true → out.new.bytes ≡ text memory_reply }
-    ensures room { 128 ≤ length out.new.bytes + out.new.spare }
-{
-    if lost {
-        out.clear();
-        put_no_memory(out);
-    }
-}
-
-// Adds an array of what is told of the keys of these numbers, unless what is told of one is too much. Answers whether
-// memory was lost: then there may be a part of it, as there may be after an Err.
-fn add_members<L: Ledger>(
+/// Adds an array of what is told of the keys of these numbers, unless what is told of one is too much. Answers whether
+/// memory was lost: then there may be a part of it, as there may be after an Err.
+pub(crate) fn add_members<L: Ledger>(
     db: &Db,
     ids: &[Id],
     wanted: &Wanted,

@@ -1,5 +1,5 @@
 // A question about the samples of one series.
-ghost use Rattle.std.specs.Prelude.{◌≡◌, ◌<◌, ◌^◌, Some};
+ghost use Rattle.std.specs.Prelude.{◌≡◌, ◌^◌, Some};
 ghost use Rattle.ts_spec.specs.Answer.{is_let_through};
 ghost use Rattle.ts_spec.specs.Keyed.{get};
 ghost use Rattle.ts_spec.specs.Sample.{Point};
@@ -60,17 +60,15 @@ impl<'a> Question<'a> {
         }
     }
 
-    /// Does nothing: it tells of its samples what a reference hides.
+    /// Does nothing: it tells what always holds of the samples.
     pub(crate) fn known(&self)
         ensures rising { IsAscending (samples_asked self.now) }
         ensures few { length (samples_asked self.now) ≤ 2 ^ 32 }
         ensures around { (from to : ℕ) → Around from to (walk_steps self.now.db.now (key_asked self.now) from to) (pieces_asked self.now) }
         ensures cuts { (t : ℕ) → Around (suc t) t (reach_asked self.now) (pieces_asked self.now) }
     {
-        self.db.known();
-        self.db.seams_of(self.id);
-        self.db.cuts_of(self.id);
-        few(self.db);
+        let _reach = self.db.chunk_reach_of(self.id);
+        let _samples = self.db.limits().samples;
     }
 
     /// Takes a visitor over the samples between two times, in milliseconds, both included, in their order.
@@ -150,11 +148,4 @@ impl<'a> Question<'a> {
     {
         self.db.chunk_reach_of(self.id)
     }
-}
-
-// Does nothing: it tells a bound that a reference hides.
-fn few(db: &Db)
-    ensures { db.now.limits.samples < 2 ^ 32 }
-{
-    let _samples = db.limits().samples;
 }

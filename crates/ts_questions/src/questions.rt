@@ -1,6 +1,6 @@
 // The replies to questions about the samples of one series.
-ghost use Rattle.std.specs.Prelude.{◌≡◌, ◌+◌, ◌*◌, ◌≤◌, List, [], length, Option, Some, is_none, option_map};
-ghost use Rattle.ts_spec.specs.Answer.{Row, answer as spec_answer, row_of as row_of_sample};
+ghost use Rattle.std.specs.Prelude.{◌≡◌, ◌+◌, ◌*◌, ◌≤◌, [], length, Some, option_map};
+ghost use Rattle.ts_spec.specs.Answer.{answer as spec_answer, row_of as row_of_sample};
 ghost use Rattle.ts_spec.specs.Key.{Key};
 ghost use Rattle.ts_spec.specs.Keyed.{get};
 ghost use Rattle.ts_spec.specs.KeptQuestions.{kept_asked};
@@ -17,7 +17,7 @@ ghost use Rattle.ts_questions.specs.Bounds.{question_steps};
 
 use crate::faults::{refusal_reply, too_many_rows};
 use crate::question::Question;
-use crate::room::put_no_memory;
+use crate::room::{put_lost, put_no_memory};
 use crate::row_texts::{FIRST_ROOM, RowTexts};
 use crate::rows_into::rows_into;
 use crate::told::{Told, has_too_many_rows, told_of};
@@ -70,20 +70,6 @@ fn put_rows_of<L: Ledger>(
         Ok(filters) => put_rows(&Question::new(db, id, latest, query, &filters), out, steps),
         Err(_) => put_lost(has_too_many_rows(db, id, latest, query, steps), out),
     }
-}
-
-// Writes that the rows are too many, or else that there is no memory for them.
-fn put_lost(are_too_many: bool, out: &mut Out)
-    requires empty { out.old.bytes ≡ [] }
-    requires room { 128 ≤ out.old.spare }
-    ensures reply { (rows : Option (List Row)) → are_too_many ≡ is_none rows → IsReplyText (rows_response rows) out.new.bytes }
-    ensures room { 128 ≤ length out.new.bytes + out.new.spare }
-{
-    if are_too_many {
-        put(&too_many_rows(), out);
-        return;
-    }
-    put_no_memory(out);
 }
 
 // Writes the rows of a question.

@@ -9,8 +9,8 @@ ghost use Rattle.ts_db.specs.Held.{Held, Stands};
 ghost use Rattle.ts_questions.specs.Answering.{IsReplyText};
 ghost use Rattle.ts_questions.specs.Bounds.{questions_steps};
 
-use crate::grouped::put_groups;
 use crate::grouping::Grouping;
+use crate::many::put_many;
 use crate::members::put_members;
 use crate::wanted::Wanted;
 use std::sync::ledger::Ledger;
@@ -51,7 +51,7 @@ pub fn put_ranges<L: Ledger>(
         }
         Some(by) => {
             let grouping = Grouping::new(latest, show, query, by);
-            put_groups(db, filters, &grouping, out, steps);
+            put_many(db, filters, &grouping, out, steps);
         }
     }
 }

@@ -4,14 +4,16 @@ ghost use Rattle.ts_spec.specs.Key.{Key};
 ghost use Rattle.ts_spec.specs.Keyed.{get};
 ghost use Rattle.ts_db.specs.Held.{IsLive};
 ghost use Rattle.ts_questions.specs.Bounds.{wanted_steps};
-ghost use Rattle.ts_questions.specs.Members.{is_too_much_at, reply_at};
+ghost use Rattle.ts_questions.specs.Members.{AreAsAsked, is_too_much_at, kept_many, reply_at};
 
+use crate::members::add_members;
 use crate::telling::Telling;
 use crate::told::has_too_many_rows;
 use std::sync::ledger::Ledger;
 use ts_db::{Db, Id};
 use ts_labels::Show;
-use ts_range::{Filters, Query};
+use ts_range::{Filters, Query, RangeFault};
+use ts_resp::Out;
 use ts_sample::Steps;
 
 /// What an answer over many series tells of each.
@@ -39,6 +41,10 @@ impl Telling for Wanted {
 
     ghost most = { λ w stock key. wanted_steps stock w key };
 
+    ghost is_ready = { AreAsAsked };
+
+    ghost response = { λ w stock keys. kept_many stock.limits stock.keys w keys };
+
     fn can_be_refused(&self) -> bool {
         match self {
             Wanted::Key => false,
@@ -49,6 +55,16 @@ impl Telling for Wanted {
 
     fn is_refused<L: Ledger>(&self, db: &Db, id: Id, steps: &mut Steps<L>) -> bool {
         is_refused(db, id, self, steps)
+    }
+
+    fn put_all<L: Ledger>(
+        &self,
+        db: &Db,
+        ids: &[Id],
+        out: &mut Out,
+        steps: &mut Steps<L>,
+    ) -> Result<bool, RangeFault> {
+        add_members(db, ids, self, out, steps)
     }
 }
 

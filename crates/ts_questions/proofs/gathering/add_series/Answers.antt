@@ -65,6 +65,6 @@ returns-clause-added g c =
     in-memory-done c.add_rows.result c.in_memory.result _ (AreAddedTo c.args.db.now c.args.grouping.now (c.args.id ∷ []) c.args.group.now c.add_rows.new.self)
     c.in_memory.ensures
     (λ adds ms is. adds ms (numbered c.args.db.now c.args.grouping.now c.args.id)
-    (sym (c.bytes.ensures ∙ c.key_of.ensures (key_with c.args.db.now.ids c.args.id) c.requires.numbered.is))
+    (sym (c.bytes.ensures ∙ c.key_of.ensures.key))
     (ap rows_or_none (sym (answered g (goal.at.returns-clause-added g c).After-new-question) ∙ c.in_ok-rows.ensures.rows) ∙ ap (map row_of) (sym c.deref.ensures.value)) is)
     c.add_rows.ensures

@@ -73,7 +73,7 @@ returns-clause-added g c =
     rows-added c.args.db.now.limits m c.args.latest (show_of c.args.show.now) (query_of c.args.query.now) key (map row_of c.in_ok-rows.rows.items)
     (member_with c.args.show.now c.key_of.result.now c.labels_of.result.now (map row_of c.deref.result.now)) c.args.out.now.bytes c.encode_member.new.out.bytes
     (sym (answered g (goal.at.returns-clause-added g c).After-new-question key at) ∙ c.in_ok-rows.ensures.rows)
-    (member-told m c.args.show.now key c.key_of.result.now c.labels_of.result.now (map row_of c.deref.result.now) (c.key_of.ensures key at) (c.labels_of.ensures.labels key at)
+    (member-told m c.args.show.now key c.key_of.result.now c.labels_of.result.now (map row_of c.deref.result.now) (c.key_of.ensures.key ∙ c.key_of.ensures.one key at) (c.labels_of.ensures.labels key at)
     ∙ ap (λ rows. kept_member m (show_of c.args.show.now) key (map row_of rows)) c.deref.ensures.value)
     written)
     c.encode_member.ensures.ok

@@ -13,8 +13,7 @@ use Rattle.ts_db.proofs.Laws.{there-law}
 use Rattle.ts_db.specs.declared.fault.DbFault.TheVariants.{NoKey}
 use Rattle.ts_questions.specs.Answering.{IsReplyText}
 use Rattle.ts_questions.proofs.ReplyTexts.{alone}
-use Rattle.ts_questions.proofs.Finding.{asked_stands, finds_none}
-use Rattle.ts_questions.proofs.Handing.{answer_here}
+use Rattle.ts_questions.proofs.Finding.{asked_stands, finds_none, answer_here}
 use Rattle.ts_questions.proofs.Refusals.{no_key_response}
 use Rattle.ts_questions.proofs.questions.put_range.Goals as goal
 

@@ -6,6 +6,7 @@ use Rattle.ts_spec.specs.Questions.{rows_response}
 use Rattle.ts_range.specs.Query.{query_of}
 use Rattle.ts_questions.specs.Answering.{IsReplyText}
 use Rattle.ts_questions.proofs.Asking.{answer-of, steps-of}
+use Rattle.ts_questions.proofs.ManyWritten.{rows-lost}
 use Rattle.ts_questions.proofs.questions.put_rows_of.Goals as goal
 
 pub returns-in-Ok-clause-reply : goal.returns-in-Ok-clause-reply
@@ -22,7 +23,8 @@ returns-in-Ok-clause-steps g c = λ key at.
 
 pub returns-in-Err-clause-reply : goal.returns-in-Err-clause-reply
 returns-in-Err-clause-reply g c = λ key at.
-    c.put_lost.ensures.reply (answer c.args.db.now.limits.empty_rows (query_of c.args.query.now) (kept_asked c.args.db.now.keys c.args.latest key)) (c.has_too_many_rows.ensures.many key at)
+    rows-lost c.has_too_many_rows.result (answer c.args.db.now.limits.empty_rows (query_of c.args.query.now) (kept_asked c.args.db.now.keys c.args.latest key)) c.put_lost.new.out.bytes
+    (c.has_too_many_rows.ensures.many key at) c.put_lost.ensures.bytes
 
 pub returns-in-Err-clause-steps : goal.returns-in-Err-clause-steps
 returns-in-Err-clause-steps g c = λ key at. omega (arith, c.has_too_many_rows.ensures.steps key at)

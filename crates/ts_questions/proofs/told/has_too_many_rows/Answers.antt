@@ -17,5 +17,5 @@ returns-clause-many g c = λ key at.
     let q = query_of c.args.query.now in
     let all = kept_asked c.args.db.now.keys c.args.latest key in
     c.are_too_many.ensures all (λ told. c.ends_of-ends.ensures.ends key at ∙ ends_are all)
-    ∙ ap (λ (l : Limits). tells_empty q.buckets && nat_lt l.empty_rows (length (rows q all))) c.limits.ensures
+    ∙ ap (λ (l : Limits). tells_empty q.buckets && nat_lt l.empty_rows (length (rows q all))) c.limits.ensures.limits
     ∙ none-where (tells_empty q.buckets && nat_lt c.args.db.now.limits.empty_rows (length (rows q all))) (rows q all)

@@ -16,7 +16,7 @@ module _ (g : _) (c : After-are_too_many g) where
       let q = query_of c.args.question.now.query.now in
       let all = samples_asked c.args.question.now in
       c.are_too_many.ensures all (λ told. c.ends-ends.ensures.ends ∙ ends_are all)
-      ∙ ap (λ (l : Limits). tells_empty q.buckets && nat_lt l.empty_rows (length (rows q all))) c.limits.ensures
+      ∙ ap (λ (l : Limits). tells_empty q.buckets && nat_lt l.empty_rows (length (rows q all))) c.limits.ensures.limits
 
 pub returns-in-None-clause-told : goal.returns-in-None-clause-told
 returns-in-None-clause-told g c =

@@ -3,7 +3,7 @@ use Rattle.ts_spec.specs.Sample.{between, is_within}
 use Rattle.ts_spec.proofs.Samples.{ascending-times}
 use Rattle.ts_range.specs.Walking.{Walking}
 use Rattle.ts_questions.specs.Asking.{samples_asked}
-use Rattle.ts_questions.proofs.Handing.{seen-visited, walk-handed}
+use Rattle.ts_range.proofs.Shown.{seen-visited, walk-handed}
 use Rattle.ts_questions.proofs.walked.walked.Goals as goal
 
 pub returns-clause-rows : goal.returns-clause-rows
