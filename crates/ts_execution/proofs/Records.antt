@@ -18,7 +18,7 @@ use Rattle.ts_spec.specs.Wire.{Request}
 use Rattle.ts_spec.proofs.PlainReplies.{fault-plain, memory-plain, reply-lines}
 use Rattle.ts_db.specs.Held.{Held, Stock, Carries}
 use Rattle.ts_journal.specs.Fixed.{is_fixed}
-use Rattle.ts_journal.specs.Held.{told}
+use Rattle.ts_journal.specs.Content.{told}
 use Rattle.ts_journal.specs.Record.{is_change, is_error, items_of, record_of, AreTold}
 use Rattle.ts_journal.specs.declared.record.Record.{Record}
 use Rattle.ts_execution.specs.Keeping.{IsUnrecorded, IsRecorded, RecordedBy, Recorded}

@@ -1,7 +1,7 @@
 -- What is known of the record of a command before its reply is.
 use Rattle.std.specs.Prelude.{◌≡◌, ℕ, List, [], Option, None, Some, is_some, IfSome}
 use Rattle.ts_spec.specs.Command.{Command}
-use Rattle.ts_journal.specs.Held.{told}
+use Rattle.ts_journal.specs.Content.{told}
 use Rattle.ts_journal.specs.Record.{is_change, IsRecordOf}
 use Rattle.ts_journal.specs.declared.record.Record.{Record}
 

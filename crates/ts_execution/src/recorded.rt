@@ -5,7 +5,7 @@ ghost use Rattle.ts_command.specs.Answers.{HasTime};
 ghost use Rattle.ts_command.specs.Reading.{command_of};
 ghost use Rattle.ts_db.specs.Held.{Carries};
 ghost use Rattle.ts_journal.specs.Record.{is_change, IsRecordOf};
-ghost use Rattle.ts_journal.specs.Held.{told};
+ghost use Rattle.ts_journal.specs.Content.{told};
 ghost use Rattle.ts_execution.specs.Keeping.{Recorded, IsRecorded};
 ghost use Rattle.ts_execution.specs.Recording.{told_by, HasRecord};
 
