@@ -67,7 +67,7 @@ fn sizes_of_chunks(rt: HostRuntime) {
         [30, 60, 90, 1000, 0, 0, 0, 0, 0],
         [90, 1000, 0, 0, 0, 0, 0, 0, 0],
     ];
-    assert_eq!(rt; sizes::<Brand>(rt.alloc(), Blank::new(1)), ENDS);
+    assert!(rt; sizes::<Brand>(rt.alloc(), Blank::new(1)) == ENDS);
 }
 
 // How nine samples in chunks of 88 bytes lie with one more at 15, without those from 20 to 80, then with those
@@ -105,7 +105,7 @@ fn changes_of_chunks(rt: HostRuntime) {
         [1000, 0, 0, 0, 0, 0, 0, 0, 0],
     ];
     let found = changes::<Brand>(rt.alloc(), Blank::new(1));
-    assert_eq!(rt; found, Some(ENDS));
+    assert!(rt; found == Some(ENDS));
 }
 
 // How nine samples in chunks of 88 bytes lie with two more past them, and then with one more at 15, once new chunks have 48
@@ -131,7 +131,7 @@ fn altered<L: Ledger>(alloc: Global, blank: Blank) -> Option<[u64; 9]>
 fn a_new_size_of_chunks(rt: HostRuntime) {
     const ENDS: [u64; 9] = [15, 30, 60, 90, 100, 110, 1000, 0, 0];
     let found = altered::<Brand>(rt.alloc(), Blank::new(1));
-    assert_eq!(rt; found, Some(ENDS));
+    assert!(rt; found == Some(ENDS));
 }
 
 // Times up to which nine samples in chunks of three have so many of them, in an interval.
@@ -154,7 +154,7 @@ fn times<L: Ledger>(alloc: Global, blank: Blank) -> [u64; 5]
 #[test]
 fn times_for_so_many(rt: HostRuntime) {
     const TIMES: [u64; 5] = [30, 60, 60, 20, 1000];
-    assert_eq!(rt; times::<Brand>(rt.alloc(), Blank::new(1)), TIMES);
+    assert!(rt; times::<Brand>(rt.alloc(), Blank::new(1)) == TIMES);
 }
 
 // Times from which on nine samples in chunks of three have so many of them, in an interval.
@@ -177,7 +177,7 @@ fn begins<L: Ledger>(alloc: Global, blank: Blank) -> [u64; 5]
 #[test]
 fn times_from_so_many(rt: HostRuntime) {
     const TIMES: [u64; 5] = [70, 40, 40, 80, 0];
-    assert_eq!(rt; begins::<Brand>(rt.alloc(), Blank::new(1)), TIMES);
+    assert!(rt; begins::<Brand>(rt.alloc(), Blank::new(1)) == TIMES);
 }
 
 #[test]

@@ -81,10 +81,10 @@ fn greatest_values_with_labels(rt: HostRuntime) -> Result<(), AllocError> {
         *3\r\n$6\r\narea=y\r\n*3\r\n*2\r\n$4\r\narea\r\n$1\r\ny\r\n\
         *2\r\n$11\r\n__reducer__\r\n$3\r\nmax\r\n*2\r\n$10\r\n__source__\r\n$2\r\nm3\r\n\
         *1\r\n*2\r\n:1\r\n+9\r\n";
-    assert_eq!(rt; text(alloc, &reply)?.bytes(), wanted.as_slice());
+    assert!(rt; text(alloc, &reply)?.bytes() == wanted.as_slice());
     let mut out = Out::new(alloc)?;
     encode_groups(alloc, &members, &by, &Show::All, None, false, &mut out)?;
-    assert_eq!(rt; out.bytes(), wanted.as_slice());
+    assert!(rt; out.bytes() == wanted.as_slice());
     Ok(())
 }
 
@@ -97,7 +97,7 @@ fn first_means(rt: HostRuntime) -> Result<(), AllocError> {
     let wanted = b"*2\r\n\
         *3\r\n$6\r\narea=x\r\n*0\r\n*1\r\n*2\r\n:1\r\n+3.5\r\n\
         *3\r\n$6\r\narea=y\r\n*0\r\n*1\r\n*2\r\n:1\r\n+9\r\n";
-    assert_eq!(rt; text(alloc, &reply)?.bytes(), wanted.as_slice());
+    assert!(rt; text(alloc, &reply)?.bytes() == wanted.as_slice());
     Ok(())
 }
 
@@ -134,7 +134,7 @@ fn the_last_rows_of_a_group_first(rt: HostRuntime) -> Result<(), AllocError> {
     let wanted = b"*3\r\n$6\r\narea=x\r\n\
         *2\r\n*2\r\n$4\r\nzone\r\n$-1\r\n*2\r\n$10\r\n__source__\r\n$3\r\na,b\r\n\
         *3\r\n*2\r\n:3\r\n+7\r\n*2\r\n:2\r\n+10\r\n*2\r\n:1\r\n+NaN\r\n";
-    assert_eq!(rt; out.bytes(), wanted.as_slice());
+    assert!(rt; out.bytes() == wanted.as_slice());
     Ok(())
 }
 
@@ -143,16 +143,13 @@ fn rows_handed_on(rt: HostRuntime) -> Result<(), AllocError> {
     let alloc = rt.alloc();
     let reduction = reduced(alloc);
     let mut rows = reduction.rows(Reducer::Count, Some(2), false);
-    assert_eq!(rt; rows.len(), 2);
-    assert_eq!(rt; rows.next(), Some(no_value(1)));
+    assert!(rt; rows.len() == 2);
+    assert!(rt; rows.next() == Some(no_value(1)));
     let mut taker = RowList::with_room(alloc, 1)?;
     rows.hand_on(&mut taker);
-    assert_eq!(rt; taker.into_rows()?.as_slice(), [row(2, 2)].as_slice());
+    assert!(rt; taker.into_rows()?.as_slice() == [row(2, 2)].as_slice());
     let least = reduction.rows(Reducer::Min, None, false).into_list(alloc)?;
-    assert_eq!(rt;
-        least.as_slice(),
-        [no_value(1), row(2, 4), row(3, 7)].as_slice()
-    );
+    assert!(rt; least.as_slice() == [no_value(1), row(2, 4), row(3, 7)].as_slice());
     Ok(())
 }
 

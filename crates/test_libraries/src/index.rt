@@ -6,7 +6,7 @@ use std::marker::Brand;
 use std::sync::ledger::{Blank, Ledger};
 use std::test::*;
 use ts_index::Index;
-use ts_labels::{Filter, FilterFault, Labels};
+use ts_labels::{Filter, Labels};
 use ts_resp::Word;
 use ts_sample::{Id, Steps};
 
@@ -27,12 +27,12 @@ fn numbers_are_listed_until_they_go(rt: HostRuntime) -> Result<(), AllocError> {
     index.insert(Id(7), &one)?;
     index.insert(Id(3), &two)?;
     index.known();
-    assert_eq!(rt; index.posting(&kind, &s), [Id(3), Id(7)].as_slice());
-    assert_eq!(rt; index.posting(&area, &x), [Id(3)].as_slice());
+    assert!(rt; index.posting(&kind, &s) == [Id(3), Id(7)].as_slice());
+    assert!(rt; index.posting(&area, &x) == [Id(3)].as_slice());
     index.replace(Id(3), &two, &one)?;
     assert!(rt; index.posting(&area, &x).is_empty());
     index.remove(Id(7), &one);
-    assert_eq!(rt; index.posting(&kind, &s), [Id(3)].as_slice());
+    assert!(rt; index.posting(&kind, &s) == [Id(3)].as_slice());
     index.remove(Id(3), &one);
     assert!(rt; index.posting(&kind, &s).is_empty());
     Ok(())
@@ -51,9 +51,9 @@ fn ten(alloc: Global) -> Result<Index, AllocError> {
     Ok(index)
 }
 
-fn filter(alloc: Global, text: &str) -> Result<Filter, FilterFault> {
-    let text = word(alloc, text).map_err(FilterFault::Memory)?;
-    Filter::read(alloc, &text)
+fn filter(alloc: Global, text: &str) -> Result<Filter, Fail> {
+    let text = word(alloc, text)?;
+    Ok(Filter::read(alloc, &text)?)
 }
 
 // The numbers that filters select.
@@ -61,35 +61,33 @@ fn selected<L: Ledger>(
     blank: Blank,
     index: &Index,
     filters: &[Filter],
-) -> Result<Vec<Id>, FilterFault>
+) -> Result<Vec<Id>, AllocError>
     requires name { blank.name ≡ L.name }
     requires parts { blank.parts ≡ L.parts }
     requires some { 0 < blank.parts }
 {
     let mut steps: Steps<L> = Steps::new(blank);
-    index
-        .select(filters, &mut steps)
-        .map_err(FilterFault::Memory)
+    index.select(filters, &mut steps)
 }
 
 #[test]
-fn the_narrowest_filter_gives_the_candidates(rt: HostRuntime) -> Result<(), FilterFault> {
+fn the_narrowest_filter_gives_the_candidates(rt: HostRuntime) -> Result<(), Fail> {
     let alloc = rt.alloc();
-    let index = ten(alloc).map_err(FilterFault::Memory)?;
+    let index = ten(alloc)?;
     let filters = [filter(alloc, "kind=s")?, filter(alloc, "area=x")?];
     let mut candidates = index.candidates(&filters);
     // One number is tried with two filters, which takes at most two steps.
     assert!(rt; candidates.next() == Some(Id(4)));
     assert!(rt; candidates.next().is_none());
     let ids = selected::<Brand>(Blank::new(1), &index, &filters)?;
-    assert_eq!(rt; ids.as_slice(), [Id(4)].as_slice());
+    assert!(rt; ids.as_slice() == [Id(4)].as_slice());
     Ok(())
 }
 
 #[test]
-fn a_number_of_two_values_is_tried_once(rt: HostRuntime) -> Result<(), FilterFault> {
+fn a_number_of_two_values_is_tried_once(rt: HostRuntime) -> Result<(), Fail> {
     let alloc = rt.alloc();
-    let index = ten(alloc).map_err(FilterFault::Memory)?;
+    let index = ten(alloc)?;
     let filters = [filter(alloc, "area=(y,x,x)")?];
     let mut candidates = index.candidates(&filters);
     assert!(rt; candidates.next() == Some(Id(4)));
@@ -98,14 +96,14 @@ fn a_number_of_two_values_is_tried_once(rt: HostRuntime) -> Result<(), FilterFau
 }
 
 #[test]
-fn without_a_value_that_is_asked_for_all_are_tried(rt: HostRuntime) -> Result<(), FilterFault> {
+fn without_a_value_that_is_asked_for_all_are_tried(rt: HostRuntime) -> Result<(), Fail> {
     let alloc = rt.alloc();
-    let index = ten(alloc).map_err(FilterFault::Memory)?;
+    let index = ten(alloc)?;
     let filters = [filter(alloc, "area=")?];
     let mut candidates = index.candidates(&filters);
     assert!(rt; candidates.next() == Some(Id(0)));
     let ids = selected::<Brand>(Blank::new(1), &index, &filters)?;
     let expected = [0, 1, 2, 3, 5, 6, 7, 8, 9].map(Id);
-    assert_eq!(rt; ids.as_slice(), expected.as_slice());
+    assert!(rt; ids.as_slice() == expected.as_slice());
     Ok(())
 }

@@ -102,7 +102,7 @@ fn each_kind_of_change_has_its_record(rt: HostRuntime) -> Result<(), Fail> {
         ("DEL a b", ":1\r\n", "DEL a b"),
     ] {
         let bytes = recorded(alloc, line, reply)?;
-        assert_eq!(rt; bytes.as_deref(), Some(sent(alloc, record)?.as_slice()));
+        assert!(rt; bytes.as_deref() == Some(sent(alloc, record)?.as_slice()));
     }
     Ok(())
 }
@@ -127,6 +127,6 @@ fn limits_of_a_journal(rt: HostRuntime) -> Result<(), Fail> {
         request_bytes: 60_512,
         line_bytes: 500,
     };
-    assert_eq!(rt; limits_of(limits), wanted);
+    assert!(rt; limits_of(limits) == wanted);
     Ok(())
 }

@@ -14,28 +14,24 @@ fn mode_of_line(rt: &HostRuntime, line: &str) -> Result<Option<Mode>, AllocError
 
 #[test]
 fn words_ask_for_a_mode(rt: HostRuntime) -> Result<(), Fail> {
-    assert_eq!(rt; mode_of_line(&rt, "pipe")?, Some(Mode::Pipe));
-    assert_eq!(rt; mode_of_line(&rt, "mux")?, Some(Mode::Mux));
-    assert_eq!(rt; mode_of_line(&rt, "keep x")?, Some(Mode::Keep));
-    assert_eq!(rt; mode_of_line(&rt, "keep keep")?, Some(Mode::Keep));
-    assert_eq!(rt;
-        mode_of_line(&rt, "serve localhost:7379 4294967295")?,
-        Some(Mode::Serve(u32::MAX))
+    assert!(rt; mode_of_line(&rt, "pipe")? == Some(Mode::Pipe));
+    assert!(rt; mode_of_line(&rt, "mux")? == Some(Mode::Mux));
+    assert!(rt; mode_of_line(&rt, "keep x")? == Some(Mode::Keep));
+    assert!(rt; mode_of_line(&rt, "keep keep")? == Some(Mode::Keep));
+    assert!(rt;
+        mode_of_line(&rt, "serve localhost:7379 4294967295")? == Some(Mode::Serve(u32::MAX))
     );
-    assert_eq!(rt;
-        mode_of_line(&rt, "gen 18446744073709551615 1000000")?,
-        Some(Mode::Gen(u64::MAX, 1_000_000))
+    assert!(rt;
+        mode_of_line(&rt, "gen 18446744073709551615 1000000")?
+            == Some(Mode::Gen(u64::MAX, 1_000_000))
     );
-    assert_eq!(rt;
-        mode_of_line(&rt, "gen 007 00000000000000000000")?,
-        Some(Mode::Gen(7, 0))
-    );
+    assert!(rt; mode_of_line(&rt, "gen 007 00000000000000000000")? == Some(Mode::Gen(7, 0)));
     Ok(())
 }
 
 #[test]
 fn other_words_ask_for_none(rt: HostRuntime) -> Result<(), Fail> {
-    assert_eq!(rt; Mode::read(&[]), None);
+    assert!(rt; Mode::read(&[]) == None);
     for line in [
         "",
         "PIPE",
@@ -59,7 +55,7 @@ fn other_words_ask_for_none(rt: HostRuntime) -> Result<(), Fail> {
         "gen 18446744073709551616 1",
         "gen 1 000000000000000000001",
     ] {
-        assert_eq!(rt; mode_of_line(&rt, line)?, None);
+        assert!(rt; mode_of_line(&rt, line)? == None);
     }
     Ok(())
 }
@@ -67,63 +63,59 @@ fn other_words_ask_for_none(rt: HostRuntime) -> Result<(), Fail> {
 #[test]
 fn lines_of_endings(rt: HostRuntime) {
     let mut room = [0; 160];
-    assert_eq!(rt;
-        line(Some(Mode::Pipe), Status::Ended, 7, &mut room),
-        b"".as_slice()
+    assert!(rt; line(Some(Mode::Pipe), Status::Ended, 7, &mut room) == b"".as_slice());
+    assert!(rt;
+        line(Some(Mode::Pipe), Status::Protocol, 18, &mut room)
+            == b"tsd: protocol fault at byte 18\n".as_slice()
     );
-    assert_eq!(rt;
-        line(Some(Mode::Pipe), Status::Protocol, 18, &mut room),
-        b"tsd: protocol fault at byte 18\n".as_slice()
+    assert!(rt;
+        line(None, Status::Usage, 0, &mut room)
+            == b"usage: tsd pipe | tsd serve <address> <connections> | tsd gen <seed> <n> | tsd keep <file> | tsd mux\n".as_slice()
     );
-    assert_eq!(rt;
-        line(None, Status::Usage, 0, &mut room),
-        b"usage: tsd pipe | tsd serve <address> <connections> | tsd gen <seed> <n> | tsd keep <file> | tsd mux\n".as_slice()
+    assert!(rt;
+        line(Some(Mode::Pipe), Status::Truncated, 5, &mut room)
+            == b"tsd: input ends inside a request that begins at byte 5\n".as_slice()
     );
-    assert_eq!(rt;
-        line(Some(Mode::Pipe), Status::Truncated, 5, &mut room),
-        b"tsd: input ends inside a request that begins at byte 5\n".as_slice()
+    assert!(rt;
+        line(Some(Mode::Mux), Status::Truncated, 5, &mut room)
+            == b"tsd: capture ends inside a frame that begins at byte 5\n".as_slice()
     );
-    assert_eq!(rt;
-        line(Some(Mode::Mux), Status::Truncated, 5, &mut room),
-        b"tsd: capture ends inside a frame that begins at byte 5\n".as_slice()
+    assert!(rt;
+        line(Some(Mode::Keep), Status::Truncated, 5, &mut room)
+            == b"tsd: input ends inside a request that begins at byte 5\n".as_slice()
     );
-    assert_eq!(rt;
-        line(Some(Mode::Keep), Status::Truncated, 5, &mut room),
-        b"tsd: input ends inside a request that begins at byte 5\n".as_slice()
+    assert!(rt;
+        line(Some(Mode::Keep), Status::JournalFault, 7, &mut room)
+            == b"tsd: journal fault\n".as_slice()
     );
-    assert_eq!(rt;
-        line(Some(Mode::Keep), Status::JournalFault, 7, &mut room),
-        b"tsd: journal fault\n".as_slice()
+    assert!(rt;
+        line(Some(Mode::Keep), Status::JournalBroken, 203, &mut room)
+            == b"tsd: journal broken at byte 203\n".as_slice()
     );
-    assert_eq!(rt;
-        line(Some(Mode::Keep), Status::JournalBroken, 203, &mut room),
-        b"tsd: journal broken at byte 203\n".as_slice()
-    );
-    assert_eq!(rt;
+    assert!(rt;
         line(
             Some(Mode::Mux),
             Status::CaptureBroken,
             18446744073709551615,
             &mut room
-        ),
-        b"tsd: capture broken at byte 18446744073709551615\n".as_slice()
+        ) == b"tsd: capture broken at byte 18446744073709551615\n".as_slice()
     );
-    assert_eq!(rt; Status::Budget.code(), 8);
-    assert_eq!(rt; Status::JournalFault.code(), 9);
-    assert_eq!(rt; Status::JournalBroken.code(), 10);
-    assert_eq!(rt; Status::CaptureBroken.code(), 11);
+    assert!(rt; Status::Budget.code() == 8);
+    assert!(rt; Status::JournalFault.code() == 9);
+    assert!(rt; Status::JournalBroken.code() == 10);
+    assert!(rt; Status::CaptureBroken.code() == 11);
 }
 
 #[test]
 fn lines_of_connections_and_workloads(rt: HostRuntime) {
     let mut room = [0; 80];
-    assert_eq!(rt;
-        link_line(2, 10, LinkEnd::ReadFault, &mut room),
-        b"link 2 executed 10 read-fault\n".as_slice()
+    assert!(rt;
+        link_line(2, 10, LinkEnd::ReadFault, &mut room)
+            == b"link 2 executed 10 read-fault\n".as_slice()
     );
     let mut room = [0; 192];
-    assert_eq!(rt;
-        summary(&[21, 1674, 3, 0, u64::MAX, 5], &mut room),
-        b"requests 21\nin 1674\nout 3\nerrors 0\nkeys 18446744073709551615\nsamples 5\n".as_slice()
+    assert!(rt;
+        summary(&[21, 1674, 3, 0, u64::MAX, 5], &mut room)
+            == b"requests 21\nin 1674\nout 3\nerrors 0\nkeys 18446744073709551615\nsamples 5\n".as_slice()
     );
 }

@@ -22,8 +22,8 @@ fn workloads_have_these_lengths_and_sums(rt: HostRuntime) -> Result<(), Fail> {
         (7, 1000, 77165, 1654673275),
     ] {
         let bytes = script(rt.alloc(), seed, n)?;
-        assert_eq!(rt; bytes.len(), length);
-        assert_eq!(rt; sum_of(&bytes), sum);
+        assert!(rt; bytes.len() == length);
+        assert!(rt; sum_of(&bytes) == sum);
     }
     Ok(())
 }
@@ -32,7 +32,7 @@ fn workloads_have_these_lengths_and_sums(rt: HostRuntime) -> Result<(), Fail> {
 fn a_seed_draws_a_deletion(rt: HostRuntime) -> Result<(), Fail> {
     let bytes = script(rt.alloc(), 10, 1)?;
     let change = b"*4\r\n$6\r\nTS.DEL\r\n$5\r\nraw:1\r\n$1\r\n0\r\n$4\r\n4000\r\n".as_slice();
-    assert_eq!(rt; bytes.len(), 1674 + change.len());
-    assert_eq!(rt; bytes[1674 - 66..].starts_with(change), true);
+    assert!(rt; bytes.len() == 1674 + change.len());
+    assert!(rt; bytes[1674 - 66..].starts_with(change));
     Ok(())
 }

@@ -61,7 +61,7 @@ fn the_written_series_or_its_destination_is_full(rt: HostRuntime) -> Result<(), 
         (Call::Put(b'c', 5), Came::Number(5)),
         (Call::Put(b'c', 14), Came::Full(1, true)),
     ];
-    assert_eq!(rt; wrong::<Brand>(rt.alloc(), Blank::new(1), &calls)?, None);
+    assert!(rt; wrong::<Brand>(rt.alloc(), Blank::new(1), &calls)? == None);
     Ok(())
 }
 
@@ -80,6 +80,6 @@ fn a_deletion_fills_a_destination(rt: HostRuntime) -> Result<(), Fail> {
         (Call::Put(b'c', 300), Came::Number(300)),
         (Call::Delete(b'a', 2, 2), Came::Full(1, false)),
     ];
-    assert_eq!(rt; wrong::<Brand>(rt.alloc(), Blank::new(1), &calls)?, None);
+    assert!(rt; wrong::<Brand>(rt.alloc(), Blank::new(1), &calls)? == None);
     Ok(())
 }

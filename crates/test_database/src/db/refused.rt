@@ -104,24 +104,24 @@ const OTHERS: Script = Script {
 
 #[test]
 fn a_late_sample_and_a_deletion(rt: HostRuntime) -> Result<(), Fail> {
-    assert_eq!(rt; wrong::<Brand>(rt.alloc(), Blank::new(1), &MENDED)?, None);
+    assert!(rt; wrong::<Brand>(rt.alloc(), Blank::new(1), &MENDED)? == None);
     Ok(())
 }
 
 #[test]
 fn a_series_is_full_and_then_a_destination(rt: HostRuntime) -> Result<(), Fail> {
-    assert_eq!(rt; wrong::<Brand>(rt.alloc(), Blank::new(1), &FULL)?, None);
+    assert!(rt; wrong::<Brand>(rt.alloc(), Blank::new(1), &FULL)? == None);
     Ok(())
 }
 
 #[test]
 fn all_destinations_or_none(rt: HostRuntime) -> Result<(), Fail> {
-    assert_eq!(rt; wrong::<Brand>(rt.alloc(), Blank::new(1), &SIXTEEN)?, None);
+    assert!(rt; wrong::<Brand>(rt.alloc(), Blank::new(1), &SIXTEEN)? == None);
     Ok(())
 }
 
 #[test]
 fn the_other_calls(rt: HostRuntime) -> Result<(), Fail> {
-    assert_eq!(rt; wrong::<Brand>(rt.alloc(), Blank::new(1), &OTHERS)?, None);
+    assert!(rt; wrong::<Brand>(rt.alloc(), Blank::new(1), &OTHERS)? == None);
     Ok(())
 }

@@ -72,9 +72,6 @@ fn deletions(rt: HostRuntime) {
         },
     ];
     for case in cases {
-        assert_eq!(rt;
-            is_met::<Brand>(rt.alloc(), Blank::new(1), &case),
-            Some(true)
-        );
+        assert!(rt; is_met::<Brand>(rt.alloc(), Blank::new(1), &case) == Some(true));
     }
 }

@@ -20,15 +20,15 @@ fn small_replies_leave_before_a_read(rt: HostRuntime) -> Result<(), Fail> {
     peer.coming = 3;
     let mut batches = Batches::new(rt.alloc(), peer);
     for _ in 0..100 {
-        assert_eq!(rt; write_all_counted(&mut batches, b"reply"), Ok(()));
+        assert!(rt; write_all_counted(&mut batches, b"reply") == Ok(()));
     }
-    assert_eq!(rt; batches.waiting(), 500);
-    assert_eq!(rt; read_two(&mut batches), Ok((2, *b"xx")));
-    assert_eq!(rt; batches.waiting(), 0);
-    assert_eq!(rt; read_two(&mut batches), Ok((1, *b"x\0")));
+    assert!(rt; batches.waiting() == 500);
+    assert!(rt; read_two(&mut batches) == Ok((2, *b"xx")));
+    assert!(rt; batches.waiting() == 0);
+    assert!(rt; read_two(&mut batches) == Ok((1, *b"x\0")));
     let peer = batches.into_connection();
-    assert_eq!(rt; peer.taken.len(), 500);
-    assert_eq!(rt; peer.sends, 1);
+    assert!(rt; peer.taken.len() == 500);
+    assert!(rt; peer.sends == 1);
     Ok(())
 }
 
@@ -37,12 +37,12 @@ fn many_replies_leave_by_sixteen_kibibytes(rt: HostRuntime) -> Result<(), Fail> 
     let mut batches = Batches::new(rt.alloc(), Peer::new(rt.alloc(), 100_000));
     let reply = numbered(rt.alloc(), 1024)?;
     for _ in 0..160 {
-        assert_eq!(rt; write_all_counted(&mut batches, &reply), Ok(()));
+        assert!(rt; write_all_counted(&mut batches, &reply) == Ok(()));
     }
-    assert_eq!(rt; batches.waiting(), 16384);
+    assert!(rt; batches.waiting() == 16384);
     let peer = batches.into_connection();
-    assert_eq!(rt; peer.taken.len(), 9 * 16384);
-    assert_eq!(rt; peer.sends, 9);
+    assert!(rt; peer.taken.len() == 9 * 16384);
+    assert!(rt; peer.sends == 9);
     Ok(())
 }
 
@@ -50,14 +50,14 @@ fn many_replies_leave_by_sixteen_kibibytes(rt: HostRuntime) -> Result<(), Fail> 
 fn a_large_reply_goes_straight_out_after_what_waits(rt: HostRuntime) -> Result<(), Fail> {
     let mut batches = Batches::new(rt.alloc(), Peer::new(rt.alloc(), 100_000));
     let reply = numbered(rt.alloc(), 20_000)?;
-    assert_eq!(rt; write_all_counted(&mut batches, b"before"), Ok(()));
-    assert_eq!(rt; write_once(&mut batches, &reply), Ok(20_000));
-    assert_eq!(rt; batches.waiting(), 0);
+    assert!(rt; write_all_counted(&mut batches, b"before") == Ok(()));
+    assert!(rt; write_once(&mut batches, &reply) == Ok(20_000));
+    assert!(rt; batches.waiting() == 0);
     let peer = batches.into_connection();
-    assert_eq!(rt; peer.sends, 2);
+    assert!(rt; peer.sends == 2);
     let mut wanted = b"before".to_vec(rt.alloc())?;
     wanted.extend_from_slice(&reply)?;
-    assert_eq!(rt; peer.taken.as_slice() == wanted.as_slice(), true);
+    assert!(rt; peer.taken.as_slice() == wanted.as_slice());
     Ok(())
 }
 
@@ -72,16 +72,15 @@ fn nothing_is_lost_doubled_or_turned_around(rt: HostRuntime) -> Result<(), Fail>
         for block in bytes.chunks(50_000) {
             let (small, large) = block.split_at(block.len() / 2);
             for piece in small.chunks(70) {
-                assert_eq!(rt; write_all_counted(&mut batches, piece), Ok(()));
+                assert!(rt; write_all_counted(&mut batches, piece) == Ok(()));
             }
-            assert_eq!(rt; write_all_counted(&mut batches, large), Ok(()));
-            assert_eq!(rt; read_two(&mut batches), Ok((2, *b"xx")));
+            assert!(rt; write_all_counted(&mut batches, large) == Ok(()));
+            assert!(rt; read_two(&mut batches) == Ok((2, *b"xx")));
         }
-        assert_eq!(rt; batches.send_all(), Ok(()));
+        assert!(rt; batches.send_all() == Ok(()));
         let peer = batches.into_connection();
-        assert_eq!(rt;
+        assert!(rt;
             peer.taken.as_slice() == bytes.as_slice(),
-            true,
             "{most} at a time"
         );
     }
@@ -94,17 +93,14 @@ fn a_peer_that_is_behind_is_read_from_all_the_same(rt: HostRuntime) -> Result<()
     peer.coming = 4;
     peer.silent = 3;
     let mut batches = Batches::new(rt.alloc(), peer);
-    assert_eq!(rt; write_all_counted(&mut batches, b"reply"), Ok(()));
-    assert_eq!(rt; read_two(&mut batches), Ok((2, *b"xx")));
-    assert_eq!(rt; batches.waiting(), 5);
-    assert_eq!(rt; read_two(&mut batches), Ok((2, *b"xx")));
-    assert_eq!(rt; batches.waiting(), 5);
-    assert_eq!(rt; read_two(&mut batches), Ok((0, *b"\0\0")));
-    assert_eq!(rt; batches.waiting(), 0);
-    assert_eq!(rt;
-        batches.into_connection().taken.as_slice(),
-        b"reply".as_slice()
-    );
+    assert!(rt; write_all_counted(&mut batches, b"reply") == Ok(()));
+    assert!(rt; read_two(&mut batches) == Ok((2, *b"xx")));
+    assert!(rt; batches.waiting() == 5);
+    assert!(rt; read_two(&mut batches) == Ok((2, *b"xx")));
+    assert!(rt; batches.waiting() == 5);
+    assert!(rt; read_two(&mut batches) == Ok((0, *b"\0\0")));
+    assert!(rt; batches.waiting() == 0);
+    assert!(rt; batches.into_connection().taken.as_slice() == b"reply".as_slice());
     Ok(())
 }
 
@@ -114,15 +110,12 @@ fn a_read_fails_where_the_send_before_it_fails(rt: HostRuntime) -> Result<(), Fa
     peer.coming = 4;
     peer.fails = true;
     let mut batches = Batches::new(rt.alloc(), peer);
-    assert_eq!(rt; read_two(&mut batches), Ok((2, *b"xx")));
-    assert_eq!(rt; write_once(&mut batches, b"reply"), Ok(5));
-    assert_eq!(rt; read_two(&mut batches), Err(Failed));
-    assert_eq!(rt; read_two(&mut batches), Err(Failed));
-    assert_eq!(rt;
-        write_once(&mut batches, &numbered(rt.alloc(), 20_000)?),
-        Err(Failed)
-    );
-    assert_eq!(rt; batches.send_all(), Err(Failed));
+    assert!(rt; read_two(&mut batches) == Ok((2, *b"xx")));
+    assert!(rt; write_once(&mut batches, b"reply") == Ok(5));
+    assert!(rt; read_two(&mut batches) == Err(Failed));
+    assert!(rt; read_two(&mut batches) == Err(Failed));
+    assert!(rt; write_once(&mut batches, &numbered(rt.alloc(), 20_000)?) == Err(Failed));
+    assert!(rt; batches.send_all() == Err(Failed));
     Ok(())
 }
 
@@ -131,13 +124,13 @@ fn more_than_sixty_four_mebibytes_are_waited_for(rt: HostRuntime) -> Result<(), 
     let mut batches = Batches::new(rt.alloc(), Peer::new(rt.alloc(), 0));
     let mebibyte = numbered(rt.alloc(), 1 << 20)?;
     for _ in 0..64 {
-        assert_eq!(rt; write_all_counted(&mut batches, &mebibyte), Ok(()));
+        assert!(rt; write_all_counted(&mut batches, &mebibyte) == Ok(()));
     }
-    assert_eq!(rt; batches.waiting(), 64 << 20);
-    assert_eq!(rt; write_once(&mut batches, b"and"), Ok(3));
-    assert_eq!(rt; batches.waiting(), 64 << 20);
+    assert!(rt; batches.waiting() == 64 << 20);
+    assert!(rt; write_once(&mut batches, b"and") == Ok(3));
+    assert!(rt; batches.waiting() == 64 << 20);
     let taken = batches.into_connection().taken;
-    assert_eq!(rt; taken.as_slice(), numbered(rt.alloc(), 3)?.as_slice());
+    assert!(rt; taken.as_slice() == numbered(rt.alloc(), 3)?.as_slice());
     Ok(())
 }
 
@@ -146,13 +139,13 @@ fn what_waits_is_refused_past_its_limit(rt: HostRuntime) -> Result<(), Fail> {
     let mut waiting = Waiting::new(rt.alloc());
     let mut all = Vec::new(rt.alloc());
     all.resize(64 << 20, 7)?;
-    assert_eq!(rt; waiting.push(b"a").is_ok(), true);
-    assert_eq!(rt; waiting.push(&all).is_err(), true);
-    assert_eq!(rt; waiting.as_slice(), b"a".as_slice());
+    assert!(rt; waiting.push(b"a").is_ok());
+    assert!(rt; waiting.push(&all).is_err());
+    assert!(rt; waiting.as_slice() == b"a".as_slice());
     let count = waiting.len();
     waiting.drop_front(count);
-    assert_eq!(rt; waiting.push(&all).is_ok(), true);
-    assert_eq!(rt; waiting.push(b"a").is_err(), true);
-    assert_eq!(rt; waiting.len(), 64 << 20);
+    assert!(rt; waiting.push(&all).is_ok());
+    assert!(rt; waiting.push(b"a").is_err());
+    assert!(rt; waiting.len() == 64 << 20);
     Ok(())
 }

@@ -11,10 +11,10 @@ fn a_source_in_memory_fails_at_its_number_and_goes_on(rt: HostRuntime) -> Result
     let bytes = b"abc".to_vec(rt.alloc())?;
     let fail = [2].to_vec(rt.alloc())?;
     let mut source = MemSource::new(bytes, 5, fail);
-    assert_eq!(rt; read_two(&mut source), Ok((2, *b"ab")));
-    assert_eq!(rt; read_two(&mut source), Err(Failed));
-    assert_eq!(rt; read_two(&mut source), Ok((1, *b"c\0")));
-    assert_eq!(rt; read_two(&mut source), Ok((0, *b"\0\0")));
+    assert!(rt; read_two(&mut source) == Ok((2, *b"ab")));
+    assert!(rt; read_two(&mut source) == Err(Failed));
+    assert!(rt; read_two(&mut source) == Ok((1, *b"c\0")));
+    assert!(rt; read_two(&mut source) == Ok((0, *b"\0\0")));
     Ok(())
 }
 
@@ -22,20 +22,20 @@ fn a_source_in_memory_fails_at_its_number_and_goes_on(rt: HostRuntime) -> Result
 fn a_sink_in_memory_fails_at_its_number_and_goes_on(rt: HostRuntime) -> Result<(), Fail> {
     let fail = [2].to_vec(rt.alloc())?;
     let mut sink = MemSink::new(rt.alloc(), 2, fail);
-    assert_eq!(rt; write_all_counted(&mut sink, b"abcd"), Err(Failed));
-    assert_eq!(rt; sink.bytes(), b"ab".as_slice());
-    assert_eq!(rt; write_all_counted(&mut sink, b"xyz"), Ok(()));
-    assert_eq!(rt; sink.bytes(), b"abxyz".as_slice());
+    assert!(rt; write_all_counted(&mut sink, b"abcd") == Err(Failed));
+    assert!(rt; sink.bytes() == b"ab".as_slice());
+    assert!(rt; write_all_counted(&mut sink, b"xyz") == Ok(()));
+    assert!(rt; sink.bytes() == b"abxyz".as_slice());
     Ok(())
 }
 
 #[test]
 fn a_clock_in_memory_gives_its_last_reading_again(rt: HostRuntime) -> Result<(), Fail> {
     let mut clock = MemClock::new([5, 7].to_vec(rt.alloc())?);
-    assert_eq!(rt; time_of(&mut clock), 5);
-    assert_eq!(rt; time_of(&mut clock), 7);
-    assert_eq!(rt; time_of(&mut clock), 7);
-    assert_eq!(rt; time_of(&mut MemClock::new(Vec::new(rt.alloc()))), 0);
+    assert!(rt; time_of(&mut clock) == 5);
+    assert!(rt; time_of(&mut clock) == 7);
+    assert!(rt; time_of(&mut clock) == 7);
+    assert!(rt; time_of(&mut MemClock::new(Vec::new(rt.alloc()))) == 0);
     Ok(())
 }
 
@@ -48,23 +48,25 @@ fn a_closed_link_comes_back_with_what_was_written(rt: HostRuntime) -> Result<(),
         out: MemSink::new(alloc, 9, Vec::new(alloc)),
     })?;
     let mut listener = MemListener::new(alloc, links, [1].to_vec(alloc)?)?;
-    assert_eq!(rt; listener.open("here"), Err(Failed));
-    assert_eq!(rt; listener.open("here"), Ok(()));
-    let mut ends = listener.accept().map_err(|_| "accept")?;
-    assert_eq!(rt; ends.out.write(b"out"), Ok(3));
+    assert!(rt; listener.open("here") == Err(Failed));
+    assert!(rt; listener.open("here") == Ok(()));
+    let Ok(mut ends) = listener.accept() else {
+        return Err("accept".into())
+    };
+    assert!(rt; ends.out.write(b"out") == Ok(3));
     listener.close(ends);
-    assert_eq!(rt; listener.accept().is_err(), true);
-    assert_eq!(rt; listener.done().len(), 1);
-    assert_eq!(rt; listener.done()[0].out.bytes(), b"out".as_slice());
+    assert!(rt; listener.accept().is_err());
+    assert!(rt; listener.done().len() == 1);
+    assert!(rt; listener.done()[0].out.bytes() == b"out".as_slice());
     Ok(())
 }
 
 #[test]
 fn bytes_and_errors_are_counted_over_writes(rt: HostRuntime) {
     let mut sink = CountSink::new();
-    assert_eq!(rt; write_all_counted(&mut sink, b"-ERR a-b\r"), Ok(()));
-    assert_eq!(rt; write_all_counted(&mut sink, b"\n"), Ok(()));
-    assert_eq!(rt; write_all_counted(&mut sink, b"-ERR\r\n:-1\r\n--"), Ok(()));
-    assert_eq!(rt; sink.total(), 23);
-    assert_eq!(rt; sink.errors(), 3);
+    assert!(rt; write_all_counted(&mut sink, b"-ERR a-b\r") == Ok(()));
+    assert!(rt; write_all_counted(&mut sink, b"\n") == Ok(()));
+    assert!(rt; write_all_counted(&mut sink, b"-ERR\r\n:-1\r\n--") == Ok(()));
+    assert!(rt; sink.total() == 23);
+    assert!(rt; sink.errors() == 3);
 }

@@ -19,19 +19,21 @@ fn a_connection_is_a_link(rt: HostRuntime) -> Result<(), Fail> {
     let address = free_address(&rt)?;
     let text = format!(in rt.alloc(); "{address}")?;
     let mut net = TcpNet::new(&rt);
-    assert_eq!(rt; net.open(&text), Ok(()));
+    assert!(rt; net.open(&text) == Ok(()));
     let mut client = TcpStream::connect(&rt, address)?;
     client.write_all(b"ask")?;
     client.shutdown(Shutdown::Write)?;
-    let mut ends = net.accept().map_err(|_| "accept")?;
-    assert_eq!(rt; read_two(&mut ends.input), Ok((2, *b"as")));
-    assert_eq!(rt; read_two(&mut ends.input), Ok((1, *b"k\0")));
-    assert_eq!(rt; read_two(&mut ends.input), Ok((0, *b"\0\0")));
-    assert_eq!(rt; write_all_counted(&mut ends.out, b"told"), Ok(()));
+    let Ok(mut ends) = net.accept() else {
+        return Err("accept".into())
+    };
+    assert!(rt; read_two(&mut ends.input) == Ok((2, *b"as")));
+    assert!(rt; read_two(&mut ends.input) == Ok((1, *b"k\0")));
+    assert!(rt; read_two(&mut ends.input) == Ok((0, *b"\0\0")));
+    assert!(rt; write_all_counted(&mut ends.out, b"told") == Ok(()));
     net.close(ends);
     let mut told = Vec::new(rt.alloc());
     client.read_to_end(&mut told)?;
-    assert_eq!(rt; told.as_slice(), b"told".as_slice());
+    assert!(rt; told.as_slice() == b"told".as_slice());
     Ok(())
 }
 
@@ -42,7 +44,9 @@ fn connected(rt: &HostRuntime) -> Result<(TcpNet<&HostRuntime>, TcpStream), Fail
     let address = free_address(rt)?;
     let text = format!(in rt.alloc(); "{address}")?;
     let mut net = TcpNet::new(rt);
-    net.open(&text).map_err(|_| "open")?;
+    if net.open(&text).is_err() {
+        return Err("open".into());
+    }
     let client = TcpStream::connect(rt, address)?;
     Ok((net, client))
 }
@@ -52,15 +56,17 @@ fn no_reply_is_lost_where_the_client_has_sent_more(rt: HostRuntime) -> Result<()
     let (mut net, mut client) = connected(&rt)?;
     client.write_all(&[b'q'; 100_000])?;
     client.shutdown(Shutdown::Write)?;
-    let mut ends = net.accept().map_err(|_| "accept")?;
-    assert_eq!(rt; read_two(&mut ends.input), Ok((2, *b"qq")));
+    let Ok(mut ends) = net.accept() else {
+        return Err("accept".into())
+    };
+    assert!(rt; read_two(&mut ends.input) == Ok((2, *b"qq")));
     for _ in 0..1000 {
-        assert_eq!(rt; write_all_counted(&mut ends.out, b"told"), Ok(()));
+        assert!(rt; write_all_counted(&mut ends.out, b"told") == Ok(()));
     }
     net.close(ends);
     let mut told = Vec::new(rt.alloc());
     client.read_to_end(&mut told)?;
-    assert_eq!(rt; told.len(), 4000);
+    assert!(rt; told.len() == 4000);
     Ok(())
 }
 
@@ -69,17 +75,19 @@ fn no_reply_is_lost_where_the_client_has_sent_more(rt: HostRuntime) -> Result<()
 fn a_client_that_reads_late_has_all(rt: HostRuntime) -> Result<(), Fail> {
     let (mut net, mut client) = connected(&rt)?;
     client.write_all(&[b'q'; 20_000])?;
-    let mut ends = net.accept().map_err(|_| "accept")?;
+    let Ok(mut ends) = net.accept() else {
+        return Err("accept".into())
+    };
     let mut reply = [0; 1000];
     for turn in 0..20_000 {
         reply[turn % 1000] = (turn % 251) as u8;
-        assert_eq!(rt; write_all_counted(&mut ends.out, &reply), Ok(()));
+        assert!(rt; write_all_counted(&mut ends.out, &reply) == Ok(()));
     }
     client.set_nonblocking(true)?;
     let mut told = Vec::new(rt.alloc());
     let mut room = [0; 65536];
     for _ in 0..10_000 {
-        assert_eq!(rt; read_two(&mut ends.input), Ok((2, *b"qq")));
+        assert!(rt; read_two(&mut ends.input) == Ok((2, *b"qq")));
         if let Ok(count) = client.read(&mut room) {
             told.extend_from_slice(&room[..count])?;
         }
@@ -88,8 +96,8 @@ fn a_client_that_reads_late_has_all(rt: HostRuntime) -> Result<(), Fail> {
     client.shutdown(Shutdown::Write)?;
     net.close(ends);
     client.read_to_end(&mut told)?;
-    assert_eq!(rt; told.len(), 20_000_000);
-    assert_eq!(rt; told.ends_with(&reply), true);
+    assert!(rt; told.len() == 20_000_000);
+    assert!(rt; told.ends_with(&reply));
     Ok(())
 }
 
@@ -97,14 +105,16 @@ fn a_client_that_reads_late_has_all(rt: HostRuntime) -> Result<(), Fail> {
 fn a_send_that_fails_shows_at_the_next_read(rt: HostRuntime) -> Result<(), Fail> {
     let (mut net, mut client) = connected(&rt)?;
     client.write_all(b"ask")?;
-    let mut ends = net.accept().map_err(|_| "accept")?;
-    assert_eq!(rt; write_once(&mut ends.out, b"told"), Ok(4));
-    assert_eq!(rt; read_two(&mut ends.input), Ok((2, *b"as")));
+    let Ok(mut ends) = net.accept() else {
+        return Err("accept".into())
+    };
+    assert!(rt; write_once(&mut ends.out, b"told") == Ok(4));
+    assert!(rt; read_two(&mut ends.input) == Ok((2, *b"as")));
 
     // What it was told is not read: so its end is a reset.
     drop(client);
-    assert_eq!(rt; write_once(&mut ends.out, b"told"), Ok(4));
-    assert_eq!(rt; read_two(&mut ends.input), Err(Failed));
+    assert!(rt; write_once(&mut ends.out, b"told") == Ok(4));
+    assert!(rt; read_two(&mut ends.input) == Err(Failed));
     net.close(ends);
     Ok(())
 }
@@ -114,15 +124,17 @@ fn a_client_that_leaves_makes_writes_fail(rt: HostRuntime) -> Result<(), Fail> {
     let address = free_address(&rt)?;
     let text = format!(in rt.alloc(); "{address}")?;
     let mut net = TcpNet::new(&rt);
-    assert_eq!(rt; net.accept().is_err(), true);
-    assert_eq!(rt; net.open(&text), Ok(()));
+    assert!(rt; net.accept().is_err());
+    assert!(rt; net.open(&text) == Ok(()));
     drop(TcpStream::connect(&rt, address)?);
-    let mut ends = net.accept().map_err(|_| "accept")?;
+    let Ok(mut ends) = net.accept() else {
+        return Err("accept".into())
+    };
     let mut failed = false;
     for _ in 0..10_000 {
         failed = failed || write_once(&mut ends.out, b"told").is_err();
     }
-    assert_eq!(rt; failed, true);
+    assert!(rt; failed);
     net.close(ends);
     Ok(())
 }

@@ -67,7 +67,7 @@ fn a_late_sample_leaves_the_other_bytes(rt: HostRuntime) -> Result<(), AllocErro
         let (one, all) = with_late::<Brand>(rt.alloc(), Blank::new(1), &chunk, &late)?;
         let one = one.expect(&rt, "it fits");
         let (made, _) = one.raw().as_chunks::<28>();
-        assert_eq!(rt; made, pieces);
+        assert!(rt; made == pieces);
         assert!(rt; all.len() == 1 && all[0].raw() == one.raw());
         assert!(rt; one.limit() == 112 && one.len() == pieces.len());
         let seen = between::<Brand>(rt.alloc(), Blank::new(1), &one, 0, MAX_TIME)?;

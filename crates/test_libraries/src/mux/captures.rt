@@ -104,15 +104,15 @@ fn a_frame_of_65536_bytes(rt: HostRuntime) -> Result<(), Fail> {
     frames.feed(b"4096 65536\n")?;
     for _ in 0..65_536_u32 {
         assert!(rt; matches!(frames.next(), NextFrame::NotYet));
-        assert_eq!(rt; frames.place(), Some(0));
+        assert!(rt; frames.place() == Some(0));
         frames.feed(b"x")?;
     }
     let NextFrame::Whole(frame) = frames.next() else {
         assert!(rt; false, "no frame");
         return Ok(());
     };
-    assert_eq!(rt; frame.link, 4096);
-    assert_eq!(rt; frame.bytes.bytes().len(), 65_536);
-    assert_eq!(rt; frames.place(), None);
+    assert!(rt; frame.link == 4096);
+    assert!(rt; frame.bytes.bytes().len() == 65_536);
+    assert!(rt; frames.place() == None);
     Ok(())
 }

@@ -176,9 +176,9 @@ fn words_of_a_request(rt: HostRuntime) -> Result<(), Fail> {
         return Ok(());
     };
     let wanted: [&[u8]; 4] = [b"TS.ADD", b"a", b"1000", b"1"];
-    assert_eq!(rt; words.len(), wanted.len());
+    assert!(rt; words.len() == wanted.len());
     for (word, wanted) in words.iter().zip(wanted) {
-        assert_eq!(rt; word.bytes(), wanted);
+        assert!(rt; word.bytes() == wanted);
     }
     Ok(())
 }
