@@ -7,11 +7,11 @@ ghost use Rattle.ts_sample.specs.Steps.{Takes};
 ghost use Rattle.ts_labels.specs.Spec.{spec_of, change_of};
 ghost use Rattle.ts_db.specs.Faults.{IsRefusal};
 ghost use Rattle.ts_db.specs.Held.{Held, Stands, AnswersDone, AnswersNumber, IsOwn, Drops, reach_at};
-ghost use Rattle.ts_db.specs.PutBy.{put_by};
 ghost use Rattle.ts_db.specs.Bounds.{write_steps, IsEasyAppend, IsIgnored, IsChangeIgnored, deletion_steps};
 
 use crate::db::Db;
 use crate::fault::DbFault;
+use crate::hints::Hints;
 use std::sync::ledger::Ledger;
 use ts_bucket::Grid;
 use ts_labels::{Change, Spec};
@@ -109,29 +109,8 @@ impl Db {
         ensures easy { IsEasyAppend self.old key.now time → steps.new ≡ steps.old }
         ensures spared { IsIgnored self.old key.now time value → steps.new ≡ steps.old }
     {
-        self.put_by(key, time, value, None, steps)
-    }
-
-    /// Adds a sample to the series of a key, by this policy or else its own where the time has one. Answers the time,
-    /// or that of the last sample where this one is ignored.
-    pub fn put_by<L: Ledger>(
-        &mut self,
-        key: &Word,
-        time: u64,
-        value: Units,
-        on: Option<Policy>,
-        steps: &mut Steps<L>,
-    ) -> Result<u64, DbFault>
-        requires time { time ≤ MAX_TIME }
-        ensures put { AnswersNumber self.old (λ h. put_by h.limits h.state key.now time value on (get key.now h.state)) result self.new }
-        ensures bounded { IfOk result (λ t. t ≤ MAX_TIME) }
-        ensures limits { self.new.limits ≡ self.old.limits }
-        ensures own { IfErr result (IsOwn self.old key.now) }
-        ensures steps { Takes steps.old steps.new (write_steps self.old key.now time) }
-        ensures easy { IsEasyAppend self.old key.now time → steps.new ≡ steps.old }
-        ensures spared { IsIgnored self.old key.now time value → steps.new ≡ steps.old }
-    {
-        self.store.put_by(key, time, value, on, steps)
+        let mut hints = Hints::none(self.store.alloc);
+        self.put_near(&mut hints, key, time, value, None, steps)
     }
 
     /// Takes the samples between two times, in milliseconds, both included, out of the series of a key. Answers

@@ -26,7 +26,6 @@ mod nodes;
 mod numbered;
 mod ordered;
 mod planning;
-mod put_by;
 mod questions;
 mod row_among;
 mod ruling;

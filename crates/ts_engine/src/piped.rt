@@ -109,15 +109,8 @@ pub(crate) fn pipe_by<T: Turns, S: Source, K: Sink, C: Clock>(
     let mut taken = 0;
     while taken < budget {
         let most = (budget - taken).min(PIECE as u64) as usize;
-        let step = pump(
-            &mut session,
-            turns,
-            db,
-            input,
-            out,
-            clock,
-            &mut buffer[..most],
-        );
+        let piece = &mut buffer[..most];
+        let step = pump(&mut session, turns, db, input, out, clock, piece);
         taken += step.taken as u64;
         if let Some(end) = step.end {
             return Outcome {
