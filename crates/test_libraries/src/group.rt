@@ -3,10 +3,10 @@ use std::alloc::{AllocError, Global};
 use std::test::*;
 use ts_agg::{Reducer, Running};
 use ts_command::GroupBy;
-use ts_group::{GroupLabels, Reduction, Sources, encode_group, encode_groups, group};
+use ts_group::{Reduction, encode_groups, group};
 use ts_labels::{Labels, Show};
 use ts_multi::Member;
-use ts_range::{Keep, Row, RowList, Take};
+use ts_range::{Keep, Row, Take};
 use ts_resp::{Out, Reply, Word, encode};
 use ts_sample::{Cell, Units};
 
@@ -26,14 +26,6 @@ fn row(time: u32, value: u8) -> Row {
     Row {
         time: u64::from(time),
         value: Cell::Number(value),
-    }
-}
-
-// The row of a time at which there is no value.
-fn no_value(time: u32) -> Row {
-    Row {
-        time: u64::from(time),
-        value: Cell::Nan,
     }
 }
 
@@ -101,61 +93,10 @@ fn first_means(rt: HostRuntime) -> Result<(), AllocError> {
     Ok(())
 }
 
-// Rows in any order of time, one of them without a value at a time that has no other.
-fn reduced(alloc: Global) -> Reduction {
-    let mut reduction = Reduction::new(alloc);
-    reduction.row(no_value(1));
-    reduction.row(row(3, 7));
-    reduction.row(row(2, 4));
-    reduction.row(no_value(3));
-    reduction.row(row(2, 6));
-    reduction
-}
-
-#[test]
-fn the_last_rows_of_a_group_first(rt: HostRuntime) -> Result<(), AllocError> {
-    let alloc = rt.alloc();
-    let reduction = reduced(alloc);
-    assert!(rt; !reduction.is_lost());
-    let mut sources = Sources::new(alloc);
-    sources.add(b"a")?;
-    sources.add(b"b")?;
-    let names = vec![in alloc; word(alloc, "zone")?, word(alloc, "__source__")?]?;
-    let show = Show::Selected(names);
-    let labels = GroupLabels {
-        label: b"area",
-        value: b"x",
-        reducer: Reducer::Sum,
-        sources: sources.bytes(),
-    };
-    let rows = reduction.rows(Reducer::Sum, None, true);
-    let mut out = Out::new(alloc)?;
-    encode_group(alloc, &labels, &show, rows, &mut out)?;
-    let wanted = b"*3\r\n$6\r\narea=x\r\n\
-        *2\r\n*2\r\n$4\r\nzone\r\n$-1\r\n*2\r\n$10\r\n__source__\r\n$3\r\na,b\r\n\
-        *3\r\n*2\r\n:3\r\n+7\r\n*2\r\n:2\r\n+10\r\n*2\r\n:1\r\n+NaN\r\n";
-    assert!(rt; out.bytes() == wanted.as_slice());
-    Ok(())
-}
-
-#[test]
-fn rows_handed_on(rt: HostRuntime) -> Result<(), AllocError> {
-    let alloc = rt.alloc();
-    let reduction = reduced(alloc);
-    let mut rows = reduction.rows(Reducer::Count, Some(2), false);
-    assert!(rt; rows.len() == 2);
-    assert!(rt; rows.next() == Some(no_value(1)));
-    let mut taker = RowList::with_room(alloc, 1)?;
-    rows.hand_on(&mut taker);
-    assert!(rt; taker.into_rows()?.as_slice() == [row(2, 2)].as_slice());
-    let least = reduction.rows(Reducer::Min, None, false).into_list(alloc)?;
-    assert!(rt; least.as_slice() == [no_value(1), row(2, 4), row(3, 7)].as_slice());
-    Ok(())
-}
-
 #[test]
 fn a_row_is_lost(rt: HostRuntime) -> Result<(), AllocError> {
-    let mut reduction = reduced(rt.alloc());
+    let mut reduction = Reduction::new(rt.alloc());
+    reduction.row(row(3, 7));
     assert!(rt; !reduction.is_full());
     reduction.lose();
     assert!(rt; reduction.is_lost());

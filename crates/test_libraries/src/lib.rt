@@ -7,21 +7,13 @@ mod agg;
 #[cfg(test)]
 mod bucket;
 #[cfg(test)]
-mod chunk_plain;
-#[cfg(test)]
 mod decimal;
 #[cfg(test)]
 mod faults;
 #[cfg(test)]
 mod group;
 #[cfg(test)]
-mod index;
-#[cfg(test)]
-mod journal;
-#[cfg(test)]
 mod multi;
-#[cfg(test)]
-mod mux;
 #[cfg(test)]
 mod range;
 #[cfg(test)]

@@ -1,3 +1,2 @@
-// Requests and replies: worked examples.
+// Replies: worked examples.
 mod replies;
-mod streams;

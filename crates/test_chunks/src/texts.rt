@@ -3,7 +3,6 @@ ghost use Rattle.std.specs.Prelude.{◌≤◌};
 
 use std::alloc::{AllocError, Global};
 use std::sync::ledger::Ledger;
-use ts_chunk_packed::PackedChunk;
 use ts_sample::{Chunk, Gathered, MAX_TIME, Sample, Steps, Units};
 
 // The sample of a text, as `1000:-3:1`.
@@ -34,9 +33,9 @@ pub(crate) fn interval_of(text: &str) -> Option<(u64, u64)> {
 }
 
 // The samples of a chunk from one time to another.
-pub(crate) fn between<L: Ledger>(
+pub(crate) fn between<C: Chunk, L: Ledger>(
     alloc: Global,
-    chunk: &PackedChunk,
+    chunk: &C,
     from: u64,
     to: u64,
     steps: &mut Steps<L>,
@@ -47,9 +46,9 @@ pub(crate) fn between<L: Ledger>(
 }
 
 // What a chunk has.
-pub(crate) fn chunk_text<L: Ledger>(
+pub(crate) fn chunk_text<C: Chunk, L: Ledger>(
     alloc: Global,
-    chunk: &PackedChunk,
+    chunk: &C,
     steps: &mut Steps<L>,
 ) -> Result<String, AllocError> {
     let (limit, count, bytes) = (chunk.limit(), chunk.len(), chunk.bytes());
@@ -63,9 +62,9 @@ pub(crate) fn chunk_text<L: Ledger>(
 }
 
 // What each of some chunks has.
-pub(crate) fn chunks_text<L: Ledger>(
+pub(crate) fn chunks_text<C: Chunk, L: Ledger>(
     alloc: Global,
-    chunks: &[PackedChunk],
+    chunks: &[C],
     steps: &mut Steps<L>,
 ) -> Result<String, AllocError> {
     let mut list = String::from_str(alloc, "chunks")?;
@@ -90,7 +89,7 @@ fn sample_text(alloc: Global, sample: &Sample) -> Result<String, AllocError> {
 }
 
 // Samples with blanks between them.
-fn samples_text(alloc: Global, samples: &[Sample]) -> Result<String, AllocError> {
+pub(crate) fn samples_text(alloc: Global, samples: &[Sample]) -> Result<String, AllocError> {
     let mut list = String::new(alloc);
     for sample in samples {
         if !list.is_empty() {

@@ -3,23 +3,21 @@ ghost use Rattle.std.specs.Prelude.{◌≡◌, true};
 ghost use Rattle.ts_sample.specs.Chunk.{IsPast};
 ghost use Rattle.ts_spec.specs.Sample.{last_of};
 
-use crate::long::long_text;
-use crate::texts::{chunk_text, chunks_text, interval_of, sample_of};
+use crate::texts::{between, chunk_text, chunks_text, interval_of, sample_of, samples_text};
 use std::alloc::{AllocError, Global};
 use std::sync::ledger::Ledger;
-use ts_chunk_packed::PackedChunk;
 use ts_sample::{Chunk, Sample, Steps};
 
 #[derive(Drop)]
-pub(crate) struct Trial {
+pub(crate) struct Trial<C: Chunk> {
     alloc: Global,
-    chunk: PackedChunk,
+    chunk: C,
 }
 
-impl Trial {
+impl<C: Chunk> Trial<C> {
     // An empty chunk of the least limit is at hand.
-    pub(crate) fn new(alloc: Global) -> Result<Trial, AllocError> {
-        let chunk = PackedChunk::new(alloc, 48)?;
+    pub(crate) fn new(alloc: Global) -> Result<Self, AllocError> {
+        let chunk = C::new(alloc, 48)?;
         Ok(Trial { alloc, chunk })
     }
 
@@ -33,12 +31,7 @@ impl Trial {
         match verb {
             "chunk" => self.begin(rest, steps),
             "more" => self.more(rest, steps),
-            "without" => self.without(rest, steps),
-            "long" => long_text(self.alloc, rest, steps),
-            "small" => {
-                let small = size_of::<PackedChunk>() <= 160;
-                Ok(Some(format!(in self.alloc; "{small}")?))
-            }
+            "without" | "seen" => self.parted(verb, rest, steps),
             _ => match sample_of(rest) {
                 Some(sample) => self.changed(verb, &sample, steps),
                 None => Ok(None),
@@ -59,7 +52,7 @@ impl Trial {
         if limit < 48 || 1_048_576 < limit {
             return Ok(None);
         }
-        self.chunk = PackedChunk::new(self.alloc, limit)?;
+        self.chunk = C::new(self.alloc, limit)?;
         self.more(samples, steps)
     }
 
@@ -99,28 +92,33 @@ impl Trial {
         }
     }
 
-    // What comes without the samples of an interval.
-    fn without<L: Ledger>(
+    // What comes without the samples of an interval, or what a look-up sees there.
+    fn parted<L: Ledger>(
         &self,
+        verb: &str,
         text: &str,
         steps: &mut Steps<L>,
     ) -> Result<Option<String>, AllocError> {
         let Some((from, to)) = interval_of(text) else {
             return Ok(None);
         };
+        if verb == "seen" {
+            let seen = between(self.alloc, &self.chunk, from, to, steps)?;
+            return Ok(Some(samples_text(self.alloc, &seen)?));
+        }
         let chunks = self.chunk.without(self.alloc, from, to, steps)?;
         Ok(Some(chunks_text(self.alloc, &chunks, steps)?))
     }
 }
 
 // Puts a sample behind the last one, where it is later and fits. Answers whether it did.
-pub(crate) fn append(chunk: &mut PackedChunk, sample: &Sample) -> bool {
+pub(crate) fn append<C: Chunk>(chunk: &mut C, sample: &Sample) -> bool {
     is_past(chunk, sample.time) && chunk.try_append(sample)
 }
 
 // Whether a time is past the last sample.
-fn is_past(chunk: &PackedChunk, time: u64) -> bool
-    ensures { result ≡ true → IsPast (last_of chunk.now.list) time }
+fn is_past<C: Chunk>(chunk: &C, time: u64) -> bool
+    ensures { result ≡ true → IsPast (last_of (C.list chunk.now)) time }
 {
     match chunk.last() {
         Some(last) => last.time < time,

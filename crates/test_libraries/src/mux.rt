@@ -1,3 +1,0 @@
-// Interleaved connections: worked examples.
-mod captures;
-mod order;
