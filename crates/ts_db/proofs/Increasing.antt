@@ -8,22 +8,21 @@ use Rattle.ts_spec.specs.Sample.{last_of}
 use Rattle.ts_spec.specs.Key.{Key}
 use Rattle.ts_spec.specs.Keyed.{get}
 use Rattle.ts_spec.specs.Command.{Spec}
-use Rattle.ts_spec.specs.Rules.{Refuse, To, within_bound}
-use Rattle.ts_spec.specs.Step.{is_before_last, changed_value}
-use Rattle.ts_spec.specs.Response.{Count}
+use Rattle.ts_spec.specs.Rules.{Merged, Refuse, To, merge, within_bound}
+use Rattle.ts_spec.specs.Step.{value_at, is_before_last, changed_value}
+use Rattle.ts_spec.specs.Ignoring.{kept_ignored}
 use Rattle.ts_spec.specs.Kept.{Kept}
-use Rattle.ts_spec.specs.KeptStep.{kept_refused, unchanged_with, list_at, kept_write_merged, kept_unless_ignored, kept_increased, kept_incr_at}
+use Rattle.ts_spec.specs.KeptStep.{kept_refused, list_at, kept_write_merged, kept_unless_ignored, kept_increased, kept_incr_at}
 use Rattle.ts_sample.specs.declared.id.Id.{Id}
 use Rattle.ts_series.specs.History.{list_of, low}
-use Rattle.ts_series.specs.Put.{met}
 use Rattle.ts_db.specs.declared.node.Node.{Node}
 use Rattle.ts_db.specs.declared.store.Store.{Store}
 use Rattle.ts_db.specs.Store.{kept_node, stock_of, IsInOrder, Holds}
 use Rattle.ts_db.specs.Writes.{IsChanged, ignored_by}
 use Rattle.ts_db.specs.Bounds.{IsIgnored, IsChangeIgnored}
+use Rattle.ts_db.specs.PutBy.{kept_merge_at}
 use Rattle.ts_db.proofs.Applying.{there}
-use Rattle.ts_db.proofs.Ignoring.{kept-by, not-ignored}
-use Rattle.ts_db.proofs.Writing.{set-met}
+use Rattle.ts_db.proofs.Ignoring.{kept-by}
 
 module _ (s : Store) (store : IsInOrder s) (key : Key) (id : Id) (n : Node) (holds : Holds s key id n) (x : ℤ) (t : ℕ) (spec : Spec) where
   -- the step, by what its tests say
@@ -70,26 +69,26 @@ module _ (s : Store) (store : IsInOrder s) (key : Key) (id : Id) (n : Node) (hol
       ∙ ap (kept_increased s.limits (stock_of s).keys key (kept_node s.nodes n) t) (within (changed_value x (last_of (list_of n.series))) v is)
       ∙ ap (λ (o : Option ℕ). kept_unless_ignored (stock_of s).keys o (kept_write_merged s.limits (stock_of s).keys key t (To v))) (kept-by s store key id n holds t v)
 
-  pub incr-ignored : (v : ℤ) (last : ℕ) → is_before_last t (last_of (list_of n.series)) ≡ false → nat_lt t (low n.series) ≡ false
-      → IsChanged (within_bound (changed_value x (last_of (list_of n.series)))) (Some v) → Some last ≡ ignored_by n t v
-      → kept_incr_at s.limits (stock_of s).keys key x t spec (get key (stock_of s).keys) ≡ unchanged_with (stock_of s).keys (Count last)
-  incr-ignored v last e f is same =
-      in-range v e f is ∙ ap (λ (o : Option ℕ). kept_unless_ignored (stock_of s).keys o (kept_write_merged s.limits (stock_of s).keys key t (To v))) (sym same)
-
-  pub incr-write : (v : ℤ) → is_before_last t (last_of (list_of n.series)) ≡ false → nat_lt t (low n.series) ≡ false
-      → IsChanged (within_bound (changed_value x (last_of (list_of n.series)))) (Some v) → None ≡ ignored_by n t v
-      → kept_incr_at s.limits (stock_of s).keys key x t spec (get key (stock_of s).keys) ≡ kept_write_merged s.limits (stock_of s).keys key t (met Set t v n.series)
-  incr-write v e f is none =
+  -- and then it is a write of the result
+  pub incr-merges : (v : ℤ) → is_before_last t (last_of (list_of n.series)) ≡ false → nat_lt t (low n.series) ≡ false
+      → IsChanged (within_bound (changed_value x (last_of (list_of n.series)))) (Some v)
+      → kept_incr_at s.limits (stock_of s).keys key x t spec (get key (stock_of s).keys) ≡ kept_merge_at s.limits (stock_of s).keys key t v (Some Set) (get key (stock_of s).keys)
+  incr-merges v e f is =
       in-range v e f is
-      ∙ ap (λ (o : Option ℕ). kept_unless_ignored (stock_of s).keys o (kept_write_merged s.limits (stock_of s).keys key t (To v))) (sym none)
-      ∙ ap (kept_write_merged s.limits (stock_of s).keys key t) (sym (set-met t v n.series f))
+      ∙ sym (ap (kept_merge_at s.limits (stock_of s).keys key t v (Some Set)) (there s store key id n holds)
+      ∙ ap (λ (m : Merged). if nat_lt t (low n.series) then kept_refused (stock_of s).keys refusal.TooOld else kept_unless_ignored (stock_of s).keys (kept_ignored (kept_node s.nodes n) t v) (kept_write_merged s.limits (stock_of s).keys key t m)) (set-to (value_at t (list_of n.series)))
+      ∙ ap (λ (b : Bool). if b then kept_refused (stock_of s).keys refusal.TooOld else kept_unless_ignored (stock_of s).keys (kept_ignored (kept_node s.nodes n) t v) (kept_write_merged s.limits (stock_of s).keys key t (To v))) f
+      ∙ ap (λ (o : Option ℕ). kept_unless_ignored (stock_of s).keys o (kept_write_merged s.limits (stock_of s).keys key t (To v))) (kept-by s store key id n holds t v))
+    where
+      set-to : (o : Option ℤ) → merge Set o v ≡ To v
+      set-to None = refl
+      set-to (Some w) = refl
 
-  -- a result that is not ignored is not told to be
-  pub incr-not-ignored : (v : ℤ) → IsChanged (within_bound (changed_value x (last_of (list_of n.series)))) (Some v) → None ≡ ignored_by n t v → IsChangeIgnored (stock_of s) key t x → false ≡ true
-  incr-not-ignored v is none told =
-      not-ignored s store key id n holds t v none
-      (subst (λ (w : ℤ). IsIgnored (stock_of s) key t w) (value-of (changed_value x (last_of (list_of n.series))) v is)
-      (subst (λ (o : Option Kept). IsIgnored (stock_of s) key t (changed_value x (last_of (list_at o)))) (there s store key id n holds) told))
+  -- a change that is ignored is a write that is
+  pub change-ignored : (v : ℤ) → IsChanged (within_bound (changed_value x (last_of (list_of n.series)))) (Some v) → IsChangeIgnored (stock_of s) key t x → IsIgnored (stock_of s) key t v
+  change-ignored v is told =
+      subst (λ (w : ℤ). IsIgnored (stock_of s) key t w) (value-of (changed_value x (last_of (list_of n.series))) v is)
+      (subst (λ (o : Option Kept). IsIgnored (stock_of s) key t (changed_value x (last_of (list_at o)))) (there s store key id n holds) told)
     where
       value-of : (w y : ℤ) → IsChanged (within_bound w) (Some y) → w ≡ y
       value-of w y h = go (nat_le (unsigned_abs w) bound) h

@@ -19,7 +19,7 @@ use Rattle.ts_db.specs.declared.node.Node.{Node}
 use Rattle.ts_db.specs.declared.work.Work.{Work}
 use Rattle.ts_db.specs.declared.work.Work.TheVariants.{Write, Delete}
 use Rattle.ts_db.specs.Store.{Nodes, key_in}
-use Rattle.ts_db.specs.Planning.{changed_by, gone_by, rows_by_work, IsSharedOf, IsFedBy, first_full, IsRuleUnplanned}
+use Rattle.ts_db.specs.Planning.{changed_by, gone_by, rows_by_work, IsSharedOf, for_destination, IsFedBy, first_full, IsRuleUnplanned}
 use Rattle.ts_db.proofs.Plans.{fits-one, full-one}
 
 -- the rows of buckets do not tell the key of a destination
@@ -49,7 +49,7 @@ module _ (limit : ℕ) (nodes : Nodes) (work : Work) (source : History) (r : Rul
   planned-changed (Ok x) p = (p []).0
   planned-changed (Err fault) p = tt
 
-  pub planned-fed : (result : Result RulePlan RuleFault) → IsPlan result → IfOk result (λ x. IsFedBy limit nodes (rows_by_work work source) (gone_by work source) r x)
+  pub planned-fed : (result : Result RulePlan RuleFault) → IsPlan result → IfOk result (λ x. IsFedBy limit nodes (rows_by_work work source) (gone_by work source) r (for_destination x))
   planned-fed (Ok x) p = record {
     dest = (p []).0.dest;
     node = n;

@@ -6,9 +6,9 @@ use Rattle.ts_spec.specs.Kept.{KeptRule}
 use Rattle.ts_spec.specs.KeptStep.{list_at}
 use Rattle.ts_spec.specs.Mending.{mended_kept}
 use Rattle.ts_rules.specs.declared.rule.Rule.{Rule}
-use Rattle.ts_rules.specs.declared.plan.RulePlan.{RulePlan}
 use Rattle.ts_rules.specs.Rules.{IsChanged}
 use Rattle.ts_rules.specs.Plans.{mended_list}
+use Rattle.ts_db.specs.declared.planning.DestinationPlan.{DestinationPlan}
 use Rattle.ts_db.specs.declared.node.Node.{Node}
 use Rattle.ts_db.specs.Store.{Nodes, kept_node}
 use Rattle.ts_db.specs.Feeding.{Rows, Gone}
@@ -46,7 +46,7 @@ full-past limit nodes rows gone r rs fits = go (nat_lt limit (length (fed_list n
     go false e = refl
 
 -- one plan more
-pub fed-more : (limit : ℕ) (nodes : Nodes) (rows : Rows) (gone : Gone) (rs : List Rule) (xs : List RulePlan) (r : Rule) (x : RulePlan) → AreFedBy limit nodes rows gone rs xs
+pub fed-more : (limit : ℕ) (nodes : Nodes) (rows : Rows) (gone : Gone) (rs : List Rule) (xs : List DestinationPlan) (r : Rule) (x : DestinationPlan) → AreFedBy limit nodes rows gone rs xs
     → IsFedBy limit nodes rows gone r x → AreFedBy limit nodes rows gone (rs ++ r ∷ []) (xs ++ x ∷ [])
 fed-more limit nodes rows gone [] [] r x fed one = (one, tt)
 fed-more limit nodes rows gone [] (y ∷ xs) r x fed one = absurd fed

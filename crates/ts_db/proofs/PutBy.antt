@@ -1,8 +1,10 @@
 -- A write to a key that is there, by a policy of its own: what it leaves of each state.
 use Rattle.std.proofs.Common.{◌≡◌, ◌≤◌, ℕ, ℤ, refl, sym, ◌∙◌, ap, subst}
-use Rattle.std.specs.Prelude.{Option, None, Some, option_map, Result}
+use Rattle.std.specs.Prelude.{Option, None, Some, option_map, unwrap_or, Result}
 use Rattle.ts_spec.specs.declared.limits.Limits.{Limits}
 use Rattle.ts_spec.specs.declared.series.Policy.{Policy}
+use Rattle.ts_spec.specs.declared.series.Merge.{Merge}
+use Rattle.ts_spec.specs.declared.series.Merge.TheVariants.{By}
 use Rattle.ts_spec.specs.Key.{Key}
 use Rattle.ts_spec.specs.Keyed.{get}
 use Rattle.ts_spec.specs.State.{Record, State, link_to}
@@ -11,7 +13,7 @@ use Rattle.ts_spec.specs.Settings.{nothing}
 use Rattle.ts_spec.specs.SeriesOptions.{spec}
 use Rattle.ts_spec.specs.Step.{Outcome, add_at, put_at}
 use Rattle.ts_spec.specs.Kept.{Kept, Keeping, kept_record}
-use Rattle.ts_spec.specs.KeptStep.{KeptOutcome, kept_add_at, kept_put_at}
+use Rattle.ts_spec.specs.KeptStep.{KeptOutcome, kept_write, kept_add_at, kept_put_at}
 use Rattle.ts_spec.specs.Stands.{StandsFor, IsStepOf}
 use Rattle.ts_spec.proofs.KeptMaps.{get-kept}
 use Rattle.ts_spec.proofs.WriteSteps.{add-step, put-step}
@@ -20,7 +22,7 @@ use Rattle.ts_db.specs.declared.store.Store.{Store}
 use Rattle.ts_db.specs.Store.{stock_of, IsInOrder, IsDb}
 use Rattle.ts_db.specs.Held.{Stock, AnswersNumber}
 use Rattle.ts_db.specs.Answering.{KeptNumber}
-use Rattle.ts_db.specs.PutBy.{put_by, kept_put_by}
+use Rattle.ts_db.specs.PutBy.{put_by, kept_put_by, kept_merge_at}
 use Rattle.ts_db.proofs.Refusing.{add-refuses, put-refuses}
 use Rattle.ts_db.proofs.Lifting.{IsLaw, lifted-on}
 
@@ -60,3 +62,13 @@ pub put_by-law : {stock : Stock} (s new : Store) (view : stock_of s ≡ stock) (
     → IsDb new × AnswersNumber stock (λ h. put_by h.limits h.state key t v on (get key h.state)) r (stock_of new)
 put_by-law s new view db order key t v on = lifted-on s new view db order (λ h. put_by h.limits h.state key t v on (get key h.state)) (kept_put_by s.limits (stock_of s).keys key t v on (get key (stock_of s).keys))
     (λ m st. put_by-is s.limits (stock_of s).keys m st key db.store.some_samples t v on) (λ x. Count x)
+
+-- a policy that is given is the merge, and else the series' own is
+pub put-merges : (limits : Limits) (keys : Keeping) (key : Key) (t : ℕ) (v : ℤ) (on : Option Policy) (how : Option Merge) → how ≡ option_map By on → (o : Option Kept)
+    → kept_merge_at limits keys key t v how o ≡ kept_put_by limits keys key t v on o
+put-merges limits keys key t v on how is None = refl
+put-merges limits keys key t v on how is (Some d) = ap (λ (h : Option Merge). kept_write limits keys key d (unwrap_or h (By d.options.policy)) t v) is ∙ ap (λ (m : Merge). kept_write limits keys key d m t v) (own on)
+  where
+    own : (on : Option Policy) → unwrap_or (option_map By on) (By d.options.policy) ≡ By (unwrap_or on d.options.policy)
+    own None = refl
+    own (Some policy) = refl

@@ -13,10 +13,10 @@ use Rattle.ts_series.specs.History.{History, list_of}
 use Rattle.ts_series.specs.Plan.{Plan, after}
 use Rattle.ts_series.specs.Put.{Writes, sample_of}
 use Rattle.ts_rules.specs.declared.rule.Rule.{Rule}
-use Rattle.ts_rules.specs.declared.plan.RulePlan.{RulePlan}
 use Rattle.ts_rules.specs.Rules.{kept_with_dest}
 use Rattle.ts_rules.specs.Plans.{mended_list, IsMendedBy}
 use Rattle.ts_rules.proofs.Mended.{unmended}
+use Rattle.ts_db.specs.declared.planning.DestinationPlan.{DestinationPlan}
 use Rattle.ts_db.specs.declared.node.Node.{Node}
 use Rattle.ts_db.specs.declared.store.Store.{Store}
 use Rattle.ts_db.specs.declared.work.Work.TheVariants.{Write}
@@ -70,8 +70,8 @@ grown-after s n plan t v w o =
 
 -- ---- plans that leave destinations as they are
 
-abbrev pub no_plans : List Rule → List RulePlan
-no_plans rs = map (λ r. record { rule = r; dest = None }) rs
+abbrev pub no_plans : List Rule → List DestinationPlan
+no_plans rs = map (λ r. record { dest = r.dest; change = None }) rs
 
 module _ (s : Store) (store : IsInOrder s) (h : History) (p : Point) (append : is_append p.time h.high ≡ true) where
   abbrev rows : Rows
@@ -117,7 +117,7 @@ module _ (s : Store) (store : IsInOrder s) (h : History) (p : Point) (append : i
 all-none : (init now : Store) (store : IsInOrder now) (rows : Rows) (gone : Gone) (rs xs : List Rule) → Feeding init now rows gone rs (no_plans xs) → IsFed init rows gone rs now
 all-none init now store rows gone rs [] f = fed-all init now rows gone rs f
 all-none init now store rows gone rs (x ∷ xs) f =
-    all-none init now store rows gone rs xs (fed-none init now store rows gone rs (record { rule = x; dest = None }) (no_plans xs) f refl)
+    all-none init now store rows gone rs xs (fed-none init now store rows gone rs (record { dest = x.dest; change = None }) (no_plans xs) f refl)
 
 pub fed-nothing : (now : Store) → IsInOrder now → (rows : Rows) (gone : Gone) (rs xs : List Rule) → AreFedBy now.limits.samples now.nodes rows gone rs (no_plans xs) → AreDistinct rs → IsFed now rows gone rs now
 fed-nothing now store rows gone rs xs fed distinct = all-none now now store rows gone rs xs (record { rest = rs; plans = fed; distinct = distinct; result = refl })

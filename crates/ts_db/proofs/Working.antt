@@ -8,8 +8,8 @@ use Rattle.ts_sample.specs.declared.id.Id.{Id}
 use Rattle.ts_bucket.specs.Grid.{IsGrid}
 use Rattle.ts_series.specs.History.{History}
 use Rattle.ts_rules.specs.declared.rule.Rule.{Rule}
-use Rattle.ts_rules.specs.declared.plan.RulePlan.{RulePlan}
 use Rattle.ts_rules.specs.Rules.{kept_with_dest}
+use Rattle.ts_db.specs.declared.planning.DestinationPlan.{DestinationPlan}
 use Rattle.ts_db.specs.declared.fault.DbFault.{DbFault}
 use Rattle.ts_db.specs.declared.node.Node.{Node}
 use Rattle.ts_db.specs.declared.store.Store.{Store}
@@ -55,13 +55,13 @@ changed-grids work h (r ∷ rs) (x ∷ xs) c g = (
 )
 
 -- what was planned for the rules of a source, and for their destinations
-pub record ArePlanned (s : Store) (work : Work) (h : History) (rs : List Rule) (planned : List Rule) (plans : List RulePlan) : Type 0 where
+pub record ArePlanned (s : Store) (work : Work) (h : History) (rs : List Rule) (planned : List Rule) (plans : List DestinationPlan) : Type 0 where
   pub changed : AreChanged (changed_by work h) rs planned
   pub fed : AreFedBy s.limits.samples s.nodes (rows_by_work work h) (gone_by work h) rs plans
   pub fit : first_full s.limits.samples s.nodes (rows_by_work work h) (gone_by work h) rs ≡ None
 
 -- of one node, by another name of it
-pub planned-for : (s : Store) (work to : Work) (x y : Node) (rs planned : List Rule) (plans : List RulePlan) → work ≡ to → x ≡ y → rs ≡ x.rules.items → ArePlanned s work x.series rs planned plans
+pub planned-for : (s : Store) (work to : Work) (x y : Node) (rs planned : List Rule) (plans : List DestinationPlan) → work ≡ to → x ≡ y → rs ≡ x.rules.items → ArePlanned s work x.series rs planned plans
     → ArePlanned s to y.series y.rules.items planned plans
 planned-for s work to x y rs planned plans same it items p =
     let all : rs ≡ y.rules.items = items ∙ ap (λ (n : Node). n.rules.items) it in
@@ -78,11 +78,11 @@ unplanned-for s work to x y rs fault same it items p =
 
 module _ (s : Store) (db : IsDb s) (key : Key) (id : Id) (n : Node) (holds : Holds s key id n) (mid : Store) (else : IsElsewhere s mid id) where
   -- their plans may be done once the source is changed
-  pub still-fed : (rows : Rows) (gone : Gone) (xs : List RulePlan) → AreFedBy s.limits.samples s.nodes rows gone n.rules.items xs → AreFedBy mid.limits.samples mid.nodes rows gone n.rules.items xs
+  pub still-fed : (rows : Rows) (gone : Gone) (xs : List DestinationPlan) → AreFedBy s.limits.samples s.nodes rows gone n.rules.items xs → AreFedBy mid.limits.samples mid.nodes rows gone n.rules.items xs
   still-fed rows gone xs fed =
       fed-elsewhere s mid id rows gone n.rules.items xs else (none-own s db.store key id n holds (rules_by (key_in s.nodes) n.rules.items) n.rules.items (links s db key id n holds).links) fed
 
-  pub for-destinations : (rows : Rows) (gone : Gone) (xs : List RulePlan) → AreFedBy s.limits.samples s.nodes rows gone n.rules.items xs → AreDestinationPlans mid xs
+  pub for-destinations : (rows : Rows) (gone : Gone) (xs : List DestinationPlan) → AreFedBy s.limits.samples s.nodes rows gone n.rules.items xs → AreDestinationPlans mid xs
   for-destinations rows gone xs fed = record {
     rows = rows;
     gone = gone;

@@ -17,7 +17,7 @@ use Rattle.ts_sample.specs.declared.id.Id.{Id}
 use Rattle.ts_series.specs.Plan.{Plan, IsFor}
 use Rattle.ts_series.specs.Put.{met, sample_of}
 use Rattle.ts_rules.specs.declared.rule.Rule.{Rule}
-use Rattle.ts_rules.specs.declared.plan.RulePlan.{RulePlan}
+use Rattle.ts_db.specs.declared.planning.DestinationPlan.{DestinationPlan}
 use Rattle.ts_db.specs.declared.node.Node.{Node}
 use Rattle.ts_db.specs.declared.store.Store.{Store}
 use Rattle.ts_db.specs.declared.work.Work.{Work}
@@ -105,7 +105,7 @@ module _ (s : Store) (db : IsDb s) (id : Id) (n : Node) (at : slab.get s.nodes i
 
       -- ---- with plans for the rules
 
-      module _ (rs : List Rule) (items : rs ≡ n.rules.items) (rules : Vec Rule Global) (plans : List RulePlan) (planned : ArePlanned s (Write p) n.series rs rules.items plans) where
+      module _ (rs : List Rule) (items : rs ≡ n.rules.items) (rules : Vec Rule Global) (plans : List DestinationPlan) (planned : ArePlanned s (Write p) n.series rs rules.items plans) where
         all : ArePlanned s work n.series n.rules.items rules.items plans
         all = planned-for s (Write p) work n n rs rules.items plans (ap (λ (q : Point). Write q) w.sample) refl items planned
 

@@ -3,7 +3,6 @@ use Rattle.std.proofs.Common.{◌≡◌, ◌≤◌, ℕ, ℤ, Bool, true, false,
 use Rattle.std.specs.Prelude.{nat_lt, if◌then◌else◌, Vec, Option, None, Some, option_map, Ok, Err}
 use Rattle.std.specs.declared.alloc.Global.{Global}
 use Rattle.ts_spec.specs.declared.series.Merge.{Merge}
-use Rattle.ts_spec.specs.declared.series.Merge.TheVariants.{Set}
 use Rattle.ts_spec.specs.Refusal as refusal
 use Rattle.ts_spec.specs.Refusal.{Refusal}
 use Rattle.ts_spec.specs.Key.{Key}
@@ -152,11 +151,3 @@ write-met m s key n how t v none =
         ≡ kept_write_merged s.limits m key t (if b then Refuse refusal.TooOld else merge how (value_at t (list_of n.series)) v)
     go true = refl
     go false = refl
-
--- a value that is set where the edge allows it
-pub set-met : (t : ℕ) (v : ℤ) (h : History) → nat_lt t (low h) ≡ false → met Set t v h ≡ To v
-set-met t v h late = ap (λ b. if b then Refuse refusal.TooOld else merge Set (value_at t (list_of h)) v) late ∙ go (value_at t (list_of h))
-  where
-    go : (o : Option ℤ) → merge Set o v ≡ To v
-    go None = refl
-    go (Some x) = refl

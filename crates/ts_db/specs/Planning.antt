@@ -20,6 +20,7 @@ use Rattle.ts_rules.specs.Plans.{IsMendedBy}
 use Rattle.ts_db.specs.declared.fault.DbFault.{DbFault}
 use Rattle.ts_db.specs.declared.fault.DbFault.TheVariants.{SamplesFull, Memory}
 use Rattle.ts_db.specs.declared.node.Node.{Node}
+use Rattle.ts_db.specs.declared.planning.DestinationPlan.{DestinationPlan}
 use Rattle.ts_db.specs.declared.store.Store.{Store}
 use Rattle.ts_db.specs.declared.work.Work.{Work}
 use Rattle.ts_db.specs.declared.work.Work.TheVariants.{Write, Delete}
@@ -63,15 +64,19 @@ IsSharedOf (Delete from to) source t = ⊤
 abbrev pub kept_rule_in : Nodes → Rule → KeptRule
 kept_rule_in nodes r = kept_with_dest (key_in nodes r.dest) r
 
--- The plan for a rule: it changes so, and its destination is mended so.
-pub record IsFedBy (limit : ℕ) (nodes : Nodes) (rows : Rows) (gone : Gone) (r : Rule) (x : RulePlan) : Type 0 where
-  pub dest : x.rule.dest ≡ r.dest
+-- what the plan for a rule has for its destination
+abbrev pub for_destination : RulePlan → DestinationPlan
+for_destination x = record { dest = x.rule.dest; change = x.dest }
+
+-- The plan for the destination of a rule: it is mended so.
+pub record IsFedBy (limit : ℕ) (nodes : Nodes) (rows : Rows) (gone : Gone) (r : Rule) (x : DestinationPlan) : Type 0 where
+  pub dest : x.dest ≡ r.dest
   pub node : Node
   pub there : slab.get nodes r.dest.0 ≡ Some node
-  pub mended : IsMendedBy limit (gone (kept_rule_in nodes r)) (rows node.series.born (kept_rule_in nodes r)) node.series x.dest
+  pub mended : IsMendedBy limit (gone (kept_rule_in nodes r)) (rows node.series.born (kept_rule_in nodes r)) node.series x.change
 
--- the plans for rules, one for each
-abbrev pub AreFedBy : (limit : ℕ) → Nodes → Rows → Gone → List Rule → List RulePlan → Type 0
+-- the plans for the destinations of rules, one for each
+abbrev pub AreFedBy : (limit : ℕ) → Nodes → Rows → Gone → List Rule → List DestinationPlan → Type 0
 AreFedBy limit nodes rows gone [] [] = ⊤
 AreFedBy limit nodes rows gone (r ∷ rs) (x ∷ xs) = IsFedBy limit nodes rows gone r x × AreFedBy limit nodes rows gone rs xs
 AreFedBy limit nodes rows gone rs xs = ⊥
@@ -114,7 +119,7 @@ IsUnplanned full fault = ⊥
 -- ---- the plans of destinations, for a store
 
 -- They were made for rules of different destinations, one for each.
-pub record AreDestinationPlans (s : Store) (xs : List RulePlan) : Type 0 where
+pub record AreDestinationPlans (s : Store) (xs : List DestinationPlan) : Type 0 where
   pub rows : Rows
   pub gone : Gone
   pub rules : List Rule

@@ -2,6 +2,7 @@
 use Rattle.std.specs.Prelude.{ℕ, ℤ, Option, None, Some, unwrap_or}
 use Rattle.ts_spec.specs.declared.limits.Limits.{Limits}
 use Rattle.ts_spec.specs.declared.series.Policy.{Policy}
+use Rattle.ts_spec.specs.declared.series.Merge.{Merge}
 use Rattle.ts_spec.specs.declared.series.Merge.TheVariants.{By}
 use Rattle.ts_spec.specs.Key.{Key}
 use Rattle.ts_spec.specs.State.{Record, State}
@@ -19,3 +20,8 @@ put_by limits m key t v on (Some d) = write limits m key d (By (unwrap_or on d.o
 abbrev pub kept_put_by : Limits → Keeping → Key → ℕ → ℤ → Option Policy → Option Kept → KeptOutcome
 kept_put_by limits m key t v on None = kept_refused m NoKey
 kept_put_by limits m key t v on (Some d) = kept_write limits m key d (By (unwrap_or on d.options.policy)) t v
+
+-- what is kept once the series is written to so, or else by its own policy
+abbrev pub kept_merge_at : Limits → Keeping → Key → ℕ → ℤ → Option Merge → Option Kept → KeptOutcome
+kept_merge_at limits m key t v how None = kept_refused m NoKey
+kept_merge_at limits m key t v how (Some d) = kept_write limits m key d (unwrap_or how (By d.options.policy)) t v

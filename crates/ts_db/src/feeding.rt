@@ -5,21 +5,21 @@ ghost use Rattle.ts_db.specs.Feeding.{Rows, Gone};
 ghost use Rattle.ts_db.specs.Planning.{AreFedBy, AreDistinct, AreDestinationPlans, IsFed};
 ghost use Rattle.ts_db.specs.Store.{IsInOrder};
 
+use crate::planning::DestinationPlan;
 use crate::store::Store;
-use ts_rules::RulePlan;
 
 impl Store {
     // Does what was planned for the destinations of rules. It can't fail, and takes no memory.
-    pub(crate) fn feed(&mut self, plans: Vec<RulePlan>)
+    pub(crate) fn feed(&mut self, plans: Vec<DestinationPlan>)
         requires store { IsInOrder self.old }
         requires planned { AreDestinationPlans self.old plans.items }
         ensures store { IsInOrder self.new }
         ensures fed { (rows : Rows) (gone : Gone) (rs : List TheRule) → AreFedBy self.old.limits.samples self.old.nodes rows gone rs plans.items → AreDistinct rs → IsFed self.old rows gone rs self.new }
     {
         for plan in plans {
-            let RulePlan { rule, dest } = plan;
-            match dest {
-                Some(series) => self.apply(rule.dest, series, None),
+            let DestinationPlan { dest, change } = plan;
+            match change {
+                Some(series) => self.apply(dest, series, None),
                 None => {}
             }
         }

@@ -15,7 +15,6 @@ ghost use Rattle.ts_db.specs.Writes.{IsChanged};
 ghost use Rattle.ts_db.specs.Bounds.{write_steps, IsEasyAppend, IsChangeIgnored};
 
 use crate::fault::DbFault;
-use crate::ignored::ignored;
 use crate::store::Store;
 use std::sync::ledger::Ledger;
 use ts_labels::Spec;
@@ -59,10 +58,7 @@ impl Store {
         let Some(value) = changed(&node.series, change) else {
             return Err(DbFault::OutOfRange);
         };
-        if let Some(last) = ignored(node, time, value) {
-            return Ok(last);
-        }
-        self.write(id, Merge::Set, time, value, steps)
+        self.write(id, Some(Merge::Set), time, value, steps)
     }
 }
 

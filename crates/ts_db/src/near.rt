@@ -1,11 +1,10 @@
 // A write to a key that is there, by a policy of its own and a caller with hints.
-ghost use Rattle.std.specs.Prelude.{◌≡◌, ◌≤◌, Some, IfOk, IfErr};
+ghost use Rattle.std.specs.Prelude.{◌≡◌, ◌≤◌, IfOk, IfErr};
 ghost use Rattle.ts_spec.specs.Sample.{MAX_TIME};
-ghost use Rattle.ts_spec.specs.Key.{Key};
 ghost use Rattle.ts_spec.specs.Keyed.{get};
 ghost use Rattle.ts_sample.specs.Steps.{Takes};
 ghost use Rattle.ts_db.specs.Held.{AnswersNumber, IsOwn};
-ghost use Rattle.ts_db.specs.Store.{key_in, stock_of, number_of, IsInOrder, IsDb, IsThere};
+ghost use Rattle.ts_db.specs.Store.{stock_of, number_of, IsInOrder, IsDb};
 ghost use Rattle.ts_db.specs.Answering.{KeptNumber};
 ghost use Rattle.ts_db.specs.PutBy.{put_by, kept_put_by};
 ghost use Rattle.ts_db.specs.Bounds.{write_steps, IsEasyAppend, IsIgnored};
@@ -13,12 +12,12 @@ ghost use Rattle.ts_db.specs.Bounds.{write_steps, IsEasyAppend, IsIgnored};
 use crate::db::Db;
 use crate::fault::DbFault;
 use crate::hints::{Hints, place_of};
-use crate::ignored::ignored;
 use crate::store::Store;
+use crate::write::merge_by;
 use std::sync::ledger::Ledger;
 use ts_resp::Word;
 use ts_sample::{Id, Steps, Units};
-use ts_spec::{Merge, Policy};
+use ts_spec::Policy;
 
 impl Db {
     /// Adds a sample to the series of a key, by this policy or else its own where the time has one, and looks for the
@@ -70,7 +69,7 @@ impl Store {
         let Some(id) = self.number_near(hints, key, place) else {
             return Err(DbFault::NoKey);
         };
-        let answer = self.put_to(id, time, value, on, steps);
+        let answer = self.write(id, merge_by(on), time, value, steps);
         hints.keep(place, id);
         answer
     }
@@ -87,35 +86,5 @@ impl Store {
             return Some(id);
         }
         self.keys.get(key).copied()
-    }
-
-    // Adds a sample to the series of the key of a number, by this policy or else its own where the time has one. Answers the
-    // time, or that of the last sample where this one is ignored.
-    pub(crate) fn put_to<L: Ledger>(
-        &mut self,
-        id: Id,
-        time: u64,
-        value: Units,
-        on: Option<Policy>,
-        steps: &mut Steps<L>,
-    ) -> Result<u64, DbFault>
-        requires time { time ≤ MAX_TIME }
-        requires db { IsDb self.old }
-        requires there { IsThere self.old id }
-        ensures put { (key : Key) → number_of key self.old.keys.entries ≡ Some id
-            → KeptNumber (stock_of self.old) (kept_put_by self.old.limits (stock_of self.old).keys key time value on (get key (stock_of self.old).keys)) result (stock_of self.new) }
-        ensures bounded { IfOk result (λ t. t ≤ MAX_TIME) }
-        ensures own { (key : Key) → number_of key self.old.keys.entries ≡ Some id → IfErr result (IsOwn (stock_of self.old) key) }
-        ensures store { IsInOrder self.new }
-        ensures steps { Takes steps.old steps.new (write_steps (stock_of self.old) (key_in self.old.nodes id) time) }
-        ensures easy { (key : Key) → number_of key self.old.keys.entries ≡ Some id → IsEasyAppend (stock_of self.old) key time → steps.new ≡ steps.old }
-        ensures spared { (key : Key) → number_of key self.old.keys.entries ≡ Some id → IsIgnored (stock_of self.old) key time value → steps.new ≡ steps.old }
-    {
-        let node = self.nodes.node(id);
-        if let Some(last) = ignored(node, time, value) {
-            return Ok(last);
-        }
-        let how = Merge::By(on.unwrap_or(node.series.policy()));
-        self.write(id, how, time, value, steps)
     }
 }

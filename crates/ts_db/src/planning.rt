@@ -6,7 +6,7 @@ ghost use Rattle.ts_series.specs.History.{list_of};
 ghost use Rattle.ts_rules.specs.Rules.{kept_with_dest, IsChanged};
 ghost use Rattle.ts_rules.specs.Plans.{IsPlanned as IsPlannedSo};
 ghost use Rattle.ts_spec.specs.Key.{Key};
-ghost use Rattle.ts_db.specs.Planning.{changed_by, gone_by, rows_by_work, TakesWork, AllTake, IsSharedOf, AreChanged, IsFedBy, AreFedBy, first_full, IsRuleUnplanned, IsUnplanned, share_of, share_at, shares_of, IsEasyOf, IsEasyAt, AreEasyOf};
+ghost use Rattle.ts_db.specs.Planning.{changed_by, gone_by, rows_by_work, TakesWork, AllTake, IsSharedOf, AreChanged, for_destination, IsFedBy, AreFedBy, first_full, IsRuleUnplanned, IsUnplanned, share_of, share_at, shares_of, IsEasyOf, IsEasyAt, AreEasyOf};
 ghost use Rattle.ts_db.specs.Store.{IsInOrder, HasNode, AreLive};
 
 use crate::fault::DbFault;
@@ -16,14 +16,21 @@ use crate::work::Work;
 use std::alloc::Global;
 use std::sync::ledger::Ledger;
 use ts_rules::{Rule, RuleFault, RulePlan, SharedBucket, plan_delete, plan_put_shared};
-use ts_sample::Steps;
-use ts_series::Series;
+use ts_sample::{Id, Steps};
+use ts_series::{Series, SeriesPlan};
 
-// The rules of a source after work on it, and the plans for them and their destinations.
+// What work on a source comes to for the destination of a rule: this change, or none.
+#[derive(Drop)]
+pub(crate) struct DestinationPlan {
+    pub(crate) dest: Id,
+    pub(crate) change: Option<SeriesPlan>,
+}
+
+// The rules of a source after work on it, and the plans for their destinations.
 #[derive(Drop)]
 pub(crate) struct Planned {
     pub(crate) rules: Vec<Rule>,
-    pub(crate) plans: Vec<RulePlan>,
+    pub(crate) plans: Vec<DestinationPlan>,
 }
 
 impl Store {
@@ -58,8 +65,8 @@ impl Store {
         for rule in rules {
             match self.plan_next(rule, source, *work, &mut shared, steps) {
                 Ok(plan) => {
-                    let after = &plan.rule;
-                    changed.push_reserved(*after);
+                    let (after, plan) = parted(plan);
+                    changed.push_reserved(after);
                     plans.push_reserved(plan);
                 }
                 Err(RuleFault::Full) => return Err(full_at(rule)),
@@ -87,7 +94,7 @@ impl Store {
         requires live { HasNode self.now.nodes rule.now.dest }
         requires room { TakesWork work source.now rule.now }
         ensures changed { IfOk result (λ plan. IsChanged (changed_by work source.now) rule.now plan.rule) }
-        ensures fed { IfOk result (λ plan. IsFedBy self.now.limits.samples self.now.nodes (rows_by_work work source.now) (gone_by work source.now) rule.now plan) }
+        ensures fed { IfOk result (λ plan. IsFedBy self.now.limits.samples self.now.nodes (rows_by_work work source.now) (gone_by work source.now) rule.now (for_destination plan)) }
         ensures fits { IfOk result (λ _. first_full self.now.limits.samples self.now.nodes (rows_by_work work source.now) (gone_by work source.now) (rule.now ∷ []) ≡ None) }
         ensures refused { IfErr result (IsRuleUnplanned rule.now (first_full self.now.limits.samples self.now.nodes (rows_by_work work source.now) (gone_by work source.now) (rule.now ∷ []))) }
         ensures steps { Takes steps.old steps.new (share_at work source.now rule.now (slab.get self.now.nodes rule.now.dest.0)) }
@@ -111,7 +118,7 @@ impl Store {
         requires room { TakesWork work source.now rule.now }
         requires shared { IsSharedOf work source.now shared.old }
         ensures changed { IfOk result (λ plan. IsChanged (changed_by work source.now) rule.now plan.rule) }
-        ensures fed { IfOk result (λ plan. IsFedBy self.now.limits.samples self.now.nodes (rows_by_work work source.now) (gone_by work source.now) rule.now plan) }
+        ensures fed { IfOk result (λ plan. IsFedBy self.now.limits.samples self.now.nodes (rows_by_work work source.now) (gone_by work source.now) rule.now (for_destination plan)) }
         ensures fits { IfOk result (λ _. first_full self.now.limits.samples self.now.nodes (rows_by_work work source.now) (gone_by work source.now) (rule.now ∷ []) ≡ None) }
         ensures refused { IfErr result (IsRuleUnplanned rule.now (first_full self.now.limits.samples self.now.nodes (rows_by_work work source.now) (gone_by work source.now) (rule.now ∷ []))) }
         ensures shared { IsSharedOf work source.now shared.new }
@@ -130,6 +137,19 @@ impl Store {
             steps,
         )
     }
+}
+
+// The rule after what was planned for it, and the plan for its destination.
+fn parted(plan: RulePlan) -> (Rule, DestinationPlan)
+    ensures rule { result.0 ≡ plan.rule }
+    ensures plan { result.1 ≡ for_destination plan }
+{
+    let RulePlan { rule, dest } = plan;
+    let plan = DestinationPlan {
+        dest: rule.dest,
+        change: dest,
+    };
+    (rule, plan)
 }
 
 // Plans what work on a source comes to for a rule of it and for the rule's destination.

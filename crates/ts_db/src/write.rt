@@ -1,5 +1,6 @@
 // Writes of one sample on the store, by which destinations are mended too.
-ghost use Rattle.std.specs.Prelude.{◌≡◌, ◌≤◌, Some, IfOk, IfErr};
+ghost use Rattle.std.specs.Prelude.{◌≡◌, ◌≤◌, Some, option_map, IfOk, IfErr};
+ghost use Rattle.ts_spec.specs.declared.series.Merge.TheVariants.{By};
 ghost use Rattle.ts_spec.specs.Sample.{MAX_TIME};
 ghost use Rattle.ts_spec.specs.Key.{Key};
 ghost use Rattle.ts_spec.specs.Keyed.{get};
@@ -11,10 +12,12 @@ ghost use Rattle.ts_db.specs.declared.node.Node.{Node as TheNode};
 ghost use Rattle.ts_db.specs.Held.{IsOwn};
 ghost use Rattle.ts_db.specs.Store.{key_in, stock_of, number_of, IsInOrder, IsDb, IsThere, Holds};
 ghost use Rattle.ts_db.specs.Answering.{KeptNumber};
+ghost use Rattle.ts_db.specs.PutBy.{kept_merge_at};
 ghost use Rattle.ts_db.specs.Bounds.{write_steps, IsEasyAppend, IsIgnored};
 
 use crate::fault::{DbFault, fault_at};
 use crate::growing::stays_open;
+use crate::ignored::ignored;
 use crate::store::Store;
 use crate::work::Work;
 use std::sync::ledger::Ledger;
@@ -48,11 +51,49 @@ impl Store {
         let Some(id) = self.keys.get(&key).copied() else {
             return self.begin(key, spec, time, value, steps);
         };
-        self.put_to(id, time, value, on, steps)
+        self.write(id, merge_by(on), time, value, steps)
     }
 
-    // Writes to the series of a number, and has the destinations of its rules mended. Answers the time.
+    // Writes to the series of the key of a number, so, or else by its own policy, where the time has a sample. Answers the
+    // time, or that of the last sample where this one is ignored.
     pub(crate) fn write<L: Ledger>(
+        &mut self,
+        id: Id,
+        how: Option<Merge>,
+        time: u64,
+        value: Units,
+        steps: &mut Steps<L>,
+    ) -> Result<u64, DbFault>
+        requires time { time ≤ MAX_TIME }
+        requires db { IsDb self.old }
+        requires there { IsThere self.old id }
+        ensures written { (key : Key) → number_of key self.old.keys.entries ≡ Some id
+            → KeptNumber (stock_of self.old) (kept_merge_at self.old.limits (stock_of self.old).keys key time value how (get key (stock_of self.old).keys)) result (stock_of self.new) }
+        ensures bounded { IfOk result (λ t. t ≤ MAX_TIME) }
+        ensures own { (key : Key) → number_of key self.old.keys.entries ≡ Some id → IfErr result (IsOwn (stock_of self.old) key) }
+        ensures store { IsInOrder self.new }
+        ensures steps { Takes steps.old steps.new (write_steps (stock_of self.old) (key_in self.old.nodes id) time) }
+        ensures easy { (key : Key) → number_of key self.old.keys.entries ≡ Some id → IsEasyAppend (stock_of self.old) key time → steps.new ≡ steps.old }
+        ensures spared { (key : Key) → number_of key self.old.keys.entries ≡ Some id → IsIgnored (stock_of self.old) key time value → steps.new ≡ steps.old }
+    {
+        let node = self.nodes.node(id);
+        if let Some(last) = ignored(node, time, value) {
+            return Ok(last);
+        }
+        if let Some(plan) = node.series.plan_append(time, value, self.limits.samples) {
+            let wrote = plan.sample();
+            if stays_open(&node.rules, &node.series, &wrote) {
+                self.grow(id, plan, &wrote);
+                return Ok(time);
+            }
+        }
+        let how = how.unwrap_or(Merge::By(node.series.policy()));
+        self.write_planned(id, how, time, value, steps)
+    }
+
+    // Writes a sample that is not ignored to the series of a number by a plan for it, and has the destinations of its rules
+    // mended. Answers the time.
+    fn write_planned<L: Ledger>(
         &mut self,
         id: Id,
         how: Merge,
@@ -72,13 +113,6 @@ impl Store {
     {
         let node = self.nodes.node(id);
         let limit = self.limits.samples;
-        if let Some(plan) = node.series.plan_append(time, value, limit) {
-            let wrote = plan.sample();
-            if stays_open(&node.rules, &node.series, &wrote) {
-                self.grow(id, plan, &wrote);
-                return Ok(time);
-            }
-        }
         let plan = match node.series.put(time, value, how, limit, steps) {
             Ok(plan) => plan,
             Err(fault) => {
@@ -100,5 +134,15 @@ impl Store {
         self.apply(id, plan, Some(planned.rules));
         self.feed(planned.plans);
         Ok(time)
+    }
+}
+
+// By this policy, if it is given.
+pub(crate) fn merge_by(on: Option<Policy>) -> Option<Merge>
+    ensures { result ≡ option_map By on }
+{
+    match on {
+        Some(policy) => Some(Merge::By(policy)),
+        None => None,
     }
 }

@@ -1,8 +1,9 @@
 use Rattle.std.proofs.Common.{sym, ◌∙◌, subst}
 use Rattle.std.specs.Prelude.{Option}
 use Rattle.ts_spec.specs.Key.{Key}
+use Rattle.ts_spec.specs.Keyed.{get}
 use Rattle.ts_spec.specs.Kept.{Kept}
-use Rattle.ts_spec.specs.KeptStep.{kept_add_at}
+use Rattle.ts_spec.specs.KeptStep.{KeptOutcome, kept_add_at}
 use Rattle.ts_sample.specs.Steps.{Takes}
 use Rattle.ts_labels.specs.Spec.{spec_of}
 use Rattle.ts_db.specs.Store.{stock_of, Holds}
@@ -11,6 +12,7 @@ use Rattle.ts_db.specs.PutBy.{kept_put_by}
 use Rattle.ts_db.specs.Bounds.{write_steps}
 use Rattle.ts_db.proofs.Destinations.{only-key}
 use Rattle.ts_db.proofs.Applying.{there}
+use Rattle.ts_db.proofs.PutBy.{put-merges}
 use Rattle.ts_db.proofs.Storing.{missing}
 use Rattle.ts_db.proofs.store.Store.add.Goals as goal
 
@@ -22,8 +24,8 @@ returns-in_default-clause-added g c =
     subst (λ (o : Option Kept). KeptNumber (stock_of c.args.self.now) (kept_add_at c.args.self.now.limits (stock_of c.args.self.now).keys c.args.key c.args.time c.args.value c.args.on (spec_of c.args.spec) o) c.begin.result (stock_of c.begin.new.self))
     (sym (missing c.args.self.now.limits c.args.self.now.nodes c.args.self.now.keys.entries c.requires.db.store c.args.key (sym (c.in_default.ensures ∙ c.get.ensures.value)))) c.begin.ensures.begun
 
-pub put_to-requires-clause-there : goal.put_to-requires-clause-there
-put_to-requires-clause-there g c =
+pub write-requires-clause-there : goal.write-requires-clause-there
+write-requires-clause-there g c =
     let number = sym (c.in-Some.ensures ∙ c.get.ensures.value) in
     let found = c.requires.db.store.stored c.args.key c.in-Some.id number in
     record { key = c.args.key; node = found.0; holds = record { number = number; node = found.1 } }
@@ -34,23 +36,26 @@ returns-clause-added g c =
     let found = c.requires.db.store.stored c.args.key c.in-Some.id number in
     let holds : Holds c.args.self.now c.args.key c.in-Some.id found.0 = record { number = number; node = found.1 } in
     let is = there c.args.self.now c.requires.db.store c.args.key c.in-Some.id found.0 holds in
-    subst (λ (o : Option Kept). KeptNumber (stock_of c.args.self.now) (kept_add_at c.args.self.now.limits (stock_of c.args.self.now).keys c.args.key c.args.time c.args.value c.args.on (spec_of c.args.spec) o) c.put_to.result (stock_of c.put_to.new.self))
+    subst (λ (o : Option Kept). KeptNumber (stock_of c.args.self.now) (kept_add_at c.args.self.now.limits (stock_of c.args.self.now).keys c.args.key c.args.time c.args.value c.args.on (spec_of c.args.spec) o) c.write.result (stock_of c.write.new.self))
     (sym is)
-    (subst (λ (o : Option Kept). KeptNumber (stock_of c.args.self.now) (kept_put_by c.args.self.now.limits (stock_of c.args.self.now).keys c.args.key c.args.time c.args.value c.args.on o) c.put_to.result (stock_of c.put_to.new.self))
-    is (c.put_to.ensures.put c.args.key number))
+    (subst (λ (o : Option Kept). KeptNumber (stock_of c.args.self.now) (kept_put_by c.args.self.now.limits (stock_of c.args.self.now).keys c.args.key c.args.time c.args.value c.args.on o) c.write.result (stock_of c.write.new.self))
+    is
+    (subst (λ (step : KeptOutcome). KeptNumber (stock_of c.args.self.now) step c.write.result (stock_of c.write.new.self))
+    (put-merges c.args.self.now.limits (stock_of c.args.self.now).keys c.args.key c.args.time c.args.value c.args.on c.merge_by.result c.merge_by.ensures (get c.args.key (stock_of c.args.self.now).keys))
+    (c.write.ensures.written c.args.key number)))
 
 pub returns-clause-own : goal.returns-clause-own
-returns-clause-own g c = c.put_to.ensures.own c.args.key (sym (c.in-Some.ensures ∙ c.get.ensures.value))
+returns-clause-own g c = c.write.ensures.own c.args.key (sym (c.in-Some.ensures ∙ c.get.ensures.value))
 
 pub returns-clause-steps : goal.returns-clause-steps
 returns-clause-steps g c =
     let number = sym (c.in-Some.ensures ∙ c.get.ensures.value) in
     let found = c.requires.db.store.stored c.args.key c.in-Some.id number in
-    subst (λ (key : Key). Takes c.args.steps.now c.put_to.new.steps (write_steps (stock_of c.args.self.now) key c.args.time))
-    (only-key c.args.self.now c.requires.db.store c.in-Some.id (record { node = found.0; there = found.1 }) c.args.key number) c.put_to.ensures.steps
+    subst (λ (key : Key). Takes c.args.steps.now c.write.new.steps (write_steps (stock_of c.args.self.now) key c.args.time))
+    (only-key c.args.self.now c.requires.db.store c.in-Some.id (record { node = found.0; there = found.1 }) c.args.key number) c.write.ensures.steps
 
 pub returns-clause-easy : goal.returns-clause-easy
-returns-clause-easy g c = c.put_to.ensures.easy c.args.key (sym (c.in-Some.ensures ∙ c.get.ensures.value))
+returns-clause-easy g c = c.write.ensures.easy c.args.key (sym (c.in-Some.ensures ∙ c.get.ensures.value))
 
 pub returns-clause-spared : goal.returns-clause-spared
-returns-clause-spared g c = c.put_to.ensures.spared c.args.key (sym (c.in-Some.ensures ∙ c.get.ensures.value))
+returns-clause-spared g c = c.write.ensures.spared c.args.key (sym (c.in-Some.ensures ∙ c.get.ensures.value))

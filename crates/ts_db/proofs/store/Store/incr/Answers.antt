@@ -1,5 +1,4 @@
-use Rattle.std.proofs.Common.{◌≡◌, ◌≤◌, false, refl, sym, ◌∙◌, ap, subst, arith, lt-ltb, le-ltb}
-use Rattle.std.proofs.lemmas.Bool.{false≢true}
+use Rattle.std.proofs.Common.{◌≡◌, false, refl, sym, ◌∙◌, ap, subst, lt-ltb, le-ltb}
 use Rattle.std.specs.Prelude.{nat_lt, Option}
 use Rattle.ts_spec.specs.Key.{Key}
 use Rattle.ts_spec.specs.Kept.{Kept}
@@ -12,8 +11,7 @@ use Rattle.ts_db.specs.Answering.{KeptNumber}
 use Rattle.ts_db.specs.Bounds.{write_steps}
 use Rattle.ts_db.proofs.Destinations.{only-key}
 use Rattle.ts_db.proofs.Storing.{missing}
-use Rattle.ts_db.proofs.Ignoring.{ignored-upto}
-use Rattle.ts_db.proofs.Increasing.{incr-before, incr-old, incr-out, incr-write, incr-ignored, incr-not-ignored}
+use Rattle.ts_db.proofs.Increasing.{incr-before, incr-old, incr-out, incr-merges, change-ignored}
 use Rattle.ts_db.proofs.store.Store.incr.Goals as goal
 
 pub begin-requires-clause-absent : goal.begin-requires-clause-absent
@@ -36,12 +34,12 @@ returns-then-time-edge-clause-changed g c =
 
 pub returns-clause-changed : goal.returns-clause-changed
 returns-clause-changed g c =
-    let holds : Holds c.args.self.now c.args.key c.in-Some.id c.node-node.result.now = record { number = sym (c.in-Some.ensures ∙ c.get.ensures.value); node = c.node-node.ensures } in
+    let number = sym (c.in-Some.ensures ∙ c.get.ensures.value) in
+    let holds : Holds c.args.self.now c.args.key c.in-Some.id c.node-node.result.now = record { number = number; node = c.node-node.ensures } in
     let late : nat_lt c.args.time (low c.node-node.result.now.series) ≡ false = ap (nat_lt c.args.time) (sym c.edge.ensures) ∙ le-ltb c.args.time c.edge.result c.if-time-edge.false in
     subst (λ (step : KeptOutcome). KeptNumber (stock_of c.args.self.now) step c.write.result (stock_of c.write.new.self))
-    (sym (incr-write c.args.self.now c.requires.db.store c.args.key c.in-Some.id c.node-node.result.now holds c.args.change c.args.time (spec_of c.args.spec) c.in-Some-changed.value (sym c.is_before.ensures ∙ c.if-is_before.false) late c.in-Some-changed.ensures
-    c.in_default-ignored.ensures))
-    (c.write.ensures.written c.args.key c.node-node.result.now holds)
+    (sym (incr-merges c.args.self.now c.requires.db.store c.args.key c.in-Some.id c.node-node.result.now holds c.args.change c.args.time (spec_of c.args.spec) c.in-Some-changed.value (sym c.is_before.ensures ∙ c.if-is_before.false) late c.in-Some-changed.ensures))
+    (c.write.ensures.written c.args.key number)
 
 pub returns-in_default-changed-clause-changed : goal.returns-in_default-changed-clause-changed
 returns-in_default-changed-clause-changed g c =
@@ -61,25 +59,9 @@ returns-clause-steps g c =
 pub returns-clause-easy : goal.returns-clause-easy
 returns-clause-easy g c = c.write.ensures.easy c.args.key (sym (c.in-Some.ensures ∙ c.get.ensures.value))
 
--- a result that is ignored
-
-pub returns-in-Some-ignored-clause-changed : goal.returns-in-Some-ignored-clause-changed
-returns-in-Some-ignored-clause-changed g c =
-    let holds : Holds c.args.self.now c.args.key c.in-Some.id c.node-node.result.now = record { number = sym (c.in-Some.ensures ∙ c.get.ensures.value); node = c.node-node.ensures } in
-    let late : nat_lt c.args.time (low c.node-node.result.now.series) ≡ false = ap (nat_lt c.args.time) (sym c.edge.ensures) ∙ le-ltb c.args.time c.edge.result c.if-time-edge.false in (
-      incr-ignored c.args.self.now c.requires.db.store c.args.key c.in-Some.id c.node-node.result.now holds c.args.change c.args.time (spec_of c.args.spec) c.in-Some-changed.value c.in-Some-ignored.last
-          (sym c.is_before.ensures ∙ c.if-is_before.false) late c.in-Some-changed.ensures c.in-Some-ignored.ensures,
-      refl,
-    )
-
-pub returns-in-Some-ignored-clause-bounded : goal.returns-in-Some-ignored-clause-bounded
-returns-in-Some-ignored-clause-bounded g c =
-    let holds : Holds c.args.self.now c.args.key c.in-Some.id c.node-node.result.now = record { number = sym (c.in-Some.ensures ∙ c.get.ensures.value); node = c.node-node.ensures } in
-    let upto : c.in-Some-ignored.last ≤ c.args.time =
-    ignored-upto c.args.self.now c.requires.db.store c.args.key c.in-Some.id c.node-node.result.now holds c.args.time c.in-Some-changed.value c.in-Some-ignored.last c.in-Some-ignored.ensures in
-    omega (arith, c.requires.time)
-
 pub returns-clause-spared : goal.returns-clause-spared
 returns-clause-spared g c told =
-    let holds : Holds c.args.self.now c.args.key c.in-Some.id c.node-node.result.now = record { number = sym (c.in-Some.ensures ∙ c.get.ensures.value); node = c.node-node.ensures } in
-    absurd (false≢true (incr-not-ignored c.args.self.now c.requires.db.store c.args.key c.in-Some.id c.node-node.result.now holds c.args.change c.args.time (spec_of c.args.spec) c.in-Some-changed.value c.in-Some-changed.ensures c.in_default-ignored.ensures told))
+    let number = sym (c.in-Some.ensures ∙ c.get.ensures.value) in
+    let holds : Holds c.args.self.now c.args.key c.in-Some.id c.node-node.result.now = record { number = number; node = c.node-node.ensures } in
+    c.write.ensures.spared c.args.key number
+    (change-ignored c.args.self.now c.requires.db.store c.args.key c.in-Some.id c.node-node.result.now holds c.args.change c.args.time (spec_of c.args.spec) c.in-Some-changed.value c.in-Some-changed.ensures told)

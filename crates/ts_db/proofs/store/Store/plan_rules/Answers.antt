@@ -3,9 +3,10 @@ use Rattle.std.proofs.lemmas.List.{take_more, drop_more, take_all, length-drop}
 use Rattle.std.specs.Prelude.{Option, None}
 use Rattle.ts_sample.specs.declared.id.Id.{Id}
 use Rattle.ts_rules.specs.declared.rule.Rule.{Rule}
-use Rattle.ts_rules.specs.declared.plan.RulePlan.{RulePlan}
+use Rattle.ts_rules.specs.Rules.{IsChanged}
+use Rattle.ts_db.specs.declared.planning.DestinationPlan.{DestinationPlan}
 use Rattle.ts_db.specs.Store.{AreLive}
-use Rattle.ts_db.specs.Planning.{changed_by, gone_by, rows_by_work, AllTake, AreChanged, AreFedBy, first_full, IsRuleUnplanned, IsUnplanned, shares_of, AreEasyOf}
+use Rattle.ts_db.specs.Planning.{changed_by, gone_by, rows_by_work, AllTake, AreChanged, IsFedBy, AreFedBy, first_full, IsRuleUnplanned, IsUnplanned, shares_of, AreEasyOf}
 use Rattle.ts_db.proofs.Plans.{full-past, fed-more, changed-more}
 use Rattle.ts_db.proofs.store.Store.plan_rules.Goals as goal
 
@@ -30,10 +31,12 @@ loop-rule-preserved g c =
     record {
       changed = subst (λ (rs : List Rule). AreChanged (changed_by work source) rs c.push_reserved.new.self.items) (sym so_far)
           (subst (λ (xs : List Rule). AreChanged (changed_by work source) (take i all ++ r ∷ []) xs) (sym c.push_reserved.ensures.items)
-          (changed-more (changed_by work source) (take i all) c.loop-rule.changed.items r c.in-Ok-plan_next.plan.rule c.loop-rule.invariant.changed c.in-Ok-plan_next.ensures.changed));
+          (changed-more (changed_by work source) (take i all) c.loop-rule.changed.items r c.parted-after.result.0 c.loop-rule.invariant.changed
+          (subst (IsChanged (changed_by work source) r) (sym c.parted-after.ensures.rule) c.in-Ok-plan_next.ensures.changed)));
       fed = subst (λ (rs : List Rule). AreFedBy limit nodes (rows_by_work work source) (gone_by work source) rs c.push_reserved-in-Ok-plan_next.new.self.items) (sym so_far)
-          (subst (λ (xs : List RulePlan). AreFedBy limit nodes (rows_by_work work source) (gone_by work source) (take i all ++ r ∷ []) xs) (sym c.push_reserved-in-Ok-plan_next.ensures.items)
-          (fed-more limit nodes (rows_by_work work source) (gone_by work source) (take i all) c.loop-rule.plans.items r c.in-Ok-plan_next.plan c.loop-rule.invariant.fed c.in-Ok-plan_next.ensures.fed));
+          (subst (λ (xs : List DestinationPlan). AreFedBy limit nodes (rows_by_work work source) (gone_by work source) (take i all ++ r ∷ []) xs) (sym c.push_reserved-in-Ok-plan_next.ensures.items)
+          (fed-more limit nodes (rows_by_work work source) (gone_by work source) (take i all) c.loop-rule.plans.items r c.parted-after.result.1 c.loop-rule.invariant.fed
+          (subst (IsFedBy limit nodes (rows_by_work work source) (gone_by work source) r) (sym c.parted-after.ensures.plan) c.in-Ok-plan_next.ensures.fed)));
       fit = sym (ap (first_full limit nodes (rows_by_work work source) (gone_by work source)) left
           ∙ full-past limit nodes (rows_by_work work source) (gone_by work source) r (drop (i + 1) all) c.in-Ok-plan_next.ensures.fits) ∙ c.loop-rule.invariant.fit;
       live = (subst (AreLive nodes) left c.loop-rule.invariant.live).1;
