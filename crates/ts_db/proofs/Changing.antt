@@ -4,14 +4,14 @@ use Rattle.std.specs.Prelude.{if◌then◌else◌, Option, None, Some}
 use Rattle.std.specs.Option.{unwrap_or}
 use Rattle.ts_spec.specs.Refusal as refusal
 use Rattle.ts_spec.specs.Key.{Key}
-use Rattle.ts_spec.specs.Keyed.{get, with_key}
+use Rattle.ts_spec.specs.Keyed.{with_key}
 use Rattle.ts_spec.specs.State.{Label, edge_of}
 use Rattle.ts_spec.specs.Kept.{Keeping}
 use Rattle.ts_spec.specs.Keeping.{kept_altered, keep_changed}
 use Rattle.ts_spec.specs.Command.{Change}
 use Rattle.ts_spec.specs.Response.{Done}
 use Rattle.ts_spec.specs.Step.{is_longer}
-use Rattle.ts_spec.specs.KeptStep.{KeptOutcome, kept_refused, kept_alter_at}
+use Rattle.ts_spec.specs.KeptStep.{KeptOutcome, kept_refused, kept_alter_at, kept_alter}
 use Rattle.ts_sample.specs.declared.id.Id.{Id}
 use Rattle.ts_series.specs.History.{list_of}
 use Rattle.ts_series.specs.Plan.{Plan, after, alters, options_with, with_change}
@@ -39,12 +39,12 @@ altered-within n plan c limit is le =
     subst (λ (p : Plan). length (list_of (after p n.series)) ≤ limit) (sym is) (omega (arith, fewer, le))
 
 module _ (s : Store) (store : IsInOrder s) (key : Key) (id : Id) (n : Node) (holds : Holds s key id n) where
-  pub alter-longer : (c : Change) → is_longer s.limits.labels c.labels ≡ true → kept_alter_at s.limits (stock_of s).keys key c (get key (stock_of s).keys) ≡ kept_refused (stock_of s).keys refusal.LabelsFull
+  pub alter-longer : (c : Change) → is_longer s.limits.labels c.labels ≡ true → kept_alter s.limits (stock_of s).keys key c ≡ kept_refused (stock_of s).keys refusal.LabelsFull
   alter-longer c long =
       ap (kept_alter_at s.limits (stock_of s).keys key c) (there s store key id n holds)
       ∙ ap (λ b. if b then kept_refused (stock_of s).keys refusal.LabelsFull else record { keys = keep_changed key (kept_altered c) (stock_of s).keys; response = Done }) long
 
-  pub alter-yields : (c : Change) → is_longer s.limits.labels c.labels ≡ false → YieldsToMemory (kept_alter_at s.limits (stock_of s).keys key c (get key (stock_of s).keys)).response
+  pub alter-yields : (c : Change) → is_longer s.limits.labels c.labels ≡ false → YieldsToMemory (kept_alter s.limits (stock_of s).keys key c).response
   alter-yields c fits =
       subst (λ (o : KeptOutcome). YieldsToMemory o.response)
       (sym (ap (kept_alter_at s.limits (stock_of s).keys key c) (there s store key id n holds)
@@ -52,7 +52,7 @@ module _ (s : Store) (store : IsInOrder s) (key : Key) (id : Id) (n : Node) (hol
 
   pub alter-answers : (c : Change) (plan : Plan) (new : Contents) → is_longer s.limits.labels c.labels ≡ false → plan ≡ with_change plan (alters (options_with c.retention c.chunk_size c.policy c.ignore n.series.options))
       → new ≡ record (contents_of s) { keys = with_key key (kept_node s.nodes (node_after plan c.labels None n)) (stock_of s).keys }
-      → kept_alter_at s.limits (stock_of s).keys key c (get key (stock_of s).keys) ≡ record { keys = new.keys; response = Done }
+      → kept_alter s.limits (stock_of s).keys key c ≡ record { keys = new.keys; response = Done }
   alter-answers c plan new fits is applied =
       ap (kept_alter_at s.limits (stock_of s).keys key c) (there s store key id n holds)
       ∙ ap (λ b. if b then kept_refused (stock_of s).keys refusal.LabelsFull else record { keys = keep_changed key (kept_altered c) (stock_of s).keys; response = Done }) fits

@@ -6,11 +6,11 @@ use Rattle.ts_spec.specs.Refusal as refusal
 use Rattle.ts_spec.specs.Sample.{at_times, between, outside, is_within}
 use Rattle.ts_spec.specs.Bucket.{start}
 use Rattle.ts_spec.specs.Key.{Key}
-use Rattle.ts_spec.specs.Keyed.{get, with_key}
+use Rattle.ts_spec.specs.Keyed.{with_key}
 use Rattle.ts_spec.specs.Kept.{Kept, Keeping}
 use Rattle.ts_spec.specs.Mending.{kept_without, keep_deleted}
 use Rattle.ts_spec.specs.Response.{Count}
-use Rattle.ts_spec.specs.KeptStep.{KeptOutcome, kept_refused, unchanged_with, kept_meets_expired, kept_unless_full, kept_within_destinations, kept_delete_at}
+use Rattle.ts_spec.specs.KeptStep.{KeptOutcome, kept_refused, unchanged_with, kept_meets_expired, kept_unless_full, kept_within_destinations, kept_delete_at, kept_delete}
 use Rattle.ts_spec.proofs.PlainWrite.{times-swap}
 use Rattle.ts_sample.specs.declared.id.Id.{Id}
 use Rattle.ts_series.specs.History.{History, list_of, low, IsKept}
@@ -75,7 +75,7 @@ expired-at s n from edge rs result b low_is rules_are tells is =
 module _ (s : Store) (store : IsInOrder s) (key : Key) (id : Id) (n : Node) (holds : Holds s key id n) (from to : ℕ) where
   -- the step, by whether the interval is crossed and whether it meets an expired bucket
   delete-tested : (a b : Bool) → nat_lt to from ≡ a → kept_meets_expired from (low n.series) (rules_by (key_in s.nodes) n.rules.items) ≡ b
-      → kept_delete_at s.limits (stock_of s).keys key from to (get key (stock_of s).keys) ≡ (if a then unchanged_with (stock_of s).keys (Count 0)
+      → kept_delete s.limits (stock_of s).keys key from to ≡ (if a then unchanged_with (stock_of s).keys (Count 0)
       else (if b then kept_refused (stock_of s).keys refusal.DeleteBeyondRetention
       else kept_within_destinations s.limits (stock_of s).keys key (record { keys = keep_deleted key from to (stock_of s).keys; response = Count (length (between from to (list_of n.series))) })))
   delete-tested a b e f =
@@ -87,15 +87,15 @@ module _ (s : Store) (store : IsInOrder s) (key : Key) (id : Id) (n : Node) (hol
       ∙ ap (λ c. if a then unchanged_with (stock_of s).keys (Count 0)
       else (if c then kept_refused (stock_of s).keys refusal.DeleteBeyondRetention else kept_within_destinations s.limits (stock_of s).keys key done)) f
 
-  pub delete-crossed : nat_lt to from ≡ true → kept_delete_at s.limits (stock_of s).keys key from to (get key (stock_of s).keys) ≡ unchanged_with (stock_of s).keys (Count 0)
+  pub delete-crossed : nat_lt to from ≡ true → kept_delete s.limits (stock_of s).keys key from to ≡ unchanged_with (stock_of s).keys (Count 0)
   delete-crossed e = delete-tested true (kept_meets_expired from (low n.series) (rules_by (key_in s.nodes) n.rules.items)) e refl
 
   pub delete-expired : nat_lt to from ≡ false → kept_meets_expired from (low n.series) (rules_by (key_in s.nodes) n.rules.items) ≡ true
-      → kept_delete_at s.limits (stock_of s).keys key from to (get key (stock_of s).keys) ≡ kept_refused (stock_of s).keys refusal.DeleteBeyondRetention
+      → kept_delete s.limits (stock_of s).keys key from to ≡ kept_refused (stock_of s).keys refusal.DeleteBeyondRetention
   delete-expired e f = delete-tested false true e f
 
   pub delete-done : nat_lt to from ≡ false → kept_meets_expired from (low n.series) (rules_by (key_in s.nodes) n.rules.items) ≡ false
-      → kept_delete_at s.limits (stock_of s).keys key from to (get key (stock_of s).keys)
+      → kept_delete s.limits (stock_of s).keys key from to
       ≡ kept_within_destinations s.limits (stock_of s).keys key (record { keys = keep_deleted key from to (stock_of s).keys; response = Count (length (between from to (list_of n.series))) })
   delete-done e f = delete-tested false false e f
 

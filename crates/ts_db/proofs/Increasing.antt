@@ -6,13 +6,12 @@ use Rattle.ts_spec.specs.Refusal as refusal
 use Rattle.ts_spec.specs.declared.series.Merge.TheVariants.{Set}
 use Rattle.ts_spec.specs.Sample.{last_of}
 use Rattle.ts_spec.specs.Key.{Key}
-use Rattle.ts_spec.specs.Keyed.{get}
 use Rattle.ts_spec.specs.Command.{Spec}
 use Rattle.ts_spec.specs.Rules.{Merged, Refuse, To, merge, within_bound}
 use Rattle.ts_spec.specs.Step.{value_at, is_before_last, changed_value}
 use Rattle.ts_spec.specs.Ignoring.{kept_ignored}
 use Rattle.ts_spec.specs.Kept.{Kept}
-use Rattle.ts_spec.specs.KeptStep.{kept_refused, list_at, kept_write_merged, kept_unless_ignored, kept_increased, kept_incr_at}
+use Rattle.ts_spec.specs.KeptStep.{kept_refused, list_at, kept_write_merged, kept_unless_ignored, kept_increased, kept_incr_at, kept_incr}
 use Rattle.ts_sample.specs.declared.id.Id.{Id}
 use Rattle.ts_series.specs.History.{list_of, low}
 use Rattle.ts_db.specs.declared.node.Node.{Node}
@@ -20,14 +19,14 @@ use Rattle.ts_db.specs.declared.store.Store.{Store}
 use Rattle.ts_db.specs.Store.{kept_node, stock_of, IsInOrder, Holds}
 use Rattle.ts_db.specs.Writes.{IsChanged, ignored_by}
 use Rattle.ts_db.specs.Bounds.{IsIgnored, IsChangeIgnored}
-use Rattle.ts_db.specs.PutBy.{kept_merge_at}
+use Rattle.ts_db.specs.PutBy.{kept_merge_at, kept_merge}
 use Rattle.ts_db.proofs.Applying.{there}
 use Rattle.ts_db.proofs.Ignoring.{kept-by}
 
 module _ (s : Store) (store : IsInOrder s) (key : Key) (id : Id) (n : Node) (holds : Holds s key id n) (x : ℤ) (t : ℕ) (spec : Spec) where
   -- the step, by what its tests say
   tested : (a b : Bool) → is_before_last t (last_of (list_of n.series)) ≡ a → nat_lt t (low n.series) ≡ b
-      → kept_incr_at s.limits (stock_of s).keys key x t spec (get key (stock_of s).keys) ≡ (if a then kept_refused (stock_of s).keys refusal.BeforeLast
+      → kept_incr s.limits (stock_of s).keys key x t spec ≡ (if a then kept_refused (stock_of s).keys refusal.BeforeLast
       else (if b then kept_refused (stock_of s).keys refusal.TooOld else kept_increased s.limits (stock_of s).keys key (kept_node s.nodes n) t (within_bound (changed_value x (last_of (list_of n.series))))))
   tested a b e f =
       ap (kept_incr_at s.limits (stock_of s).keys key x t spec) (there s store key id n holds)
@@ -36,11 +35,11 @@ module _ (s : Store) (store : IsInOrder s) (key : Key) (id : Id) (n : Node) (hol
       ∙ ap (λ c. if a then kept_refused (stock_of s).keys refusal.BeforeLast
       else (if c then kept_refused (stock_of s).keys refusal.TooOld else kept_increased s.limits (stock_of s).keys key (kept_node s.nodes n) t (within_bound (changed_value x (last_of (list_of n.series)))))) f
 
-  pub incr-before : is_before_last t (last_of (list_of n.series)) ≡ true → kept_incr_at s.limits (stock_of s).keys key x t spec (get key (stock_of s).keys) ≡ kept_refused (stock_of s).keys refusal.BeforeLast
+  pub incr-before : is_before_last t (last_of (list_of n.series)) ≡ true → kept_incr s.limits (stock_of s).keys key x t spec ≡ kept_refused (stock_of s).keys refusal.BeforeLast
   incr-before e = tested true (nat_lt t (low n.series)) e refl
 
   pub incr-old : is_before_last t (last_of (list_of n.series)) ≡ false → nat_lt t (low n.series) ≡ true
-      → kept_incr_at s.limits (stock_of s).keys key x t spec (get key (stock_of s).keys) ≡ kept_refused (stock_of s).keys refusal.TooOld
+      → kept_incr s.limits (stock_of s).keys key x t spec ≡ kept_refused (stock_of s).keys refusal.TooOld
   incr-old e f = tested false true e f
 
   out : (v : ℤ) → IsChanged (within_bound v) None → within_bound v ≡ Refuse refusal.OutOfRange
@@ -51,7 +50,7 @@ module _ (s : Store) (store : IsInOrder s) (key : Key) (id : Id) (n : Node) (hol
       go false e = refl
 
   pub incr-out : is_before_last t (last_of (list_of n.series)) ≡ false → nat_lt t (low n.series) ≡ false → IsChanged (within_bound (changed_value x (last_of (list_of n.series)))) None
-      → kept_incr_at s.limits (stock_of s).keys key x t spec (get key (stock_of s).keys) ≡ kept_refused (stock_of s).keys refusal.OutOfRange
+      → kept_incr s.limits (stock_of s).keys key x t spec ≡ kept_refused (stock_of s).keys refusal.OutOfRange
   incr-out e f is = tested false false e f ∙ ap (kept_increased s.limits (stock_of s).keys key (kept_node s.nodes n) t) (out (changed_value x (last_of (list_of n.series))) is)
 
   within : (w v : ℤ) → IsChanged (within_bound w) (Some v) → within_bound w ≡ To v
@@ -63,7 +62,7 @@ module _ (s : Store) (store : IsInOrder s) (key : Key) (id : Id) (n : Node) (hol
 
   -- where the result is in range, by whether it is ignored
   in-range : (v : ℤ) → is_before_last t (last_of (list_of n.series)) ≡ false → nat_lt t (low n.series) ≡ false → IsChanged (within_bound (changed_value x (last_of (list_of n.series)))) (Some v)
-      → kept_incr_at s.limits (stock_of s).keys key x t spec (get key (stock_of s).keys) ≡ kept_unless_ignored (stock_of s).keys (ignored_by n t v) (kept_write_merged s.limits (stock_of s).keys key t (To v))
+      → kept_incr s.limits (stock_of s).keys key x t spec ≡ kept_unless_ignored (stock_of s).keys (ignored_by n t v) (kept_write_merged s.limits (stock_of s).keys key t (To v))
   in-range v e f is =
       tested false false e f
       ∙ ap (kept_increased s.limits (stock_of s).keys key (kept_node s.nodes n) t) (within (changed_value x (last_of (list_of n.series))) v is)
@@ -72,7 +71,7 @@ module _ (s : Store) (store : IsInOrder s) (key : Key) (id : Id) (n : Node) (hol
   -- and then it is a write of the result
   pub incr-merges : (v : ℤ) → is_before_last t (last_of (list_of n.series)) ≡ false → nat_lt t (low n.series) ≡ false
       → IsChanged (within_bound (changed_value x (last_of (list_of n.series)))) (Some v)
-      → kept_incr_at s.limits (stock_of s).keys key x t spec (get key (stock_of s).keys) ≡ kept_merge_at s.limits (stock_of s).keys key t v (Some Set) (get key (stock_of s).keys)
+      → kept_incr s.limits (stock_of s).keys key x t spec ≡ kept_merge s.limits (stock_of s).keys key t v (Some Set)
   incr-merges v e f is =
       in-range v e f is
       ∙ sym (ap (kept_merge_at s.limits (stock_of s).keys key t v (Some Set)) (there s store key id n holds)

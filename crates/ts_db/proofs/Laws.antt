@@ -11,12 +11,12 @@ use Rattle.ts_spec.specs.State.{State}
 use Rattle.ts_spec.specs.Command.{Spec, Change, Create, Alter, CreateRule, DeleteRule}
 use Rattle.ts_spec.specs.Rules.{dropped}
 use Rattle.ts_spec.specs.Response.{Done, Count}
-use Rattle.ts_spec.specs.Step.{create, alter_at, add_at, incr_at, delete_at, create_rule, delete_rule_at}
+use Rattle.ts_spec.specs.Step.{create, alter, add, incr, delete, create_rule, delete_rule}
 use Rattle.ts_spec.specs.Questions.{asked, info_response, labels_at}
 use Rattle.ts_spec.specs.Filter.{Filter, selection}
 use Rattle.ts_spec.specs.Totals.{total_shown}
 use Rattle.ts_spec.specs.Kept.{Keeping}
-use Rattle.ts_spec.specs.KeptStep.{kept_create, kept_alter_at, kept_add_at, kept_incr_at, kept_delete_at, kept_create_rule, kept_delete_rule_at}
+use Rattle.ts_spec.specs.KeptStep.{kept_create, kept_alter, kept_add, kept_incr, kept_delete, kept_create_rule, kept_delete_rule}
 use Rattle.ts_spec.specs.KeptQuestions.{kept_asked, kept_info_response, kept_labels_at, kept_selection}
 use Rattle.ts_spec.specs.Keeping.{keep_dropped}
 use Rattle.ts_spec.specs.Stands.{StandsFor}
@@ -44,24 +44,24 @@ module _ {stock : Stock} (s new : Store) (view : stock_of s ≡ stock) (db : IsD
   create-law key spec = lifted-on s new view db order (λ h. create h.limits h.state key spec) (kept_create s.limits (stock_of s).keys key spec)
       (λ m st. record { is_step = kept-step s.limits m (stock_of s).keys 0 (Create key spec) db.store.some_samples st; refuses = create-refuses s.limits m key spec }) (λ x. Done)
 
-  pub alter-law : (key : Key) (c : Change) (r : Result (Unit {0}) DbFault) → KeptDone (stock_of s) (kept_alter_at s.limits (stock_of s).keys key c (get key (stock_of s).keys)) r (stock_of new)
-      → IsDb new × AnswersDone stock (λ h. alter_at h.limits h.state key c (get key h.state)) r (stock_of new)
-  alter-law key c = lifted-on s new view db order (λ h. alter_at h.limits h.state key c (get key h.state)) (kept_alter_at s.limits (stock_of s).keys key c (get key (stock_of s).keys))
+  pub alter-law : (key : Key) (c : Change) (r : Result (Unit {0}) DbFault) → KeptDone (stock_of s) (kept_alter s.limits (stock_of s).keys key c) r (stock_of new)
+      → IsDb new × AnswersDone stock (λ h. alter h.limits h.state key c) r (stock_of new)
+  alter-law key c = lifted-on s new view db order (λ h. alter h.limits h.state key c) (kept_alter s.limits (stock_of s).keys key c)
       (λ m st. record { is_step = kept-step s.limits m (stock_of s).keys 0 (Alter key c) db.store.some_samples st; refuses = alter-refuses s.limits m key c (get key m) }) (λ x. Done)
 
-  pub add-law : (key : Key) (t : ℕ) (v : ℤ) (on : Option Policy) (spec : Spec) (r : Result ℕ DbFault) → KeptNumber (stock_of s) (kept_add_at s.limits (stock_of s).keys key t v on spec (get key (stock_of s).keys)) r (stock_of new)
-      → IsDb new × AnswersNumber stock (λ h. add_at h.limits h.state key t v on spec (get key h.state)) r (stock_of new)
-  add-law key t v on spec = lifted-on s new view db order (λ h. add_at h.limits h.state key t v on spec (get key h.state)) (kept_add_at s.limits (stock_of s).keys key t v on spec (get key (stock_of s).keys))
+  pub add-law : (key : Key) (t : ℕ) (v : ℤ) (on : Option Policy) (spec : Spec) (r : Result ℕ DbFault) → KeptNumber (stock_of s) (kept_add s.limits (stock_of s).keys key t v on spec) r (stock_of new)
+      → IsDb new × AnswersNumber stock (λ h. add h.limits h.state key t v on spec) r (stock_of new)
+  add-law key t v on spec = lifted-on s new view db order (λ h. add h.limits h.state key t v on spec) (kept_add s.limits (stock_of s).keys key t v on spec)
       (λ m st. record { is_step = add-step s.limits (stock_of s).keys m key t v on spec db.store.some_samples st; refuses = add-refuses s.limits m key t v on spec (get key m) }) (λ x. Count x)
 
-  pub incr-law : (key : Key) (x : ℤ) (t : ℕ) (spec : Spec) (r : Result ℕ DbFault) → KeptNumber (stock_of s) (kept_incr_at s.limits (stock_of s).keys key x t spec (get key (stock_of s).keys)) r (stock_of new)
-      → IsDb new × AnswersNumber stock (λ h. incr_at h.limits h.state key x t spec (get key h.state)) r (stock_of new)
-  incr-law key x t spec = lifted-on s new view db order (λ h. incr_at h.limits h.state key x t spec (get key h.state)) (kept_incr_at s.limits (stock_of s).keys key x t spec (get key (stock_of s).keys))
+  pub incr-law : (key : Key) (x : ℤ) (t : ℕ) (spec : Spec) (r : Result ℕ DbFault) → KeptNumber (stock_of s) (kept_incr s.limits (stock_of s).keys key x t spec) r (stock_of new)
+      → IsDb new × AnswersNumber stock (λ h. incr h.limits h.state key x t spec) r (stock_of new)
+  incr-law key x t spec = lifted-on s new view db order (λ h. incr h.limits h.state key x t spec) (kept_incr s.limits (stock_of s).keys key x t spec)
       (λ m st. record { is_step = incr-step s.limits (stock_of s).keys m key x t spec db.store.some_samples st; refuses = incr-refuses s.limits m key x t spec (get key m) }) (λ x. Count x)
 
-  pub delete-law : (key : Key) (from to : ℕ) (r : Result ℕ DbFault) → KeptNumber (stock_of s) (kept_delete_at s.limits (stock_of s).keys key from to (get key (stock_of s).keys)) r (stock_of new)
-      → IsDb new × AnswersNumber stock (λ h. delete_at h.limits h.state key from to (get key h.state)) r (stock_of new)
-  delete-law key from to = lifted-on s new view db order (λ h. delete_at h.limits h.state key from to (get key h.state)) (kept_delete_at s.limits (stock_of s).keys key from to (get key (stock_of s).keys))
+  pub delete-law : (key : Key) (from to : ℕ) (r : Result ℕ DbFault) → KeptNumber (stock_of s) (kept_delete s.limits (stock_of s).keys key from to) r (stock_of new)
+      → IsDb new × AnswersNumber stock (λ h. delete h.limits h.state key from to) r (stock_of new)
+  delete-law key from to = lifted-on s new view db order (λ h. delete h.limits h.state key from to) (kept_delete s.limits (stock_of s).keys key from to)
       (λ m st. record { is_step = delete-step s.limits (stock_of s).keys m key from to st; refuses = delete-refuses s.limits m key from to (get key m) }) (λ x. Count x)
 
   pub create_rule-law : (source dest : Key) (agg : Aggregator) (grid : Grid) (r : Result (Unit {0}) DbFault) → KeptDone (stock_of s) (kept_create_rule s.limits (stock_of s).keys source dest agg grid) r (stock_of new)
@@ -69,9 +69,9 @@ module _ {stock : Stock} (s new : Store) (view : stock_of s ≡ stock) (db : IsD
   create_rule-law source dest agg grid = lifted-on s new view db order (λ h. create_rule h.limits h.state source dest agg grid) (kept_create_rule s.limits (stock_of s).keys source dest agg grid)
       (λ m st. record { is_step = kept-step s.limits m (stock_of s).keys 0 (CreateRule source dest agg grid) db.store.some_samples st; refuses = create_rule-refuses s.limits m source dest agg grid }) (λ x. Done)
 
-  pub delete_rule-law : (source dest : Key) (r : Result (Unit {0}) DbFault) → KeptDone (stock_of s) (kept_delete_rule_at (stock_of s).keys source dest (get source (stock_of s).keys)) r (stock_of new)
-      → IsDb new × AnswersDone stock (λ h. delete_rule_at h.state source dest (get source h.state)) r (stock_of new)
-  delete_rule-law source dest = lifted-on s new view db order (λ h. delete_rule_at h.state source dest (get source h.state)) (kept_delete_rule_at (stock_of s).keys source dest (get source (stock_of s).keys))
+  pub delete_rule-law : (source dest : Key) (r : Result (Unit {0}) DbFault) → KeptDone (stock_of s) (kept_delete_rule (stock_of s).keys source dest) r (stock_of new)
+      → IsDb new × AnswersDone stock (λ h. delete_rule h.state source dest) r (stock_of new)
+  delete_rule-law source dest = lifted-on s new view db order (λ h. delete_rule h.state source dest) (kept_delete_rule (stock_of s).keys source dest)
       (λ m st. record { is_step = kept-step s.limits m (stock_of s).keys 0 (DeleteRule source dest) db.store.some_samples st; refuses = delete_rule-refuses m source dest (get source m) }) (λ x. Done)
 
 -- a key is there exactly where it is in each state that is stood for

@@ -2,12 +2,11 @@
 use Rattle.std.proofs.Common.{◌≡◌, ◌==◌, Bool, true, false, List, [], ◌∷◌, refl, sym, ◌∙◌, ap}
 use Rattle.std.specs.Prelude.{◌||◌, if◌then◌else◌, Option, None, Some, is_some}
 use Rattle.ts_spec.specs.Key.{Key, same}
-use Rattle.ts_spec.specs.Keyed.{get}
 use Rattle.ts_spec.specs.Refusal.{NoRule}
 use Rattle.ts_spec.specs.Response.{Done}
 use Rattle.ts_spec.specs.Kept.{Kept}
 use Rattle.ts_spec.specs.Keeping.{keep_changed, keep_without_rule}
-use Rattle.ts_spec.specs.KeptStep.{kept_refused, kept_delete_rule_at}
+use Rattle.ts_spec.specs.KeptStep.{kept_refused, kept_delete_rule_at, kept_delete_rule}
 use Rattle.ts_spec.specs.Mending.{kept_rule_to}
 use Rattle.ts_spec.proofs.Keys.{same-true}
 use Rattle.ts_sample.specs.declared.id.Id.{Id}
@@ -48,17 +47,17 @@ none-to-missing s store dest none (r ∷ rs) live = go (same (key_in s.nodes r.d
     go false e ih = ih
 
 module _ (s : Store) (db : IsDb s) (source dest : Key) (from : Id) (n : Node) (holds : Holds s source from n) where
-  step-at : kept_delete_rule_at (stock_of s).keys source dest (get source (stock_of s).keys)
+  step-at : kept_delete_rule (stock_of s).keys source dest
       ≡ (if is_some (kept_rule_to dest (rules_by (key_in s.nodes) n.rules.items)) then record { keys = keep_without_rule source dest (stock_of s).keys; response = Done } else kept_refused (stock_of s).keys NoRule)
   step-at = ap (λ (o : Option Kept). kept_delete_rule_at (stock_of s).keys source dest o) (there s db.store source from n holds)
 
   by-test : (b : Bool) → is_some (kept_rule_to dest (rules_by (key_in s.nodes) n.rules.items)) ≡ b
-      → kept_delete_rule_at (stock_of s).keys source dest (get source (stock_of s).keys)
+      → kept_delete_rule (stock_of s).keys source dest
       ≡ (if b then record { keys = keep_without_rule source dest (stock_of s).keys; response = Done } else kept_refused (stock_of s).keys NoRule)
   by-test b e = step-at ∙ ap (λ b. if b then record { keys = keep_without_rule source dest (stock_of s).keys; response = Done } else kept_refused (stock_of s).keys NoRule) e
 
   -- the destination is missing
-  pub to-missing : number_of dest s.keys.entries ≡ None → kept_delete_rule_at (stock_of s).keys source dest (get source (stock_of s).keys) ≡ kept_refused (stock_of s).keys NoRule
+  pub to-missing : number_of dest s.keys.entries ≡ None → kept_delete_rule (stock_of s).keys source dest ≡ kept_refused (stock_of s).keys NoRule
   to-missing none = by-test false (ap is_some (none-to-missing s db.store dest none n.rules.items (db.store.live from.0 n holds.node).rules))
 
   module _ (to : Id) (d : Node) (other : Holds s dest to d) where
@@ -69,12 +68,12 @@ module _ (s : Store) (db : IsDb s) (source dest : Key) (from : Id) (n : Node) (h
         ∙ sym e
 
     -- there is no rule
-    pub to-none : (b : Bool) → b ≡ any_to to.0 n.rules.items → b ≡ false → kept_delete_rule_at (stock_of s).keys source dest (get source (stock_of s).keys) ≡ kept_refused (stock_of s).keys NoRule
+    pub to-none : (b : Bool) → b ≡ any_to to.0 n.rules.items → b ≡ false → kept_delete_rule (stock_of s).keys source dest ≡ kept_refused (stock_of s).keys NoRule
     to-none b e is = by-test false (tested b e ∙ is)
 
     -- there is one
     pub to-one : (b : Bool) → b ≡ any_to to.0 n.rules.items → b ≡ true
-        → kept_delete_rule_at (stock_of s).keys source dest (get source (stock_of s).keys) ≡ record { keys = keep_without_rule source dest (stock_of s).keys; response = Done }
+        → kept_delete_rule (stock_of s).keys source dest ≡ record { keys = keep_without_rule source dest (stock_of s).keys; response = Done }
     to-one b e is = by-test true (tested b e ∙ is)
 
     -- both changes come to what is kept then

@@ -22,7 +22,7 @@ use Rattle.ts_db.specs.declared.store.Store.{Store}
 use Rattle.ts_db.specs.Store.{stock_of, IsInOrder, IsDb}
 use Rattle.ts_db.specs.Held.{Stock, AnswersNumber}
 use Rattle.ts_db.specs.Answering.{KeptNumber}
-use Rattle.ts_db.specs.PutBy.{put_by, kept_put_by, kept_merge_at}
+use Rattle.ts_db.specs.PutBy.{put_by_at, put_by, kept_put_by_at, kept_put_by, kept_merge_at}
 use Rattle.ts_db.proofs.Refusing.{add-refuses, put-refuses}
 use Rattle.ts_db.proofs.Lifting.{IsLaw, lifted-on}
 
@@ -40,7 +40,7 @@ module _ (limits : Limits) (keys : Keeping) (m : State) (stands : StandsFor limi
 
   -- where the key is missing it is a write by the series' own policy, and else one that would make the series
   of-record : (room : 1 ≤ limits.samples) (t : ℕ) (v : ℤ) (on : Option Policy) (o : Option Record) → get key m ≡ o
-      → IsLaw limits m (put_by limits m key t v on o) (kept_put_by limits keys key t v on (kept_series o))
+      → IsLaw limits m (put_by_at limits m key t v on o) (kept_put_by_at limits keys key t v on (kept_series o))
   of-record room t v on None is = record {
     is_step = by-record (put_at limits m key t v) (kept_put_at limits keys key t v) None is (put-step limits keys m key t v stands);
     refuses = put-refuses limits m key t v None;
@@ -51,21 +51,21 @@ module _ (limits : Limits) (keys : Keeping) (m : State) (stands : StandsFor limi
   }
 
   pub put_by-is : (room : 1 ≤ limits.samples) (t : ℕ) (v : ℤ) (on : Option Policy)
-      → IsLaw limits m (put_by limits m key t v on (get key m)) (kept_put_by limits keys key t v on (get key keys))
+      → IsLaw limits m (put_by limits m key t v on) (kept_put_by limits keys key t v on)
   put_by-is room t v on =
-      subst (λ (q : Option Kept). IsLaw limits m (put_by limits m key t v on (get key m)) (kept_put_by limits keys key t v on q))
+      subst (λ (q : Option Kept). IsLaw limits m (put_by limits m key t v on) (kept_put_by_at limits keys key t v on q))
       (sym (ap (get key) stands.kept ∙ get-kept m key)) (of-record room t v on (get key m) refl)
 
 -- its answers are those of the step of each state
 pub put_by-law : {stock : Stock} (s new : Store) (view : stock_of s ≡ stock) (db : IsDb s) (order : IsInOrder new) (key : Key) (t : ℕ) (v : ℤ) (on : Option Policy) (r : Result ℕ DbFault)
-    → KeptNumber (stock_of s) (kept_put_by s.limits (stock_of s).keys key t v on (get key (stock_of s).keys)) r (stock_of new)
-    → IsDb new × AnswersNumber stock (λ h. put_by h.limits h.state key t v on (get key h.state)) r (stock_of new)
-put_by-law s new view db order key t v on = lifted-on s new view db order (λ h. put_by h.limits h.state key t v on (get key h.state)) (kept_put_by s.limits (stock_of s).keys key t v on (get key (stock_of s).keys))
+    → KeptNumber (stock_of s) (kept_put_by s.limits (stock_of s).keys key t v on) r (stock_of new)
+    → IsDb new × AnswersNumber stock (λ h. put_by h.limits h.state key t v on) r (stock_of new)
+put_by-law s new view db order key t v on = lifted-on s new view db order (λ h. put_by h.limits h.state key t v on) (kept_put_by s.limits (stock_of s).keys key t v on)
     (λ m st. put_by-is s.limits (stock_of s).keys m st key db.store.some_samples t v on) (λ x. Count x)
 
 -- a policy that is given is the merge, and else the series' own is
 pub put-merges : (limits : Limits) (keys : Keeping) (key : Key) (t : ℕ) (v : ℤ) (on : Option Policy) (how : Option Merge) → how ≡ option_map By on → (o : Option Kept)
-    → kept_merge_at limits keys key t v how o ≡ kept_put_by limits keys key t v on o
+    → kept_merge_at limits keys key t v how o ≡ kept_put_by_at limits keys key t v on o
 put-merges limits keys key t v on how is None = refl
 put-merges limits keys key t v on how is (Some d) = ap (λ (h : Option Merge). kept_write limits keys key d (unwrap_or h (By d.options.policy)) t v) is ∙ ap (λ (m : Merge). kept_write limits keys key d m t v) (own on)
   where

@@ -17,7 +17,7 @@ use Rattle.ts_spec.specs.Response.{Response, Done, Count, Refused}
 use Rattle.ts_spec.specs.Command.{Spec, Change}
 use Rattle.ts_spec.specs.Rules.{shown, Merged, Refuse, Keep, To, merge, within_bound}
 use Rattle.ts_spec.specs.Ignoring.{ignored}
-use Rattle.ts_spec.specs.Step.{Outcome, refused, create, created, alter_at, is_longer, value_at, unless_ignored, write, write_merged, increased, within_destinations, first_full, unless_full, rules_at, add_at, put_at, incr_at, is_before_last, changed_value, meets_expired, delete_at, has_rules, create_rule, create_rule_at, delete_rule_at}
+use Rattle.ts_spec.specs.Step.{Outcome, refused, create, new_key, alter_at, is_longer, value_at, unless_ignored, write, write_merged, increased, within_destinations, first_full, unless_full, rules_at, add_at, put_at, incr_at, is_before_last, changed_value, meets_expired, delete_at, has_rules, create_rule, create_rule_at, delete_rule_at}
 
 abbrev pub Refuses : State → Outcome → Type 0
 Refuses m o = (r : Refusal) → o.response ≡ Refused r → o ≡ refused m r
@@ -60,7 +60,7 @@ writes : (limits : Limits) (m : State) (key : Key) (d : Record) (how : Merge) (t
 writes limits m key d how t v = choice m (nat_lt t (edge d)) _ _ (refusal m _)
     (unless m (ignored m key d t v) (write_merged limits m key t (merge how (value_at t (shown m key)) v)) (merged limits m key t (merge how (value_at t (shown m key)) v)))
 
-makes : (limits : Limits) (m : State) (key : Key) (d : Record) (k : Response) → ((n : State) → Refuses m (record { state = n; response = k })) → Refuses m (created limits m key d k)
+makes : (limits : Limits) (m : State) (key : Key) (d : Record) (k : Response) → ((n : State) → Refuses m (record { state = n; response = k })) → Refuses m (new_key limits m key d k)
 makes limits m key d k f = choice m (nat_lt limits.labels (length d.labels)) _ _ (refusal m _) (choice m (nat_le limits.keys (count_keys m)) _ _ (refusal m _) (f _))
 
 pub create-refuses : (limits : Limits) (m : State) (key : Key) (spec : Spec) → Refuses m (create limits m key spec)

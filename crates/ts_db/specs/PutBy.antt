@@ -5,23 +5,33 @@ use Rattle.ts_spec.specs.declared.series.Policy.{Policy}
 use Rattle.ts_spec.specs.declared.series.Merge.{Merge}
 use Rattle.ts_spec.specs.declared.series.Merge.TheVariants.{By}
 use Rattle.ts_spec.specs.Key.{Key}
+use Rattle.ts_spec.specs.Keyed.{get}
 use Rattle.ts_spec.specs.State.{Record, State}
 use Rattle.ts_spec.specs.Refusal.{NoKey}
 use Rattle.ts_spec.specs.Step.{Outcome, refused, write}
 use Rattle.ts_spec.specs.Kept.{Kept, Keeping}
 use Rattle.ts_spec.specs.KeptStep.{KeptOutcome, kept_refused, kept_write}
 
--- the series is written to by this policy or else its own, and a missing key is refused
-abbrev pub put_by : Limits → State → Key → ℕ → ℤ → Option Policy → Option Record → Outcome
-put_by limits m key t v on None = refused m NoKey
-put_by limits m key t v on (Some d) = write limits m key d (By (unwrap_or on d.options.policy)) t v
+-- the record at a key is written to by this policy, or else by its own
+abbrev pub put_by_at : Limits → State → Key → ℕ → ℤ → Option Policy → Option Record → Outcome
+put_by_at limits m key t v on None = refused m NoKey
+put_by_at limits m key t v on (Some d) = write limits m key d (By (unwrap_or on d.options.policy)) t v
+
+abbrev pub put_by : Limits → State → Key → ℕ → ℤ → Option Policy → Outcome
+put_by limits m key t v on = put_by_at limits m key t v on (get key m)
 
 -- the same over what is kept
-abbrev pub kept_put_by : Limits → Keeping → Key → ℕ → ℤ → Option Policy → Option Kept → KeptOutcome
-kept_put_by limits m key t v on None = kept_refused m NoKey
-kept_put_by limits m key t v on (Some d) = kept_write limits m key d (By (unwrap_or on d.options.policy)) t v
+abbrev pub kept_put_by_at : Limits → Keeping → Key → ℕ → ℤ → Option Policy → Option Kept → KeptOutcome
+kept_put_by_at limits m key t v on None = kept_refused m NoKey
+kept_put_by_at limits m key t v on (Some d) = kept_write limits m key d (By (unwrap_or on d.options.policy)) t v
 
--- what is kept once the series is written to so, or else by its own policy
+abbrev pub kept_put_by : Limits → Keeping → Key → ℕ → ℤ → Option Policy → KeptOutcome
+kept_put_by limits m key t v on = kept_put_by_at limits m key t v on (get key m)
+
+-- what is kept once the key is written to by this merge, or else by its own policy
 abbrev pub kept_merge_at : Limits → Keeping → Key → ℕ → ℤ → Option Merge → Option Kept → KeptOutcome
 kept_merge_at limits m key t v how None = kept_refused m NoKey
 kept_merge_at limits m key t v how (Some d) = kept_write limits m key d (unwrap_or how (By d.options.policy)) t v
+
+abbrev pub kept_merge : Limits → Keeping → Key → ℕ → ℤ → Option Merge → KeptOutcome
+kept_merge limits m key t v how = kept_merge_at limits m key t v how (get key m)

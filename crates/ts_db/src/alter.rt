@@ -1,7 +1,6 @@
 // TS.ALTER on the store: new options and labels, and what a new retention comes to for rules and destinations.
 ghost use Rattle.std.specs.Prelude.{◌≡◌, None, IfOk, IfErr, OnErr, ◌*◌};
-ghost use Rattle.ts_spec.specs.Keyed.{get};
-ghost use Rattle.ts_spec.specs.KeptStep.{kept_alter_at};
+ghost use Rattle.ts_spec.specs.KeptStep.{kept_alter};
 ghost use Rattle.ts_sample.specs.Steps.{Takes};
 ghost use Rattle.ts_labels.specs.Spec.{change_of};
 ghost use Rattle.ts_db.specs.Held.{IsOwn, reach_at};
@@ -27,7 +26,7 @@ impl Store {
         steps: &mut Steps<L>,
     ) -> Result<(), DbFault>
         requires { IsInOrder self.old }
-        ensures altered { KeptDone (stock_of self.old) (kept_alter_at self.old.limits (stock_of self.old).keys key.now (change_of change) (get key.now (stock_of self.old).keys)) result (stock_of self.new) }
+        ensures altered { KeptDone (stock_of self.old) (kept_alter self.old.limits (stock_of self.old).keys key.now (change_of change)) result (stock_of self.new) }
         ensures own { IfErr result (IsOwn (stock_of self.old) key.now) }
         ensures store { IsInOrder self.new }
         ensures steps { Takes steps.old steps.new (2 * reach_at (stock_of self.old) key.now) }

@@ -2,7 +2,7 @@
 ghost use Rattle.std.specs.Prelude.{◌≡◌, ◌≤◌, is_some, IfOk, IfErr, ◌*◌};
 ghost use Rattle.ts_spec.specs.Sample.{MAX_TIME};
 ghost use Rattle.ts_spec.specs.Keyed.{get};
-ghost use Rattle.ts_spec.specs.Step.{create, alter_at, add_at, put_at, incr_at, delete_at, create_rule, delete_rule_at};
+ghost use Rattle.ts_spec.specs.Step.{create, alter, add, put_own, incr, delete, create_rule, delete_rule};
 ghost use Rattle.ts_sample.specs.Steps.{Takes};
 ghost use Rattle.ts_labels.specs.Spec.{spec_of, change_of};
 ghost use Rattle.ts_db.specs.Faults.{IsRefusal};
@@ -36,7 +36,7 @@ impl Db {
         change: Change,
         steps: &mut Steps<L>,
     ) -> Result<(), DbFault>
-        ensures altered { AnswersDone self.old (λ h. alter_at h.limits h.state key.now (change_of change) (get key.now h.state)) result self.new }
+        ensures altered { AnswersDone self.old (λ h. alter h.limits h.state key.now (change_of change)) result self.new }
         ensures limits { self.new.limits ≡ self.old.limits }
         ensures own { IfErr result (IsOwn self.old key.now) }
         ensures steps { Takes steps.old steps.new (2 * reach_at self.old key.now) }
@@ -57,7 +57,7 @@ impl Db {
         steps: &mut Steps<L>,
     ) -> Result<u64, DbFault>
         requires time { time ≤ MAX_TIME }
-        ensures added { AnswersNumber self.old (λ h. add_at h.limits h.state key time value on (spec_of spec) (get key h.state)) result self.new }
+        ensures added { AnswersNumber self.old (λ h. add h.limits h.state key time value on (spec_of spec)) result self.new }
         ensures bounded { IfOk result (λ t. t ≤ MAX_TIME) }
         ensures limits { self.new.limits ≡ self.old.limits }
         ensures own { IfErr result (IsOwn self.old key) }
@@ -80,7 +80,7 @@ impl Db {
         steps: &mut Steps<L>,
     ) -> Result<u64, DbFault>
         requires time { time ≤ MAX_TIME }
-        ensures changed { AnswersNumber self.old (λ h. incr_at h.limits h.state key change time (spec_of spec) (get key h.state)) result self.new }
+        ensures changed { AnswersNumber self.old (λ h. incr h.limits h.state key change time (spec_of spec)) result self.new }
         ensures bounded { IfOk result (λ t. t ≤ MAX_TIME) }
         ensures limits { self.new.limits ≡ self.old.limits }
         ensures own { IfErr result (IsOwn self.old key) }
@@ -101,7 +101,7 @@ impl Db {
         steps: &mut Steps<L>,
     ) -> Result<u64, DbFault>
         requires time { time ≤ MAX_TIME }
-        ensures put { AnswersNumber self.old (λ h. put_at h.limits h.state key.now time value (get key.now h.state)) result self.new }
+        ensures put { AnswersNumber self.old (λ h. put_own h.limits h.state key.now time value) result self.new }
         ensures bounded { IfOk result (λ t. t ≤ MAX_TIME) }
         ensures limits { self.new.limits ≡ self.old.limits }
         ensures own { IfErr result (IsOwn self.old key.now) }
@@ -123,7 +123,7 @@ impl Db {
         steps: &mut Steps<L>,
     ) -> Result<u64, DbFault>
         requires time { from ≤ MAX_TIME }
-        ensures deleted { AnswersNumber self.old (λ h. delete_at h.limits h.state key.now from to (get key.now h.state)) result self.new }
+        ensures deleted { AnswersNumber self.old (λ h. delete h.limits h.state key.now from to) result self.new }
         ensures bounded { IfOk result (λ n. n ≤ MAX_TIME) }
         ensures limits { self.new.limits ≡ self.old.limits }
         ensures own { IfErr result (IsOwn self.old key.now) }
@@ -149,7 +149,7 @@ impl Db {
 
     /// Ends the rule from one key to another, without memory. What the destination shows stays.
     pub fn delete_rule(&mut self, source: &Word, dest: &Word) -> Result<(), DbFault>
-        ensures ended { AnswersDone self.old (λ h. delete_rule_at h.state source.now dest.now (get source.now h.state)) result self.new }
+        ensures ended { AnswersDone self.old (λ h. delete_rule h.state source.now dest.now) result self.new }
         ensures limits { self.new.limits ≡ self.old.limits }
         ensures refused { IfErr result IsRefusal }
     {

@@ -1,11 +1,10 @@
 // TS.DEL on the store: samples are taken out, and the destinations of rules are mended.
 ghost use Rattle.std.specs.Prelude.{◌≡◌, ◌≤◌, [], length, Some, IfOk, IfErr};
 ghost use Rattle.ts_spec.specs.Key.{Key};
-ghost use Rattle.ts_spec.specs.Keyed.{get};
 ghost use Rattle.ts_spec.specs.Mending.{keep_deleted};
 ghost use Rattle.ts_spec.specs.Response.{Count};
 ghost use Rattle.ts_spec.specs.Sample.{MAX_TIME, between};
-ghost use Rattle.ts_spec.specs.KeptStep.{kept_delete_at, kept_meets_expired, kept_within_destinations};
+ghost use Rattle.ts_spec.specs.KeptStep.{kept_delete, kept_meets_expired, kept_within_destinations};
 ghost use Rattle.ts_sample.specs.Steps.{Takes};
 ghost use Rattle.ts_series.specs.History.{list_of};
 ghost use Rattle.ts_db.specs.declared.node.Node.{Node as TheNode};
@@ -34,7 +33,7 @@ impl Store {
     ) -> Result<u64, DbFault>
         requires time { from ≤ MAX_TIME }
         requires db { IsDb self.old }
-        ensures deleted { KeptNumber (stock_of self.old) (kept_delete_at self.old.limits (stock_of self.old).keys key.now from to (get key.now (stock_of self.old).keys)) result (stock_of self.new) }
+        ensures deleted { KeptNumber (stock_of self.old) (kept_delete self.old.limits (stock_of self.old).keys key.now from to) result (stock_of self.new) }
         ensures bounded { IfOk result (λ n. n ≤ MAX_TIME) }
         ensures own { IfErr result (IsOwn (stock_of self.old) key.now) }
         ensures store { IsInOrder self.new }

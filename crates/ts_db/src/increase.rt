@@ -1,10 +1,9 @@
 // TS.INCRBY and TS.DECRBY on the store: a write of the last value and a change.
 ghost use Rattle.std.specs.Prelude.{◌≡◌, ◌≤◌, IfOk, IfErr};
 ghost use Rattle.ts_spec.specs.Sample.{MAX_TIME, last_of};
-ghost use Rattle.ts_spec.specs.Keyed.{get};
 ghost use Rattle.ts_spec.specs.Rules.{within_bound};
 ghost use Rattle.ts_spec.specs.Step.{is_before_last, changed_value};
-ghost use Rattle.ts_spec.specs.KeptStep.{kept_incr_at};
+ghost use Rattle.ts_spec.specs.KeptStep.{kept_incr};
 ghost use Rattle.ts_sample.specs.Steps.{Takes};
 ghost use Rattle.ts_labels.specs.Spec.{spec_of};
 ghost use Rattle.ts_series.specs.History.{list_of};
@@ -37,7 +36,7 @@ impl Store {
     ) -> Result<u64, DbFault>
         requires time { time ≤ MAX_TIME }
         requires db { IsDb self.old }
-        ensures changed { KeptNumber (stock_of self.old) (kept_incr_at self.old.limits (stock_of self.old).keys key change time (spec_of spec) (get key (stock_of self.old).keys)) result (stock_of self.new) }
+        ensures changed { KeptNumber (stock_of self.old) (kept_incr self.old.limits (stock_of self.old).keys key change time (spec_of spec)) result (stock_of self.new) }
         ensures bounded { IfOk result (λ t. t ≤ MAX_TIME) }
         ensures own { IfErr result (IsOwn (stock_of self.old) key) }
         ensures store { IsInOrder self.new }

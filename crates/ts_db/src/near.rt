@@ -32,7 +32,7 @@ impl Db {
         steps: &mut Steps<L>,
     ) -> Result<u64, DbFault>
         requires time { time ≤ MAX_TIME }
-        ensures put { AnswersNumber self.old (λ h. put_by h.limits h.state key.now time value on (get key.now h.state)) result self.new }
+        ensures put { AnswersNumber self.old (λ h. put_by h.limits h.state key.now time value on) result self.new }
         ensures bounded { IfOk result (λ t. t ≤ MAX_TIME) }
         ensures limits { self.new.limits ≡ self.old.limits }
         ensures own { IfErr result (IsOwn self.old key.now) }
@@ -57,7 +57,7 @@ impl Store {
     ) -> Result<u64, DbFault>
         requires time { time ≤ MAX_TIME }
         requires db { IsDb self.old }
-        ensures put { KeptNumber (stock_of self.old) (kept_put_by self.old.limits (stock_of self.old).keys key.now time value on (get key.now (stock_of self.old).keys)) result (stock_of self.new) }
+        ensures put { KeptNumber (stock_of self.old) (kept_put_by self.old.limits (stock_of self.old).keys key.now time value on) result (stock_of self.new) }
         ensures bounded { IfOk result (λ t. t ≤ MAX_TIME) }
         ensures own { IfErr result (IsOwn (stock_of self.old) key.now) }
         ensures store { IsInOrder self.new }

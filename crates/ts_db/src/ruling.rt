@@ -1,8 +1,7 @@
 // The rules of a store: how they are made, and how they end.
 ghost use Rattle.std.specs.Prelude.{◌≡◌, Some, IfErr};
 ghost use Rattle.slab.specs.Slab as slab;
-ghost use Rattle.ts_spec.specs.Keyed.{get};
-ghost use Rattle.ts_spec.specs.KeptStep.{kept_create_rule, kept_delete_rule_at};
+ghost use Rattle.ts_spec.specs.KeptStep.{kept_create_rule, kept_delete_rule};
 ghost use Rattle.ts_db.specs.Answering.{KeptDone};
 ghost use Rattle.ts_db.specs.Faults.{IsRefusal};
 ghost use Rattle.ts_db.specs.declared.node.Node.{Node as TheNode};
@@ -62,7 +61,7 @@ impl Store {
     // Ends the rule from one key to another, without memory.
     pub(crate) fn delete_rule(&mut self, source: &Word, dest: &Word) -> Result<(), DbFault>
         requires { IsDb self.old }
-        ensures ended { KeptDone (stock_of self.old) (kept_delete_rule_at (stock_of self.old).keys source.now dest.now (get source.now (stock_of self.old).keys)) result (stock_of self.new) }
+        ensures ended { KeptDone (stock_of self.old) (kept_delete_rule (stock_of self.old).keys source.now dest.now) result (stock_of self.new) }
         ensures refused { IfErr result IsRefusal }
         ensures store { IsInOrder self.new }
     {

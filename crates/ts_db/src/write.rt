@@ -3,8 +3,7 @@ ghost use Rattle.std.specs.Prelude.{◌≡◌, ◌≤◌, Some, option_map, IfOk
 ghost use Rattle.ts_spec.specs.declared.series.Merge.TheVariants.{By};
 ghost use Rattle.ts_spec.specs.Sample.{MAX_TIME};
 ghost use Rattle.ts_spec.specs.Key.{Key};
-ghost use Rattle.ts_spec.specs.Keyed.{get};
-ghost use Rattle.ts_spec.specs.KeptStep.{kept_add_at, kept_write_merged};
+ghost use Rattle.ts_spec.specs.KeptStep.{kept_add, kept_write_merged};
 ghost use Rattle.ts_sample.specs.Steps.{Takes};
 ghost use Rattle.ts_labels.specs.Spec.{spec_of};
 ghost use Rattle.ts_series.specs.Put.{met};
@@ -12,7 +11,7 @@ ghost use Rattle.ts_db.specs.declared.node.Node.{Node as TheNode};
 ghost use Rattle.ts_db.specs.Held.{IsOwn};
 ghost use Rattle.ts_db.specs.Store.{key_in, stock_of, number_of, IsInOrder, IsDb, IsThere, Holds};
 ghost use Rattle.ts_db.specs.Answering.{KeptNumber};
-ghost use Rattle.ts_db.specs.PutBy.{kept_merge_at};
+ghost use Rattle.ts_db.specs.PutBy.{kept_merge};
 ghost use Rattle.ts_db.specs.Bounds.{write_steps, IsEasyAppend, IsIgnored};
 
 use crate::fault::{DbFault, fault_at};
@@ -40,7 +39,7 @@ impl Store {
     ) -> Result<u64, DbFault>
         requires time { time ≤ MAX_TIME }
         requires db { IsDb self.old }
-        ensures added { KeptNumber (stock_of self.old) (kept_add_at self.old.limits (stock_of self.old).keys key time value on (spec_of spec) (get key (stock_of self.old).keys)) result (stock_of self.new) }
+        ensures added { KeptNumber (stock_of self.old) (kept_add self.old.limits (stock_of self.old).keys key time value on (spec_of spec)) result (stock_of self.new) }
         ensures bounded { IfOk result (λ t. t ≤ MAX_TIME) }
         ensures own { IfErr result (IsOwn (stock_of self.old) key) }
         ensures store { IsInOrder self.new }
@@ -54,7 +53,7 @@ impl Store {
         self.write(id, merge_by(on), time, value, steps)
     }
 
-    // Writes to the series of the key of a number, so, or else by its own policy, where the time has a sample. Answers the
+    // Writes to the series of the key of a number, by this merge, or else by its own policy, where the time has a sample. Answers the
     // time, or that of the last sample where this one is ignored.
     pub(crate) fn write<L: Ledger>(
         &mut self,
@@ -68,7 +67,7 @@ impl Store {
         requires db { IsDb self.old }
         requires there { IsThere self.old id }
         ensures written { (key : Key) → number_of key self.old.keys.entries ≡ Some id
-            → KeptNumber (stock_of self.old) (kept_merge_at self.old.limits (stock_of self.old).keys key time value how (get key (stock_of self.old).keys)) result (stock_of self.new) }
+            → KeptNumber (stock_of self.old) (kept_merge self.old.limits (stock_of self.old).keys key time value how) result (stock_of self.new) }
         ensures bounded { IfOk result (λ t. t ≤ MAX_TIME) }
         ensures own { (key : Key) → number_of key self.old.keys.entries ≡ Some id → IfErr result (IsOwn (stock_of self.old) key) }
         ensures store { IsInOrder self.new }

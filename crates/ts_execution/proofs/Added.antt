@@ -9,10 +9,10 @@ use Rattle.ts_spec.specs.Refusal as refusal
 use Rattle.ts_spec.specs.Refusal.{Refusal}
 use Rattle.ts_spec.specs.Response.{Count, Refused}
 use Rattle.ts_spec.specs.State.{Record}
-use Rattle.ts_spec.specs.Step.{Outcome, add_at, put_at}
+use Rattle.ts_spec.specs.Step.{Outcome, add_at, add, put_at, put_own}
 use Rattle.ts_sample.specs.declared.id.Id.{Id}
 use Rattle.ts_db.specs.Faults.{refusal_of}
-use Rattle.ts_db.specs.PutBy.{put_by}
+use Rattle.ts_db.specs.PutBy.{put_by_at, put_by}
 use Rattle.ts_db.specs.Held.{Held, Stock, AnswersNumber, IsDone, IsAnswer}
 use Rattle.ts_db.specs.declared.fault.DbFault.{DbFault}
 use Rattle.ts_db.specs.declared.fault.DbFault.TheVariants.{KeyExists, NoKey, KeysFull, LabelsFull, TooOld, Duplicate, OutOfRange, BeforeLast, SamplesFull, DeleteBeyondRetention, SameKey, SourceIsDest, DestIsSource, DestHasSource, RulesSpent, RulesFull, NoRule, Memory}
@@ -42,18 +42,18 @@ only_missing ids (Memory e) is = absurd (cc is)
 module _ (key : Key) (t : ℕ) (v : ℤ) (on : Option Policy) (spec : Spec) where
   -- a write to a key that is there, and TS.ADD
   abbrev pub puts : Held → Outcome
-  puts h = put_by h.limits h.state key t v on (get key h.state)
+  puts h = put_by h.limits h.state key t v on
 
   abbrev pub adds : Held → Outcome
-  adds h = add_at h.limits h.state key t v on spec (get key h.state)
+  adds h = add h.limits h.state key t v on spec
 
   done_as : (time : ℕ) (from : Held) (new : Stock) (o : Option Record)
-      → IsDone (Count time) from.limits (put_by from.limits from.state key t v on o) new → IsDone (Count time) from.limits (add_at from.limits from.state key t v on spec o) new
+      → IsDone (Count time) from.limits (put_by_at from.limits from.state key t v on o) new → IsDone (Count time) from.limits (add_at from.limits from.state key t v on spec o) new
   done_as time from new None done = absurd (cc done.says)
   done_as time from new (Some d) done = done
 
   refused_as : (r : Option Refusal) (from : Held) (o : Option Record) → r ≢ Some refusal.NoKey
-      → IsAnswer r from.state (put_by from.limits from.state key t v on o) → IsAnswer r from.state (add_at from.limits from.state key t v on spec o)
+      → IsAnswer r from.state (put_by_at from.limits from.state key t v on o) → IsAnswer r from.state (add_at from.limits from.state key t v on spec o)
   refused_as None from None other is = absurd is
   refused_as None from (Some d) other is = is
   refused_as (Some r) from None other is =
@@ -74,11 +74,11 @@ module _ (key : Key) (t : ℕ) (v : ℤ) (on : Option Policy) (spec : Spec) wher
 
 -- ---- by no policy of its own
 
-own : (h : Held) (key : Key) (t : ℕ) (v : ℤ) (o : Option Record) → put_by h.limits h.state key t v None o ≡ put_at h.limits h.state key t v o
+own : (h : Held) (key : Key) (t : ℕ) (v : ℤ) (o : Option Record) → put_by_at h.limits h.state key t v None o ≡ put_at h.limits h.state key t v o
 own h key t v None = refl
 own h key t v (Some d) = refl
 
 -- it is a write by that of the series
-pub by-own : (old : Stock) (key : Key) (t : ℕ) (v : ℤ) (r : Result ℕ DbFault) (new : Stock) → AnswersNumber old (λ h. put_by h.limits h.state key t v None (get key h.state)) r new
-    → AnswersNumber old (λ h. put_at h.limits h.state key t v (get key h.state)) r new
+pub by-own : (old : Stock) (key : Key) (t : ℕ) (v : ℤ) (r : Result ℕ DbFault) (new : Stock) → AnswersNumber old (λ h. put_by h.limits h.state key t v None) r new
+    → AnswersNumber old (λ h. put_own h.limits h.state key t v) r new
 by-own old key t v r new = subst (λ (step : Held → Outcome). AnswersNumber old step r new) (λ i h. own h key t v (get key h.state) i)

@@ -19,7 +19,7 @@ use Rattle.ts_spec.specs.Step.{Outcome, refused, fresh, first_full, rules_at, un
 use Rattle.ts_spec.specs.Ignoring.{ignored}
 use Rattle.ts_spec.specs.Value.{bound}
 use Rattle.ts_db.specs.Held.{YieldsToMemory}
-use Rattle.ts_db.specs.PutBy.{put_by}
+use Rattle.ts_db.specs.PutBy.{put_by_at}
 
 -- the answer is not that the key is missing
 abbrev Knows : Response → Type 0
@@ -81,7 +81,7 @@ module _ (limits : Limits) (m : State) (key : Key) (t : ℕ) where
       choice (nat_lt t (edge d)) (refused m TooOld) (unless_ignored m (ignored m key d t v) step) (other TooOld (λ is. absurd (cc is)))
       (unless (ignored m key d t v) step (merged (merge (By policy) (value_at t (shown m key)) v) (met policy (value_at t (shown m key)) v)))
 
-  pub missing : (v : ℤ) (on : Option Policy) (o : Option Record) → put_by limits m key t v on o ≡ refused m NoKey → o ≡ None
+  pub missing : (v : ℤ) (on : Option Policy) (o : Option Record) → put_by_at limits m key t v on o ≡ refused m NoKey → o ≡ None
   missing v on None is = refl
   missing v on (Some d) is = absurd (writes (unwrap_or on d.options.policy) d v (ap (λ (s : Outcome). s.response) is))
 

@@ -11,7 +11,7 @@ use Rattle.ts_spec.specs.Command.{Spec, Change}
 use Rattle.ts_spec.specs.Ignoring.{ignored}
 use Rattle.ts_spec.specs.Key.{Key, same}
 use Rattle.ts_spec.specs.Keyed.{get, with_key, count_keys}
-use Rattle.ts_spec.specs.Making.{fresh, created, create, is_longer, alter_at, altered, has_rules, ruled, create_rule_at, create_rule, delete_rule_at, drop_keys}
+use Rattle.ts_spec.specs.Making.{fresh, new_key, create, is_longer, alter_at, altered, has_rules, ruled, create_rule_at, create_rule, delete_rule_at, drop_keys}
 use Rattle.ts_spec.specs.Outcome.{Outcome, refused, answer_only, time_of}
 use Rattle.ts_spec.specs.Refusal.{KeyExists, KeysFull, LabelsFull, TooOld, BeforeLast, SamplesFull, DeleteBeyondRetention, SameKey, SourceIsDest, DestIsSource, DestHasSource, RulesSpent, RulesFull, NoRule}
 use Rattle.ts_spec.specs.Replies.{reply_to}
@@ -39,14 +39,14 @@ either false one other h k = k
 
 -- ---- series
 
-created-none : (limits : Limits) (m : State) (key : Key) (d : Record) (response : Response) → items_of (reply_to response) ≡ Empty → HasNone (created limits m key d response)
-created-none limits m key d response h =
+new_key-none : (limits : Limits) (m : State) (key : Key) (d : Record) (response : Response) → items_of (reply_to response) ≡ Empty → HasNone (new_key limits m key d response)
+new_key-none limits m key d response h =
     let made : Outcome = record { state = with_key key d m; response = response } in
     either (nat_lt limits.labels (length d.labels)) (refused m LabelsFull) (if nat_le limits.keys (count_keys m) then refused m KeysFull else made) (line refl)
     (either (nat_le limits.keys (count_keys m)) (refused m KeysFull) made (line refl) (line h))
 
 create-none : (limits : Limits) (m : State) (key : Key) (s : Spec) → HasNone (create limits m key s)
-create-none limits m key s = either (is_some (get key m)) (refused m KeyExists) (created limits m key (fresh s [] None) Done) (line refl) (created-none limits m key (fresh s [] None) Done refl)
+create-none limits m key s = either (is_some (get key m)) (refused m KeyExists) (new_key limits m key (fresh s [] None) Done) (line refl) (new_key-none limits m key (fresh s [] None) Done refl)
 
 alter-none : (limits : Limits) (m : State) (key : Key) (c : Change) (there : Option Record) → HasNone (alter_at limits m key c there)
 alter-none limits m key c None = line refl
@@ -77,7 +77,7 @@ write-none limits m key d how t v =
     (ignored-none m (ignored m key d t v) (write_merged limits m key t (merge how (value_at t (shown m key)) v)) (merged-none limits m key t (merge how (value_at t (shown m key)) v)))
 
 add-none : (limits : Limits) (m : State) (key : Key) (t : ℕ) (v : ℤ) (on : Option Policy) (s : Spec) (there : Option Record) → HasNone (add_at limits m key t v on s there)
-add-none limits m key t v on s None = created-none limits m key (fresh s (record { time = t; value = v; made = 0 } ∷ []) (Some t)) (Count t) refl
+add-none limits m key t v on s None = new_key-none limits m key (fresh s (record { time = t; value = v; made = 0 } ∷ []) (Some t)) (Count t) refl
 add-none limits m key t v on s (Some d) = write-none limits m key d (By (unwrap_or on d.options.policy)) t v
 
 increased-none : (limits : Limits) (m : State) (key : Key) (d : Record) (t : ℕ) (met : Merged) → HasNone (increased limits m key d t met)
@@ -86,7 +86,7 @@ increased-none limits m key d t (Refuse refusal) = line refl
 increased-none limits m key d t Keep = line refl
 
 incr-none : (limits : Limits) (m : State) (key : Key) (change : ℤ) (t : ℕ) (s : Spec) (there : Option Record) → HasNone (incr_at limits m key change t s there)
-incr-none limits m key change t s None = created-none limits m key (fresh s (record { time = t; value = change; made = 0 } ∷ []) (Some t)) (Count t) refl
+incr-none limits m key change t s None = new_key-none limits m key (fresh s (record { time = t; value = change; made = 0 } ∷ []) (Some t)) (Count t) refl
 incr-none limits m key change t s (Some d) =
     let last : Option Point = last_of (shown m key) in
     let rest : Outcome = increased limits m key d t (within_bound (changed_value change last)) in

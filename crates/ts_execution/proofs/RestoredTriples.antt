@@ -5,12 +5,12 @@ use Rattle.ts_spec.specs.declared.limits.Limits.{Limits}
 use Rattle.ts_spec.specs.Command.{Triple, Madd}
 use Rattle.ts_spec.specs.Grammar.{needs_clock}
 use Rattle.ts_spec.specs.Key.{Key}
-use Rattle.ts_spec.specs.Keyed.{Keyed, get}
+use Rattle.ts_spec.specs.Keyed.{Keyed}
 use Rattle.ts_spec.specs.Refusal.{Fault}
 use Rattle.ts_spec.specs.Replies.{listed, item_reply}
 use Rattle.ts_spec.specs.Response.{Item, Wrote, IsWrong, IsRefused, Count}
 use Rattle.ts_spec.specs.State.{State}
-use Rattle.ts_spec.specs.Step.{Outcome, time_of, triple_step, item_of, put_at, madd}
+use Rattle.ts_spec.specs.Step.{Outcome, time_of, triple_step, item_of, put_own, madd}
 use Rattle.ts_spec.specs.declared.command.At.{At}
 use Rattle.ts_sample.specs.declared.id.Id.{Id}
 use Rattle.ts_db.specs.Faults.{refusal_of}
@@ -160,5 +160,5 @@ pub triple-without : (t : Triple) (stock : Stock) (f : Fault) → (t.at ≡ Err 
 triple-without t stock f is = carries_none stock (λ from to. RestoresTriple restored.Refused t from to) (λ from stands. (step-without from.limits from.state t.key t.at t.value f is, refl))
 
 -- and one with both
-pub triple-with : (limits : Limits) (m : State) (t : Triple) (at : At) (v : ℤ) → t.at ≡ Ok at → t.value ≡ Ok v → triple_step limits m 0 t.key t.at t.value ≡ put_at limits m t.key (time_of 0 at) v (get t.key m)
+pub triple-with : (limits : Limits) (m : State) (t : Triple) (at : At) (v : ℤ) → t.at ≡ Ok at → t.value ≡ Ok v → triple_step limits m 0 t.key t.at t.value ≡ put_own limits m t.key (time_of 0 at) v
 triple-with limits m t at v one two = ap (λ (a : Result At Fault). triple_step limits m 0 t.key a t.value) one ∙ ap (λ (x : Result ℤ Fault). triple_step limits m 0 t.key (Ok at) x) two

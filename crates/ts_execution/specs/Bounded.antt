@@ -4,7 +4,7 @@ use Rattle.ts_spec.specs.Command.{Command, Alter, Add, Incr, Madd, DelRange, Ran
 use Rattle.ts_spec.specs.Outcome.{time_of}
 use Rattle.ts_db.specs.Bounds.{write_steps, deletion_steps, selection_steps}
 use Rattle.ts_db.specs.Held.{Stock, reach_at}
-use Rattle.ts_questions.specs.Bounds.{question_steps, questions_steps}
+use Rattle.ts_questions.specs.Bounds.{question_steps, members_steps}
 
 -- Each command takes no more steps than its change or its question, and none where no sample is looked at. The triples of TS.MADD
 -- are writes one after another, each of which takes what it may on the database that it meets.
@@ -15,7 +15,7 @@ IsBounded stock reading (Incr key change at spec) old new = new ≤ old + write_
 IsBounded stock reading (Madd triples) old new = ⊤
 IsBounded stock reading (DelRange key from to) old new = new ≤ old + deletion_steps stock key from to
 IsBounded stock reading (Range key latest query) old new = new ≤ old + question_steps stock key query.from query.to
-IsBounded stock reading (MRange latest show filters query group) old new = new ≤ old + questions_steps stock filters query.from query.to
+IsBounded stock reading (MRange latest show filters query group) old new = new ≤ old + members_steps stock filters query.from query.to
 IsBounded stock reading (MGet latest show filters) old new = new ≤ old + selection_steps stock filters
 IsBounded stock reading (QueryIndex filters) old new = new ≤ old + selection_steps stock filters
 IsBounded stock reading (InfoOf key) old new = new ≤ old + 2 * reach_at stock key

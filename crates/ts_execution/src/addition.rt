@@ -4,7 +4,7 @@ ghost use Rattle.ts_spec.specs.Keyed.{get};
 ghost use Rattle.ts_spec.specs.Sample.{MAX_TIME};
 ghost use Rattle.ts_spec.specs.Settings.{nothing};
 ghost use Rattle.ts_spec.specs.SeriesOptions.{spec};
-ghost use Rattle.ts_spec.specs.Step.{add_at};
+ghost use Rattle.ts_spec.specs.Step.{add};
 ghost use Rattle.ts_resp.specs.Replies.{reply_of};
 ghost use Rattle.ts_command.specs.Addition.{addition_of};
 ghost use Rattle.ts_db.specs.Held.{Held, Stands, Carries};
@@ -50,8 +50,7 @@ fn write<L: Ledger>(
     steps: &mut Steps<L>,
 ) -> Reply
     requires { time ≤ MAX_TIME }
-    ensures answer { Carries db.old db.new (λ from to. StepOrMemory (add_at from.limits from.state addition.now.key.now time addition.now.value addition.now.on (spec nothing)
-        (get addition.now.key.now from.state)) from (reply_of result) to) }
+    ensures answer { Carries db.old db.new (λ from to. StepOrMemory (add from.limits from.state addition.now.key.now time addition.now.value addition.now.on (spec nothing)) from (reply_of result) to) }
     ensures short { IsShort (reply_of result) }
 {
     match db.put_near(
@@ -81,8 +80,7 @@ fn begin<L: Ledger>(
 ) -> Reply
     requires time { time ≤ MAX_TIME }
     requires missing { (from : Held) → Stands db.old from → get addition.now.key.now from.state ≡ None }
-    ensures answer { Carries db.old db.new (λ from to. StepOrMemory (add_at from.limits from.state addition.now.key.now time addition.now.value addition.now.on (spec nothing)
-        (get addition.now.key.now from.state)) from (reply_of result) to) }
+    ensures answer { Carries db.old db.new (λ from to. StepOrMemory (add from.limits from.state addition.now.key.now time addition.now.value addition.now.on (spec nothing)) from (reply_of result) to) }
     ensures short { IsShort (reply_of result) }
 {
     match addition.key.copy() {

@@ -1,9 +1,8 @@
 // The commands that change one series.
 ghost use Rattle.std.specs.Prelude.{◌≡◌, ◌≤◌, ◌+◌, ◌*◌};
-ghost use Rattle.ts_spec.specs.Keyed.{get};
 ghost use Rattle.ts_spec.specs.Sample.{MAX_TIME};
 ghost use Rattle.ts_spec.specs.Settings.{IsTime};
-ghost use Rattle.ts_spec.specs.Step.{time_of, create, alter_at, add_at, incr_at, delete_at};
+ghost use Rattle.ts_spec.specs.Step.{time_of, create, alter, add, incr, delete};
 ghost use Rattle.ts_labels.specs.Spec.{spec_of, change_of};
 ghost use Rattle.ts_resp.specs.Replies.{reply_of};
 ghost use Rattle.ts_db.specs.Bounds.{write_steps, deletion_steps};
@@ -33,8 +32,7 @@ pub(crate) fn alter<L: Ledger>(
     change: Change,
     steps: &mut Steps<L>,
 ) -> Reply
-    ensures answer { Carries db.old db.new (λ from to. StepOrMemory (alter_at from.limits from.state key.now (change_of change) (get key.now from.state))
-        from (reply_of result) to) }
+    ensures answer { Carries db.old db.new (λ from to. StepOrMemory (alter from.limits from.state key.now (change_of change)) from (reply_of result) to) }
     ensures short { IsShort (reply_of result) }
     ensures steps { steps.new ≤ steps.old + 2 * reach_at db.old key.now }
 {
@@ -52,8 +50,7 @@ pub(crate) fn add<L: Ledger>(
     steps: &mut Steps<L>,
 ) -> Reply
     requires { time ≤ MAX_TIME }
-    ensures answer { Carries db.old db.new (λ from to. StepOrMemory (add_at from.limits from.state key time value on (spec_of spec) (get key from.state))
-        from (reply_of result) to) }
+    ensures answer { Carries db.old db.new (λ from to. StepOrMemory (add from.limits from.state key time value on (spec_of spec)) from (reply_of result) to) }
     ensures short { IsShort (reply_of result) }
     ensures steps { steps.new ≤ steps.old + write_steps db.old key time }
 {
@@ -70,8 +67,7 @@ pub(crate) fn incr<L: Ledger>(
     steps: &mut Steps<L>,
 ) -> Reply
     requires { time ≤ MAX_TIME }
-    ensures answer { Carries db.old db.new (λ from to. StepOrMemory (incr_at from.limits from.state key change time (spec_of spec) (get key from.state))
-        from (reply_of result) to) }
+    ensures answer { Carries db.old db.new (λ from to. StepOrMemory (incr from.limits from.state key change time (spec_of spec)) from (reply_of result) to) }
     ensures short { IsShort (reply_of result) }
     ensures steps { steps.new ≤ steps.old + write_steps db.old key time }
 {
@@ -87,8 +83,7 @@ pub(crate) fn delete<L: Ledger>(
     steps: &mut Steps<L>,
 ) -> Reply
     requires time { from ≤ MAX_TIME }
-    ensures answer { Carries db.old db.new (λ h h'. StepOrMemory (delete_at h.limits h.state key.now from to (get key.now h.state))
-        h (reply_of result) h') }
+    ensures answer { Carries db.old db.new (λ h h'. StepOrMemory (delete h.limits h.state key.now from to) h (reply_of result) h') }
     ensures short { IsShort (reply_of result) }
     ensures steps { steps.new ≤ steps.old + deletion_steps db.old key.now from to }
 {

@@ -11,7 +11,7 @@ use Rattle.ts_spec.specs.Command.{Spec, Change}
 use Rattle.ts_spec.specs.Ignoring.{ignored}
 use Rattle.ts_spec.specs.Key.{Key, same}
 use Rattle.ts_spec.specs.Keyed.{get, with_key, count_keys}
-use Rattle.ts_spec.specs.Making.{fresh, created, create, is_longer, alter_at, altered, has_rules, ruled, create_rule_at, create_rule, delete_rule_at, drop_keys}
+use Rattle.ts_spec.specs.Making.{fresh, new_key, create, is_longer, alter_at, altered, has_rules, ruled, create_rule_at, create_rule, delete_rule_at, drop_keys}
 use Rattle.ts_spec.specs.Outcome.{Outcome, refused, answer_only, time_of}
 use Rattle.ts_spec.specs.Refusal.{Refusal, KeyExists, KeysFull, LabelsFull, TooOld, BeforeLast, SamplesFull, DeleteBeyondRetention, SameKey, SourceIsDest, DestIsSource, DestHasSource, RulesSpent, RulesFull, NoRule}
 use Rattle.ts_spec.specs.Replies.{reply_to}
@@ -44,14 +44,14 @@ either false one other h k = k
 
 -- ---- series
 
-created-none : (limits : Limits) (m : State) (key : Key) (d : Record) (response : Response) → has_error (items_of (reply_to response)) ≡ false → is_error (reply_to response) ≡ false → IsShort m (created limits m key d response)
-created-none limits m key d response h right =
+new_key-none : (limits : Limits) (m : State) (key : Key) (d : Record) (response : Response) → has_error (items_of (reply_to response)) ≡ false → is_error (reply_to response) ≡ false → IsShort m (new_key limits m key d response)
+new_key-none limits m key d response h right =
     let made : Outcome = record { state = with_key key d m; response = response } in
     either (nat_lt limits.labels (length d.labels)) (refused m LabelsFull) (if nat_le limits.keys (count_keys m) then refused m KeysFull else made) no
     (either (nat_le limits.keys (count_keys m)) (refused m KeysFull) made no (line h right))
 
 create-none : (limits : Limits) (m : State) (key : Key) (s : Spec) → IsShort m (create limits m key s)
-create-none limits m key s = either (is_some (get key m)) (refused m KeyExists) (created limits m key (fresh s [] None) Done) no (created-none limits m key (fresh s [] None) Done refl refl)
+create-none limits m key s = either (is_some (get key m)) (refused m KeyExists) (new_key limits m key (fresh s [] None) Done) no (new_key-none limits m key (fresh s [] None) Done refl refl)
 
 alter-none : (limits : Limits) (m : State) (key : Key) (c : Change) (there : Option Record) → IsShort m (alter_at limits m key c there)
 alter-none limits m key c None = no
@@ -82,7 +82,7 @@ write-none limits m key d how t v =
     (ignored-none m (ignored m key d t v) (write_merged limits m key t (merge how (value_at t (shown m key)) v)) (merged-none limits m key t (merge how (value_at t (shown m key)) v)))
 
 add-none : (limits : Limits) (m : State) (key : Key) (t : ℕ) (v : ℤ) (on : Option Policy) (s : Spec) (there : Option Record) → IsShort m (add_at limits m key t v on s there)
-add-none limits m key t v on s None = created-none limits m key (fresh s (record { time = t; value = v; made = 0 } ∷ []) (Some t)) (Count t) refl refl
+add-none limits m key t v on s None = new_key-none limits m key (fresh s (record { time = t; value = v; made = 0 } ∷ []) (Some t)) (Count t) refl refl
 add-none limits m key t v on s (Some d) = write-none limits m key d (By (unwrap_or on d.options.policy)) t v
 
 increased-none : (limits : Limits) (m : State) (key : Key) (d : Record) (t : ℕ) (met : Merged) → IsShort m (increased limits m key d t met)
@@ -91,7 +91,7 @@ increased-none limits m key d t (Refuse refusal) = no
 increased-none limits m key d t Keep = line refl refl
 
 incr-none : (limits : Limits) (m : State) (key : Key) (change : ℤ) (t : ℕ) (s : Spec) (there : Option Record) → IsShort m (incr_at limits m key change t s there)
-incr-none limits m key change t s None = created-none limits m key (fresh s (record { time = t; value = change; made = 0 } ∷ []) (Some t)) (Count t) refl refl
+incr-none limits m key change t s None = new_key-none limits m key (fresh s (record { time = t; value = change; made = 0 } ∷ []) (Some t)) (Count t) refl refl
 incr-none limits m key change t s (Some d) =
     let last : Option Point = last_of (shown m key) in
     let rest : Outcome = increased limits m key d t (within_bound (changed_value change last)) in

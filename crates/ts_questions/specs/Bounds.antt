@@ -14,9 +14,9 @@ use Rattle.ts_questions.specs.declared.wanted.Wanted.TheVariants as wanted
 abbrev pub question_steps : Stock → Key → (from to : ℕ) → ℕ
 question_steps stock key from to = walk_steps stock key from to + 3 * reach_at stock key
 
--- for many: the selection of the keys, and what the question takes of each of them
-abbrev pub questions_steps : Stock → List Filter → (from to : ℕ) → ℕ
-questions_steps stock filters from to = selection_steps stock filters + sum_by (λ key. question_steps stock key from to) (kept_selection stock.keys filters)
+-- for many: the selection of the members, and the question of each of them
+abbrev pub members_steps : Stock → List Filter → (from to : ℕ) → ℕ
+members_steps stock filters from to = selection_steps stock filters + sum_by (λ key. question_steps stock key from to) (kept_selection stock.keys filters)
 
 -- what is told of a key among many takes steps only where it is the rows of a question
 abbrev pub wanted_steps : Stock → Wanted → Key → ℕ

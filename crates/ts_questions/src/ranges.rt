@@ -7,7 +7,7 @@ ghost use Rattle.ts_range.specs.Query.{query_of};
 ghost use Rattle.ts_command.specs.GroupBy.{group_of};
 ghost use Rattle.ts_db.specs.Held.{Held, Stands};
 ghost use Rattle.ts_questions.specs.Answering.{IsReplyText};
-ghost use Rattle.ts_questions.specs.Bounds.{questions_steps};
+ghost use Rattle.ts_questions.specs.Bounds.{members_steps};
 
 use crate::grouping::Grouping;
 use crate::many::put_many;
@@ -37,7 +37,7 @@ pub fn put_ranges<L: Ledger>(
     ensures reply { (from : Held) → Stands db.now from
         → IsReplyText (ranges_response from.limits from.state latest (show_of show) (query_of query) (option_map group_of group) (selection from.state filters.now)) out.new.bytes }
     ensures room { 128 ≤ length out.new.bytes + out.new.spare }
-    ensures steps { steps.new ≤ steps.old + questions_steps db.now filters.now query.from query.to }
+    ensures steps { steps.new ≤ steps.old + members_steps db.now filters.now query.from query.to }
 {
     match group {
         None => {

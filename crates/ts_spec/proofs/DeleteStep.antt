@@ -4,16 +4,15 @@ use Rattle.std.specs.Prelude.{⊤}
 use Rattle.ts_spec.specs.declared.limits.Limits.{Limits}
 use Rattle.ts_spec.specs.Sample.{Point, between}
 use Rattle.ts_spec.specs.Key.{Key, same}
-use Rattle.ts_spec.specs.Keyed.{get}
 use Rattle.ts_spec.specs.State.{Rule, State, edge}
 use Rattle.ts_spec.specs.Rules.{deleted}
 use Rattle.ts_spec.specs.Refusal.{NoKey, DeleteBeyondRetention}
 use Rattle.ts_spec.specs.Response.{Count}
-use Rattle.ts_spec.specs.Writing.{meets_expired, delete_at}
+use Rattle.ts_spec.specs.Writing.{meets_expired, delete_at, delete}
 use Rattle.ts_spec.specs.Valid.{IsValid}
 use Rattle.ts_spec.specs.Kept.{Keeping, kept}
 use Rattle.ts_spec.specs.Mending.{keep_deleted}
-use Rattle.ts_spec.specs.KeptStep.{kept_delete_at}
+use Rattle.ts_spec.specs.KeptStep.{kept_delete_at, kept_delete}
 use Rattle.ts_spec.specs.Stands.{StandsFor, IsStepOf}
 use Rattle.ts_spec.proofs.Keeps.{shown-there}
 use Rattle.ts_spec.proofs.ClientChanges.{deletion-valid}
@@ -23,7 +22,7 @@ use Rattle.ts_spec.proofs.Led.{IsLed, led-told, led-refused, led-if, led-unless,
 use Rattle.ts_spec.proofs.Deleted.{kept-deleted}
 
 pub led-deleted : {Room : Type 0} {Known : Key → Key → Rule → Type 0} (limits : Limits) (m : State) → IsValid limits m → (key : Key) (from to : ℕ) →
-    IsLed limits Room (λ k. same k key) Known m (delete_at limits m key from to (get key m)) (kept_delete_at limits (kept m) key from to (get key (kept m)))
+    IsLed limits Room (λ k. same k key) Known m (delete limits m key from to) (kept_delete limits (kept m) key from to)
 led-deleted limits m v key from to =
     led-at limits m v key (delete_at limits m key from to) (kept_delete_at limits (kept m) key from to) (λ e. led-refused limits m v NoKey)
     (λ d there. (let keys : keep_deleted key from to (kept m) ≡ kept (deleted key from to m) = sym (kept-deleted limits m key d from to v there) in
@@ -39,5 +38,5 @@ led-deleted limits m v key from to =
     })))))
 
 pub delete-step : (limits : Limits) (keys : Keeping) (m : State) (key : Key) (from to : ℕ) → StandsFor limits keys m →
-    IsStepOf limits (delete_at limits m key from to (get key m)) (kept_delete_at limits keys key from to (get key keys))
-delete-step limits keys m key from to s = led-stands limits keys m s {Room = ⊤} (λ n. kept_delete_at limits n key from to (get key n)) tt (led-deleted limits m s.valid key from to)
+    IsStepOf limits (delete limits m key from to) (kept_delete limits keys key from to)
+delete-step limits keys m key from to s = led-stands limits keys m s {Room = ⊤} (λ n. kept_delete limits n key from to) tt (led-deleted limits m s.valid key from to)

@@ -8,11 +8,11 @@ use Rattle.ts_spec.specs.State.{Rule, Record, State, link_to, rule_into, change,
 use Rattle.ts_spec.specs.Rules.{high_by, settled, shown, shown_by}
 use Rattle.ts_spec.specs.Command.{Change}
 use Rattle.ts_spec.specs.Refusal.{NoKey, LabelsFull}
-use Rattle.ts_spec.specs.Step.{altered, is_longer, alter_at}
+use Rattle.ts_spec.specs.Step.{altered, is_longer, alter_at, alter}
 use Rattle.ts_spec.specs.Valid.{IsSoleLink, IsValid}
 use Rattle.ts_spec.specs.Kept.{kept_record, kept}
 use Rattle.ts_spec.specs.Keeping.{kept_altered, keep_changed}
-use Rattle.ts_spec.specs.KeptStep.{kept_alter_at}
+use Rattle.ts_spec.specs.KeptStep.{kept_alter_at, kept_alter}
 use Rattle.ts_spec.proofs.Keys.{same-true}
 use Rattle.ts_spec.proofs.Maps.{get-each, maps-same}
 use Rattle.ts_spec.proofs.Links.{IsReshape}
@@ -91,7 +91,7 @@ module _ (limits : Limits) (m : State) (key : Key) (d : Record) (c : Change) (v 
       go k (Some e) x = sym (each-altered k e x)
 
 pub led-altered : {Room : Type 0} {changed : Key → Bool} (limits : Limits) (m : State) → IsValid limits m → (key : Key) (c : Change) →
-    IsLed limits Room changed (IsKnown m) m (alter_at limits m key c (get key m)) (kept_alter_at limits (kept m) key c (get key (kept m)))
+    IsLed limits Room changed (IsKnown m) m (alter limits m key c) (kept_alter limits (kept m) key c)
 led-altered limits m v key c =
     led-at limits m v key (alter_at limits m key c) (kept_alter_at limits (kept m) key c) (λ x. led-refused limits m v NoKey)
     (λ d x. led-unless limits m v (is_longer limits.labels c.labels) _ LabelsFull _ _ refl

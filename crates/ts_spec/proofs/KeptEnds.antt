@@ -8,11 +8,11 @@ use Rattle.ts_spec.specs.State.{Rule, Record, State, Link, rule_to, link_to, rul
 use Rattle.ts_spec.specs.Rules.{shown_by, ended_in, ended, dropped}
 use Rattle.ts_spec.specs.Refusal.{NoKey, NoRule}
 use Rattle.ts_spec.specs.Response.{Count}
-use Rattle.ts_spec.specs.Step.{delete_rule_at, drop_keys, count_there}
+use Rattle.ts_spec.specs.Step.{delete_rule_at, delete_rule, drop_keys, count_there}
 use Rattle.ts_spec.specs.Valid.{IsValid}
 use Rattle.ts_spec.specs.Kept.{Kept, KeptRule, kept_rule, kept_record, kept}
 use Rattle.ts_spec.specs.Keeping.{source_left, kept_ended, keep_ended, keep_dropped}
-use Rattle.ts_spec.specs.KeptStep.{kept_delete_rule_at, kept_drop_keys, kept_count_there}
+use Rattle.ts_spec.specs.KeptStep.{kept_delete_rule_at, kept_delete_rule, kept_drop_keys, kept_count_there}
 use Rattle.ts_spec.proofs.Maps.{get-each, get-without}
 use Rattle.ts_spec.proofs.Keeps.{shown-there}
 use Rattle.ts_spec.proofs.EndingRules as ending
@@ -63,7 +63,7 @@ module _ (limits : Limits) (m : State) (ends : Key → Key → Bool) (v : IsVali
       go k (Some d) x = ap (λ (q : Kept). Some q) (record-ended k d x)
 
 pub led-without_rule : {Room : Type 0} {changed : Key → Bool} {Known : Key → Key → Rule → Type 0} (limits : Limits) (m : State) → IsValid limits m → (source dest : Key) →
-    IsLed limits Room changed Known m (delete_rule_at m source dest (get source m)) (kept_delete_rule_at (kept m) source dest (get source (kept m)))
+    IsLed limits Room changed Known m (delete_rule m source dest) (kept_delete_rule (kept m) source dest)
 led-without_rule {Room} {changed} {Known} limits m v source dest =
     led-at limits m v source (delete_rule_at m source dest) (kept_delete_rule_at (kept m) source dest) (λ x. led-refused limits m v NoKey)
     (λ d x. rw (ap is_some (rule_to-kept dest d.rules) ∙ some-mapped kept_rule (rule_to dest d.rules))

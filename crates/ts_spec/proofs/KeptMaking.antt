@@ -12,11 +12,11 @@ use Rattle.ts_spec.specs.State.{Rule, Record, State, Link, link_to, edge}
 use Rattle.ts_spec.specs.Command.{Spec}
 use Rattle.ts_spec.specs.Response.{Response, Done, Count}
 use Rattle.ts_spec.specs.Refusal.{KeyExists, LabelsFull, KeysFull, NoKey, SameKey, SourceIsDest, DestIsSource, DestHasSource, RulesSpent, RulesFull}
-use Rattle.ts_spec.specs.Step.{fresh, created, create, create_with, has_rules, with_rule, ruled, create_rule_at, create_rule}
+use Rattle.ts_spec.specs.Step.{fresh, new_key, create, create_with, has_rules, with_rule, ruled, create_rule_at, create_rule}
 use Rattle.ts_spec.specs.Valid.{IsLinked, IsValid}
 use Rattle.ts_spec.specs.Kept.{Kept, kept_rule, kept_record, kept}
 use Rattle.ts_spec.specs.Keeping.{kept_with_rule, keep_ruled, keep_changed}
-use Rattle.ts_spec.specs.KeptStep.{kept_created, kept_create, kept_create_with, kept_create_rule_at, kept_create_rule}
+use Rattle.ts_spec.specs.KeptStep.{kept_new_key, kept_create, kept_create_with, kept_create_rule_at, kept_create_rule}
 use Rattle.ts_spec.proofs.Keys.{same-true, same-sym}
 use Rattle.ts_spec.proofs.Maps.{get-with, get-each}
 use Rattle.ts_spec.proofs.PlainWrite.{get-change, own-kept}
@@ -43,9 +43,9 @@ kept-with m key c linked missing none =
 
 module _ {Room : Type 0} {changed : Key → Bool} {Known : Key → Key → Rule → Type 0} (limits : Limits) (m : State) (v : IsValid limits m) where
   -- a new series answers the same, and leads to what is kept of the state with it
-  led-created : (key : Key) (c : Record) (r : Response) → get key m ≡ None →
-      c.rules ≡ [] → (Room → IsNewRecord limits c) → IsLed limits Room changed Known m (created limits m key c r) (kept_created limits (kept m) key (kept_record None c) r)
-  led-created key c r missing none new =
+  led-new_key : (key : Key) (c : Record) (r : Response) → get key m ≡ None →
+      c.rules ≡ [] → (Room → IsNewRecord limits c) → IsLed limits Room changed Known m (new_key limits m key c r) (kept_new_key limits (kept m) key (kept_record None c) r)
+  led-new_key key c r missing none new =
       led-unless limits m v (nat_lt limits.labels (length c.labels)) _ LabelsFull _ _ refl
       (λ few. led-unless limits m v (nat_le limits.keys (count_keys m)) _ KeysFull _ _ (ap (nat_le limits.keys) (count-kept m))
       (λ free. record {
@@ -57,13 +57,13 @@ module _ {Room : Type 0} {changed : Key → Bool} {Known : Key → Key → Rule 
       IsLed limits Room changed Known m (create limits m key spec) (kept_create limits (kept m) key spec)
   led-create key spec =
       led-unless limits m v (is_some (get key m)) _ KeyExists _ _ (some-kept m key)
-      (λ x. led-created key (fresh spec [] None) Done (missing (get key m) x) refl (λ room. empty-new limits spec))
+      (λ x. led-new_key key (fresh spec [] None) Done (missing (get key m) x) refl (λ room. empty-new limits spec))
 
   -- a new series with one sample
-  pub led-created_with : (key : Key) (spec : Spec) (t : ℕ) (x : ℤ) →
+  pub led-create_with : (key : Key) (spec : Spec) (t : ℕ) (x : ℤ) →
       (Room → 1 ≤ limits.samples) → get key m ≡ None → IsLed limits Room changed Known m (create_with limits m key spec t x) (kept_create_with limits (kept m) key spec t x)
-  led-created_with key spec t x room missing =
-      led-created key (fresh spec (record { time = t; value = x; made = 0 } ∷ []) (Some t)) (Count t) missing refl (λ r. one-new limits spec t x (room r))
+  led-create_with key spec t x room missing =
+      led-new_key key (fresh spec (record { time = t; value = x; made = 0 } ∷ []) (Some t)) (Count t) missing refl (λ r. one-new limits spec t x (room r))
 
 -- ---- a new rule
 

@@ -14,19 +14,19 @@ use Rattle.ts_spec.specs.Rules.{shown, written, Merged, Refuse, Keep, To, merge,
 use Rattle.ts_spec.specs.Refusal.{TooOld, BeforeLast, SamplesFull, NoKey}
 use Rattle.ts_spec.specs.Command.{Spec}
 use Rattle.ts_spec.specs.Response.{Count}
-use Rattle.ts_spec.specs.Step.{shows_more, write_merged, value_at, write, add_at, put_at, is_before_last, changed_value, increased, incr_by, incr_at}
+use Rattle.ts_spec.specs.Step.{shows_more, write_merged, value_at, write, add_at, add, put_at, put_own, is_before_last, changed_value, increased, incr_by, incr_at, incr}
 use Rattle.ts_spec.specs.Ignoring.{ignored_after, ignored, kept_ignored}
 use Rattle.ts_spec.specs.Valid.{IsValid}
 use Rattle.ts_spec.specs.Kept.{Keeping, kept_record, kept}
 use Rattle.ts_spec.specs.Mending.{keep_written}
-use Rattle.ts_spec.specs.KeptStep.{keeps_more, kept_write_merged, kept_write, kept_add_at, kept_put_at, kept_increased, kept_incr_by, kept_incr_at}
+use Rattle.ts_spec.specs.KeptStep.{keeps_more, kept_write_merged, kept_write, kept_add_at, kept_add, kept_put_at, kept_put_own, kept_increased, kept_incr_by, kept_incr_at, kept_incr}
 use Rattle.ts_spec.specs.Stands.{StandsFor, IsStepOf}
 use Rattle.ts_spec.proofs.Keeps.{shown-there, valid-written}
 use Rattle.ts_spec.proofs.KeptMaps.{some-mapped, more-kept}
 use Rattle.ts_spec.proofs.KeptWritten.{kept-written}
 use Rattle.ts_spec.proofs.CountsOn.{counts-on-written}
 use Rattle.ts_spec.proofs.Led.{IsLed, led-told, led-refused, led-unless, led-ignored, led-destinations, led-at, led-stands}
-use Rattle.ts_spec.proofs.KeptMaking.{led-created_with}
+use Rattle.ts_spec.proofs.KeptMaking.{led-create_with}
 
 -- a key ignores the same samples by what is kept of it
 ignored-kept : (m : State) (key : Key) (d : Record) (t : ℕ) (x : ℤ) → get key m ≡ Some d → kept_ignored (kept_record (link_to m key) d) t x ≡ ignored m key d t x
@@ -74,33 +74,33 @@ module _ {Room : Type 0} {Known : Key → Key → Rule → Type 0} (limits : Lim
 -- ---- the commands, by the record at the key
 
 module _ {Room : Type 0} {Known : Key → Key → Rule → Type 0} (limits : Limits) (m : State) (v : IsValid limits m) where
-  pub led-put : (key : Key) (t : ℕ) (x : ℤ) → IsLed limits Room (λ k. same k key) Known m (put_at limits m key t x (get key m)) (kept_put_at limits (kept m) key t x (get key (kept m)))
+  pub led-put : (key : Key) (t : ℕ) (x : ℤ) → IsLed limits Room (λ k. same k key) Known m (put_own limits m key t x) (kept_put_own limits (kept m) key t x)
   led-put key t x =
       led-at limits m v key (put_at limits m key t x) (kept_put_at limits (kept m) key t x) (λ e. led-refused limits m v NoKey)
       (λ d there. led-write limits m v key d there (By d.options.policy) t x)
 
   pub led-add : (key : Key) (t : ℕ) (x : ℤ) (on : Option Policy) (spec : Spec) → (Room → 1 ≤ limits.samples) →
-      IsLed limits Room (λ k. same k key) Known m (add_at limits m key t x on spec (get key m)) (kept_add_at limits (kept m) key t x on spec (get key (kept m)))
+      IsLed limits Room (λ k. same k key) Known m (add limits m key t x on spec) (kept_add limits (kept m) key t x on spec)
   led-add key t x on spec room =
-      led-at limits m v key (add_at limits m key t x on spec) (kept_add_at limits (kept m) key t x on spec) (λ e. led-created_with limits m v key spec t x room e)
+      led-at limits m v key (add_at limits m key t x on spec) (kept_add_at limits (kept m) key t x on spec) (λ e. led-create_with limits m v key spec t x room e)
       (λ d there. led-write limits m v key d there (By (unwrap_or on d.options.policy)) t x)
 
   pub led-incr : (key : Key) (x : ℤ) (t : ℕ) (spec : Spec) → (Room → 1 ≤ limits.samples) →
-      IsLed limits Room (λ k. same k key) Known m (incr_at limits m key x t spec (get key m)) (kept_incr_at limits (kept m) key x t spec (get key (kept m)))
+      IsLed limits Room (λ k. same k key) Known m (incr limits m key x t spec) (kept_incr limits (kept m) key x t spec)
   led-incr key x t spec room =
-      led-at limits m v key (incr_at limits m key x t spec) (kept_incr_at limits (kept m) key x t spec) (λ e. led-created_with limits m v key spec t x room e)
+      led-at limits m v key (incr_at limits m key x t spec) (kept_incr_at limits (kept m) key x t spec) (λ e. led-create_with limits m v key spec t x room e)
       (λ d there. led-incr_by limits m v key d there x t)
 
 -- ---- the same of each state that is stood for
 
 pub add-step : (limits : Limits) (keys : Keeping) (m : State) (key : Key) (t : ℕ) (x : ℤ) (on : Option Policy) (spec : Spec) → 1 ≤ limits.samples → StandsFor limits keys m →
-    IsStepOf limits (add_at limits m key t x on spec (get key m)) (kept_add_at limits keys key t x on spec (get key keys))
-add-step limits keys m key t x on spec room s = led-stands limits keys m s (λ n. kept_add_at limits n key t x on spec (get key n)) room (led-add limits m s.valid key t x on spec (λ r. r))
+    IsStepOf limits (add limits m key t x on spec) (kept_add limits keys key t x on spec)
+add-step limits keys m key t x on spec room s = led-stands limits keys m s (λ n. kept_add limits n key t x on spec) room (led-add limits m s.valid key t x on spec (λ r. r))
 
 pub put-step : (limits : Limits) (keys : Keeping) (m : State) (key : Key) (t : ℕ) (x : ℤ) → StandsFor limits keys m →
-    IsStepOf limits (put_at limits m key t x (get key m)) (kept_put_at limits keys key t x (get key keys))
-put-step limits keys m key t x s = led-stands limits keys m s {Room = ⊤} (λ n. kept_put_at limits n key t x (get key n)) tt (led-put limits m s.valid key t x)
+    IsStepOf limits (put_own limits m key t x) (kept_put_own limits keys key t x)
+put-step limits keys m key t x s = led-stands limits keys m s {Room = ⊤} (λ n. kept_put_own limits n key t x) tt (led-put limits m s.valid key t x)
 
 pub incr-step : (limits : Limits) (keys : Keeping) (m : State) (key : Key) (x : ℤ) (t : ℕ) (spec : Spec) → 1 ≤ limits.samples → StandsFor limits keys m →
-    IsStepOf limits (incr_at limits m key x t spec (get key m)) (kept_incr_at limits keys key x t spec (get key keys))
-incr-step limits keys m key x t spec room s = led-stands limits keys m s (λ n. kept_incr_at limits n key x t spec (get key n)) room (led-incr limits m s.valid key x t spec (λ r. r))
+    IsStepOf limits (incr limits m key x t spec) (kept_incr limits keys key x t spec)
+incr-step limits keys m key x t spec room s = led-stands limits keys m s (λ n. kept_incr limits n key x t spec) room (led-incr limits m s.valid key x t spec (λ r. r))

@@ -15,7 +15,7 @@ use Rattle.ts_spec.specs.Questions.{rows_response, labels_shown, members_respons
 use Rattle.ts_spec.specs.Groups.{uncounted, grouped_response}
 use Rattle.ts_spec.specs.Kept.{KeptRule, Kept, Keeping}
 use Rattle.ts_spec.specs.Mending.{bucket_row, kept_rule_to}
-use Rattle.ts_spec.specs.KeptStep.{KeptOutcome, unchanged_with, kept_edge, list_at, kept_rules_at, kept_create, kept_alter_at, kept_add_at, kept_madd, kept_incr_at, kept_delete_at, kept_create_rule, kept_delete_rule_at, kept_drop_keys, kept_count_there}
+use Rattle.ts_spec.specs.KeptStep.{KeptOutcome, unchanged_with, kept_edge, list_at, kept_rules_at, kept_create, kept_alter, kept_add, kept_madd, kept_incr, kept_delete, kept_create_rule, kept_delete_rule, kept_drop_keys, kept_count_there}
 
 -- the rule that leads to a key, by the key of its source
 abbrev pub rule_from : Keeping → Key → Option Key → Option KeptRule
@@ -105,13 +105,13 @@ kept_info_response (Some d) = Told (kept_info_of d)
 -- the step of a command over what is kept, with a reading of the clock
 abbrev pub kept_step : Limits → Keeping → (reading : ℕ) → Command → KeptOutcome
 kept_step limits m reading (Create key spec) = kept_create limits m key spec
-kept_step limits m reading (Alter key change) = kept_alter_at limits m key change (get key m)
-kept_step limits m reading (Add key at v on spec) = kept_add_at limits m key (time_of reading at) v on spec (get key m)
+kept_step limits m reading (Alter key change) = kept_alter limits m key change
+kept_step limits m reading (Add key at v on spec) = kept_add limits m key (time_of reading at) v on spec
 kept_step limits m reading (Madd triples) = kept_madd limits m reading [] triples
-kept_step limits m reading (Incr key change at spec) = kept_incr_at limits m key change (time_of reading at) spec (get key m)
-kept_step limits m reading (DelRange key from to) = kept_delete_at limits m key from to (get key m)
+kept_step limits m reading (Incr key change at spec) = kept_incr limits m key change (time_of reading at) spec
+kept_step limits m reading (DelRange key from to) = kept_delete limits m key from to
 kept_step limits m reading (CreateRule source dest agg grid) = kept_create_rule limits m source dest agg grid
-kept_step limits m reading (DeleteRule source dest) = kept_delete_rule_at m source dest (get source m)
+kept_step limits m reading (DeleteRule source dest) = kept_delete_rule m source dest
 kept_step limits m reading (Range key latest q) = unchanged_with m (kept_range_response limits m key latest q (get key m))
 kept_step limits m reading (MRange latest show filters q group) = unchanged_with m (kept_ranges_response limits m latest show q group (kept_selection m filters))
 kept_step limits m reading (Get key latest) = unchanged_with m (kept_last_response m key latest (get key m))

@@ -42,19 +42,22 @@ kept_edge d = edge_of d.options.retention d.high
 
 -- ---- TS.CREATE and TS.ALTER
 
-abbrev pub kept_created : Limits → Keeping → Key → Kept → Response → KeptOutcome
-kept_created limits m key d response =
+abbrev pub kept_new_key : Limits → Keeping → Key → Kept → Response → KeptOutcome
+kept_new_key limits m key d response =
     if nat_lt limits.labels (length d.labels) then kept_refused m LabelsFull
     else (if nat_le limits.keys (count_keys m) then kept_refused m KeysFull else record { keys = with_key key d m; response = response })
 
 abbrev pub kept_create : Limits → Keeping → Key → Spec → KeptOutcome
 kept_create limits m key spec =
-    if is_some (get key m) then kept_refused m KeyExists else kept_created limits m key (kept_fresh spec [] None) Done
+    if is_some (get key m) then kept_refused m KeyExists else kept_new_key limits m key (kept_fresh spec [] None) Done
 
 abbrev pub kept_alter_at : Limits → Keeping → Key → Change → Option Kept → KeptOutcome
 kept_alter_at limits m key c None = kept_refused m NoKey
 kept_alter_at limits m key c (Some d) =
     if is_longer limits.labels c.labels then kept_refused m LabelsFull else record { keys = keep_changed key (kept_altered c) m; response = Done }
+
+abbrev pub kept_alter : Limits → Keeping → Key → Change → KeptOutcome
+kept_alter limits m key c = kept_alter_at limits m key c (get key m)
 
 -- ---- a write
 
@@ -102,21 +105,27 @@ kept_write limits m key d how t v =
 
 abbrev pub kept_create_with : Limits → Keeping → Key → Spec → ℕ → ℤ → KeptOutcome
 kept_create_with limits m key spec t v =
-    kept_created limits m key (kept_fresh spec (record { time = t; value = v; made = 0 } ∷ []) (Some t)) (Count t)
+    kept_new_key limits m key (kept_fresh spec (record { time = t; value = v; made = 0 } ∷ []) (Some t)) (Count t)
 
 abbrev pub kept_add_at : Limits → Keeping → Key → ℕ → ℤ → Option Policy → Spec → Option Kept → KeptOutcome
 kept_add_at limits m key t v on spec None = kept_create_with limits m key spec t v
 kept_add_at limits m key t v on spec (Some d) = kept_write limits m key d (By (unwrap_or on d.options.policy)) t v
 
+abbrev pub kept_add : Limits → Keeping → Key → ℕ → ℤ → Option Policy → Spec → KeptOutcome
+kept_add limits m key t v on spec = kept_add_at limits m key t v on spec (get key m)
+
 abbrev pub kept_put_at : Limits → Keeping → Key → ℕ → ℤ → Option Kept → KeptOutcome
 kept_put_at limits m key t v None = kept_refused m NoKey
 kept_put_at limits m key t v (Some d) = kept_write limits m key d (By d.options.policy) t v
+
+abbrev pub kept_put_own : Limits → Keeping → Key → ℕ → ℤ → KeptOutcome
+kept_put_own limits m key t v = kept_put_at limits m key t v (get key m)
 
 -- a triple of TS.MADD, unless its time or its value is none
 abbrev pub kept_triple : Limits → Keeping → (reading : ℕ) → Key → Result At Fault → Result ℤ Fault → KeptOutcome
 kept_triple limits m reading key (Err fault) value = unchanged_with m (Items (IsWrong fault ∷ []))
 kept_triple limits m reading key (Ok at) (Err fault) = unchanged_with m (Items (IsWrong fault ∷ []))
-kept_triple limits m reading key (Ok at) (Ok v) = kept_put_at limits m key (time_of reading at) v (get key m)
+kept_triple limits m reading key (Ok at) (Ok v) = kept_put_own limits m key (time_of reading at) v
 
 abbrev pub kept_madd : Limits → Keeping → (reading : ℕ) → (so_far : List Item) → List Triple → KeptOutcome
 kept_madd limits m reading so_far [] = unchanged_with m (Items so_far)
@@ -138,6 +147,9 @@ abbrev pub kept_incr_at : Limits → Keeping → Key → ℤ → ℕ → Spec �
 kept_incr_at limits m key change t spec None = kept_create_with limits m key spec t change
 kept_incr_at limits m key change t spec (Some d) = kept_incr_by limits m key d change t (last_of d.list)
 
+abbrev pub kept_incr : Limits → Keeping → Key → ℤ → ℕ → Spec → KeptOutcome
+kept_incr limits m key change t spec = kept_incr_at limits m key change t spec (get key m)
+
 -- ---- TS.DEL
 
 abbrev pub kept_meets_expired : ℕ → ℕ → List KeptRule → Bool
@@ -150,6 +162,9 @@ kept_delete_at limits m key from to (Some d) =
     if nat_lt to from then unchanged_with m (Count 0)
     else (if kept_meets_expired from (kept_edge d) d.rules then kept_refused m DeleteBeyondRetention
     else kept_within_destinations limits m key (record { keys = keep_deleted key from to m; response = Count (length (between from to d.list)) }))
+
+abbrev pub kept_delete : Limits → Keeping → Key → (from to : ℕ) → KeptOutcome
+kept_delete limits m key from to = kept_delete_at limits m key from to (get key m)
 
 -- ---- rules, DEL and EXISTS
 
@@ -177,6 +192,9 @@ abbrev pub kept_delete_rule_at : Keeping → (source dest : Key) → Option Kept
 kept_delete_rule_at m source dest None = kept_refused m NoKey
 kept_delete_rule_at m source dest (Some d) =
     if is_some (kept_rule_to dest d.rules) then record { keys = keep_without_rule source dest m; response = Done } else kept_refused m NoRule
+
+abbrev pub kept_delete_rule : Keeping → (source dest : Key) → KeptOutcome
+kept_delete_rule m source dest = kept_delete_rule_at m source dest (get source m)
 
 abbrev pub kept_drop_keys : Keeping → (so_far : ℕ) → List Key → KeptOutcome
 kept_drop_keys m so_far [] = unchanged_with m (Count so_far)

@@ -21,15 +21,15 @@ abbrev pub fresh : Spec → List Point → Option ℕ → Record
 fresh spec plain high = record { options = spec.options; labels = spec.labels; plain = plain; high = high; born = 0; rules = [] }
 
 -- a new series, within the limits on labels and on keys
-abbrev pub created : Limits → State → Key → Record → Response → Outcome
-created limits m key d response =
+abbrev pub new_key : Limits → State → Key → Record → Response → Outcome
+new_key limits m key d response =
     if nat_lt limits.labels (length d.labels) then refused m LabelsFull
     else (if nat_le limits.keys (count_keys m) then refused m KeysFull else record { state = with_key key d m; response = response })
 
 -- TS.CREATE
 abbrev pub create : Limits → State → Key → Spec → Outcome
 create limits m key spec =
-    if is_some (get key m) then refused m KeyExists else created limits m key (fresh spec [] None) Done
+    if is_some (get key m) then refused m KeyExists else new_key limits m key (fresh spec [] None) Done
 
 -- a record with the given parts in place of its own
 abbrev pub altered : Change → Record → Record
@@ -54,6 +54,10 @@ abbrev pub alter_at : Limits → State → Key → Change → Option Record → 
 alter_at limits m key c None = refused m NoKey
 alter_at limits m key c (Some d) =
     if is_longer limits.labels c.labels then refused m LabelsFull else record { state = settled (change key (altered c) m); response = Done }
+
+-- TS.ALTER
+abbrev pub alter : Limits → State → Key → Change → Outcome
+alter limits m key c = alter_at limits m key c (get key m)
 
 -- ---- rules
 
@@ -96,6 +100,10 @@ abbrev pub delete_rule_at : State → (source dest : Key) → Option Record → 
 delete_rule_at m source dest None = refused m NoKey
 delete_rule_at m source dest (Some d) =
     if is_some (rule_to dest d.rules) then record { state = without_rule source dest m; response = Done } else refused m NoRule
+
+-- TS.DELETERULE
+abbrev pub delete_rule : State → (source dest : Key) → Outcome
+delete_rule m source dest = delete_rule_at m source dest (get source m)
 
 -- ---- DEL and EXISTS
 

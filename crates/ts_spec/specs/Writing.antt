@@ -17,7 +17,7 @@ use Rattle.ts_spec.specs.Command.{Spec, Triple}
 use Rattle.ts_spec.specs.Response.{Item, Wrote, IsWrong, IsRefused, Response, Count, Refused, Items}
 use Rattle.ts_spec.specs.Ignoring.{ignored}
 use Rattle.ts_spec.specs.Outcome.{refused, answer_only, time_of, Outcome}
-use Rattle.ts_spec.specs.Making.{fresh, created}
+use Rattle.ts_spec.specs.Making.{fresh, new_key}
 
 -- ---- a write
 
@@ -73,7 +73,7 @@ write limits m key d how t v =
 -- a new series with one sample
 abbrev pub create_with : Limits → State → Key → Spec → ℕ → ℤ → Outcome
 create_with limits m key spec t v =
-    created limits m key (fresh spec (record { time = t; value = v; made = 0 } ∷ []) (Some t)) (Count t)
+    new_key limits m key (fresh spec (record { time = t; value = v; made = 0 } ∷ []) (Some t)) (Count t)
 
 -- ---- TS.ADD and TS.MADD
 
@@ -82,16 +82,24 @@ abbrev pub add_at : Limits → State → Key → ℕ → ℤ → Option Policy �
 add_at limits m key t v on spec None = create_with limits m key spec t v
 add_at limits m key t v on spec (Some d) = write limits m key d (By (unwrap_or on d.options.policy)) t v
 
+-- TS.ADD
+abbrev pub add : Limits → State → Key → ℕ → ℤ → Option Policy → Spec → Outcome
+add limits m key t v on spec = add_at limits m key t v on spec (get key m)
+
 -- a triple of TS.MADD on the record at a key
 abbrev pub put_at : Limits → State → Key → ℕ → ℤ → Option Record → Outcome
 put_at limits m key t v None = refused m NoKey
 put_at limits m key t v (Some d) = write limits m key d (By d.options.policy) t v
 
+-- a triple of TS.MADD, by the own policy of the series
+abbrev pub put_own : Limits → State → Key → ℕ → ℤ → Outcome
+put_own limits m key t v = put_at limits m key t v (get key m)
+
 -- a triple, unless its time or its value is none
 abbrev pub triple_step : Limits → State → (reading : ℕ) → Key → Result At Fault → Result ℤ Fault → Outcome
 triple_step limits m reading key (Err fault) value = answer_only m (Items (IsWrong fault ∷ []))
 triple_step limits m reading key (Ok at) (Err fault) = answer_only m (Items (IsWrong fault ∷ []))
-triple_step limits m reading key (Ok at) (Ok v) = put_at limits m key (time_of reading at) v (get key m)
+triple_step limits m reading key (Ok at) (Ok v) = put_own limits m key (time_of reading at) v
 
 -- what is told of a triple
 abbrev pub item_of : Response → List Item
@@ -135,6 +143,10 @@ abbrev pub incr_at : Limits → State → Key → ℤ → ℕ → Spec → Optio
 incr_at limits m key change t spec None = create_with limits m key spec t change
 incr_at limits m key change t spec (Some d) = incr_by limits m key d change t (last_of (shown m key))
 
+-- TS.INCRBY and TS.DECRBY
+abbrev pub incr : Limits → State → Key → ℤ → ℕ → Spec → Outcome
+incr limits m key change t spec = incr_at limits m key change t spec (get key m)
+
 -- ---- TS.DEL
 
 -- whether the bucket of from, for one of the rules, starts before the edge
@@ -149,3 +161,7 @@ delete_at limits m key from to (Some d) =
     if nat_lt to from then answer_only m (Count 0)
     else (if meets_expired from (edge d) d.rules then refused m DeleteBeyondRetention
     else within_destinations limits m key (record { state = deleted key from to m; response = Count (length (between from to (shown m key))) }))
+
+-- TS.DEL
+abbrev pub delete : Limits → State → Key → (from to : ℕ) → Outcome
+delete limits m key from to = delete_at limits m key from to (get key m)

@@ -1,9 +1,8 @@
 use Rattle.std.proofs.Common.{ℕ, refl, subst}
 use Rattle.ts_spec.specs.Command.{Add}
-use Rattle.ts_spec.specs.Keyed.{get}
 use Rattle.ts_spec.specs.Settings.{nothing}
 use Rattle.ts_spec.specs.SeriesOptions.{spec}
-use Rattle.ts_spec.specs.Step.{add_at, time_of}
+use Rattle.ts_spec.specs.Step.{add, time_of}
 use Rattle.ts_resp.specs.Replies.{reply_of}
 use Rattle.ts_db.specs.Held.{Held, Carries}
 use Rattle.ts_questions.proofs.ReplyTexts.{alone}
@@ -14,7 +13,7 @@ use Rattle.ts_execution.proofs.addition.put_addition.Goals as goal
 pub returns-clause-executes : goal.returns-clause-executes
 returns-clause-executes g c =
     let a = c.args.addition.now in
-    step_executes c.args.reading (Add a.key.now a.at a.value a.on (spec nothing)) (λ (h : Held). add_at h.limits h.state a.key.now (time_of c.args.reading a.at) a.value a.on (spec nothing) (get a.key.now h.state))
+    step_executes c.args.reading (Add a.key.now a.at a.value a.on (spec nothing)) (λ (h : Held). add h.limits h.state a.key.now (time_of c.args.reading a.at) a.value a.on (spec nothing))
     c.args.db.now c.write.new.db (reply_of c.write.result) c.put.new.out.bytes refl (λ from y. y) (λ from to is. is)
-    (subst (λ (t : ℕ). Carries c.args.db.now c.write.new.db (λ from to. StepOrMemory (add_at from.limits from.state a.key.now t a.value a.on (spec nothing) (get a.key.now from.state)) from (reply_of c.write.result) to))
+    (subst (λ (t : ℕ). Carries c.args.db.now c.write.new.db (λ from to. StepOrMemory (add from.limits from.state a.key.now t a.value a.on (spec nothing)) from (reply_of c.write.result) to))
     c.time_at-time.ensures.time c.write.ensures.answer) (alone (reply_of c.write.result) c.clear.new.self.bytes c.put.new.out.bytes c.put.ensures.bytes c.clear.ensures.empty)

@@ -4,7 +4,7 @@ use Rattle.ts_spec.specs.Keyed.{get}
 use Rattle.ts_spec.specs.Response.{Count}
 use Rattle.ts_spec.specs.Settings.{nothing}
 use Rattle.ts_spec.specs.SeriesOptions.{spec}
-use Rattle.ts_spec.specs.Step.{Outcome, add_at}
+use Rattle.ts_spec.specs.Step.{Outcome, add}
 use Rattle.ts_resp.specs.Replies.{reply_of}
 use Rattle.ts_db.specs.Faults.{refusal_of}
 use Rattle.ts_db.specs.Held.{Stock, Stands, Carries, IsAnswer}
@@ -31,7 +31,7 @@ pub begin-requires-clause-missing : goal.begin-requires-clause-missing
 begin-requires-clause-missing g c from stands =
     let a = c.args.addition.now in
     let before = subst (λ (s : Stock). Stands s from) c.in-Err.ensures.put.1 stands in
-    let step : Outcome = put_by from.limits from.state a.key.now c.args.time a.value a.on (get a.key.now from.state) in
+    let step : Outcome = put_by from.limits from.state a.key.now c.args.time a.value a.on in
     missing from.limits from.state a.key.now c.args.time a.value a.on (get a.key.now from.state)
     (subst (λ (fault : DbFault). IsAnswer (refusal_of c.args.db.now.ids fault) from.state step) c.in-NoKey.is (c.in-Err.ensures.put.0 from before))
 
@@ -39,7 +39,7 @@ begin-requires-clause-missing g c from stands =
 pub returns-in-NoKey-clause-answer : goal.returns-in-NoKey-clause-answer
 returns-in-NoKey-clause-answer g c =
     let a = c.args.addition.now in
-    subst (λ (s : Stock). Carries s c.begin.new.db (λ from to. StepOrMemory (add_at from.limits from.state a.key.now c.args.time a.value a.on (spec nothing) (get a.key.now from.state)) from (reply_of c.begin.result) to))
+    subst (λ (s : Stock). Carries s c.begin.new.db (λ from to. StepOrMemory (add from.limits from.state a.key.now c.args.time a.value a.on (spec nothing)) from (reply_of c.begin.result) to))
     c.in-Err.ensures.put.1 c.begin.ensures.answer
 
 pub returns-in_default-clause-answer : goal.returns-in_default-clause-answer

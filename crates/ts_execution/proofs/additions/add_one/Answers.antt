@@ -3,8 +3,7 @@ use Rattle.ts_command.specs.Faults.{fault_of, said_same}
 use Rattle.ts_command.specs.Reading.{triple_of}
 use Rattle.ts_resp.specs.Replies.{reply_of}
 use Rattle.std.proofs.Common.{ℕ}
-use Rattle.ts_spec.specs.Keyed.{get}
-use Rattle.ts_spec.specs.Step.{put_at}
+use Rattle.ts_spec.specs.Step.{put_own}
 use Rattle.ts_db.specs.Held.{Held, AnswersNumber}
 use Rattle.ts_questions.specs.Answering.{IsShort}
 use Rattle.ts_execution.proofs.Added.{by-own}
@@ -21,7 +20,7 @@ pub returns-in-Ok-value-clause-reply : goal.returns-in-Ok-value-clause-reply
 returns-in-Ok-value-clause-reply g c =
     put_item c.args.reading (triple_of c.args.triple) c.in-Ok.at c.in-Ok-value.value (ap said_same c.in-Ok.is) (ap said_same c.in-Ok-value.is) c.args.db.now c.put_near.new.self c.put_near.result
     (reply_of c.number_reply.result) c.number_reply.ensures
-    (subst (λ (t : ℕ). AnswersNumber c.args.db.now (λ (h : Held). put_at h.limits h.state c.args.triple.key t c.in-Ok-value.value (get c.args.triple.key h.state)) c.put_near.result c.put_near.new.self) c.time_at.ensures.time
+    (subst (λ (t : ℕ). AnswersNumber c.args.db.now (λ (h : Held). put_own h.limits h.state c.args.triple.key t c.in-Ok-value.value) c.put_near.result c.put_near.new.self) c.time_at.ensures.time
     (by-own c.args.db.now c.args.triple.key c.time_at.result c.in-Ok-value.value c.put_near.result c.put_near.new.self c.put_near.ensures.put))
 
 pub returns-clause-reply : goal.returns-clause-reply

@@ -16,7 +16,7 @@ use Rattle.ts_spec.specs.Questions.{range_response, last_response, info_response
 use Rattle.ts_spec.specs.Key.{Key}
 use Rattle.ts_spec.specs.Replies.{number}
 use Rattle.ts_spec.specs.Response.{Word}
-use Rattle.ts_spec.specs.Step.{time_of, create, alter_at, add_at, incr_at, delete_at, create_rule, drop_keys, count_there}
+use Rattle.ts_spec.specs.Step.{time_of, create, alter, add, incr, delete, create_rule, drop_keys, count_there}
 use Rattle.ts_db.specs.Held.{Held, Stands, Carries, YieldsToMemory}
 use Rattle.ts_questions.proofs.ReplyTexts.{alone}
 use Rattle.ts_execution.specs.Turn.{IsStep, StepOrMemory, takes_memory}
@@ -24,7 +24,7 @@ use Rattle.ts_execution.proofs.Executed.{step_executes, sure_executes, executes_
 use Rattle.std.specs.Prelude.{IsTrue, option_map}
 use Rattle.ts_spec.specs.KeptQuestions.{kept_selection}
 use Rattle.ts_db.specs.Bounds.{write_steps, selection_steps}
-use Rattle.ts_questions.specs.Bounds.{questions_steps}
+use Rattle.ts_questions.specs.Bounds.{members_steps}
 use Rattle.ts_questions.proofs.MemberBounds.{sum-none}
 use Rattle.ts_execution.proofs.execution.execute_near.Goals as goal
 
@@ -35,14 +35,14 @@ returns-in-Create-clause-executes g c =
 
 pub returns-in-Alter-clause-executes : goal.returns-in-Alter-clause-executes
 returns-in-Alter-clause-executes g c =
-    rw c.in-Alter.is (step_executes c.args.reading (Alter c.in-Alter.key (change_of c.in-Alter.change)) (λ (h : Held). alter_at h.limits h.state c.in-Alter.key (change_of c.in-Alter.change) (get c.in-Alter.key h.state)) c.args.db.now c.alter.new.db (reply_of c.alter.result)
+    rw c.in-Alter.is (step_executes c.args.reading (Alter c.in-Alter.key (change_of c.in-Alter.change)) (λ (h : Held). alter h.limits h.state c.in-Alter.key (change_of c.in-Alter.change)) c.args.db.now c.alter.new.db (reply_of c.alter.result)
     c.put-in-Alter.new.out.bytes refl (λ from y. y) (λ from to is. is) c.alter.ensures.answer (alone (reply_of c.alter.result) c.clear.new.self.bytes c.put-in-Alter.new.out.bytes c.put-in-Alter.ensures.bytes c.clear.ensures.empty))
 
 pub returns-in-Add-clause-executes : goal.returns-in-Add-clause-executes
 returns-in-Add-clause-executes g c =
-    rw c.in-Add.is (step_executes c.args.reading (Add c.in-Add.key c.in-Add.at c.in-Add.value c.in-Add.on (spec_of c.in-Add.spec)) (λ (h : Held). add_at h.limits h.state c.in-Add.key (time_of c.args.reading c.in-Add.at) c.in-Add.value c.in-Add.on (spec_of c.in-Add.spec) (get c.in-Add.key h.state)) c.args.db.now c.add.new.db (reply_of c.add.result)
+    rw c.in-Add.is (step_executes c.args.reading (Add c.in-Add.key c.in-Add.at c.in-Add.value c.in-Add.on (spec_of c.in-Add.spec)) (λ (h : Held). add h.limits h.state c.in-Add.key (time_of c.args.reading c.in-Add.at) c.in-Add.value c.in-Add.on (spec_of c.in-Add.spec)) c.args.db.now c.add.new.db (reply_of c.add.result)
     c.put-in-Add.new.out.bytes refl (λ from y. y) (λ from to is. is)
-    (subst (λ (t : ℕ). Carries c.args.db.now c.add.new.db (λ from to. StepOrMemory (add_at from.limits from.state c.in-Add.key t c.in-Add.value c.in-Add.on (spec_of c.in-Add.spec) (get c.in-Add.key from.state)) from (reply_of c.add.result) to))
+    (subst (λ (t : ℕ). Carries c.args.db.now c.add.new.db (λ from to. StepOrMemory (add from.limits from.state c.in-Add.key t c.in-Add.value c.in-Add.on (spec_of c.in-Add.spec)) from (reply_of c.add.result) to))
     c.time_at.ensures.time c.add.ensures.answer) (alone (reply_of c.add.result) c.clear.new.self.bytes c.put-in-Add.new.out.bytes c.put-in-Add.ensures.bytes c.clear.ensures.empty))
 
 pub returns-in-Madd-clause-executes : goal.returns-in-Madd-clause-executes
@@ -51,14 +51,14 @@ returns-in-Madd-clause-executes g c =
 
 pub returns-in-Incr-clause-executes : goal.returns-in-Incr-clause-executes
 returns-in-Incr-clause-executes g c =
-    rw c.in-Incr.is (step_executes c.args.reading (Incr c.in-Incr.key c.in-Incr.change c.in-Incr.at (spec_of c.in-Incr.spec)) (λ (h : Held). incr_at h.limits h.state c.in-Incr.key c.in-Incr.change (time_of c.args.reading c.in-Incr.at) (spec_of c.in-Incr.spec) (get c.in-Incr.key h.state)) c.args.db.now c.incr.new.db (reply_of c.incr.result)
+    rw c.in-Incr.is (step_executes c.args.reading (Incr c.in-Incr.key c.in-Incr.change c.in-Incr.at (spec_of c.in-Incr.spec)) (λ (h : Held). incr h.limits h.state c.in-Incr.key c.in-Incr.change (time_of c.args.reading c.in-Incr.at) (spec_of c.in-Incr.spec)) c.args.db.now c.incr.new.db (reply_of c.incr.result)
     c.put-in-Incr.new.out.bytes refl (λ from y. y) (λ from to is. is)
-    (subst (λ (t : ℕ). Carries c.args.db.now c.incr.new.db (λ from to. StepOrMemory (incr_at from.limits from.state c.in-Incr.key c.in-Incr.change t (spec_of c.in-Incr.spec) (get c.in-Incr.key from.state)) from (reply_of c.incr.result) to))
+    (subst (λ (t : ℕ). Carries c.args.db.now c.incr.new.db (λ from to. StepOrMemory (incr from.limits from.state c.in-Incr.key c.in-Incr.change t (spec_of c.in-Incr.spec)) from (reply_of c.incr.result) to))
     c.time_at-in-Incr.ensures.time c.incr.ensures.answer) (alone (reply_of c.incr.result) c.clear.new.self.bytes c.put-in-Incr.new.out.bytes c.put-in-Incr.ensures.bytes c.clear.ensures.empty))
 
 pub returns-in-DelRange-clause-executes : goal.returns-in-DelRange-clause-executes
 returns-in-DelRange-clause-executes g c =
-    rw c.in-DelRange.is (step_executes c.args.reading (DelRange c.in-DelRange.key c.in-DelRange.from c.in-DelRange.to) (λ (h : Held). delete_at h.limits h.state c.in-DelRange.key c.in-DelRange.from c.in-DelRange.to (get c.in-DelRange.key h.state)) c.args.db.now c.delete.new.db (reply_of c.delete.result)
+    rw c.in-DelRange.is (step_executes c.args.reading (DelRange c.in-DelRange.key c.in-DelRange.from c.in-DelRange.to) (λ (h : Held). delete h.limits h.state c.in-DelRange.key c.in-DelRange.from c.in-DelRange.to) c.args.db.now c.delete.new.db (reply_of c.delete.result)
     c.put-in-DelRange.new.out.bytes refl (λ from y. y) (λ from to is. is) c.delete.ensures.answer (alone (reply_of c.delete.result) c.clear.new.self.bytes c.put-in-DelRange.new.out.bytes c.put-in-DelRange.ensures.bytes c.clear.ensures.empty))
 
 pub returns-in-CreateRule-clause-executes : goal.returns-in-CreateRule-clause-executes
@@ -165,7 +165,7 @@ returns-in-Range-clause-steps g c = rw c.in-Range.is c.put_range.ensures.steps
 pub returns-in-MRange-clause-steps : goal.returns-in-MRange-clause-steps
 returns-in-MRange-clause-steps g c =
     rw c.in-MRange.is
-    (subst (λ (fs : List Filter). c.put_ranges.new.steps ≤ c.args.steps.now + questions_steps c.args.db.now fs c.in-MRange.query.from c.in-MRange.query.to)
+    (subst (λ (fs : List Filter). c.put_ranges.new.steps ≤ c.args.steps.now + members_steps c.args.db.now fs c.in-MRange.query.from c.in-MRange.query.to)
     c.deref.ensures.value c.put_ranges.ensures.steps)
 
 -- a selection of which no rows are told

@@ -2,8 +2,7 @@ use Rattle.std.proofs.Common.{◌≡◌, false, ℕ, refl, subst}
 use Rattle.ts_labels.specs.Spec.{spec_of, change_of}
 use Rattle.ts_spec.specs.Command.{Command, Create, Alter, Add, Incr, DelRange, CreateRule, DeleteRule}
 use Rattle.ts_spec.specs.Grammar.{needs_clock}
-use Rattle.ts_spec.specs.Keyed.{get}
-use Rattle.ts_spec.specs.Step.{time_of, create, alter_at, add_at, incr_at, delete_at, create_rule, delete_rule_at}
+use Rattle.ts_spec.specs.Step.{time_of, create, alter, add, incr, delete, create_rule, delete_rule}
 use Rattle.ts_db.specs.Held.{Held, AnswersNumber}
 use Rattle.ts_command.specs.Reading.{command_of}
 use Rattle.ts_journal.specs.Record.{is_change}
@@ -23,7 +22,7 @@ pub returns-in-Alter : goal.returns-in-Alter
 returns-in-Alter g c =
     let said : Command = Alter c.in-Alter.key (change_of c.in-Alter.change) in
     record {
-      restores = rw c.in-Alter.is (restores-done said (λ (h : Held). alter_at h.limits h.state c.in-Alter.key (change_of c.in-Alter.change) (get c.in-Alter.key h.state)) c.args.db.now c.alter.new.self c.alter.result c.done-in-Alter.result
+      restores = rw c.in-Alter.is (restores-done said (λ (h : Held). alter h.limits h.state c.in-Alter.key (change_of c.in-Alter.change)) c.args.db.now c.alter.new.self c.alter.result c.done-in-Alter.result
           c.done-in-Alter.ensures (λ h. replayed-change h.limits h.state said refl refl) c.alter.ensures.altered);
     }
 
@@ -32,9 +31,9 @@ returns-in-Add g c =
     let said : Command = Add c.in-Add.key c.in-Add.at c.in-Add.value c.in-Add.on (spec_of c.in-Add.spec) in
     let clock : needs_clock said ≡ false = subst (λ x. needs_clock (command_of x) ≡ false) c.in-Add.is c.requires.clock in
     record {
-      restores = rw c.in-Add.is (restores-number said (λ (h : Held). add_at h.limits h.state c.in-Add.key (time_of 0 c.in-Add.at) c.in-Add.value c.in-Add.on (spec_of c.in-Add.spec) (get c.in-Add.key h.state)) c.args.db.now c.add.new.self c.add.result
+      restores = rw c.in-Add.is (restores-number said (λ (h : Held). add h.limits h.state c.in-Add.key (time_of 0 c.in-Add.at) c.in-Add.value c.in-Add.on (spec_of c.in-Add.spec)) c.args.db.now c.add.new.self c.add.result
           c.numbered.result c.numbered.ensures (λ h. replayed-change h.limits h.state said refl clock)
-          (subst (λ (t : ℕ). AnswersNumber c.args.db.now (λ (h : Held). add_at h.limits h.state c.in-Add.key t c.in-Add.value c.in-Add.on (spec_of c.in-Add.spec) (get c.in-Add.key h.state)) c.add.result c.add.new.self) c.time_at.ensures.time c.add.ensures.added));
+          (subst (λ (t : ℕ). AnswersNumber c.args.db.now (λ (h : Held). add h.limits h.state c.in-Add.key t c.in-Add.value c.in-Add.on (spec_of c.in-Add.spec)) c.add.result c.add.new.self) c.time_at.ensures.time c.add.ensures.added));
     }
 
 pub returns-in-Madd : goal.returns-in-Madd
@@ -45,16 +44,16 @@ returns-in-Incr g c =
     let said : Command = Incr c.in-Incr.key c.in-Incr.change c.in-Incr.at (spec_of c.in-Incr.spec) in
     let clock : needs_clock said ≡ false = subst (λ x. needs_clock (command_of x) ≡ false) c.in-Incr.is c.requires.clock in
     record {
-      restores = rw c.in-Incr.is (restores-number said (λ (h : Held). incr_at h.limits h.state c.in-Incr.key c.in-Incr.change (time_of 0 c.in-Incr.at) (spec_of c.in-Incr.spec) (get c.in-Incr.key h.state)) c.args.db.now c.incr.new.self c.incr.result
+      restores = rw c.in-Incr.is (restores-number said (λ (h : Held). incr h.limits h.state c.in-Incr.key c.in-Incr.change (time_of 0 c.in-Incr.at) (spec_of c.in-Incr.spec)) c.args.db.now c.incr.new.self c.incr.result
           c.numbered-in-Incr.result c.numbered-in-Incr.ensures (λ h. replayed-change h.limits h.state said refl clock)
-          (subst (λ (t : ℕ). AnswersNumber c.args.db.now (λ (h : Held). incr_at h.limits h.state c.in-Incr.key c.in-Incr.change t (spec_of c.in-Incr.spec) (get c.in-Incr.key h.state)) c.incr.result c.incr.new.self) c.time_at-in-Incr.ensures.time c.incr.ensures.changed));
+          (subst (λ (t : ℕ). AnswersNumber c.args.db.now (λ (h : Held). incr h.limits h.state c.in-Incr.key c.in-Incr.change t (spec_of c.in-Incr.spec)) c.incr.result c.incr.new.self) c.time_at-in-Incr.ensures.time c.incr.ensures.changed));
     }
 
 pub returns-in-DelRange : goal.returns-in-DelRange
 returns-in-DelRange g c =
     let said : Command = DelRange c.in-DelRange.key c.in-DelRange.from c.in-DelRange.to in
     record {
-      restores = rw c.in-DelRange.is (restores-number said (λ (h : Held). delete_at h.limits h.state c.in-DelRange.key c.in-DelRange.from c.in-DelRange.to (get c.in-DelRange.key h.state)) c.args.db.now c.delete_range.new.self c.delete_range.result
+      restores = rw c.in-DelRange.is (restores-number said (λ (h : Held). delete h.limits h.state c.in-DelRange.key c.in-DelRange.from c.in-DelRange.to) c.args.db.now c.delete_range.new.self c.delete_range.result
           c.numbered-in-DelRange.result c.numbered-in-DelRange.ensures (λ h. replayed-change h.limits h.state said refl refl) c.delete_range.ensures.deleted);
     }
 
@@ -70,7 +69,7 @@ pub returns-in-DeleteRule : goal.returns-in-DeleteRule
 returns-in-DeleteRule g c =
     let said : Command = DeleteRule c.in-DeleteRule.source c.in-DeleteRule.dest in
     record {
-      restores = rw c.in-DeleteRule.is (restores-done said (λ (h : Held). delete_rule_at h.state c.in-DeleteRule.source c.in-DeleteRule.dest (get c.in-DeleteRule.source h.state)) c.args.db.now c.delete_rule.new.self c.delete_rule.result
+      restores = rw c.in-DeleteRule.is (restores-done said (λ (h : Held). delete_rule h.state c.in-DeleteRule.source c.in-DeleteRule.dest) c.args.db.now c.delete_rule.new.self c.delete_rule.result
           c.done-in-DeleteRule.result c.done-in-DeleteRule.ensures (λ h. replayed-change h.limits h.state said refl refl) c.delete_rule.ensures.ended);
     }
 

@@ -1,8 +1,7 @@
 use Rattle.std.proofs.Common.{ℕ, inl, inr, ap, subst}
 use Rattle.ts_command.specs.Faults.{fault_of, said_same}
 use Rattle.ts_command.specs.Reading.{triple_of}
-use Rattle.ts_spec.specs.Keyed.{get}
-use Rattle.ts_spec.specs.Step.{time_of, put_at}
+use Rattle.ts_spec.specs.Step.{time_of, put_own}
 use Rattle.ts_db.specs.Held.{Held, AnswersNumber}
 use Rattle.ts_execution.proofs.Added.{by-own}
 use Rattle.ts_execution.proofs.RestoredTriples.{triple-without, triple-with, restores-triple}
@@ -15,9 +14,9 @@ returns-in-Err g c =
 pub returns-in-Ok-value : goal.returns-in-Ok-value
 returns-in-Ok-value g c =
     record {
-      restores = restores-triple (triple_of c.args.triple) (λ (h : Held). put_at h.limits h.state c.args.triple.key (time_of 0 c.in-Ok.at) c.in-Ok-value.value (get c.args.triple.key h.state)) c.args.db.now c.put_near.new.self c.put_near.result
+      restores = restores-triple (triple_of c.args.triple) (λ (h : Held). put_own h.limits h.state c.args.triple.key (time_of 0 c.in-Ok.at) c.in-Ok-value.value) c.args.db.now c.put_near.new.self c.put_near.result
           c.numbered.result c.numbered.ensures (λ h. triple-with h.limits h.state (triple_of c.args.triple) c.in-Ok.at c.in-Ok-value.value (ap said_same c.in-Ok.is) (ap said_same c.in-Ok-value.is))
-          (subst (λ (t : ℕ). AnswersNumber c.args.db.now (λ (h : Held). put_at h.limits h.state c.args.triple.key t c.in-Ok-value.value (get c.args.triple.key h.state)) c.put_near.result c.put_near.new.self) c.time_at.ensures.time
+          (subst (λ (t : ℕ). AnswersNumber c.args.db.now (λ (h : Held). put_own h.limits h.state c.args.triple.key t c.in-Ok-value.value) c.put_near.result c.put_near.new.self) c.time_at.ensures.time
           (by-own c.args.db.now c.args.triple.key c.time_at.result c.in-Ok-value.value c.put_near.result c.put_near.new.self c.put_near.ensures.put));
     }
 

@@ -8,7 +8,7 @@ use Rattle.ts_sample.specs.Steps.{Takes}
 use Rattle.ts_labels.specs.Spec.{spec_of}
 use Rattle.ts_db.specs.Store.{stock_of, Holds}
 use Rattle.ts_db.specs.Answering.{KeptNumber}
-use Rattle.ts_db.specs.PutBy.{kept_put_by}
+use Rattle.ts_db.specs.PutBy.{kept_put_by_at}
 use Rattle.ts_db.specs.Bounds.{write_steps}
 use Rattle.ts_db.proofs.Destinations.{only-key}
 use Rattle.ts_db.proofs.Applying.{there}
@@ -38,7 +38,7 @@ returns-clause-added g c =
     let is = there c.args.self.now c.requires.db.store c.args.key c.in-Some.id found.0 holds in
     subst (λ (o : Option Kept). KeptNumber (stock_of c.args.self.now) (kept_add_at c.args.self.now.limits (stock_of c.args.self.now).keys c.args.key c.args.time c.args.value c.args.on (spec_of c.args.spec) o) c.write.result (stock_of c.write.new.self))
     (sym is)
-    (subst (λ (o : Option Kept). KeptNumber (stock_of c.args.self.now) (kept_put_by c.args.self.now.limits (stock_of c.args.self.now).keys c.args.key c.args.time c.args.value c.args.on o) c.write.result (stock_of c.write.new.self))
+    (subst (λ (o : Option Kept). KeptNumber (stock_of c.args.self.now) (kept_put_by_at c.args.self.now.limits (stock_of c.args.self.now).keys c.args.key c.args.time c.args.value c.args.on o) c.write.result (stock_of c.write.new.self))
     is
     (subst (λ (step : KeptOutcome). KeptNumber (stock_of c.args.self.now) step c.write.result (stock_of c.write.new.self))
     (put-merges c.args.self.now.limits (stock_of c.args.self.now).keys c.args.key c.args.time c.args.value c.args.on c.merge_by.result c.merge_by.ensures (get c.args.key (stock_of c.args.self.now).keys))

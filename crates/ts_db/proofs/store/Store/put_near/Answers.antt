@@ -5,7 +5,7 @@ use Rattle.ts_spec.specs.KeptStep.{KeptOutcome}
 use Rattle.ts_sample.specs.Steps.{Takes}
 use Rattle.ts_db.specs.Store.{stock_of}
 use Rattle.ts_db.specs.Answering.{KeptNumber}
-use Rattle.ts_db.specs.PutBy.{kept_put_by}
+use Rattle.ts_db.specs.PutBy.{kept_put_by_at}
 use Rattle.ts_db.specs.Bounds.{write_steps}
 use Rattle.ts_db.proofs.Destinations.{only-key}
 use Rattle.ts_db.proofs.PutBy.{put-merges}
@@ -14,7 +14,7 @@ use Rattle.ts_db.proofs.store.Store.put_near.Goals as goal
 
 pub returns-in_default-clause-put : goal.returns-in_default-clause-put
 returns-in_default-clause-put g c = (
-  ap (kept_put_by c.args.self.now.limits (stock_of c.args.self.now).keys c.args.key.now c.args.time c.args.value c.args.on) (missing c.args.self.now.limits c.args.self.now.nodes c.args.self.now.keys.entries c.requires.db.store c.args.key.now (sym c.in_default.ensures)),
+  ap (kept_put_by_at c.args.self.now.limits (stock_of c.args.self.now).keys c.args.key.now c.args.time c.args.value c.args.on) (missing c.args.self.now.limits c.args.self.now.nodes c.args.self.now.keys.entries c.requires.db.store c.args.key.now (sym c.in_default.ensures)),
   refl,
 )
 
