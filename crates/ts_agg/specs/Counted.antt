@@ -18,5 +18,6 @@ lower_one : (s : Summary) (p : Point) (test : Bool) → 10 ^ 14 - s.count ≤ 10
 lower_one s p true = omega arith
 lower_one s p false = omega arith
 
+-- one more sample takes at most one place of the room of a count
 pub lowered : (c : Counting) (p : Point) → 10 ^ 14 - c.running.count ≤ 10 ^ 14 - (counted_one c p).running.count + 1
 lowered c p = lower_one c.running p (nat_le c.made p.made)

@@ -5,6 +5,7 @@ use Rattle.ts_sample.specs.Chunk.{IsChunk}
 use Rattle.ts_chunk_packed.specs.Marks.{Marked, AreMarks}
 use Rattle.ts_chunk_packed.specs.Packed.{begin, packed, state_from, samples_of}
 
+-- the samples of a packed chunk, and the bytes that it has at most
 pub record Samples : Type 0 where
   -- how many bytes it has at most
   pub limit : ℕ

@@ -15,6 +15,7 @@ pub record IsKnown (s : State) : Type 0 where
   pub from : pos 0 ≤ℤ s.step
   pub to : s.step ≤ℤ pos MAX_TIME
 
+-- what is known before the first sample is within the bounds of samples
 pub nothing_known : IsKnown begin
 nothing_known = record { fine = record { time = omega arith; value = omega arith; made = omega arith }; from = omega (arith, ints); to = omega (arith, ints) }
 
@@ -24,12 +25,15 @@ unfolding zigzag
 zigzag_most (pos n) m most = omega arith
 zigzag_most (negsuc n) m most = omega arith
 
+-- two numbers are no further apart than their magnitudes together
 apart : (a b : ℤ) → unsigned_abs (a -ℤ b) ≤ unsigned_abs a + unsigned_abs b
 apart a b = omega (arith, ints)
 
+-- three lists one after another are as long as all of them together
 three_parts : (a b c : List ℕ) → length (a ++ (b ++ c)) ≡ length a + length b + length c
 three_parts a b c = omega (arith, length-append a (b ++ c), length-append b c)
 
+-- a sample takes the bytes of its three numbers
 pub length-coded : (s : State) (p : Point)
     → length (coded s p) ≡ length (number (zigzag (gap s p.time -ℤ s.step))) + length (number (zigzag (p.value -ℤ s.before.value))) + length (number (zigzag (pos p.made -ℤ pos s.before.made)))
 unfolding coded
@@ -47,10 +51,12 @@ time_most s p known fine later =
     let high : gap s p.time ≤ℤ pos MAX_TIME = omega (arith, ints, fine.time) in
     zigzag_most (gap s p.time -ℤ s.step) MAX_TIME (between_both (gap s p.time) s.step MAX_TIME low high known.from known.to)
 
+-- the step to the value of a sample is bounded
 pub value_most : (s : State) (p : Point) → IsKnown s → IsFine p → zigzag (p.value -ℤ s.before.value) ≤ 2 * (2 * bound)
 value_most s p known fine =
     zigzag_most (p.value -ℤ s.before.value) (2 * bound) (omega (arith, apart p.value s.before.value, fine.value, known.fine.value))
 
+-- so is the step to its count of rules
 pub made_most : (s : State) (p : Point) → IsKnown s → IsFine p → zigzag (pos p.made -ℤ pos s.before.made) ≤ 2 * 2 ^ 32
 made_most s p known fine =
     let here : pos p.made ≤ℤ pos (2 ^ 32) = omega (arith, ints, fine.made) in
@@ -68,6 +74,7 @@ most_coded s p known fine later =
       most_bytes 4 (zigzag (pos p.made -ℤ pos s.before.made)) (omega (arith, made_most s p known fine)),
     )
 
+-- after any samples each further one takes three bytes or more
 pub three_each : (s : State) (ps : List Point) → 3 * length ps ≤ length (packed_from s ps)
 three_each s [] = omega arith
 three_each s (p ∷ ps) =
@@ -81,9 +88,11 @@ three_each s (p ∷ ps) =
       three_each (next s p) ps,
     )
 
+-- each sample takes three bytes or more
 pub three_or_more : (ps : List Point) → 3 * length ps ≤ length (packed ps)
 three_or_more ps = three_each begin ps
 
+-- after any samples, with one more at the end the bytes are no fewer
 no_fewer_from : (s : State) (ps : List Point) (p : Point) → length (packed_from s ps) ≤ length (packed_from s (ps ++ p ∷ []))
 no_fewer_from s [] p = omega arith
 no_fewer_from s (q ∷ ps) p =
@@ -94,9 +103,11 @@ no_fewer_from s (q ∷ ps) p =
       no_fewer_from (next s q) ps p,
     )
 
+-- with one more sample at the end the bytes are no fewer
 pub no_fewer : (ps : List Point) (p : Point) → length (packed ps) ≤ length (packed (ps ++ p ∷ []))
 no_fewer ps p = no_fewer_from begin ps p
 
+-- one sample alone fits a chunk of any limit
 pub one_within : (p : Point) → IsFine p → length (packed (p ∷ [])) ≤ least_limit
 one_within p fine =
     omega (arith, length-append (coded begin p) [], most_coded begin p nothing_known fine (omega arith))

@@ -4,6 +4,7 @@ use Rattle.std.specs.Global.{Box}
 use Rattle.ts_spec.specs.Sample.{Point}
 use Rattle.ts_chunk_packed.specs.Packed.{State, begin, packed, state_from}
 
+-- a place in the bytes of a chunk where decoding may begin
 pub record Marked : Type 0 where
   -- what is known of the samples before
   pub state : State

@@ -96,6 +96,7 @@ decoded_from s (suc n) bytes =
     let rest = decoded_from (next s first.0) n first.1 in
     (first.0 ∷ rest.0, rest.1)
 
+-- the same from the beginning of a chunk
 unfoldable pub decoded : (n : ℕ) → List ℕ → List Point × List ℕ
 decoded n bytes = decoded_from begin n bytes
 

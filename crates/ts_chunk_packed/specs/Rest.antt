@@ -6,6 +6,7 @@ use Rattle.ts_chunk_packed.specs.Laws.{IsKnown}
 use Rattle.ts_chunk_packed.specs.Packed.{State, begin, next, decoded_from, packed_from, state_from}
 use Rattle.ts_chunk_packed.specs.Reading.{StartsFrom}
 
+-- the samples of a chunk that are still to be read
 pub record Left : Type 0 where
   -- what is known of the samples before
   pub state : State

@@ -4,6 +4,7 @@ use Rattle.ts_spec.specs.Sample.{Point, first_of, last_of}
 use Rattle.ts_sample.specs.Chunk.{IsChunk}
 use Rattle.ts_chunk_plain.specs.Plain.{plain, samples_of}
 
+-- the samples of a plain chunk, and the bytes that it has at most
 pub record Samples : Type 0 where
   -- how many bytes it has at most
   pub limit : ℕ

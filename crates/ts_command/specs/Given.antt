@@ -7,6 +7,7 @@ use Rattle.ts_command.specs.GroupBy.{group_of}
 use Rattle.ts_command.specs.declared.given.Given.{Given}
 use Rattle.ts_command.specs.declared.range_given.RangeGiven.{RangeGiven}
 
+-- the options that a command was given, as the definitions have them
 abbrev pub given_of : Given → spec.Given
 given_of g = record {
   retention = g.retention;

@@ -67,6 +67,7 @@ pub record IsPastAll (stock : Stock) (key : Key) (t : ℕ) : Type 0 where
 abbrev pub ClosesPastAll : Stock → (time : ℕ) → KeptRule → Type 0
 ClosesPastAll stock t q = (b : ℕ) → q.current ≡ Some b → b < start q.grid t → IsPastAll stock q.dest b
 
+-- and so for each of these rules
 abbrev pub AllClosePastAll : Stock → (time : ℕ) → List KeptRule → Type 0
 AllClosePastAll stock t [] = ⊤
 AllClosePastAll stock t (q ∷ qs) = ClosesPastAll stock t q × AllClosePastAll stock t qs

@@ -13,6 +13,7 @@ abbrev pub key_among : ℕ → List (Entry Id) → Key
 key_among number [] = []
 key_among number (e ∷ es) = if e.value.0 == number then e.key else key_among number es
 
+-- the key that has this number
 abbrev pub key_with : Keyed Id → Id → Key
 key_with ids id = key_among id.0 ids.entries
 

@@ -9,6 +9,7 @@ use Rattle.ts_spec.specs.Mending.{mended_kept}
 abbrev pub Rows : Type 0
 Rows = (born : ℕ) → KeptRule → List Point
 
+-- whether the samples at a time give way to the rows of a rule
 abbrev pub Gone : Type 0
 Gone = KeptRule → ℕ → Bool
 

@@ -17,6 +17,7 @@ abbrev pub put_by_at : Limits → State → Key → ℕ → ℤ → Option Polic
 put_by_at limits m key t v on None = refused m NoKey
 put_by_at limits m key t v on (Some d) = write limits m key d (By (unwrap_or on d.options.policy)) t v
 
+-- a key is written to by this policy, or else by its own
 abbrev pub put_by : Limits → State → Key → ℕ → ℤ → Option Policy → Outcome
 put_by limits m key t v on = put_by_at limits m key t v on (get key m)
 
@@ -25,6 +26,7 @@ abbrev pub kept_put_by_at : Limits → Keeping → Key → ℕ → ℤ → Optio
 kept_put_by_at limits m key t v on None = kept_refused m NoKey
 kept_put_by_at limits m key t v on (Some d) = kept_write limits m key d (By (unwrap_or on d.options.policy)) t v
 
+-- what is kept once a key is written to by this policy, or else by its own
 abbrev pub kept_put_by : Limits → Keeping → Key → ℕ → ℤ → Option Policy → KeptOutcome
 kept_put_by limits m key t v on = kept_put_by_at limits m key t v on (get key m)
 
@@ -33,5 +35,6 @@ abbrev pub kept_merge_at : Limits → Keeping → Key → ℕ → ℤ → Option
 kept_merge_at limits m key t v how None = kept_refused m NoKey
 kept_merge_at limits m key t v how (Some d) = kept_write limits m key d (unwrap_or how (By d.options.policy)) t v
 
+-- the same at a key
 abbrev pub kept_merge : Limits → Keeping → Key → ℕ → ℤ → Option Merge → KeptOutcome
 kept_merge limits m key t v how = kept_merge_at limits m key t v how (get key m)

@@ -50,6 +50,7 @@ key_at (Some n) = n.key
 abbrev pub key_in : Nodes → Id → Key
 key_in nodes id = key_at (slab.get nodes id.0)
 
+-- what is kept of a node, its rules and its source by their keys
 abbrev pub kept_node : Nodes → Node → Kept
 kept_node nodes n = kept_named (key_in nodes) n
 
@@ -57,6 +58,7 @@ kept_node nodes n = kept_named (key_in nodes) n
 abbrev pub kept_numbered : Nodes → Id → Option Kept
 kept_numbered nodes id = option_map (kept_node nodes) (slab.get nodes id.0)
 
+-- the same keys, with what was found at this one, or without it where nothing was
 abbrev pub with_found : {X : Type 0} → Key → Option X → Keyed X → Keyed X
 with_found k None m = without_key k m
 with_found k (Some x) m = with_key k x m
@@ -115,6 +117,7 @@ pub record Contents : Type 0 where
   pub keys : Keeping
   pub ids : Keyed Id
 
+-- what this store holds, but for the reach and the chunks of its series
 abbrev pub contents_of : Store → Contents
 contents_of s = record { limits = s.limits; keys = collected s.nodes s.keys.entries; ids = ids_of s.keys.entries }
 

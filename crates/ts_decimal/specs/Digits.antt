@@ -7,6 +7,7 @@ pub record BeginsWith (text : List ℕ) (digit : ℕ) (after : List ℕ) : Type 
   pub split : text ≡ (48 + digit) ∷ after
   pub small : digit < 10
 
+-- the text does not begin with a digit
 pub record HasNoDigit (text : List ℕ) : Type 0 where
   pub none : digits text ≡ []
   pub after : after_digits text ≡ text

@@ -8,6 +8,7 @@ use Rattle.ts_spec.specs.Value.{Decimal, Scale, PLUS, POINT, number_after, scale
 abbrev pub IsSign : Bool → List ℕ → Type 0
 IsSign negative sign = ((negative ≡ false) × (sign ≡ [])) ⊎ (((negative ≡ false) × (sign ≡ PLUS ∷ [])) ⊎ ((negative ≡ true) × (sign ≡ MINUS ∷ [])))
 
+-- each byte is a digit
 abbrev pub AreDigits : List ℕ → Type 0
 AreDigits [] = Unit {0}
 AreDigits (byte ∷ bytes) = (is_digit byte ≡ true) × AreDigits bytes
@@ -30,6 +31,7 @@ pub record HasExponent (by : Scale) (text : List ℕ) : Type 0 where
   pub scales : by ≡ scale negative (number_after 0 digits)
   pub is : text ≡ letter ∷ (sign ++ digits)
 
+-- nothing, or an exponent
 abbrev pub IsExponent : Scale → List ℕ → Type 0
 IsExponent by text = ((by ≡ scale false 0) × (text ≡ [])) ⊎ HasExponent by text
 

@@ -23,6 +23,7 @@ beginning_of turns limits world = record {
   world = world;
 }
 
+-- the same where requests are executed over a database alone
 abbrev pub beginning : WireLimits → World → Spot plain
 beginning limits world = beginning_of plain limits world
 

@@ -135,6 +135,7 @@ is_of_input end.WriteFault = false
 is_of_input end.Memory = false
 is_of_input end.Budget = false
 
+-- whether there is an end, and it is that of the input
 abbrev pub has_ended : Option CaptureEnd → Bool
 has_ended None = false
 has_ended (Some e) = is_of_input e
@@ -167,6 +168,7 @@ pub record HasCauses (e : CaptureEnd) (reads reads' writes writes' : ℕ) : Type
   pub unread : e ≢ end.ReadFault → reads' ≡ reads
   pub unwritten : e ≢ end.WriteFault → writes' ≡ writes
 
+-- the same of an end, if there is one; else no count of faults changed
 abbrev pub HasCausesOr : Option CaptureEnd → (reads reads' writes writes' : ℕ) → Type 0
 HasCausesOr None reads reads' writes writes' = (reads' ≡ reads) × (writes' ≡ writes)
 HasCausesOr (Some e) reads reads' writes writes' = HasCauses e reads reads' writes writes'

@@ -11,6 +11,7 @@ use Rattle.ts_mux.specs.Order.{Item, order, closing}
 use Rattle.ts_engine.specs.declared.replay.Replay.{Replay as Kept}
 use Rattle.ts_engine.specs.Replaying.{Spot}
 
+-- the frames of a capture as far as a replay has read them
 abbrev pub frames_in : Kept → Framing
 frames_in r = r.frames
 

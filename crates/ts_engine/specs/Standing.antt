@@ -10,12 +10,15 @@ use Rattle.ts_execution.specs.Turn.{plain}
 use Rattle.ts_execution.specs.Turns.{Turns}
 use Rattle.ts_engine.specs.Session.{Spot}
 
+-- the reader of a session
 abbrev pub reader_of : Kept → Reading
 reader_of s = s.reader
 
+-- how many requests a session has executed
 abbrev pub executed_by : Kept → ℕ
 executed_by s = s.executed
 
+-- how a session ended, if it has
 abbrev pub ended_of : Kept → Option Go
 ended_of s = s.ended
 

@@ -86,6 +86,7 @@ pub record JournalRose (before now : JournalFaults) : Type 0 where
   pub later : before.count ≤ now.count
   pub rose : Rose before.count now.count
 
+-- turns that keep a journal, which may fail
 abbrev pub keeping : Turns
 keeping = record { World = Kept; turn = IsKept; cut = IsCut; Faults = JournalFaults; rose = JournalRose }
 

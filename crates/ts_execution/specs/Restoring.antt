@@ -98,6 +98,7 @@ abbrev pub loads_by : Option ℕ → Limits → Loading → State → (size : �
 loads_by (Some place) limits l m size more = BreaksAt place
 loads_by None limits l m size more = load_on limits m l.end size (stream_of l.reader more)
 
+-- what the bytes that are left load to, after what was read so far
 abbrev pub loads : Limits → Loading → State → (size : ℕ) → (more : List ℕ) → Load
 loads limits l m size more = loads_by l.broken limits l m size more
 
@@ -158,5 +159,6 @@ abbrev pub verdict_by : Option ℕ → Reading → (taken : ℕ) → Loaded
 verdict_by (Some place) reader taken = loaded.Broken place
 verdict_by None reader taken = loaded.Whole (unwrap_or (unfinished reader) taken)
 
+-- what was found in a journal that ends after so many bytes
 abbrev pub verdict : Loading → (taken : ℕ) → Loaded
 verdict l taken = verdict_by l.broken l.reader taken

@@ -161,6 +161,7 @@ abbrev pub TurnBy : Result Command Fault → World → List ℕ → World → Ty
 TurnBy (Ok command) from written to = IsExecuted command from written to
 TurnBy (Err fault) from written to = IsRefused fault from written to
 
+-- the turn of a request: by what its words say, or without memory to read them
 abbrev pub turn : World → Request → List ℕ → World → Type 0
 turn from request written to = TurnBy (command request) from written to ⊎ IsUnread request from written to
 

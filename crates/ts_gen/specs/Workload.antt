@@ -11,6 +11,7 @@ use Rattle.ts_spec.specs.Wire.{Request}
 abbrev pub key : List ℕ → ℕ → List ℕ
 key kind unit = kind ++ codes ":" ++ decimal unit
 
+-- the key of the raw samples of a unit
 abbrev pub raw : ℕ → List ℕ
 raw unit = key (codes "raw") unit
 
@@ -65,6 +66,7 @@ value r = signed_decimal (pos (r % 2001) -ℤ pos 1000)
 abbrev pub time : (k r : ℕ) → ℕ
 time k r = if r % 16 == 0 then second_before (r / 16 % 64) k else 1000 * k
 
+-- a sample for the raw key of one of the units; it replaces one at the same time
 abbrev pub add : (k r : ℕ) → Request
 add k r =
     codes "TS.ADD" ∷ raw (k % 4) ∷ decimal (time k r) ∷ value r ∷ codes "ON_DUPLICATE" ∷ codes "LAST" ∷ []

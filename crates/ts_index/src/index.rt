@@ -4,7 +4,7 @@ ghost use Rattle.ts_index.specs.Index.{Relabels, labels_of, numbers_where, has_p
 ghost use Rattle.ts_index.specs.Numbers.{AreInOrder};
 
 use crate::lists::{Lists, listed};
-use crate::pairs::{put_own, take_own};
+use crate::pairs::{put_pairs, take_pairs};
 use std::alloc::{AllocError, Global};
 use std::collections::BTreeMap;
 use std::marker::Model;
@@ -60,11 +60,11 @@ impl Index {
         self.known();
         let shared = labels.copy()?;
         let none = Labels::new(self.alloc);
-        put_own(self.alloc, &mut self.lists, id, labels, &none)?;
+        put_pairs(self.alloc, &mut self.lists, id, labels, &none)?;
         match self.labels.insert(id.0, shared) {
             Ok(_) => Ok(()),
             Err(_) => {
-                take_own(&mut self.lists, id, labels, labels.len(), &none);
+                take_pairs(&mut self.lists, id, labels, labels.len(), &none);
                 Err(AllocError)
             }
         }
@@ -77,7 +77,7 @@ impl Index {
     {
         self.known();
         let none = Labels::new(self.alloc);
-        take_own(&mut self.lists, id, labels, labels.len(), &none);
+        take_pairs(&mut self.lists, id, labels, labels.len(), &none);
         let _labels = self.labels.remove(&id.0);
     }
 
@@ -89,8 +89,8 @@ impl Index {
     {
         self.known();
         let shared = new.copy()?;
-        put_own(self.alloc, &mut self.lists, id, new, old)?;
-        take_own(&mut self.lists, id, old, old.len(), new);
+        put_pairs(self.alloc, &mut self.lists, id, new, old)?;
+        take_pairs(&mut self.lists, id, old, old.len(), new);
         swap(&mut self.labels, id, shared);
         Ok(())
     }

@@ -13,7 +13,7 @@ use ts_sample::Id;
 
 // Puts a number into the lists of those pairs of labels that others have not. Where memory is wanting, it is in no
 // more lists than before.
-pub(crate) fn put_own(
+pub(crate) fn put_pairs(
     alloc: Global,
     lists: &mut Lists,
     id: Id,
@@ -36,7 +36,7 @@ pub(crate) fn put_own(
             labels.value_at(i),
             others,
         ) {
-            take_own(lists, id, labels, i, others);
+            take_pairs(lists, id, labels, i, others);
             return Err(error);
         }
     }
@@ -64,7 +64,7 @@ fn put_other(
 }
 
 // Takes a number out of the lists of those among the first pairs of labels that others have not.
-pub(crate) fn take_own(lists: &mut Lists, id: Id, labels: &Labels, count: usize, others: &Labels)
+pub(crate) fn take_pairs(lists: &mut Lists, id: Id, labels: &Labels, count: usize, others: &Labels)
     requires count { count ≤ length labels.now }
     requires ascending { (l v : List ℕ) → AreAscending (posting_in l v lists.old) }
     ensures ascending { (l v : List ℕ) → AreAscending (posting_in l v lists.new) }

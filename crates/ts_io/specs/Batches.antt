@@ -22,5 +22,6 @@ abbrev pub TriedRead : Option (List ℕ) → Option (List ℕ) → Option ℕ �
 TriedRead old new None buf = new ≡ old
 TriedRead old new (Some n) buf = (n ≤ length buf) × Consumes old new (take n buf) × (n ≡ 0 → new ≡ old)
 
+-- the same of a read that may fail: then it consumed none
 abbrev pub TryConsumes : {E : Type 0} → Option (List ℕ) → Option (List ℕ) → Result (Option ℕ) E → List ℕ → Type 0
 TryConsumes old new r buf = MatchResult r (λ o. TriedRead old new o buf) (λ _. new ≡ old)

@@ -31,6 +31,7 @@ accepted_state done = if is_accepted (reply_to done.response) then Some done.sta
 abbrev pub replayed : Limits → State → Command → Option State
 replayed limits m c = if is_change c && not (needs_clock c) then accepted_state (step limits m 0 c) else None
 
+-- the same of words that may be no command: then there is no state after them
 abbrev pub replayed_by : Limits → State → Result Command Fault → Option State
 replayed_by limits m (Ok c) = replayed limits m c
 replayed_by limits m (Err fault) = None

@@ -39,21 +39,27 @@ policy_name policy.Min = codes "MIN"
 policy_name policy.Max = codes "MAX"
 policy_name policy.Sum = codes "SUM"
 
+-- the words of RETENTION: how long samples are kept
 abbrev pub retention_words : ℕ → List Word
 retention_words n = codes "RETENTION" ∷ decimal n ∷ []
 
+-- the words of ENCODING: how chunks are encoded
 abbrev pub encoding_words : Encoding → List Word
 encoding_words encoding = codes "ENCODING" ∷ encoding_name encoding ∷ []
 
+-- the words of CHUNK_SIZE: how large a chunk may be
 abbrev pub chunk_size_words : ℕ → List Word
 chunk_size_words n = codes "CHUNK_SIZE" ∷ decimal n ∷ []
 
+-- the words of DUPLICATE_POLICY: what a series does with two samples at one time
 abbrev pub policy_words : Policy → List Word
 policy_words p = codes "DUPLICATE_POLICY" ∷ policy_name p ∷ []
 
+-- the words of ON_DUPLICATE: what one write does with a sample that is there
 abbrev pub on_duplicate_words : Policy → List Word
 on_duplicate_words p = codes "ON_DUPLICATE" ∷ policy_name p ∷ []
 
+-- the words of IGNORE: how near to the last sample a new one is ignored
 abbrev pub ignore_words : Ignore → List Word
 ignore_words ignore = codes "IGNORE" ∷ decimal ignore.time ∷ shown_value ignore.value ∷ []
 
@@ -62,6 +68,7 @@ abbrev pub label_pairs : List Label → List Word
 label_pairs [] = []
 label_pairs (label ∷ labels) = label.name ∷ label.value ∷ label_pairs labels
 
+-- the words of LABELS: the labels of a series
 abbrev pub labels_words : List Label → List Word
 labels_words labels = codes "LABELS" ∷ label_pairs labels
 
@@ -91,6 +98,7 @@ abbrev pub sample_words : (reading : ℕ) → Word → Result At Fault → Resul
 sample_words reading key (Ok at) (Ok v) = key ∷ decimal (time_of reading at) ∷ shown_value v ∷ []
 sample_words reading key _ _ = []
 
+-- the words of a key, a time and a value of TS.MADD
 abbrev pub triple_words : (reading : ℕ) → Triple → List Word
 triple_words reading t = sample_words reading t.key t.at t.value
 
@@ -128,10 +136,12 @@ is_change _ = false
 
 -- ---- what of them was accepted
 
+-- whether a reply is an error
 abbrev pub is_error : Reply → Bool
 is_error (Error words) = true
 is_error _ = false
 
+-- whether a reply is a number
 abbrev pub is_number : Reply → Bool
 is_number (Int n) = true
 is_number _ = false

@@ -71,6 +71,7 @@ abbrev pub after_length : ℕ → Option ℕ → Move
 after_length link None = Wrong
 after_length link (Some length) = after_bytes link length []
 
+-- what the next byte does to a frame of which so much has come
 abbrev pub move : Mode → ℕ → Move
 move (Link so_far) byte = if byte == SPACE then after_link so_far else goes Link (with_byte 1 MOST_LINKS so_far byte)
 move (Length link so_far) byte = if byte == FEED then after_length link so_far else goes (Length link) (with_byte 0 MOST_BYTES so_far byte)
@@ -85,6 +86,7 @@ abbrev pub before_digit : Option ℕ → ℕ → Capture
 before_digit None begin = Ended
 before_digit (Some number) begin = Inside begin
 
+-- how a capture goes on where its bytes end, in a frame that began at this place or before its first byte
 abbrev pub at_end : Mode → ℕ → Capture
 at_end (Link so_far) begin = before_digit so_far begin
 at_end (Length link so_far) begin = Inside begin
@@ -106,6 +108,7 @@ read_on place begin mode (byte ∷ bytes) =
 abbrev pub capture_at : ℕ → List ℕ → Capture
 capture_at place bytes = read_on place place start bytes
 
+-- the capture that some bytes are
 abbrev pub capture : List ℕ → Capture
 capture bytes = capture_at 0 bytes
 

@@ -28,10 +28,12 @@ pub record IsFrame (frame : Frame) : Type 0 where
   pub link : IsLink frame.link
   pub length : length frame.bytes ≤ MOST_BYTES
 
+-- what came of the number of a connection, if anything, is in its range
 abbrev pub IsLinkSoFar : Option ℕ → Type 0
 IsLinkSoFar None = Unit {0}
 IsLinkSoFar (Some link) = IsLink link
 
+-- what came of the length of a frame, if anything, is in its range
 abbrev pub IsLengthSoFar : Option ℕ → Type 0
 IsLengthSoFar None = Unit {0}
 IsLengthSoFar (Some length) = length ≤ MOST_BYTES
@@ -60,6 +62,7 @@ goto_of (part.Link number) = Goto (Link number)
 goto_of (part.Length link number) = Goto (Length link number)
 goto_of (part.Body link len) = after_bytes link len []
 
+-- what a byte of the header does: the capture goes on with this, or else it is wrong
 abbrev pub move_of : Option Part → Move
 move_of None = Wrong
 move_of (Some part) = goto_of part
@@ -77,15 +80,18 @@ abbrev pub begun_by : Option ℕ → ℕ → Option ℕ
 begun_by None begin = None
 begun_by (Some number) begin = Some begin
 
+-- where the frame at hand begins, if a byte of it has come so far
 abbrev pub begun_at : Mode → ℕ → Option ℕ
 begun_at (Link so_far) begin = begun_by so_far begin
 begun_at (Length link so_far) begin = Some begin
 begun_at (Body link later bytes) begin = Some begin
 
+-- the same where these bytes are still unread
 abbrev pub begun_on : Mode → ℕ → List ℕ → Option ℕ
 begun_on mode begin [] = begun_at mode begin
 begun_on mode begin (byte ∷ bytes) = Some begin
 
+-- where the frame begins that is not yet whole, if there is one
 abbrev pub unfinished : Framing → Option ℕ
 unfinished r = begun_on r.mode r.begin r.unread
 

@@ -34,6 +34,7 @@ abbrev pub left_of : Option Hand → List Item
 left_of None = []
 left_of (Some hand) = items_of hand.link (events_of (stream_of hand.reader []))
 
+-- the items still to come: those of the frames that were delivered, then those of these frames
 abbrev pub ahead_of : WireLimits → List Bool → BTreeMap ℕ Reading → Option Hand → List Frame → List Item
 ahead_of limits closed readers hand frames = left_of hand ++ items_from closes_none (connections limits closed readers hand) frames
 

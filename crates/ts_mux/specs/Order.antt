@@ -32,6 +32,7 @@ Connection = Option (List ℕ → Stream)
 abbrev pub news : (List ℕ → Stream) → (before bytes : List ℕ) → List Event
 news stream before bytes = drop (length (events_of (stream before))) (events_of (stream (before ++ bytes)))
 
+-- the same of a connection that may be closed: nothing comes of one that is
 abbrev pub news_of : Connection → (before bytes : List ℕ) → List Event
 news_of None before bytes = []
 news_of (Some stream) before bytes = news stream before bytes
@@ -88,6 +89,7 @@ order limits frames = items_from is_quit (unsent limits) frames
 abbrev pub closes_none : Request → Bool
 closes_none request = false
 
+-- the order of the items of some frames where no request closes anything
 abbrev pub open_order : WireLimits → List Frame → List Item
 open_order limits frames = items_from closes_none (unsent limits) frames
 
@@ -107,6 +109,7 @@ abbrev pub joined : List ℕ → List ℕ → List ℕ
 joined [] rest = []
 joined (byte ∷ bytes) rest = byte ∷ bytes ++ rest
 
+-- all bytes of a connection before its frame of length 0
 abbrev pub stream : ℕ → List Frame → List ℕ
 stream link [] = []
 stream link (frame ∷ frames) = if frame.link == link then joined frame.bytes (stream link frames) else stream link frames

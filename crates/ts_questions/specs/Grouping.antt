@@ -107,6 +107,7 @@ group_reply stock g value ns = member_reply (group (group_of g.by) (show_of g.sh
 abbrev pub one_if : Bool → ℕ
 one_if b = if b then 1 else 0
 
+-- how many of these numbers have a series with the label and rows that are too many
 abbrev pub refusals : Stock → Grouping → List Id → ℕ
 refusals stock g ns = sum_by (λ n. if has_label stock g.by.label (key_with stock.ids n) then one_if (is_too_long stock g n) else 0) ns
 

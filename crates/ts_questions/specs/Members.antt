@@ -44,6 +44,7 @@ reply_at limits m wanted.Key k = Some (Bulk k)
 reply_at limits m (wanted.Last latest show) k = Some (last_member_reply (kept_last_member m latest (show_of show) k))
 reply_at limits m (wanted.Rows latest show query filters) k = rows_at limits m latest (show_of show) (query_of query) k
 
+-- one answer and then the others, unless there is nothing to tell of one
 abbrev pub told_then : {X : Type 0} → Option X → Option (List X) → Option (List X)
 told_then None others = None
 told_then (Some one) None = None

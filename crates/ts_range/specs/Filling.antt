@@ -42,6 +42,7 @@ pub record Filling : Type 0 where
   pub first : Cell
   pub others : Cell
 
+-- the filling that one of the program stands for
 abbrev pub filling_of : rust.Filling → Filling
 filling_of f = record { buckets = buckets_of f.buckets; starts = starts_of f.starts; first = cell_of f.first; others = cell_of f.others }
 

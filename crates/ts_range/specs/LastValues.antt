@@ -22,6 +22,7 @@ pub record LastValues : Type 0 where
 abbrev pub counts : LastValues → Point → Bool
 counts v p = lets_time v.times p.time && lets_value (option_map span_of v.values) p.value
 
+-- the last values for these buckets, under these filters, once these samples were seen
 abbrev pub values_of : Filters → rust.Filling → List Point → LastValues
 values_of filters filling seen = record {
   filling = filling_of filling;
@@ -34,6 +35,7 @@ values_of filters filling seen = record {
 abbrev pub with_one : LastValues → Point → LastValues
 with_one v p = record v { seen = v.seen ++ p ∷ [] }
 
+-- the value of a sample, if there is one
 abbrev pub value_of : Option Point → Option Cell
 value_of o = option_map (λ p. Number p.value) o
 
@@ -51,6 +53,7 @@ said_before false v b = said_of v.filling.others (value_of (last_before b v.seen
 abbrev pub last_cell : LastValues → ℕ → Cell
 last_cell v b = said_of (said_before (is_first v.filling.starts b) v b) (value_of (last_of (members v.filling.buckets.grid b (filter (counts v) v.seen))))
 
+-- the row of a bucket
 abbrev pub last_row : LastValues → ℕ → Row
 last_row v b = row_at v.filling.buckets b (last_cell v b)
 

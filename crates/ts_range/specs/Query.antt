@@ -12,9 +12,11 @@ use Rattle.ts_range.specs.declared.row.Row.{Row}
 abbrev pub span_of : ℤ × ℤ → spec.Span
 span_of values = record { least = values.0; greatest = values.1 }
 
+-- buckets, and what is made of each of them
 abbrev pub buckets_of : Buckets → spec.Buckets
 buckets_of bs = record { grid = bs.grid; agg = bs.agg; stamp = bs.stamp; empty = bs.empty }
 
+-- a question over one series
 abbrev pub query_of : Query → spec.Query
 query_of q = record {
   from = q.from;
@@ -26,9 +28,11 @@ query_of q = record {
   reverse = q.reverse;
 }
 
+-- a value, or that there is none
 abbrev pub cell_of : Cell → answer.Cell
 cell_of (cell.Number value) = answer.Number value
 cell_of cell.Nan = answer.Nan
 
+-- a row: a time and what it tells
 abbrev pub row_of : Row → answer.Row
 row_of row = record { time = row.time; value = cell_of row.value }

@@ -63,6 +63,7 @@ HasNumber n header.Open = Unit {0}
 HasNumber n (header.Whole number feed) = number ≡ n
 HasNumber n (header.Broken kind at) = Unit {0}
 
+-- its number, where it is whole, is at most this one
 abbrev pub HasAtMost : ℕ → Header → Type 0
 HasAtMost n header.Open = Unit {0}
 HasAtMost n (header.Whole number feed) = number ≤ n

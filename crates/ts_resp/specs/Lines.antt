@@ -9,6 +9,7 @@ use Rattle.ts_resp.specs.declared.line.LineMove.TheVariants.{Goes, Returns, Wron
 use Rattle.ts_resp.specs.declared.line.NumberLine.{NumberLine}
 use Rattle.ts_resp.specs.declared.line.NumberLine.TheVariants as found
 
+-- a line that came so far, as the definitions have it
 abbrev pub line_of : Line → wire.Line
 line_of Blank = wire.Line.Blank
 line_of Zero = wire.Line.Zero
@@ -16,6 +17,7 @@ line_of (Number number) = wire.Line.Number number
 line_of Minus = wire.Line.Minus
 line_of MinusOne = wire.Line.MinusOne
 
+-- what a byte does to a line, as the definitions have it
 abbrev pub move_of : LineMove → wire.LineMove
 move_of (Goes line) = wire.LineMove.Goes (line_of line)
 move_of (Returns number) = wire.LineMove.Returns number
@@ -27,6 +29,7 @@ after k found.Open = found.Open
 after k (found.Whole number len) = found.Whole number (k + len)
 after k (found.Wrong at) = found.Wrong (k + at)
 
+-- what a line is once a byte has done this to it, and the rest of the bytes have come
 abbrev pub on_move : wire.LineMove → (wire.Line → NumberLine) → NumberLine
 on_move (wire.LineMove.Goes line) rest = after 1 (rest line)
 on_move (wire.LineMove.Returns number) rest = found.Whole number 0

@@ -52,6 +52,7 @@ abbrev pub begun_at : Option Partial → WireLimits → (place begin : ℕ) → 
 begun_at (Some so_far) limits place begin unread = Some begin
 begun_at None limits place begin unread = begun_on limits place begin Start unread
 
+-- where the request begins that is not yet whole, if there is one
 abbrev pub unfinished : Reading → Option ℕ
 unfinished r = begun_at r.so_far r.limits r.place r.begin r.unread
 

@@ -11,6 +11,7 @@ abbrev pub value_of : Cell → Option ℤ
 value_of (cell.Number value) = Some value
 value_of cell.Nan = None
 
+-- replies one after another, as the definitions have them
 abbrev pub replies_of : List text.Reply → text.Replies
 replies_of [] = text.Replies.Empty
 replies_of (reply ∷ replies) = text.Replies.Item reply (replies_of replies)
@@ -25,6 +26,7 @@ seen (Reply-F.Bulk word) = text.Reply.Bulk word
 seen Reply-F.Nil = text.Reply.Nil
 seen (Reply-F.Array replies) = text.Reply.Array (replies_of replies.items)
 
+-- the reply of the definitions that a reply is
 abbrev pub reply_of : Reply → text.Reply
 reply_of = fold-Reply text.Reply seen
 

@@ -8,6 +8,7 @@ use Rattle.ts_resp.specs.declared.text.Text.{Text}
 use Rattle.ts_resp.specs.declared.text.Text.TheVariants as text
 use Rattle.ts_resp.specs.Reading.{begun_after, begun_on}
 
+-- whether a byte is an LF
 abbrev pub is_feed : ℕ → Bool
 is_feed byte = byte == FEED
 

@@ -36,5 +36,6 @@ lower_one : (room : ℕ) (same : Bool) → room ≤ (if same then room else room
 lower_one room true = omega arith
 lower_one room false = omega arith
 
+-- one more sample takes at most one place of the room for starts
 pub lowered : (l : Losing) (p : Point) → l.room ≤ (with_bucket l p).room + 1
 lowered l p = lower_one l.room (is_last l.last (start l.grid p.time))

@@ -2,6 +2,7 @@
 use Rattle.std.specs.Prelude.{ℕ, ◌-◌, List, [], ◌∷◌, ◌++◌}
 use Rattle.ts_spec.specs.Sample.{Point}
 
+-- the samples that a visitor has gathered, and its room for more
 pub record Gathering : Type 0 where
   -- the samples so far
   pub list : List Point

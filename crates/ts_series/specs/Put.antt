@@ -61,10 +61,12 @@ Fits limit p h = at p.time (list_of h) ≡ None → length (list_after p h) ≤ 
 
 -- ---- the answers to a write, by what it comes to
 
+-- the write is refused so
 abbrev pub IsRefused : Refusal → Result Plan PutFault → Type 0
 IsRefused r (Ok plan) = ⊥
 IsRefused r (Err fault) = refusal_of fault ≡ Some r
 
+-- the write changes nothing
 abbrev pub IsNothing : Result Plan PutFault → Type 0
 IsNothing (Ok plan) = plan ≡ nothing_in plan.encoding
 IsNothing (Err fault) = ⊥
@@ -75,6 +77,7 @@ IsFullFault limit p h Full = IsFull limit p h
 IsFullFault limit p h (Unwritten q) = Fits limit p h × (q ≡ p)
 IsFullFault limit p h fault = ⊥
 
+-- the sample is to be written and fits, or there is no place or no memory for it
 abbrev pub IsWrite : ℕ → Point → History → Result Plan PutFault → Type 0
 IsWrite limit p h (Ok plan) = Writes p plan × Fits limit p h
 IsWrite limit p h (Err fault) = IsFullFault limit p h fault
@@ -88,6 +91,7 @@ PutAnswers (To v) limit t h result = IsWrite limit (sample_of t v h) h result
 
 -- ---- how a value meets the one that is there
 
+-- the value that stays is told so: a refusal, the value that is there, or this one
 abbrev pub IsMerged : Merged → Result (Option ℤ) PutFault → Type 0
 IsMerged (Refuse r) (Ok value) = ⊥
 IsMerged (Refuse r) (Err fault) = refusal_of fault ≡ Some r

@@ -3,6 +3,7 @@ use Rattle.std.specs.Prelude.{◌≡◌, ◌≢◌, ◌⊎◌, ℕ, suc, ◌≤�
 use Rattle.ts_spec.specs.Sample.{Point, IsAscending, at_times, outside, last_of}
 use Rattle.ts_sample.specs.Chunk.{IsChunk, IsPast, Fits, joined}
 
+-- the samples of a series, chunk by chunk, with the limits of the chunks
 pub record Stored : Type 0 where
   -- the samples of each chunk
   pub pieces : List (List Point)
@@ -121,6 +122,7 @@ abbrev pub IsAmong : (one : ℕ) → List ℕ → ℕ → Type 0
 IsAmong one [] n = n ≡ one
 IsAmong one (m ∷ ms) n = (n ≡ m) ⊎ IsAmong one ms n
 
+-- each of these limits is among the ones before or is this one
 abbrev pub AreAmong : (one : ℕ) → List ℕ → List ℕ → Type 0
 AreAmong one before [] = ⊤
 AreAmong one before (n ∷ ns) = IsAmong one before n × AreAmong one before ns

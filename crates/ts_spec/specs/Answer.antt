@@ -75,6 +75,7 @@ ends_between g from to None last = []
 ends_between g from to (Some p) None = []
 ends_between g from to (Some p) (Some q) = starts_between g (max from p.time) (min to q.time)
 
+-- the starts of the buckets that have rows
 abbrev pub starts_of_rows : Query → Buckets → (asked chosen : List Point) → List ℕ
 starts_of_rows q bs asked chosen =
     if bs.empty then ends_between bs.grid q.from q.to (first_of asked) (last_of asked) else starts bs.grid chosen

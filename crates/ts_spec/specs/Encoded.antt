@@ -9,6 +9,7 @@ use Rattle.ts_spec.specs.Wire.{Request, STAR, DOLLAR}
 abbrev pub encoded_word : List ℕ → List ℕ
 encoded_word word = DOLLAR ∷ decimal (length word) ++ CRLF ++ word ++ CRLF
 
+-- words, one after another
 abbrev pub encoded_words : Request → List ℕ
 encoded_words [] = []
 encoded_words (word ∷ words) = encoded_word word ++ encoded_words words

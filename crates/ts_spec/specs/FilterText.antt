@@ -12,18 +12,23 @@ pub data FilterFault : Type 0 where
 
 -- ---- bytes
 
+-- `=`, between a label and its values
 abbrev pub equals : ℕ
 equals = 61
 
+-- `!`, the sign of a negative filter, in front of its `=`
 abbrev pub bang : ℕ
 bang = 33
 
+-- `(`, where a list of values begins
 abbrev pub opening : ℕ
 opening = 40
 
+-- `)`, where a list of values ends
 abbrev pub closing : ℕ
 closing = 41
 
+-- `,`, between the values of a list
 abbrev pub comma : ℕ
 comma = 44
 
@@ -78,6 +83,7 @@ filter_by true label (v ∷ vs) = Among label (v ∷ vs)
 filter_by false label [] = Present label
 filter_by false label (v ∷ vs) = NotAmong label (v ∷ vs)
 
+-- the filter by a label, or what is wrong with its values
 abbrev pub with_values : (positive : Bool) → (label : List ℕ) → Result (List (List ℕ)) FilterFault → Result Filter FilterFault
 with_values positive label (Err fault) = Err fault
 with_values positive label (Ok values) = Ok (filter_by positive label values)
@@ -92,6 +98,7 @@ abbrev pub of_parts : (front value : List ℕ) → (negative : Option (List ℕ)
 of_parts front value None = of_label true front value
 of_parts front value (Some label) = of_label false label value
 
+-- the filter of a text in two parts; without `=` a text is no filter
 abbrev pub of_cut : Option (List ℕ × List ℕ) → Result Filter FilterFault
 of_cut None = Err NoOperator
 of_cut (Some parts) = of_parts parts.0 parts.1 (before_last bang parts.0)

@@ -36,6 +36,7 @@ abbrev pub triples : List Word → List Triple
 triples (key ∷ time ∷ amount ∷ words) = record { key = key; at = at_word time; value = value_word amount } ∷ triples words
 triples _ = []
 
+-- triples of `key time value`, one after another
 abbrev pub madd : List Word → Result Command Fault
 madd words = Ok (Madd (triples words))
 
@@ -153,6 +154,7 @@ option_form names_one others words says = record { words = words; says = says; l
 abbrev pub by_threes : ℕ → Bool
 by_threes n = nat_le 4 n && (n % 3 == 1)
 
+-- all commands, by their names
 unfoldable pub commands : Table Form
 commands =
     (codes "TS.CREATE", option_form has_labels 1 (nat_le 2) create)
@@ -189,6 +191,7 @@ abbrev pub command : Request → Result Command Fault
 command [] = Err UnknownCommand
 command (name ∷ words) = by_form (named commands name) (suc (length words)) words
 
+-- whether so many words make a list in a form
 abbrev pub lists_by_form : Option Form → ℕ → List Word → Bool
 lists_by_form None n words = false
 lists_by_form (Some f) n words = f.words n && f.lists words
@@ -205,10 +208,12 @@ abbrev pub is_clock : At → Bool
 is_clock Clock = true
 is_clock (Time t) = false
 
+-- whether the time of a triple is the clock's; one that is none is not
 abbrev pub is_clock_at : Result At Fault → Bool
 is_clock_at (Ok at) = is_clock at
 is_clock_at (Err fault) = false
 
+-- whether one of the triples has the clock's time
 abbrev pub any_clock : List Triple → Bool
 any_clock [] = false
 any_clock (t ∷ ts) = if is_clock_at t.at then true else any_clock ts

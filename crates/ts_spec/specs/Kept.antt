@@ -38,6 +38,7 @@ abbrev pub summary_at : Rule → Option ℕ → Summary
 summary_at r None = nothing
 summary_at r (Some b) = summary (members r.grid b r.seen)
 
+-- what is kept of a rule
 abbrev pub kept_rule : Rule → KeptRule
 kept_rule r = record { dest = r.dest; agg = r.agg; grid = r.grid; made = r.made; current = open_of r; running = summary_at r (open_of r) }
 
@@ -53,5 +54,6 @@ kept_record l d = record {
   source = option_map (λ l. l.source) l;
 }
 
+-- what is kept of a state
 abbrev pub kept : State → Keeping
 kept m = each (λ k d. kept_record (link_to m k) d) m

@@ -32,6 +32,7 @@ abbrev pub with_open : Option KeptRule → Kept → List Point
 with_open None d = d.list
 with_open (Some q) d = put_all (open_row (kept_edge d) d.born q q.current) d.list
 
+-- the samples that a key shows with the open bucket, and none where no key is
 abbrev pub latest_list_at : Keeping → Key → Option Kept → List Point
 latest_list_at m k None = []
 latest_list_at m k (Some d) = with_open (rule_from m k d.source) d
@@ -41,10 +42,12 @@ abbrev pub kept_asked : Keeping → (latest : Bool) → Key → List Point
 kept_asked m true k = latest_list_at m k (get k m)
 kept_asked m false k = list_at (get k m)
 
+-- TS.RANGE and TS.REVRANGE
 abbrev pub kept_range_response : Limits → Keeping → Key → Bool → Query → Option Kept → Response
 kept_range_response limits m key latest q None = Refused NoKey
 kept_range_response limits m key latest q (Some d) = rows_response (answer limits.empty_rows q (kept_asked m latest key))
 
+-- the labels of what is kept at a key
 abbrev pub kept_labels_at : Option Kept → List Label
 kept_labels_at None = []
 kept_labels_at (Some d) = d.labels
@@ -53,11 +56,13 @@ kept_labels_at (Some d) = d.labels
 abbrev pub kept_member : Keeping → Show → Key → List Row → Member
 kept_member m show key rows = record { key = key; labels = labels_shown show (kept_labels_at (get key m)); rows = rows }
 
+-- one more member in front, unless its rows are too many
 abbrev pub kept_member_then : Keeping → Show → Key → Option (List Row) → Option (List Member) → Option (List Member)
 kept_member_then m show key None others = None
 kept_member_then m show key (Some rows) None = None
 kept_member_then m show key (Some rows) (Some others) = Some (kept_member m show key rows ∷ others)
 
+-- the members of an answer over many series; none where the rows of one are too many
 abbrev pub kept_members_of : Limits → Keeping → Bool → Show → Query → List Key → Option (List Member)
 kept_members_of limits m latest show q [] = Some []
 kept_members_of limits m latest show q (k ∷ ks) =
@@ -69,10 +74,12 @@ kept_ranges_response limits m latest show q None ks = members_response (kept_mem
 kept_ranges_response limits m latest show q (Some by) ks =
     grouped_response by show q (λ k. kept_labels_at (get k m)) (λ k. answer limits.empty_rows (uncounted q) (kept_asked m latest k)) ks
 
+-- TS.GET
 abbrev pub kept_last_response : Keeping → Key → Bool → Option Kept → Response
 kept_last_response m key latest None = Refused NoKey
 kept_last_response m key latest (Some d) = LastRow (last_row (kept_asked m latest key))
 
+-- a series in the answer of TS.MGET
 abbrev pub kept_last_member : Keeping → Bool → Show → Key → Member
 kept_last_member m latest show k = kept_member m show k (row_list (last_row (kept_asked m latest k)))
 
@@ -81,12 +88,15 @@ abbrev pub kept_selected_in : List Filter → List (Entry Kept) → List Key
 kept_selected_in filters [] = []
 kept_selected_in filters (e ∷ es) = if all_hold filters e.value.labels then e.key ∷ kept_selected_in filters es else kept_selected_in filters es
 
+-- the keys that a question over many series selects
 abbrev pub kept_selection : Keeping → List Filter → List Key
 kept_selection m filters = kept_selected_in filters m.entries
 
+-- what is told of a rule
 abbrev pub kept_rule_info : KeptRule → RuleInfo
 kept_rule_info q = record { dest = q.dest; grid = q.grid; agg = q.agg }
 
+-- what is told of a key
 abbrev pub kept_info_of : Kept → Info
 kept_info_of d = record {
   total = length d.list;
@@ -98,6 +108,7 @@ kept_info_of d = record {
   rules = map kept_rule_info d.rules;
 }
 
+-- TS.INFO
 abbrev pub kept_info_response : Option Kept → Response
 kept_info_response None = Refused NoKey
 kept_info_response (Some d) = Told (kept_info_of d)

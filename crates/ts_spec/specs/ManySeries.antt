@@ -13,6 +13,7 @@ use Rattle.ts_spec.specs.Ranges.{latest, range_options}
 
 -- ---- words
 
+-- the filter, or the fault of a command whose filter is none
 abbrev pub or_bad_filter : Result Filter FilterFault → Result Filter Fault
 or_bad_filter (Ok filter) = Ok filter
 or_bad_filter (Err fault) = Err BadFilter
@@ -52,6 +53,7 @@ with_labels = no_words (λ given. is_some given.show) (λ given. record given { 
 abbrev pub selected_labels : Setting
 selected_labels = some_words (λ given. is_some given.show) (λ words given. and_then (names_of words) (λ names. Ok (record given { show = Some (Selected names) })))
 
+-- the filters that a series has to pass
 abbrev pub filter : Setting
 filter = some_words (λ given. is_some given.filters) (λ words given. and_then (filters_of words) (λ fs. Ok (record given { filters = Some fs })))
 

@@ -104,6 +104,7 @@ abbrev pub running_without : (gone left : List Point) → KeptRule → Option �
 running_without gone left q None = q.running
 running_without gone left q (Some o) = if lies_in q.grid gone o then counted_anew q o left else q.running
 
+-- a rule after samples of its source are deleted
 abbrev pub deleted_rule : (gone left : List Point) → KeptRule → KeptRule
 deleted_rule gone left q = record q { running = running_without gone left q q.current }
 

@@ -23,6 +23,7 @@ abbrev pub named : {X : Type 0} → Table X → List ℕ → Option X
 named [] word = None
 named (row ∷ rows) word = if str_eq_ignore_ascii_case row.0 word then Some row.1 else named rows word
 
+-- what becomes of a value whose time has one already
 unfoldable pub policies : Table Policy
 policies =
     (codes "BLOCK", policy.Block)
@@ -33,6 +34,7 @@ policies =
     ∷ (codes "SUM", policy.Sum)
     ∷ []
 
+-- how chunks hold their samples
 unfoldable pub encodings : Table Encoding
 encodings =
     (codes "COMPRESSED", encoding.Compressed)

@@ -60,6 +60,7 @@ times_of (word ∷ words) = and_then (time_word word) (λ t. and_then (times_of 
 
 -- ---- options
 
+-- the times that are let through
 abbrev pub filter_by_ts : Setting
 filter_by_ts = some_words (λ given. is_some given.times) (λ words given. and_then (times_of words) (λ ts. Ok (record given { times = Some ts })))
 
@@ -68,6 +69,7 @@ abbrev pub filter_by_value : Setting
 filter_by_value = two_words (λ given. is_some given.values) (λ least greatest given.
     and_then (value_word least) (λ low. and_then (value_word greatest) (λ high. Ok (record given { values = Some (record { least = low; greatest = high }) }))))
 
+-- how many rows are told at most
 abbrev pub count : Setting
 count = one_word (λ given. is_some given.count) (λ word given. and_then (count_word word) (λ n. Ok (record given { count = Some n })))
 
@@ -76,12 +78,15 @@ abbrev pub aggregation : Setting
 aggregation = two_words (λ given. is_some given.aggregation) (λ name length given.
     and_then (aggregator_word name) (λ agg. and_then (duration_word length) (λ n. Ok (record given { aggregation = Some (record { agg = agg; duration = n }) }))))
 
+-- where one of the buckets begins
 abbrev pub align : Setting
 align = one_word (λ given. is_some given.align) (λ word given. and_then (align_word word) (λ end. Ok (record given { align = Some end })))
 
+-- which time stands for a bucket
 abbrev pub bucket_timestamp : Setting
 bucket_timestamp = one_word (λ given. is_some given.stamp) (λ word given. and_then (stamp_word word) (λ mode. Ok (record given { stamp = Some mode })))
 
+-- empty buckets are told too
 abbrev pub empty : Setting
 empty = no_words (λ given. given.empty) (λ given. record given { empty = true })
 
@@ -89,6 +94,7 @@ empty = no_words (λ given. given.empty) (λ given. record given { empty = true 
 abbrev pub latest : Setting
 latest = no_words (λ given. given.latest) (λ given. record given { latest = true })
 
+-- the options of a question over an interval
 unfoldable pub range_options : Table Setting
 range_options =
     (codes "LATEST", latest)

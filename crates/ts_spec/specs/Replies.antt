@@ -68,6 +68,7 @@ abbrev pub first_row_reply : List Row → Reply
 first_row_reply [] = array []
 first_row_reply (row ∷ rows) = row_reply row
 
+-- the row of the last sample, or `[]` where there is none
 abbrev pub last_row_reply : Option Row → Reply
 last_row_reply None = array []
 last_row_reply (Some row) = row_reply row

@@ -17,6 +17,7 @@ abbrev pub resolved_word : (reading : ℕ) → Result At Fault → Result At Fau
 resolved_word reading (Ok at) = Ok (resolved_at reading at)
 resolved_word reading (Err fault) = Err fault
 
+-- a triple of TS.MADD with its time resolved
 abbrev pub resolved_triple : (reading : ℕ) → Triple → Triple
 resolved_triple reading t = record { key = t.key; at = resolved_word reading t.at; value = t.value }
 

@@ -32,11 +32,13 @@ abbrev pub then_all : List Placed → Stream → Stream
 then_all [] rest = rest
 then_all (placed ∷ more) rest = Then placed.request placed.after (then_all more rest)
 
+-- the requests, without their places
 abbrev pub requests_in : List Placed → List Request
 requests_in done = map (λ p. p.request) done
 
 -- ---- the end that a client asks for
 
+-- whether words that were read say QUIT
 abbrev pub says_quit : Result Command Fault → Bool
 says_quit (Ok Quit) = true
 says_quit other = false

@@ -30,9 +30,11 @@ is_chunk_size n = nat_le 48 n && nat_le n 1048576 && (n % 8 == 0)
 unfoldable pub chunk_size_word : Word → Result ℕ Fault
 chunk_size_word word = and_then (ok_or (number word) BadChunkSize) (λ n. if is_chunk_size n then Ok n else Err BadChunkSize)
 
+-- a policy for repeated times
 unfoldable pub policy_word : Word → Result Policy Fault
 policy_word word = ok_or (named policies word) BadPolicy
 
+-- how chunks hold their samples
 unfoldable pub encoding_word : Word → Result Encoding Fault
 encoding_word word = ok_or (named encodings word) BadEncoding
 
@@ -50,15 +52,19 @@ ignore_value_word word = and_then (value_word word) from_zero
 
 -- ---- options
 
+-- how long samples are kept
 abbrev pub retention : Setting
 retention = one_word (λ given. is_some given.retention) (λ word given. and_then (retention_word word) (λ n. Ok (record given { retention = Some n })))
 
+-- how the chunks of the series hold their samples
 abbrev pub encoding : Setting
 encoding = one_word (λ given. is_some given.encoding) (λ word given. and_then (encoding_word word) (λ e. Ok (record given { encoding = Some e })))
 
+-- how many bytes a chunk of the series has
 abbrev pub chunk_size : Setting
 chunk_size = one_word (λ given. is_some given.chunk_size) (λ word given. and_then (chunk_size_word word) (λ n. Ok (record given { chunk_size = Some n })))
 
+-- what becomes of a value whose time has one already
 abbrev pub duplicate_policy : Setting
 duplicate_policy = one_word (λ given. is_some given.policy) (λ word given. and_then (policy_word word) (λ p. Ok (record given { policy = Some p })))
 
@@ -67,9 +73,11 @@ abbrev pub ignore : Setting
 ignore = two_words (λ given. is_some given.ignore) (λ time amount given.
     and_then (ignore_time_word time) (λ t. and_then (ignore_value_word amount) (λ v. Ok (record given { ignore = Some (record { time = t; value = v }) }))))
 
+-- the policy of this write alone
 abbrev pub on_duplicate : Setting
 on_duplicate = one_word (λ given. is_some given.on) (λ word given. and_then (policy_word word) (λ p. Ok (record given { on = Some p })))
 
+-- the time of an increment
 abbrev pub timestamp : Setting
 timestamp = one_word (λ given. is_some given.at) (λ word given. and_then (at_word word) (λ at. Ok (record given { at = Some at })))
 
@@ -119,9 +127,11 @@ alter_options =
     ∷ (codes "LABELS", labels)
     ∷ []
 
+-- the options of TS.ADD: those of a new series, and the policy of the write
 unfoldable pub add_options : Table Setting
 add_options = (codes "ON_DUPLICATE", on_duplicate) ∷ series_options
 
+-- the options of TS.INCRBY and TS.DECRBY: those of a new series, and the time
 unfoldable pub incr_options : Table Setting
 incr_options = (codes "TIMESTAMP", timestamp) ∷ series_options
 

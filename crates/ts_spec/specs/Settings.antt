@@ -48,6 +48,7 @@ end_word word =
 unfoldable pub at_word : Word → Result At Fault
 at_word word = if bytes_eq word (codes "*") then Ok Clock else and_then (time_word word) (λ t. Ok (Time t))
 
+-- a value, or the fault of a command whose value is none
 abbrev pub value_of : Result ℤ ValueFault → Result ℤ Fault
 value_of (Ok v) = Ok v
 value_of (Err fault) = Err (BadValue fault)
@@ -85,6 +86,7 @@ pub record Given : Type 0 where
   pub filters : Option (List Filter)
   pub group : Option GroupBy
 
+-- what is said where there are no options
 abbrev pub nothing : Given
 nothing = record {
   retention = None;
@@ -124,6 +126,7 @@ abbrev pub says_one : (Word → Given → Result Given Fault) → List Word → 
 says_one read [] given = Err BadOption
 says_one read (word ∷ words) given = read word given
 
+-- the option whose one word says this
 abbrev pub one_word : (Given → Bool) → (Word → Given → Result Given Fault) → Setting
 one_word stood read = record { stood = stood; size = λ is_option words. 1; says = says_one read }
 
@@ -132,6 +135,7 @@ abbrev pub says_two : (Word → Word → Given → Result Given Fault) → List 
 says_two read (one ∷ two ∷ words) given = read one two given
 says_two read words given = Err BadOption
 
+-- the option whose two words say this
 abbrev pub two_words : (Given → Bool) → (Word → Word → Given → Result Given Fault) → Setting
 two_words stood read = record { stood = stood; size = λ is_option words. 2; says = says_two read }
 
@@ -140,6 +144,7 @@ abbrev pub says_three : (Word → Word → Word → Given → Result Given Fault
 says_three read (one ∷ two ∷ three ∷ words) given = read one two three given
 says_three read words given = Err BadOption
 
+-- the option whose three words say this
 abbrev pub three_words : (Given → Bool) → (Word → Word → Word → Given → Result Given Fault) → Setting
 three_words stood read = record { stood = stood; size = λ is_option words. 3; says = says_three read }
 
@@ -153,6 +158,7 @@ abbrev pub says_some : (List Word → Given → Result Given Fault) → List Wor
 says_some read [] given = Err BadOption
 says_some read (word ∷ words) given = read (word ∷ words) given
 
+-- the option whose list says this
 abbrev pub some_words : (Given → Bool) → (List Word → Given → Result Given Fault) → Setting
 some_words stood read = record { stood = stood; size = count_own; says = says_some read }
 

@@ -148,6 +148,7 @@ abbrev pub shown_fraction : ℕ → List ℕ
 shown_fraction zero = []
 shown_fraction (suc n) = POINT ∷ places PLACES (suc n)
 
+-- the text of so many millionths, without a sign
 abbrev pub shown_magnitude : ℕ → List ℕ
 shown_magnitude n = shown_whole (n / 10 ^ PLACES) ++ shown_fraction (n % 10 ^ PLACES)
 

@@ -43,9 +43,11 @@ SPACE = 32
 abbrev pub TAB : ℕ
 TAB = 9
 
+-- whether a byte is a digit
 abbrev pub is_digit : ℕ → Bool
 is_digit byte = nat_le 48 byte && nat_le byte 57
 
+-- the number that a digit stands for
 abbrev pub digit_of : ℕ → ℕ
 digit_of byte = byte - 48
 
@@ -126,6 +128,7 @@ pub data Move : Type 0 where
   Whole : Request → Move
   Fault : Kind → Move
 
+-- the move of a byte that has to be this one: any other is a fault
 abbrev pub want : ℕ → ℕ → Kind → Move → Move
 want byte wanted kind move = if byte == wanted then move else Fault kind
 
@@ -144,11 +147,13 @@ abbrev pub after_word : Request → ℕ → ℕ → Move
 after_word words zero room = Whole words
 after_word words (suc later) room = Goto (Mark (record { words = words; later = later; room = room }))
 
+-- a byte of the line that says how many words come
 abbrev pub on_count : LineMove → Move
 on_count (Goes line) = Goto (Count line)
 on_count (Returns n) = Goto (CountFeed n)
 on_count Wrong = Fault Multibulk
 
+-- a byte of the line that says how long the next word is
 abbrev pub on_length : Partial → LineMove → Move
 on_length so_far (Goes line) = Goto (Length so_far line)
 on_length so_far (Returns n) =
@@ -165,6 +170,7 @@ abbrev pub on_text : WireLimits → List ℕ → ℕ → Move
 on_text limits line byte =
     if byte == FEED then Whole (words_of_line line) else (if nat_lt (length line) limits.line_bytes then Goto (Text (line ++ byte ∷ [])) else Fault TooLarge)
 
+-- what a byte does, as this may come next
 abbrev pub move : WireLimits → Mode → ℕ → Move
 move limits Start byte = if byte == STAR then Goto (Count Blank) else on_text limits [] byte
 move limits (Text line) byte = on_text limits line byte

@@ -10,6 +10,7 @@ use Rattle.ts_words.specs.declared.mode.Mode.TheVariants.{Pipe, Serve, Gen, Keep
 abbrev pub same : List ℕ → List ℕ → Bool
 same word name = pointwise nat_eq word name
 
+-- whether a byte is a decimal digit
 abbrev pub is_digit : ℕ → Bool
 is_digit byte = nat_le 48 byte && nat_le byte 57
 
@@ -44,6 +45,7 @@ gen_with (Some seed) n = option_map (Gen seed) n
 abbrev pub gen_of : (seed n : List ℕ) → Option Mode
 gen_of seed n = gen_with (number 0 (2 ^ 64 - 1) seed) (number 0 1000000 n)
 
+-- a word alone: `pipe` or `mux`
 abbrev pub one_word : List ℕ → Option Mode
 one_word word = if same word (codes "pipe") then Some Pipe else (if same word (codes "mux") then Some Mux else None)
 
@@ -51,6 +53,7 @@ one_word word = if same word (codes "pipe") then Some Pipe else (if same word (c
 abbrev pub two_words : (word name : List ℕ) → Option Mode
 two_words word name = if same word (codes "keep") && is_operand name then Some Keep else None
 
+-- the words after `serve` or `gen`
 abbrev pub three_words : (word first second : List ℕ) → Option Mode
 three_words word first second =
     if same word (codes "serve") then serve_of first second else (if same word (codes "gen") then gen_of first second else None)

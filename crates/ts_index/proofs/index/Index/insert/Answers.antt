@@ -8,16 +8,16 @@ use Rattle.ts_index.proofs.PairLemmas.{undone}
 use Rattle.ts_index.proofs.IndexLemmas.{listed-where, ascending-where, posted-same, posted-after, came, other-put, gives-updated, whole}
 use Rattle.ts_index.proofs.index.Index.insert.Goals as goal
 
-pub put_own-requires-clause-ascending : goal.put_own-requires-clause-ascending
-put_own-requires-clause-ascending c =
+pub put_pairs-requires-clause-ascending : goal.put_pairs-requires-clause-ascending
+put_pairs-requires-clause-ascending c =
     let es = c.self.inside.labels.entries in
     let lists = c.self.inside.lists in
     let id = c.args.id.0 in
     let o : AreInOrder es = subst AreInOrder (sym c.self.view_is) c.known.ensures in
     ascending-where es lists o c.self.invariant
 
-pub put_own-requires-clause-absent : goal.put_own-requires-clause-absent
-put_own-requires-clause-absent c = λ l v h.
+pub put_pairs-requires-clause-absent : goal.put_pairs-requires-clause-absent
+put_pairs-requires-clause-absent c = λ l v h.
     let es = c.self.inside.labels.entries in
     let lists = c.self.inside.lists in
     let id = c.args.id.0 in
@@ -31,7 +31,7 @@ invariant_of-self c =
     let lists = c.self.inside.lists in
     let id = c.args.id.0 in
     let o : AreInOrder es = subst AreInOrder (sym c.self.view_is) c.known.ensures in
-    posted-same es lists c.put_own.new.lists o c.self.invariant c.put_own.ensures.ascending c.in_err-put_own.ensures.err
+    posted-same es lists c.put_pairs.new.lists o c.self.invariant c.put_pairs.ensures.ascending c.in_err-put_pairs.ensures.err
 
 pub invariant_of-self-in-Ok : goal.invariant_of-self-in-Ok
 invariant_of-self-in-Ok c =
@@ -42,14 +42,14 @@ invariant_of-self-in-Ok c =
     let none : labels_of id es ≡ None = subst (λ e. labels_of id e ≡ None) (sym c.self.view_is) c.requires.absent in
     let labels = c.args.labels.now in
     let updates = c.in-Ok.ensures.updates in
-    posted-after es c.insert.new.self.entries c.put_own.new.lists c.args.id (Some labels)
+    posted-after es c.insert.new.self.entries c.put_pairs.new.lists c.args.id (Some labels)
     (AreInOrder-by_keys c.insert.new.self.entries c.in-Ok.ensures.ordered)
     (gives-updated c.args.id (Some labels) es c.insert.new.self.entries (updates.1 ∙ ap Some c.in_ok-shared.ensures) (λ q f. updates.2 q f))
-    c.put_own.ensures.ascending
-    (λ l v. c.in_ok-put_own.ensures.ok l v id
+    c.put_pairs.ensures.ascending
+    (λ l v. c.in_ok-put_pairs.ensures.ok l v id
     ∙ ap (λ e. ((id == id) && is_own l v labels e) || has_number id (posting_in l v lists)) c.new-none.ensures
     ∙ came id (has_pair l v labels) (has_number id (posting_in l v lists)) (listed-where es lists o c.self.invariant l v id ∙ ap (pass (has_pair l v)) none))
-    (λ l v q p. c.in_ok-put_own.ensures.ok l v q ∙ other-put (q == id) (is_own l v labels c.new-none.result) (has_number q (posting_in l v lists)) p ∙ listed-where es lists o c.self.invariant l v q)
+    (λ l v q p. c.in_ok-put_pairs.ensures.ok l v q ∙ other-put (q == id) (is_own l v labels c.new-none.result) (has_number q (posting_in l v lists)) p ∙ listed-where es lists o c.self.invariant l v q)
 
 pub invariant_of-self-in-Err : goal.invariant_of-self-in-Err
 invariant_of-self-in-Err c =
@@ -60,11 +60,11 @@ invariant_of-self-in-Err c =
     let none : labels_of id es ≡ None = subst (λ e. labels_of id e ≡ None) (sym c.self.view_is) c.requires.absent in
     let labels = c.args.labels.now in
     let others = c.new-none.result in
-    let after = c.take_own.new.lists in
+    let after = c.take_pairs.new.lists in
     subst (λ e. ArePosted e after) (sym c.in-Err.ensures.err)
-    (posted-same es lists after o c.self.invariant c.take_own.ensures.ascending
-    (λ l v q. c.take_own.ensures.lists l v q
-    ∙ ap (λ ls. has_number q (posting_in l v c.put_own.new.lists) && not ((q == id) && is_own l v ls others)) (whole labels c.len.result c.len.ensures.len)
-    ∙ ap (λ r. r && not ((q == id) && is_own l v labels others)) (c.in_ok-put_own.ensures.ok l v q)
+    (posted-same es lists after o c.self.invariant c.take_pairs.ensures.ascending
+    (λ l v q. c.take_pairs.ensures.lists l v q
+    ∙ ap (λ ls. has_number q (posting_in l v c.put_pairs.new.lists) && not ((q == id) && is_own l v ls others)) (whole labels c.len.result c.len.ensures.len)
+    ∙ ap (λ r. r && not ((q == id) && is_own l v labels others)) (c.in_ok-put_pairs.ensures.ok l v q)
     ∙ undone (q == id) (has_pair l v labels) (not (has_pair l v others)) (has_number q (posting_in l v lists))
     (λ a b. ap (λ m. has_number m (posting_in l v lists)) (eqb-true q id a) ∙ listed-where es lists o c.self.invariant l v id ∙ ap (pass (has_pair l v)) none)))

@@ -3,7 +3,7 @@ use Rattle.ts_index.specs.Index.{has_pair}
 use Rattle.ts_index.specs.Numbers.{has_number}
 use Rattle.ts_index.specs.Postings.{alike, posting_in}
 use Rattle.ts_index.proofs.PairLemmas.{keeps-take, step-take, has_pair-more}
-use Rattle.ts_index.proofs.pairs.take_own.Goals as goal
+use Rattle.ts_index.proofs.pairs.take_pairs.Goals as goal
 
 pub loop-i-init : goal.loop-i-init
 loop-i-init c = record {

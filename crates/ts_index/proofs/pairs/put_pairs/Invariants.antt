@@ -2,7 +2,7 @@ use Rattle.std.proofs.Common.{◌≡◌, ◌==◌, ◌&&◌, ◌||◌, ℕ, List
 use Rattle.ts_index.specs.Numbers.{AreAscending, has_number}
 use Rattle.ts_index.specs.Pairs.{is_own}
 use Rattle.ts_index.specs.Postings.{posting_in}
-use Rattle.ts_index.proofs.pairs.put_own.Given as goal
+use Rattle.ts_index.proofs.pairs.put_pairs.Given as goal
 
 -- the number is in the lists of the pairs so far
 abbrev pub invariant-loop-i : goal.invariant-loop-i

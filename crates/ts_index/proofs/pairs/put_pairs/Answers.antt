@@ -4,7 +4,7 @@ use Rattle.ts_index.specs.Numbers.{has_number}
 use Rattle.ts_index.specs.Pairs.{is_own}
 use Rattle.ts_index.specs.Postings.{alike, posting_in}
 use Rattle.ts_index.proofs.PairLemmas.{keeps-put, step-put, has_pair-more, undone, own-take}
-use Rattle.ts_index.proofs.pairs.put_own.Goals as goal
+use Rattle.ts_index.proofs.pairs.put_pairs.Goals as goal
 
 pub loop-i-init : goal.loop-i-init
 loop-i-init c = record {
@@ -36,7 +36,7 @@ returns-in-Err-clause-err c = λ p v q.
     let old = posting_in p v c.args.lists.now in
     let x = q == c.args.id.0 in
     let own = is_own p v (take c.loop-i.i labels) others in
-    c.take_own.ensures.lists p v q
+    c.take_pairs.ensures.lists p v q
     ∙ ap (λ r. r && not (x && own)) (ap (has_number q) (c.in-Err.ensures.err p v) ∙ c.loop-i.invariant.lists p v q)
     ∙ undone x (has_pair p v (take c.loop-i.i labels)) (not (has_pair p v others)) (has_number q old)
     (λ a b. ap (λ m. has_number m old) (eqb-true q c.args.id.0 a) ∙ c.requires.absent p v (own-take p v labels others c.loop-i.i b))
