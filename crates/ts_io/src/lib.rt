@@ -21,6 +21,7 @@ mod mem_log;
 mod mem_sink;
 mod mem_source;
 mod schedule;
+mod sending;
 mod sink;
 mod source;
 mod std_sink;

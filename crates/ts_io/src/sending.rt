@@ -1,0 +1,117 @@
+// How what waits for a connection is sent, and how more comes to wait.
+ghost use Rattle.std.specs.Prelude.{◌≡◌, ◌<◌, [], length, false, IfOk, OnOk};
+ghost use Rattle.std.specs.Io.{WritesAtMost};
+ghost use Rattle.ts_io.specs.Batches.{Holds, connection_of, waiting_of, peer_is_behind};
+ghost use Rattle.ts_io.specs.Causes.{HasCause};
+ghost use Rattle.ts_io.specs.Sinks.{Grows, WriteGrows};
+
+use crate::batches::Batches;
+use crate::{Connection, Failed, Wait};
+
+impl<C: Connection> Batches<C> {
+    // Sends what waits, once.
+    pub(crate) fn send(&mut self, wait: Wait) -> Result<(), Failed>
+        ensures progress { wait ≡ Wait.Long → 0 < length (waiting_of self.old)
+            → OnOk result (length (waiting_of self.new) < length (waiting_of self.old)) }
+        ensures has { Grows (Holds (C.has (connection_of self.old)) (waiting_of self.old))
+            (Holds (C.has (connection_of self.new)) (waiting_of self.new)) [] }
+        ensures left { C.left (connection_of self.new) ≡ C.left (connection_of self.old) }
+        ensures cause { HasCause (C.faults (connection_of self.old)) (C.faults (connection_of self.new)) result }
+    {
+        let count = self.connection.send(self.waiting.as_slice(), wait)?;
+        self.waiting.drop_front(count);
+        Ok(())
+    }
+
+    // Sends what waits, if any does, and sees whether the peer keeps up.
+    pub(crate) fn send_off(&mut self) -> Result<(), Failed>
+        ensures behind { OnOk result (peer_is_behind self.new ≡ false → waiting_of self.new ≡ []) }
+        ensures has { Grows (Holds (C.has (connection_of self.old)) (waiting_of self.old))
+            (Holds (C.has (connection_of self.new)) (waiting_of self.new)) [] }
+        ensures left { C.left (connection_of self.new) ≡ C.left (connection_of self.old) }
+        ensures cause { HasCause (C.faults (connection_of self.old)) (C.faults (connection_of self.new)) result }
+    {
+        self.gathered = 0;
+        if self.waiting.is_empty() {
+            self.is_behind = false;
+            return Ok(());
+        }
+        let wait = if self.is_behind {
+            Wait::Not
+        } else {
+            Wait::Briefly
+        };
+        self.send(wait)?;
+        self.is_behind = !self.waiting.is_empty();
+        Ok(())
+    }
+
+    // Has these bytes wait. Where there is no room for them, it waits until there is; without any, they are sent.
+    pub(crate) fn gather(&mut self, bytes: &[u8]) -> Result<usize, Failed>
+        ensures bound { WritesAtMost result bytes.now }
+        ensures progress { 0 < length bytes.now → IfOk result (λ n. 0 < n) }
+        ensures bytes { WriteGrows (Holds (C.has (connection_of self.old)) (waiting_of self.old))
+            (Holds (C.has (connection_of self.new)) (waiting_of self.new)) result bytes.now }
+        ensures cause { HasCause (C.faults (connection_of self.old)) (C.faults (connection_of self.new)) result }
+    {
+        loop {
+            match self.waiting.push(bytes) {
+                Ok(()) => {
+                    self.gathered = self.gathered.saturating_add(bytes.len());
+                    return Ok(bytes.len());
+                }
+                Err(_) if self.waiting.is_empty() => return self.send_straight(bytes, Wait::Long),
+                Err(_) => self.send(Wait::Long)?,
+            }
+        }
+    }
+
+    // Sends what waits, and then these bytes, as far as the peer keeps up.
+    pub(crate) fn write_large(&mut self, bytes: &[u8]) -> Result<usize, Failed>
+        ensures bound { WritesAtMost result bytes.now }
+        ensures progress { 0 < length bytes.now → IfOk result (λ n. 0 < n) }
+        ensures bytes { WriteGrows (Holds (C.has (connection_of self.old)) (waiting_of self.old))
+            (Holds (C.has (connection_of self.new)) (waiting_of self.new)) result bytes.now }
+        ensures cause { HasCause (C.faults (connection_of self.old)) (C.faults (connection_of self.new)) result }
+    {
+        self.send_off()?;
+        if self.is_behind {
+            return self.gather(bytes);
+        }
+        self.write_straight(bytes)
+    }
+
+    // Sends these bytes, where nothing waits and the peer keeps up. Where it takes none, they wait.
+    fn write_straight(&mut self, bytes: &[u8]) -> Result<usize, Failed>
+        requires { waiting_of self.old ≡ [] }
+        ensures bound { WritesAtMost result bytes.now }
+        ensures progress { 0 < length bytes.now → IfOk result (λ n. 0 < n) }
+        ensures bytes { WriteGrows (Holds (C.has (connection_of self.old)) (waiting_of self.old))
+            (Holds (C.has (connection_of self.new)) (waiting_of self.new)) result bytes.now }
+        ensures cause { HasCause (C.faults (connection_of self.old)) (C.faults (connection_of self.new)) result }
+    {
+        match self.send_straight(bytes, Wait::Briefly) {
+            Ok(0) => {
+                self.is_behind = true;
+                self.gather(bytes)
+            }
+            Ok(count) => {
+                self.is_behind = count < bytes.len();
+                Ok(count)
+            }
+            Err(failed) => Err(failed),
+        }
+    }
+
+    // Sends these bytes once, where nothing waits.
+    fn send_straight(&mut self, bytes: &[u8], wait: Wait) -> Result<usize, Failed>
+        requires { waiting_of self.old ≡ [] }
+        ensures bound { WritesAtMost result bytes.now }
+        ensures progress { wait ≡ Wait.Long → 0 < length bytes.now → IfOk result (λ n. 0 < n) }
+        ensures bytes { WriteGrows (Holds (C.has (connection_of self.old)) (waiting_of self.old))
+            (Holds (C.has (connection_of self.new)) (waiting_of self.new)) result bytes.now }
+        ensures cause { HasCause (C.faults (connection_of self.old)) (C.faults (connection_of self.new)) result }
+    {
+        self.connection.send(bytes, wait)
+    }
+}
