@@ -1,5 +1,5 @@
 -- What work on a source comes to for its rules and for their destinations, and the plans of it.
-use Rattle.std.specs.Prelude.{◌≡◌, ◌≢◌, ℕ, false, nat_lt, ⊤, if◌then◌else◌, List, [], ◌∷◌, length, Option, None, Some, option_map, ◌+◌}
+use Rattle.std.specs.Prelude.{◌≡◌, ◌≢◌, ℕ, false, nat_lt, ⊤, if◌then◌else◌, List, [], ◌∷◌, length, Option, None, Some, option_map, ◌+◌, ◌≤◌, vec_len, vec_capacity}
 use Rattle.slab.specs.Slab as slab
 use Rattle.ts_spec.specs.Sample.{Point, put, between, outside}
 use Rattle.ts_spec.specs.Kept.{KeptRule}
@@ -21,6 +21,7 @@ use Rattle.ts_db.specs.declared.fault.DbFault.{DbFault}
 use Rattle.ts_db.specs.declared.fault.DbFault.TheVariants.{SamplesFull, Memory}
 use Rattle.ts_db.specs.declared.node.Node.{Node}
 use Rattle.ts_db.specs.declared.planning.DestinationPlan.{DestinationPlan}
+use Rattle.ts_db.specs.declared.planning.Planned.{Planned}
 use Rattle.ts_db.specs.declared.store.Store.{Store}
 use Rattle.ts_db.specs.declared.work.Work.{Work}
 use Rattle.ts_db.specs.declared.work.Work.TheVariants.{Write, Delete}
@@ -49,6 +50,7 @@ abbrev pub TakesWork : Work → (source : History) → Rule → Type 0
 TakesWork (Write p) source r = TakesAppended r source p
 TakesWork (Delete from to) source r = ⊤
 
+-- and so has each of these rules
 abbrev pub AllTake : Work → (source : History) → List Rule → Type 0
 AllTake work source [] = ⊤
 AllTake work source (r ∷ rs) = TakesWork work source r × AllTake work source rs
@@ -67,6 +69,10 @@ kept_rule_in nodes r = kept_with_dest (key_in nodes r.dest) r
 -- what the plan for a rule has for its destination
 abbrev pub for_destination : RulePlan → DestinationPlan
 for_destination x = record { dest = x.rule.dest; change = x.dest }
+
+-- there is room for what so many more rules come to
+abbrev pub HasRoom : ℕ → Planned → Type 0
+HasRoom n planned = (vec_len planned.rules + n ≤ vec_capacity planned.rules) × (vec_len planned.plans + n ≤ vec_capacity planned.plans)
 
 -- The plan for the destination of a rule: it is mended so.
 pub record IsFedBy (limit : ℕ) (nodes : Nodes) (rows : Rows) (gone : Gone) (r : Rule) (x : DestinationPlan) : Type 0 where
@@ -137,6 +143,7 @@ abbrev pub share_of : Work → (source : History) → Rule → (dest : History) 
 share_of (Write p) source r dest = write_share r source p dest
 share_of (Delete from to) source r dest = deletion_share r source from to dest
 
+-- the most for a rule at the node of its destination, and nothing where there is none
 abbrev pub share_at : Work → (source : History) → Rule → Option Node → ℕ
 share_at work source r None = 0
 share_at work source r (Some d) = share_of work source r d.series
@@ -151,6 +158,7 @@ abbrev pub IsEasyOf : (limit : ℕ) → Work → (source : History) → Rule →
 IsEasyOf limit (Write p) source r dest = IsEasyWrite limit r source p dest
 IsEasyOf limit (Delete from to) source r dest = ⊥
 
+-- the same at the node of its destination, which is there
 abbrev pub IsEasyAt : (limit : ℕ) → Work → (source : History) → Rule → Option Node → Type 0
 IsEasyAt limit work source r None = ⊥
 IsEasyAt limit work source r (Some d) = IsEasyOf limit work source r d.series

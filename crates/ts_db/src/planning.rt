@@ -1,19 +1,19 @@
 // The plans for all rules of a source, which are made before anything is changed.
-ghost use Rattle.std.specs.Prelude.{◌≡◌, ◌≤◌, [], ◌∷◌, None, length, IfOk, IfErr};
+ghost use Rattle.std.specs.Prelude.{◌≡◌, ◌≤◌, ◌+◌, ◌++◌, [], ◌∷◌, ℕ, suc, None, length, vec_len, IfOk, IfErr};
 ghost use Rattle.ts_sample.specs.Steps.{Takes};
 ghost use Rattle.slab.specs.Slab as slab;
 ghost use Rattle.ts_series.specs.History.{list_of};
 ghost use Rattle.ts_rules.specs.Rules.{kept_with_dest, IsChanged};
 ghost use Rattle.ts_rules.specs.Plans.{IsPlanned as IsPlannedSo};
 ghost use Rattle.ts_spec.specs.Key.{Key};
-ghost use Rattle.ts_db.specs.Planning.{changed_by, gone_by, rows_by_work, TakesWork, AllTake, IsSharedOf, AreChanged, for_destination, IsFedBy, AreFedBy, first_full, IsRuleUnplanned, IsUnplanned, share_of, share_at, shares_of, IsEasyOf, IsEasyAt, AreEasyOf};
+ghost use Rattle.ts_db.specs.Planning.{changed_by, gone_by, rows_by_work, TakesWork, AllTake, IsSharedOf, AreChanged, for_destination, IsFedBy, AreFedBy, first_full, IsRuleUnplanned, IsUnplanned, share_of, share_at, shares_of, HasRoom, IsEasyOf, IsEasyAt, AreEasyOf};
 ghost use Rattle.ts_db.specs.Store.{IsInOrder, HasNode, AreLive};
 
 use crate::fault::DbFault;
 use crate::store::Store;
 use crate::unplanned::full_at;
 use crate::work::Work;
-use std::alloc::Global;
+use std::alloc::{AllocError, Global};
 use std::sync::ledger::Ledger;
 use ts_rules::{Rule, RuleFault, RulePlan, SharedBucket, plan_delete, plan_put_shared};
 use ts_sample::{Id, Steps};
@@ -31,6 +31,37 @@ pub(crate) struct DestinationPlan {
 pub(crate) struct Planned {
     pub(crate) rules: Vec<Rule>,
     pub(crate) plans: Vec<DestinationPlan>,
+}
+
+impl Planned {
+    // Nothing so far, with room for what so many rules come to.
+    fn with_room(alloc: Global, count: usize) -> Result<Planned, AllocError>
+        ensures rules { IfOk result (λ planned. planned.rules.items ≡ []) }
+        ensures plans { IfOk result (λ planned. planned.plans.items ≡ []) }
+        ensures none { IfOk result (λ planned. vec_len planned.plans ≡ 0) }
+        ensures room { IfOk result (HasRoom count) }
+    {
+        Ok(Planned {
+            rules: Vec::with_capacity(alloc, count)?,
+            plans: Vec::with_capacity(alloc, count)?,
+        })
+    }
+
+    // Takes what one more rule comes to.
+    fn push(&mut self, plan: RulePlan)
+        requires room { HasRoom 1 self.old }
+        ensures rules { self.new.rules.items ≡ self.old.rules.items ++ plan.rule ∷ [] }
+        ensures plans { self.new.plans.items ≡ self.old.plans.items ++ for_destination plan ∷ [] }
+        ensures one { vec_len self.new.plans ≡ vec_len self.old.plans + 1 }
+        ensures room { (n : ℕ) → HasRoom (suc n) self.old → HasRoom n self.new }
+    {
+        let RulePlan { rule, dest } = plan;
+        self.plans.push_reserved(DestinationPlan {
+            dest: rule.dest,
+            change: dest,
+        });
+        self.rules.push_reserved(rule);
+    }
 }
 
 impl Store {
@@ -53,33 +84,22 @@ impl Store {
         ensures steps { Takes steps.old steps.new (shares_of self.now.nodes work.now source.now rules.now) }
         ensures easy { AreEasyOf self.now.limits.samples self.now.nodes work.now source.now rules.now → steps.new ≡ steps.old }
     {
-        let mut changed = match Vec::with_capacity(self.alloc, rules.len()) {
-            Ok(changed) => changed,
-            Err(_) => return Err(self.unplanned(rules, source, work, steps)),
-        };
-        let mut plans = match Vec::with_capacity(self.alloc, rules.len()) {
-            Ok(plans) => plans,
+        let mut planned = match Planned::with_room(self.alloc, rules.len()) {
+            Ok(planned) => planned,
             Err(_) => return Err(self.unplanned(rules, source, work, steps)),
         };
         let mut shared = SharedBucket::new();
         for rule in rules {
             match self.plan_next(rule, source, *work, &mut shared, steps) {
-                Ok(plan) => {
-                    let (after, plan) = parted(plan);
-                    changed.push_reserved(after);
-                    plans.push_reserved(plan);
-                }
+                Ok(plan) => planned.push(plan),
                 Err(RuleFault::Full) => return Err(full_at(rule)),
                 Err(RuleFault::Memory(_)) => {
-                    let left = &rules[plans.len() + 1..];
+                    let left = &rules[planned.plans.len() + 1..];
                     return Err(self.unplanned(left, source, work, steps));
                 }
             }
         }
-        Ok(Planned {
-            rules: changed,
-            plans,
-        })
+        Ok(planned)
     }
 
     // Plans what work on a source comes to for a rule of it and for the rule's destination.
@@ -137,19 +157,6 @@ impl Store {
             steps,
         )
     }
-}
-
-// The rule after what was planned for it, and the plan for its destination.
-fn parted(plan: RulePlan) -> (Rule, DestinationPlan)
-    ensures rule { result.0 ≡ plan.rule }
-    ensures plan { result.1 ≡ for_destination plan }
-{
-    let RulePlan { rule, dest } = plan;
-    let plan = DestinationPlan {
-        dest: rule.dest,
-        change: dest,
-    };
-    (rule, plan)
 }
 
 // Plans what work on a source comes to for a rule of it and for the rule's destination.

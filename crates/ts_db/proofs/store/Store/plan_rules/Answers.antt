@@ -3,10 +3,9 @@ use Rattle.std.proofs.lemmas.List.{take_more, drop_more, take_all, length-drop}
 use Rattle.std.specs.Prelude.{Option, None}
 use Rattle.ts_sample.specs.declared.id.Id.{Id}
 use Rattle.ts_rules.specs.declared.rule.Rule.{Rule}
-use Rattle.ts_rules.specs.Rules.{IsChanged}
 use Rattle.ts_db.specs.declared.planning.DestinationPlan.{DestinationPlan}
 use Rattle.ts_db.specs.Store.{AreLive}
-use Rattle.ts_db.specs.Planning.{changed_by, gone_by, rows_by_work, AllTake, AreChanged, IsFedBy, AreFedBy, first_full, IsRuleUnplanned, IsUnplanned, shares_of, AreEasyOf}
+use Rattle.ts_db.specs.Planning.{changed_by, gone_by, rows_by_work, AllTake, AreChanged, AreFedBy, first_full, IsRuleUnplanned, IsUnplanned, shares_of, AreEasyOf, HasRoom}
 use Rattle.ts_db.proofs.Plans.{full-past, fed-more, changed-more}
 use Rattle.ts_db.proofs.store.Store.plan_rules.Goals as goal
 
@@ -29,23 +28,19 @@ loop-rule-preserved g c =
     let so_far : take (i + 1) all ≡ take i all ++ r ∷ [] = take_more all i r c.loop-rule-test.true ∙ ap (λ (x : Rule). take i all ++ x ∷ []) (sym c.rule-item.is) in
     let left : drop i all ≡ r ∷ drop (i + 1) all = drop_more all i r c.loop-rule-test.true ∙ ap (λ (x : Rule). x ∷ drop (i + 1) all) (sym c.rule-item.is) in
     record {
-      changed = subst (λ (rs : List Rule). AreChanged (changed_by work source) rs c.push_reserved.new.self.items) (sym so_far)
-          (subst (λ (xs : List Rule). AreChanged (changed_by work source) (take i all ++ r ∷ []) xs) (sym c.push_reserved.ensures.items)
-          (changed-more (changed_by work source) (take i all) c.loop-rule.changed.items r c.parted-after.result.0 c.loop-rule.invariant.changed
-          (subst (IsChanged (changed_by work source) r) (sym c.parted-after.ensures.rule) c.in-Ok-plan_next.ensures.changed)));
-      fed = subst (λ (rs : List Rule). AreFedBy limit nodes (rows_by_work work source) (gone_by work source) rs c.push_reserved-in-Ok-plan_next.new.self.items) (sym so_far)
-          (subst (λ (xs : List DestinationPlan). AreFedBy limit nodes (rows_by_work work source) (gone_by work source) (take i all ++ r ∷ []) xs) (sym c.push_reserved-in-Ok-plan_next.ensures.items)
-          (fed-more limit nodes (rows_by_work work source) (gone_by work source) (take i all) c.loop-rule.plans.items r c.parted-after.result.1 c.loop-rule.invariant.fed
-          (subst (IsFedBy limit nodes (rows_by_work work source) (gone_by work source) r) (sym c.parted-after.ensures.plan) c.in-Ok-plan_next.ensures.fed)));
+      changed = subst (λ (rs : List Rule). AreChanged (changed_by work source) rs c.push.new.self.rules.items) (sym so_far)
+          (subst (λ (xs : List Rule). AreChanged (changed_by work source) (take i all ++ r ∷ []) xs) (sym c.push.ensures.rules)
+          (changed-more (changed_by work source) (take i all) c.loop-rule.planned.rules.items r _ c.loop-rule.invariant.changed c.in-Ok-plan_next.ensures.changed));
+      fed = subst (λ (rs : List Rule). AreFedBy limit nodes (rows_by_work work source) (gone_by work source) rs c.push.new.self.plans.items) (sym so_far)
+          (subst (λ (xs : List DestinationPlan). AreFedBy limit nodes (rows_by_work work source) (gone_by work source) (take i all ++ r ∷ []) xs) (sym c.push.ensures.plans)
+          (fed-more limit nodes (rows_by_work work source) (gone_by work source) (take i all) c.loop-rule.planned.plans.items r _ c.loop-rule.invariant.fed c.in-Ok-plan_next.ensures.fed));
       fit = sym (ap (first_full limit nodes (rows_by_work work source) (gone_by work source)) left
           ∙ full-past limit nodes (rows_by_work work source) (gone_by work source) r (drop (i + 1) all) c.in-Ok-plan_next.ensures.fits) ∙ c.loop-rule.invariant.fit;
       live = (subst (AreLive nodes) left c.loop-rule.invariant.live).1;
       shared = c.plan_next.ensures.shared;
       takes = (subst (AllTake work source) left c.loop-rule.invariant.takes).1;
-      many_changed = omega (arith, c.push_reserved.ensures.len, c.loop-rule.invariant.many_changed);
-      many = omega (arith, c.push_reserved-in-Ok-plan_next.ensures.len, c.loop-rule.invariant.many);
-      room_changed = omega (arith, c.push_reserved.ensures.capacity, c.loop-rule.invariant.room_changed);
-      room = omega (arith, c.push_reserved-in-Ok-plan_next.ensures.capacity, c.loop-rule.invariant.room);
+      many = c.push.ensures.one ∙ ap (λ (n : ℕ). n + 1) c.loop-rule.invariant.many;
+      room = c.push.ensures.room (length (drop (i + 1) all)) (subst (λ (rs : List Rule). HasRoom (length rs) c.loop-rule.planned) left c.loop-rule.invariant.room);
       counted = omega (arith, c.plan_next.ensures.steps.counted, c.loop-rule.invariant.counted);
       steps = omega (arith, c.plan_next.ensures.steps.bounded, c.loop-rule.invariant.steps, ap (shares_of nodes work source) left);
       easy = λ all_easy. (
