@@ -62,9 +62,7 @@ impl<C: Chunk> Chunks<C> {
             chunks,
             appended,
         } = change;
-        if start < end || !chunks.is_empty() {
-            self.replace(start, end, chunks);
-        }
+        self.replace(start, end, chunks);
         if let Some(sample) = appended {
             self.append(&sample);
         }
