@@ -17,7 +17,6 @@ use std::sync::ledger::Ledger;
 use ts_sample::{Chunk, Steps};
 use ts_spec::{Ignore, Options, Policy};
 
-#[tactic(auto, using(crate::proofs::Reach::within_reach))]
 impl<C: Chunk> Line<C> {
     // Plans new options, where they are given: a retention in milliseconds (0 keeps samples for ever), the
     // bytes of a chunk, a policy, and what is ignored. Samples before the old or the new edge are dropped. The size of chunks

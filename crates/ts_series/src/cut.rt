@@ -12,7 +12,6 @@ use std::alloc::AllocError;
 use std::sync::ledger::Ledger;
 use ts_sample::{Chunk, Steps};
 
-#[tactic(auto, using(crate::proofs::Reach::within_reach))]
 impl<C: Chunk> Line<C> {
     // Plans a deletion of the samples from one time to another, in milliseconds, both included. Where `from`
     // is above `to` there are none. The edge stays where it is.

@@ -1,4 +1,5 @@
-use Rattle.std.proofs.Common.{◌≡◌, ◌+ℤ◌, ◌∙◌, ap}
+use Rattle.std.proofs.Common.{◌≡◌, ◌<◌, ◌^◌, ◌+ℤ◌, ◌∙◌, ap, arith, refl, subst, sym}
+use Rattle.std.proofs.lemmas.Int.{ints}
 use mir.Syntax.{w128}
 use mir.Val.{to_z, of_z}
 use Rattle.ts_spec.specs.Sample.{Point}
@@ -26,3 +27,23 @@ returns-clause-pushed c =
 
 pub returns-clause-stands : goal.returns-clause-stands
 returns-clause-stands c = stands_pushed c.args.self.now _ c.args.s.now (returns-clause-pushed c)
+
+pub overflow_add-self-2 : goal.overflow_add-self-2
+overflow_add-self-2 c =
+    let count : c.if-self-eq0.self-inside.count ≡ c.self.inside.count = elim c.if-self-eq0.branch [
+      | then-self-eq0 w ↦ rw w.self-inside-is refl
+      | else-self-eq0 w ↦ rw w.self-inside-is refl
+    ] in
+    record { fits = omega (arith, count, c.self.invariant.few) }
+
+pub invariant_of-self : goal.invariant_of-self
+invariant_of-self c =
+    let old = c.self.inside in
+    let total = added old.count old.sum c.get.result c.self.invariant c.get.ensures.bounded in
+    let here : old.count < 10 ^ 14 = subst (λ (s : Summary). s.count < 10 ^ 14) (sym c.self.view_is) c.requires in
+    elim c.if-self-eq0.branch [
+      | then-self-eq0 w ↦ rw w.self-inside-is
+          (record { few = omega (arith, here); within = omega (arith, ints, total, c.self.invariant.within, c.get.ensures.bounded) })
+      | else-self-eq0 w ↦ rw w.self-inside-is
+          (record { few = omega (arith, here); within = omega (arith, ints, total, c.self.invariant.within, c.get.ensures.bounded) })
+    ]

@@ -1,14 +1,17 @@
-use Rattle.std.proofs.Common.{◌≡◌, [], ◌∙◌, sym, ap, subst, length, refl}
+use Rattle.std.proofs.Common.{◌≡◌, ◌*◌, [], ◌∙◌, sym, ap, subst, length, refl, arith}
 use Rattle.std.specs.Prelude.{nat_le, max, option_map, None, Some}
 use Rattle.std.specs.VecDeque.{deque_capacity}
 use Rattle.ts_spec.specs.Sample.{at_times, outside}
+use Rattle.ts_sample.specs.Steps.{Takes}
 use Rattle.ts_series.specs.Stored.{points}
-use Rattle.ts_series.specs.History.{history_of, low, limit_for}
+use Rattle.ts_series.specs.History.{history_of, low, limit_for, reach}
 use Rattle.ts_series.specs.Plan.{Plan, IsForIn}
 use Rattle.ts_series.proofs.EdgeQuestions.{between-shown}
+use Rattle.ts_series.proofs.Reach.{within_reach}
 use Rattle.ts_series.proofs.Ready.{is-for}
 use Rattle.ts_series.proofs.TakenFromEdge.{cut-shown}
 use Rattle.ts_series.proofs.line.Line.cut.Goals as goal
+use Rattle.ts_series.proofs.line.Line.cut.Goals.{After-without}
 
 pub returns-clause-planned : goal.returns-clause-planned
 returns-clause-planned g c =
@@ -35,3 +38,22 @@ returns-clause-cut g c = record {
   wrote = refl;
   options = refl;
 }
+
+-- the walk takes its steps
+taken : (g : _) (c : After-without g) → Takes c.args.steps.now c.without.new.steps (3 * reach c.args.self.now)
+taken g c = record {
+  counted = omega (arith, c.without.ensures.steps.counted);
+  bounded = omega (arith, c.without.ensures.steps.bounded, within_reach g.met.C.Chunk.at_least c.self.invariant c.self.view_is);
+}
+
+pub returns-in_err-change-clause-steps : goal.returns-in_err-change-clause-steps
+returns-in_err-change-clause-steps g c = taken g (goal.at.returns-in_err-change-clause-steps g c).After-without
+
+pub returns-in_err-larger-clause-steps : goal.returns-in_err-larger-clause-steps
+returns-in_err-larger-clause-steps g c = taken g (goal.at.returns-in_err-larger-clause-steps g c).After-without
+
+pub returns-clause-steps : goal.returns-clause-steps
+returns-clause-steps g c = taken g (goal.at.returns-clause-steps g c).After-without
+
+pub invariant_of-result : goal.invariant_of-result
+invariant_of-result g c = (c.in_ok-larger.ensures.empty, tt)
