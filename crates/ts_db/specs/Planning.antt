@@ -71,8 +71,8 @@ abbrev pub for_destination : RulePlan → DestinationPlan
 for_destination x = record { dest = x.rule.dest; change = x.dest }
 
 -- there is room for what so many more rules come to
-abbrev pub HasRoom : ℕ → Planned → Type 0
-HasRoom n planned = (vec_len planned.rules + n ≤ vec_capacity planned.rules) × (vec_len planned.plans + n ≤ vec_capacity planned.plans)
+abbrev pub HasRoomForRules : ℕ → Planned → Type 0
+HasRoomForRules n planned = (vec_len planned.rules + n ≤ vec_capacity planned.rules) × (vec_len planned.plans + n ≤ vec_capacity planned.plans)
 
 -- The plan for the destination of a rule: it is mended so.
 pub record IsFedBy (limit : ℕ) (nodes : Nodes) (rows : Rows) (gone : Gone) (r : Rule) (x : DestinationPlan) : Type 0 where

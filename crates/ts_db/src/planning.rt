@@ -6,7 +6,7 @@ ghost use Rattle.ts_series.specs.History.{list_of};
 ghost use Rattle.ts_rules.specs.Rules.{kept_with_dest, IsChanged};
 ghost use Rattle.ts_rules.specs.Plans.{IsPlanned as IsPlannedSo};
 ghost use Rattle.ts_spec.specs.Key.{Key};
-ghost use Rattle.ts_db.specs.Planning.{changed_by, gone_by, rows_by_work, TakesWork, AllTake, IsSharedOf, AreChanged, for_destination, IsFedBy, AreFedBy, first_full, IsRuleUnplanned, IsUnplanned, share_of, share_at, shares_of, HasRoom, IsEasyOf, IsEasyAt, AreEasyOf};
+ghost use Rattle.ts_db.specs.Planning.{changed_by, gone_by, rows_by_work, TakesWork, AllTake, IsSharedOf, AreChanged, for_destination, IsFedBy, AreFedBy, first_full, IsRuleUnplanned, IsUnplanned, share_of, share_at, shares_of, HasRoomForRules, IsEasyOf, IsEasyAt, AreEasyOf};
 ghost use Rattle.ts_db.specs.Store.{IsInOrder, HasNode, AreLive};
 
 use crate::fault::DbFault;
@@ -39,7 +39,7 @@ impl Planned {
         ensures rules { IfOk result (λ planned. planned.rules.items ≡ []) }
         ensures plans { IfOk result (λ planned. planned.plans.items ≡ []) }
         ensures none { IfOk result (λ planned. vec_len planned.plans ≡ 0) }
-        ensures room { IfOk result (HasRoom count) }
+        ensures room { IfOk result (HasRoomForRules count) }
     {
         Ok(Planned {
             rules: Vec::with_capacity(alloc, count)?,
@@ -49,11 +49,11 @@ impl Planned {
 
     // Takes what one more rule comes to.
     fn push(&mut self, plan: RulePlan)
-        requires room { HasRoom 1 self.old }
+        requires room { HasRoomForRules 1 self.old }
         ensures rules { self.new.rules.items ≡ self.old.rules.items ++ plan.rule ∷ [] }
         ensures plans { self.new.plans.items ≡ self.old.plans.items ++ for_destination plan ∷ [] }
         ensures one { vec_len self.new.plans ≡ vec_len self.old.plans + 1 }
-        ensures room { (n : ℕ) → HasRoom (suc n) self.old → HasRoom n self.new }
+        ensures room { (n : ℕ) → HasRoomForRules (suc n) self.old → HasRoomForRules n self.new }
     {
         let RulePlan { rule, dest } = plan;
         self.plans.push_reserved(DestinationPlan {

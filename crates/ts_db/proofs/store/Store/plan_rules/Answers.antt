@@ -5,7 +5,7 @@ use Rattle.ts_sample.specs.declared.id.Id.{Id}
 use Rattle.ts_rules.specs.declared.rule.Rule.{Rule}
 use Rattle.ts_db.specs.declared.planning.DestinationPlan.{DestinationPlan}
 use Rattle.ts_db.specs.Store.{AreLive}
-use Rattle.ts_db.specs.Planning.{changed_by, gone_by, rows_by_work, AllTake, AreChanged, AreFedBy, first_full, IsRuleUnplanned, IsUnplanned, shares_of, AreEasyOf, HasRoom}
+use Rattle.ts_db.specs.Planning.{changed_by, gone_by, rows_by_work, AllTake, AreChanged, AreFedBy, first_full, IsRuleUnplanned, IsUnplanned, shares_of, AreEasyOf, HasRoomForRules}
 use Rattle.ts_db.proofs.Plans.{full-past, fed-more, changed-more}
 use Rattle.ts_db.proofs.store.Store.plan_rules.Goals as goal
 
@@ -40,7 +40,7 @@ loop-rule-preserved g c =
       shared = c.plan_next.ensures.shared;
       takes = (subst (AllTake work source) left c.loop-rule.invariant.takes).1;
       many = c.push.ensures.one ∙ ap (λ (n : ℕ). n + 1) c.loop-rule.invariant.many;
-      room = c.push.ensures.room (length (drop (i + 1) all)) (subst (λ (rs : List Rule). HasRoom (length rs) c.loop-rule.planned) left c.loop-rule.invariant.room);
+      room = c.push.ensures.room (length (drop (i + 1) all)) (subst (λ (rs : List Rule). HasRoomForRules (length rs) c.loop-rule.planned) left c.loop-rule.invariant.room);
       counted = omega (arith, c.plan_next.ensures.steps.counted, c.loop-rule.invariant.counted);
       steps = omega (arith, c.plan_next.ensures.steps.bounded, c.loop-rule.invariant.steps, ap (shares_of nodes work source) left);
       easy = λ all_easy. (
@@ -67,3 +67,70 @@ returns-in-Err-Memory-clause-refused g c =
     ∙ ap (λ k. first (drop (k + 1) all)) (sym so_far)
     ∙ ap first (sym (take_all (length all - (c.len.result + 1)) (drop (c.len.result + 1) all) (omega (arith, length-drop (c.len.result + 1) all))))))
     c.unplanned-in-Err-Memory.ensures.refused
+
+pub returns-in-Err-clause-refused : goal.returns-in-Err-clause-refused
+returns-in-Err-clause-refused g c = c.unplanned.ensures.refused
+
+pub returns-in-Err-clause-steps : goal.returns-in-Err-clause-steps
+returns-in-Err-clause-steps g c = c.unplanned.ensures.steps
+
+pub returns-in-Err-clause-easy : goal.returns-in-Err-clause-easy
+returns-in-Err-clause-easy g c = c.unplanned.ensures.easy
+
+pub returns-in-Err-Full-clause-steps : goal.returns-in-Err-Full-clause-steps
+returns-in-Err-Full-clause-steps g c =
+    let all = c.args.rules.now in
+    let i : ℕ = c.loop-rule.rule-index in
+    let r : Rule = c.rule-item.result in
+    let left : drop i all ≡ r ∷ drop (i + 1) all = drop_more all i r c.loop-rule-test.true ∙ ap (λ (x : Rule). x ∷ drop (i + 1) all) (sym c.rule-item.is) in
+    record {
+      counted = omega (arith, c.plan_next.ensures.steps.counted, c.loop-rule.invariant.counted);
+      bounded = omega (arith, c.plan_next.ensures.steps.bounded, c.loop-rule.invariant.steps, ap (shares_of c.args.self.now.nodes c.args.work.now c.args.source.now) left);
+    }
+
+pub returns-in-Err-Full-clause-easy : goal.returns-in-Err-Full-clause-easy
+returns-in-Err-Full-clause-easy g c =
+    let all = c.args.rules.now in
+    let i : ℕ = c.loop-rule.rule-index in
+    let r : Rule = c.rule-item.result in
+    let left : drop i all ≡ r ∷ drop (i + 1) all = drop_more all i r c.loop-rule-test.true ∙ ap (λ (x : Rule). x ∷ drop (i + 1) all) (sym c.rule-item.is) in
+    λ all_easy. c.plan_next.ensures.easy (subst (AreEasyOf c.args.self.now.limits.samples c.args.self.now.nodes c.args.work.now c.args.source.now) left (c.loop-rule.invariant.easy all_easy).1).0
+    ∙ (c.loop-rule.invariant.easy all_easy).0
+
+pub returns-in-Err-Memory-clause-steps : goal.returns-in-Err-Memory-clause-steps
+returns-in-Err-Memory-clause-steps g c =
+    let all = c.args.rules.now in
+    let i : ℕ = c.loop-rule.rule-index in
+    let r : Rule = c.rule-item.result in
+    let shares : List Rule → ℕ = shares_of c.args.self.now.nodes c.args.work.now c.args.source.now in
+    let left : drop i all ≡ r ∷ drop (i + 1) all = drop_more all i r c.loop-rule-test.true ∙ ap (λ (x : Rule). x ∷ drop (i + 1) all) (sym c.rule-item.is) in
+    let so_far : c.len.result ≡ i = omega (arith, c.len.ensures, c.loop-rule.invariant.many) in
+    let rest : take (length all - (c.len.result + 1)) (drop (c.len.result + 1) all) ≡ drop (i + 1) all =
+    take_all (length all - (c.len.result + 1)) (drop (c.len.result + 1) all) (omega (arith, length-drop (c.len.result + 1) all)) ∙ ap (λ (k : ℕ). drop (k + 1) all) so_far in
+    record {
+      counted = omega (arith, c.plan_next.ensures.steps.counted, c.unplanned-in-Err-Memory.ensures.steps.counted, c.loop-rule.invariant.counted);
+      bounded = omega (arith, c.plan_next.ensures.steps.bounded, c.unplanned-in-Err-Memory.ensures.steps.bounded, c.loop-rule.invariant.steps, ap shares left, ap shares rest);
+    }
+
+pub returns-in-Err-Memory-clause-easy : goal.returns-in-Err-Memory-clause-easy
+returns-in-Err-Memory-clause-easy g c =
+    let all = c.args.rules.now in
+    let i : ℕ = c.loop-rule.rule-index in
+    let r : Rule = c.rule-item.result in
+    let AreEasy : List Rule → Type 0 = AreEasyOf c.args.self.now.limits.samples c.args.self.now.nodes c.args.work.now c.args.source.now in
+    let left : drop i all ≡ r ∷ drop (i + 1) all = drop_more all i r c.loop-rule-test.true ∙ ap (λ (x : Rule). x ∷ drop (i + 1) all) (sym c.rule-item.is) in
+    let so_far : c.len.result ≡ i = omega (arith, c.len.ensures, c.loop-rule.invariant.many) in
+    let rest : take (length all - (c.len.result + 1)) (drop (c.len.result + 1) all) ≡ drop (i + 1) all =
+    take_all (length all - (c.len.result + 1)) (drop (c.len.result + 1) all) (omega (arith, length-drop (c.len.result + 1) all)) ∙ ap (λ (k : ℕ). drop (k + 1) all) so_far in
+    λ all_easy.
+    let easy : AreEasy (r ∷ drop (i + 1) all) = subst AreEasy left (c.loop-rule.invariant.easy all_easy).1 in
+    c.unplanned-in-Err-Memory.ensures.easy (subst AreEasy (sym rest) easy.1) ∙ c.plan_next.ensures.easy easy.0 ∙ (c.loop-rule.invariant.easy all_easy).0
+
+pub returns-clause-steps : goal.returns-clause-steps
+returns-clause-steps g c = record {
+  counted = c.loop-rule.invariant.counted;
+  bounded = omega (arith, c.loop-rule.invariant.steps);
+}
+
+pub returns-clause-easy : goal.returns-clause-easy
+returns-clause-easy g c = λ all_easy. (c.loop-rule.invariant.easy all_easy).0

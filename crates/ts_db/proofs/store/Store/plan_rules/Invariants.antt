@@ -1,5 +1,5 @@
 use Rattle.std.proofs.Common.{◌≡◌, ◌≤◌, ◌+◌, take, drop, length, vec_len}
-use Rattle.ts_db.specs.Planning.{changed_by, gone_by, rows_by_work, AllTake, IsSharedOf, AreChanged, AreFedBy, first_full, shares_of, AreEasyOf, HasRoom}
+use Rattle.ts_db.specs.Planning.{changed_by, gone_by, rows_by_work, AllTake, IsSharedOf, AreChanged, AreFedBy, first_full, shares_of, AreEasyOf, HasRoomForRules}
 use Rattle.ts_db.specs.Store.{AreLive}
 use Rattle.ts_db.proofs.store.Store.plan_rules.Given as goal
 
@@ -14,7 +14,7 @@ invariant-loop-rule g l = record {
   shared : IsSharedOf l.work l.source l.shared;
   takes : AllTake l.work l.source (drop l.rule-index l.rules);
   many : vec_len l.planned.plans ≡ l.rule-index;
-  room : HasRoom (length (drop l.rule-index l.rules)) l.planned;
+  room : HasRoomForRules (length (drop l.rule-index l.rules)) l.planned;
   counted : l.initial.steps ≤ l.steps;
   steps : l.steps + shares_of l.self.nodes l.work l.source (drop l.rule-index l.rules) ≤ l.initial.steps + shares_of l.self.nodes l.work l.source l.rules;
   easy : AreEasyOf l.self.limits.samples l.self.nodes l.work l.source l.rules
