@@ -7,10 +7,9 @@ ghost use Rattle.ts_command.specs.Faults.{Says, SaysOr};
 ghost use Rattle.ts_command.specs.Reading.{command_of};
 
 use crate::command::Command;
-use crate::given::Given;
 use crate::lists::read_filters;
 use crate::option_word::OptionSet;
-use crate::options::read_options;
+use crate::options::read_given;
 use crate::own_words::split_own;
 use crate::word_fault::{ReadFault, WordFault};
 use crate::words::end_word;
@@ -42,16 +41,16 @@ fn read_asked(
 {
     let first = end_word(from)?;
     let last = end_word(to)?;
-    let mut given = Given::nothing();
-    read_options(alloc, OptionSet::ManyRanges, options, &mut given)?;
-    let filters = given.filters.ok_or(WordFault::BadOption)?;
+    let mut given = read_given(alloc, OptionSet::ManyRanges, options)?;
+    let filters = given.filters.take().ok_or(WordFault::BadOption)?;
     let query = given.range.query(reverse, from, to, first, last)?;
+    let filters = selection(filters)?;
     Ok(Command::MRange {
         latest: given.latest,
-        show: given.show.unwrap_or(Show::Nothing),
-        filters: selection(filters)?,
+        show: given.show.take().unwrap_or(Show::Nothing),
+        filters,
         query,
-        group: given.group,
+        group: given.group.take(),
     })
 }
 
@@ -73,13 +72,12 @@ pub(crate) fn read_last_of_many(words: &Vec<Word>) -> Result<Command, ReadFault>
 {
     let alloc = *words.allocator();
     let (_name, options) = split_own(1, words);
-    let mut given = Given::nothing();
-    read_options(alloc, OptionSet::ManyLast, options, &mut given)?;
-    let filters = given.filters.ok_or(WordFault::BadOption)?;
+    let mut given = read_given(alloc, OptionSet::ManyLast, options)?;
+    let filters = selection(given.filters.take().ok_or(WordFault::BadOption)?)?;
     Ok(Command::MGet {
         latest: given.latest,
-        show: given.show.unwrap_or(Show::Nothing),
-        filters: selection(filters)?,
+        show: given.show.take().unwrap_or(Show::Nothing),
+        filters,
     })
 }
 

@@ -128,7 +128,7 @@ fn add_own(
 }
 
 // Adds what the options say, which these words are and no more.
-pub(crate) fn read_options(
+fn read_options(
     alloc: Global,
     set: OptionSet,
     words: &[Word],
