@@ -1,5 +1,5 @@
 // TS.INFO: what is told of a series and of how it is kept.
-ghost use Rattle.std.specs.Prelude.{◌≡◌, ◌+◌, ◌*◌, ◌≤◌, [], length, map, Some, IfOk};
+ghost use Rattle.std.specs.Prelude.{◌≡◌, ◌+◌, ◌*◌, ◌^◌, ◌<◌, ◌≤◌, [], length, map, true, false, Some, IfOk};
 ghost use Rattle.ts_spec.specs.Keyed.{get};
 ghost use Rattle.ts_spec.specs.Questions.{info_response};
 ghost use Rattle.ts_spec.specs.Replies as spec;
@@ -40,27 +40,24 @@ pub(crate) fn put_info<L: Ledger>(db: &Db, key: &Word, out: &mut Out, steps: &mu
 fn info_reply(info: Info) -> Result<Reply, AllocError>
     ensures { IfOk result (λ reply. reply_of reply ≡ spec.info_reply (info_of info)) }
 {
+    if !has_integers(&info) {
+        return Err(AllocError);
+    }
     let alloc = *info.rules.allocator();
     let options = info.options;
-    let total = number(info.total)?;
-    let first = number(info.first)?;
-    let last = number(info.last)?;
-    let retention = number(options.retention)?;
-    let chunk_size = number(options.chunk_size as u64)?;
-    let ignore_time = number(options.ignore.time)?;
     let labels = labels_reply(alloc, &info.labels)?;
     let rules = rules_reply(alloc, info.rules)?;
     let values = vec![in alloc;
         simple("totalSamples"),
-        total,
+        number(info.total),
         simple("firstTimestamp"),
-        first,
+        number(info.first),
         simple("lastTimestamp"),
-        last,
+        number(info.last),
         simple("retentionTime"),
-        retention,
+        number(options.retention),
         simple("chunkSize"),
-        chunk_size,
+        number(options.chunk_size as u64),
         simple("chunkType"),
         simple(encoding_name(options.encoding)),
         simple("duplicatePolicy"),
@@ -72,7 +69,7 @@ fn info_reply(info: Info) -> Result<Reply, AllocError>
         simple("rules"),
         rules,
         simple("ignoreMaxTimeDiff"),
-        ignore_time,
+        number(options.ignore.time),
         simple("ignoreMaxValDiff"),
         value(options.ignore.value),
     ]?;
@@ -93,14 +90,35 @@ fn array(replies: Vec<Reply>) -> Reply
     Reply::Array(replies)
 }
 
-// A number. None is past what an integer shows, so that there is room for it.
-fn number(number: u64) -> Result<Reply, AllocError>
-    ensures { IfOk result (λ reply. reply_of reply ≡ spec.number number) }
+// Whether an integer shows each number that is told. There is no room for a greater one.
+fn has_integers(info: &Info) -> bool
+    ensures total { result ≡ true → info.now.total < 2 ^ 63 }
+    ensures first { result ≡ true → info.now.first < 2 ^ 63 }
+    ensures last { result ≡ true → info.now.last < 2 ^ 63 }
+    ensures retention { result ≡ true → info.now.options.retention < 2 ^ 63 }
+    ensures ignored { result ≡ true → info.now.options.ignore.time < 2 ^ 63 }
 {
-    match i64::try_from(number) {
-        Ok(number) => Ok(Reply::Int(number)),
-        Err(_) => Err(AllocError),
-    }
+    is_integer(info.total)
+        && is_integer(info.first)
+        && is_integer(info.last)
+        && is_integer(info.options.retention)
+        && is_integer(info.options.ignore.time)
+}
+
+// Whether an integer of 64 bits shows a number.
+fn is_integer(number: u64) -> bool
+    ensures small { result ≡ true → number < 2 ^ 63 }
+    ensures great { result ≡ false → 2 ^ 63 ≤ number }
+{
+    number <= i64::MAX as u64
+}
+
+// A number.
+fn number(number: u64) -> Reply
+    requires { number < 2 ^ 63 }
+    ensures { reply_of result ≡ spec.number number }
+{
+    Reply::Int(number as i64)
 }
 
 // A value.
@@ -157,9 +175,11 @@ fn rules_reply(alloc: Global, rules: Vec<RuleInfo>) -> Result<Reply, AllocError>
 fn rule_reply(alloc: Global, rule: RuleInfo) -> Result<Reply, AllocError>
     ensures { IfOk result (λ reply. reply_of reply ≡ spec.rule_reply (rule_info_of rule)) }
 {
-    let duration = number(rule.grid.duration())?;
-    let align = number(rule.grid.align())?;
+    let (duration, align) = (rule.grid.duration(), rule.grid.align());
+    if !is_integer(duration) || !is_integer(align) {
+        return Err(AllocError);
+    }
     let agg = Reply::Simple(name(rule.agg));
     let dest = Reply::Bulk(rule.dest);
-    Ok(Reply::Array(vec![in alloc; dest, duration, agg, align]?))
+    Ok(Reply::Array(vec![in alloc; dest, number(duration), agg, number(align)]?))
 }

@@ -10,15 +10,15 @@ returns c =
     c.array.ensures ∙ ap (λ (replies : List Reply). spec.array (map reply_of replies)) c.in_ok-values.ensures.items
     ∙ (λ i. spec.array (
     c.simple.ensures i
-    ∷ c.in_ok-total.ensures i
+    ∷ c.number.ensures i
     ∷ c.simple-2.ensures i
-    ∷ c.in_ok-first.ensures i
+    ∷ c.number-2.ensures i
     ∷ c.simple-3.ensures i
-    ∷ c.in_ok-last.ensures i
+    ∷ c.number-3.ensures i
     ∷ c.simple-4.ensures i
-    ∷ c.in_ok-retention.ensures i
+    ∷ c.number-4.ensures i
     ∷ c.simple-5.ensures i
-    ∷ c.in_ok-chunk_size.ensures i
+    ∷ c.number-5.ensures i
     ∷ c.simple-6.ensures i
     ∷ (c.simple-7.ensures ∙ ap (λ (l : List ℕ). Simple l) c.encoding_name.ensures) i
     ∷ c.simple-8.ensures i
@@ -30,7 +30,7 @@ returns c =
     ∷ c.simple-12.ensures i
     ∷ c.in_ok-rules.ensures i
     ∷ c.simple-13.ensures i
-    ∷ c.in_ok-ignore_time.ensures i
+    ∷ c.number-6.ensures i
     ∷ c.simple-14.ensures i
     ∷ c.value.ensures i
     ∷ []))
