@@ -1,4 +1,4 @@
--- Aggregates of the samples of a bucket.
+-- Aggregation: the summary of a list of values, and what each aggregator computes from it.
 use Rattle.std.specs.Prelude.{ℕ, zero, suc, ◌+◌, ◌*◌, ℤ, pos, ◌+ℤ◌, ◌-ℤ◌, int_lt, if◌then◌else◌, List, fold}
 use Rattle.ts_spec.specs.declared.bucket.Aggregator.{Aggregator}
 use Rattle.ts_spec.specs.declared.bucket.Aggregator.TheVariants.{Avg, Sum, Min, Max, Range, Count, First, Last}
@@ -7,7 +7,7 @@ use Rattle.ts_spec.specs.declared.bucket.Reducer.TheVariants as reducer
 use Rattle.ts_spec.specs.Sample.{Point}
 use Rattle.ts_spec.specs.Value.{div_round, clamp}
 
--- what is asked of the values of a list: how many, their sum, the least and the greatest, the first and the last
+-- the count, sum, least, greatest, first and last of a list of values, in millionths
 pub record Summary : Type 0 where
   pub count : ℕ
   pub sum : ℤ
@@ -16,16 +16,16 @@ pub record Summary : Type 0 where
   pub first : ℤ
   pub last : ℤ
 
--- of no values
+-- the summary of the empty list
 abbrev pub nothing : Summary
 nothing = record { count = 0; sum = pos 0; least = pos 0; greatest = pos 0; first = pos 0; last = pos 0 }
 
--- a value that the next one may take the place of, unless it is the first
+-- `new` if no value came before (the count is 0), else `old`
 abbrev pub kept_unless_first : ℕ → ℤ → ℤ → ℤ
 kept_unless_first zero old new = new
 kept_unless_first (suc n) old new = old
 
--- with one more value at the end
+-- the summary after appending one sample
 abbrev pub push : Summary → Point → Summary
 push s p = record {
   count = s.count + 1;
@@ -36,11 +36,11 @@ push s p = record {
   last = p.value;
 }
 
--- of the values of a list
+-- the summary of the values of a list
 abbrev pub summary : List Point → Summary
 summary ps = fold push nothing ps
 
--- what an aggregator tells of them, in millionths
+-- the result of an aggregator, in millionths
 abbrev pub result_of : Aggregator → Summary → ℤ
 result_of Avg s = div_round s.sum s.count
 result_of Sum s = clamp s.sum
@@ -51,11 +51,11 @@ result_of Count s = pos (s.count * 1000000)
 result_of First s = s.first
 result_of Last s = s.last
 
--- the aggregate of a list that is not empty
+-- the aggregate of a non-empty list, in millionths
 abbrev pub aggregate : Aggregator → List Point → ℤ
 aggregate a ps = result_of a (summary ps)
 
--- the aggregator that a reducer goes by
+-- the aggregator with the same result as a reducer
 abbrev pub aggregator_of : Reducer → Aggregator
 aggregator_of reducer.Avg = Avg
 aggregator_of reducer.Sum = Sum

@@ -1,4 +1,4 @@
--- Commands, as their words are read.
+-- Parsed commands.
 use Rattle.std.specs.Prelude.{ℕ, ℤ, Bool, List, Option, Result}
 use Rattle.ts_spec.specs.declared.series.Policy.{Policy}
 use Rattle.ts_spec.specs.declared.series.Ignore.{Ignore}
@@ -13,12 +13,12 @@ use Rattle.ts_spec.specs.State.{Label}
 use Rattle.ts_spec.specs.Filter.{Filter}
 use Rattle.ts_spec.specs.Refusal.{Fault}
 
--- what a new series is made with; of a label that was given twice the last value is left, in the first place
+-- The options and labels of a new series. If a label was given twice, its last value counts, at its first position.
 pub record Spec : Type 0 where
   pub options : Options
   pub labels : List Label
 
--- what a series gets anew, where it is given
+-- the options that TS.ALTER sets; `None` keeps the old value
 pub record Change : Type 0 where
   pub retention : Option ℕ
   pub chunk_size : Option ℕ
@@ -26,25 +26,27 @@ pub record Change : Type 0 where
   pub ignore : Option Ignore
   pub labels : Option (List Label)
 
--- one sample of TS.MADD; a time or a value that is none is told in the answer of its triple
+-- One sample of TS.MADD. A bad time or value is reported in the reply to this triple alone.
 pub record Triple : Type 0 where
   pub key : Key
   pub at : Result At Fault
   pub value : Result ℤ Fault
 
--- the buckets of a range: their grid, what is told of each, the time that stands for it, and whether empty ones are told
+-- The aggregation of a query: the grid, the aggregator, which timestamp a bucket gets, and whether empty buckets are
+-- returned (EMPTY).
 pub record Buckets : Type 0 where
   pub grid : Grid
   pub agg : Aggregator
   pub stamp : Stamp
   pub empty : Bool
 
--- values from the least to the greatest, both included
+-- an interval of values in millionths, both ends included
 pub record Span : Type 0 where
   pub least : ℤ
   pub greatest : ℤ
 
--- what a range asks: an interval of times, both ends included, the times and the values that are let through, how many rows, the buckets, and whether the last row comes first
+-- A range query: the interval (both ends included, in milliseconds), the filters by times and values, the row limit,
+-- the buckets, and whether the newest row comes first.
 pub record Query : Type 0 where
   pub from : ℕ
   pub to : ℕ
@@ -54,18 +56,18 @@ pub record Query : Type 0 where
   pub buckets : Option Buckets
   pub reverse : Bool
 
--- which labels an answer over many series shows
+-- which labels a reply over many series includes
 pub data Show : Type 0 where
   Nothing : Show
   All : Show
   Selected : List (List ℕ) → Show
 
--- one answer for each value of a label: what is told of the values that its series have at one time
+-- GROUPBY: one reply for each value of the label, whose values at each time are combined by the reducer
 pub record GroupBy : Type 0 where
   pub label : List ℕ
   pub reducer : Reducer
 
--- A command, one for each kind of request.
+-- A command.
 pub data Command : Type 0 where
   Create : Key → Spec → Command
   Alter : Key → Change → Command

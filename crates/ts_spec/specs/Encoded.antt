@@ -1,20 +1,20 @@
--- Requests as a client sends them.
+-- Requests as a client encodes them in RESP2.
 use Rattle.std.specs.Prelude.{◌≢◌, ◌≤◌, ℕ, List, [], ◌∷◌, ◌++◌, length, sum_by, All}
 use Rattle.std.specs.Fmt.{decimal}
 use Rattle.ts_spec.specs.declared.wire.WireLimits.{WireLimits}
 use Rattle.ts_spec.specs.Text.{CRLF}
 use Rattle.ts_spec.specs.Wire.{Request, STAR, DOLLAR}
 
--- a word: `$`, its length, CRLF, its bytes, CRLF
+-- a bulk string: `$`, its length, CRLF, its bytes, CRLF
 abbrev pub encoded_word : List ℕ → List ℕ
 encoded_word word = DOLLAR ∷ decimal (length word) ++ CRLF ++ word ++ CRLF
 
--- words, one after another
+-- bulk strings, one after another
 abbrev pub encoded_words : Request → List ℕ
 encoded_words [] = []
 encoded_words (word ∷ words) = encoded_word word ++ encoded_words words
 
--- a request: `*`, the number of its words, CRLF, its words
+-- an array of bulk strings: `*`, their count, CRLF, and the strings
 abbrev pub encoded_request : Request → List ℕ
 encoded_request words = STAR ∷ decimal (length words) ++ CRLF ++ encoded_words words
 
@@ -23,7 +23,7 @@ abbrev pub encoded : List Request → List ℕ
 encoded [] = []
 encoded (request ∷ requests) = encoded_request request ++ encoded requests
 
--- a request has words, and no more and no longer ones than the limits allow
+-- a non-empty request within the limits on its word count and on its bytes
 pub record Fits (limits : WireLimits) (request : Request) : Type 0 where
   pub some : request ≢ []
   pub words : length request ≤ limits.words

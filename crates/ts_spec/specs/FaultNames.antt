@@ -1,4 +1,4 @@
--- The names of faults, as Debug prints them.
+-- The names of faults, as `Debug` prints them.
 use Rattle.std.specs.Prelude.{ℕ, List, codes}
 use Rattle.ts_spec.specs.declared.value.ValueFault.{ValueFault}
 use Rattle.ts_spec.specs.declared.value.ValueFault.TheVariants.{NotANumber, OutOfRange}

@@ -1,31 +1,31 @@
--- Filters by labels, and the selection of keys.
+-- Label filters, and the keys that they select.
 use Rattle.std.specs.Prelude.{ℕ, Bool, true, false, not, ◌&&◌, ◌||◌, if◌then◌else◌, List, [], ◌∷◌, Option, Some, None, is_some}
 use Rattle.ts_spec.specs.Key.{Key, same}
 use Rattle.ts_spec.specs.Keyed.{Entry}
 use Rattle.ts_spec.specs.State.{Label, Record, State}
 
--- A filter by a label.
+-- A filter on one label.
 pub data Filter : Type 0 where
-  -- the label has one of these values
+  -- the series has the label with one of these values
   Among : (label : List ℕ) → (values : List (List ℕ)) → Filter
-  -- the label is absent, or has none of these values
+  -- the series lacks the label, or has another value
   NotAmong : (label : List ℕ) → (values : List (List ℕ)) → Filter
-  -- the label is absent
+  -- the series lacks the label
   Absent : (label : List ℕ) → Filter
-  -- the label is there
+  -- the series has the label
   Present : (label : List ℕ) → Filter
 
--- the value of a label, if it is there
+-- the value of a label, if the series has it
 abbrev pub value_of : List ℕ → List Label → Option (List ℕ)
 value_of name [] = None
 value_of name (l ∷ ls) = if same l.name name then Some l.value else value_of name ls
 
--- whether a value is one of these
+-- whether the value is in the list
 abbrev pub is_among : List (List ℕ) → List ℕ → Bool
 is_among [] value = false
 is_among (v ∷ vs) value = same v value || is_among vs value
 
--- whether a label is there with one of these values
+-- whether the series has the label with one of these values
 abbrev pub has_one_of : List (List ℕ) → Option (List ℕ) → Bool
 has_one_of values None = false
 has_one_of values (Some value) = is_among values value
@@ -42,12 +42,12 @@ abbrev pub all_hold : List Filter → List Label → Bool
 all_hold [] labels = true
 all_hold (f ∷ fs) labels = holds f labels && all_hold fs labels
 
--- whether a filter asks for a value; a selection needs one that does
+-- whether a filter requires a value; a query needs at least one filter that does
 abbrev pub is_positive : Filter → Bool
 is_positive (Among label values) = true
 is_positive other = false
 
--- whether one of the filters asks for a value
+-- whether at least one filter requires a value
 abbrev pub has_positive : List Filter → Bool
 has_positive [] = false
 has_positive (f ∷ fs) = is_positive f || has_positive fs

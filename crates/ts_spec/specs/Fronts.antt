@@ -1,29 +1,30 @@
--- Streams of which more comes, and how large their requests are.
+-- Prefixes of streams, and the size of the requests in a stream.
 use Rattle.std.specs.Prelude.{◌≡◌, ◌≤◌, ◌⊎◌, ℕ, List, length}
 use Rattle.ts_spec.specs.declared.wire.WireLimits.{WireLimits}
 use Rattle.ts_spec.specs.Encoded.{Fits}
 use Rattle.ts_spec.specs.Wire.{Request, Stream, Then, Ended, Inside, Broken, words_of_line}
 
--- A stream is a front of another: the other has its requests and then its own, and the same fault.
+-- The first stream is a prefix of the second: the second begins with its requests, and has the same protocol error if
+-- it has one.
 abbrev pub IsFront : Stream → Stream → Type 0
 IsFront (Then request place rest) other = (others : Stream) × (other ≡ Then request place others) × IsFront rest others
 IsFront Ended other = Unit {0}
 IsFront (Inside place) other = Unit {0}
 IsFront (Broken kind place) other = other ≡ Broken kind place
 
--- a stream that goes on with another, where it ends between two requests
+-- the first stream continued by the second, if it ends between two requests
 abbrev pub then_on : Stream → Stream → Stream
 then_on (Then request place rest) other = Then request place (then_on rest other)
 then_on Ended other = other
 then_on (Inside place) other = Inside place
 then_on (Broken kind place) other = Broken kind place
 
--- a request is a line that is no longer than the limit
+-- the request is an inline command within the limit on a line
 pub record IsShortLine (limits : WireLimits) (request : Request) : Type 0 where
   pub line : List ℕ
   pub words : request ≡ words_of_line line
   pub bytes : length line ≤ limits.line_bytes
 
--- a request is within the limits: those of an array, or that of a line
+-- the request is within the limits for an array or for an inline command
 abbrev pub IsWithin : WireLimits → Request → Type 0
 IsWithin limits request = Fits limits request ⊎ IsShortLine limits request

@@ -1,4 +1,4 @@
--- Answers over many series in groups: one for each value of a label.
+-- GROUPBY: replies over many series, one for each value of a label.
 use Rattle.std.specs.Prelude.{ℕ, Bool, false, ◌==◌, nat_lt, if◌then◌else◌, List, [], ◌∷◌, ◌++◌, map, filter, flat_map, codes, Option, Some, None, is_some, option_map}
 use Rattle.ts_spec.specs.declared.limits.Limits.{Limits}
 use Rattle.ts_spec.specs.declared.bucket.Reducer.{Reducer}
@@ -14,7 +14,7 @@ use Rattle.ts_spec.specs.Response.{Member, Response}
 use Rattle.ts_spec.specs.Questions.{asked, labels_shown, labels_at, members_of, members_response}
 use Rattle.ts_spec.specs.Replies.{aggregator_name}
 
--- a series with all its labels, and the rows that a question has of it
+-- a series with its labels, and the rows that a query has from it
 pub record Labelled : Type 0 where
   pub key : Key
   pub labels : List Label
@@ -22,53 +22,53 @@ pub record Labelled : Type 0 where
 
 -- ---- the values of a label
 
--- values in ascending order with one more, each once
+-- inserts a value into ascending values without duplicates
 abbrev pub with_value : List ℕ → List (List ℕ) → List (List ℕ)
 with_value v [] = v ∷ []
 with_value v (w ∷ ws) = if is_before v w then v ∷ w ∷ ws else (if same v w then w ∷ ws else w ∷ with_value v ws)
 
--- the same of the value of a label, which a series may lack
+-- the same for the value of a label that a series may lack
 abbrev pub with_value_of : Option (List ℕ) → List (List ℕ) → List (List ℕ)
 with_value_of None vs = vs
 with_value_of (Some v) vs = with_value v vs
 
--- the values that series have of the label, in ascending order, each once
+-- the values that the series have for the label, ascending and without duplicates
 abbrev pub values : (label : List ℕ) → List Labelled → List (List ℕ)
 values label [] = []
 values label (m ∷ ms) = with_value_of (value_of label m.labels) (values label ms)
 
--- whether it is this value
+-- whether the value is this one
 abbrev pub is_value : List ℕ → Option (List ℕ) → Bool
 is_value v None = false
 is_value v (Some w) = same v w
 
--- the series that have this value of the label, in their order
+-- the series with this value of the label, in their order
 abbrev pub having : (label value : List ℕ) → List Labelled → List Labelled
 having label value ms = filter (λ m. is_value value (value_of label m.labels)) ms
 
 -- ---- the rows of a group
 
--- times in ascending order with one more, each once
+-- inserts a time into ascending times without duplicates
 abbrev pub with_time : ℕ → List ℕ → List ℕ
 with_time t [] = t ∷ []
 with_time t (u ∷ us) = if nat_lt t u then t ∷ u ∷ us else (if t == u then u ∷ us else u ∷ with_time t us)
 
--- the times of rows, in ascending order, each once
+-- the times of rows, ascending and without duplicates
 abbrev pub times : List Row → List ℕ
 times [] = []
 times (r ∷ rs) = with_time r.time (times rs)
 
--- one more value in front, where a row has a number
+-- prepends the value of a row, unless it is NaN
 abbrev pub number_then : ℕ → Cell → List Point → List Point
 number_then t Nan others = others
 number_then t (Number v) others = record { time = t; value = v; made = 0 } ∷ others
 
--- the numbers that rows have at this time, in their order
+-- the values that rows have at this time, in their order
 abbrev pub numbers_at : ℕ → List Row → List Point
 numbers_at t [] = []
 numbers_at t (r ∷ rs) = if r.time == t then number_then t r.value (numbers_at t rs) else numbers_at t rs
 
--- what a reducer tells of numbers; of none, that there is none
+-- the result of a reducer, or NaN for no values
 abbrev pub reduced : Reducer → List Point → Cell
 reduced reducer [] = Nan
 reduced reducer (p ∷ ps) = Number (aggregate (aggregator_of reducer) (p ∷ ps))
@@ -77,19 +77,19 @@ reduced reducer (p ∷ ps) = Number (aggregate (aggregator_of reducer) (p ∷ ps
 abbrev pub reduced_row : Reducer → List Row → ℕ → Row
 reduced_row reducer rows t = record { time = t; value = reduced reducer (numbers_at t rows) }
 
--- a row for each time that rows have, in ascending order
+-- one row for each time of the given rows, in ascending order
 abbrev pub reduced_rows : Reducer → List Row → List Row
 reduced_rows reducer rows = map (reduced_row reducer rows) (times rows)
 
 -- ---- groups
 
--- the keys of series, with commas between them
+-- the keys of series, separated by commas
 abbrev pub sources : List Labelled → List ℕ
 sources [] = []
 sources (m ∷ []) = m.key
 sources (m ∷ n ∷ ms) = m.key ++ codes "," ++ sources (n ∷ ms)
 
--- the labels of a group: its own, how it was reduced, and of which series
+-- the labels of a group: its own, `__reducer__` and `__source__`
 abbrev pub group_labels : GroupBy → (value : List ℕ) → List Labelled → List Label
 group_labels by value ms =
     record { name = by.label; value = value }
@@ -97,7 +97,7 @@ group_labels by value ms =
     ∷ record { name = codes "__source__"; value = sources ms }
     ∷ []
 
--- the group of a value: its rows are turned round where the last is to come first, and then so many of them
+-- the group of one value of the label, with its rows in the requested order and cut to COUNT
 abbrev pub group : GroupBy → Show → (count : Option ℕ) → (reverse : Bool) → (value : List ℕ) → List Labelled → Member
 group by show count reverse value ms = record {
   key = by.label ++ codes "=" ++ value;
@@ -105,7 +105,7 @@ group by show count reverse value ms = record {
   rows = first_ones count (turned reverse (reduced_rows by.reducer (flat_map (λ m. m.rows) ms)));
 }
 
--- The groups of series, in ascending order of their values. A series without the label is in none.
+-- The groups of series, in ascending order of their values. Series without the label are left out.
 abbrev pub groups : GroupBy → Show → (count : Option ℕ) → (reverse : Bool) → List Labelled → List Member
 groups by show count reverse ms = map (λ value. group by show count reverse value (having by.label value ms)) (values by.label ms)
 
@@ -115,27 +115,28 @@ groups by show count reverse ms = map (λ value. group by show count reverse val
 abbrev pub labelled_keys : (label : List ℕ) → (labels : Key → List Label) → List Key → List Key
 labelled_keys label labels ks = filter (λ k. is_some (value_of label (labels k))) ks
 
--- one more series in front, unless its rows are too many
+-- prepends a series, unless it has too many rows
 abbrev pub labelled_then : Key → List Label → Option (List Row) → Option (List Labelled) → Option (List Labelled)
 labelled_then k labels None others = None
 labelled_then k labels (Some rows) None = None
 labelled_then k labels (Some rows) (Some others) = Some (record { key = k; labels = labels; rows = rows } ∷ others)
 
--- the series of these keys; none where the rows of one are too many
+-- the series at these keys, or `None` if one of them has too many rows
 abbrev pub labelled : (labels : Key → List Label) → (rows : Key → Option (List Row)) → List Key → Option (List Labelled)
 labelled labels rows [] = Some []
 labelled labels rows (k ∷ ks) = labelled_then k (labels k) (rows k) (labelled labels rows ks)
 
--- a question that asks all its rows
+-- a query without its row limit
 abbrev pub uncounted : Query → Query
 uncounted q = record q { count = None }
 
--- what is answered in groups, where keys have these labels and these rows; only the rows of those that have the label may be too many
+-- The response in groups, for keys with these labels and rows. Only series that have the label can have too many
+-- rows.
 abbrev pub grouped_response : GroupBy → Show → Query → (labels : Key → List Label) → (rows : Key → Option (List Row)) → List Key → Response
 grouped_response by show q labels rows ks =
     members_response (option_map (groups by show q.count q.reverse) (labelled labels rows (labelled_keys by.label labels ks)))
 
--- TS.MRANGE and TS.MREVRANGE over these keys, one by one or in groups
+-- TS.MRANGE and TS.MREVRANGE over these keys, series by series or in groups
 abbrev pub ranges_response : Limits → State → (with_open : Bool) → Show → Query → Option GroupBy → List Key → Response
 ranges_response limits m with_open show q None ks = members_response (members_of limits m with_open show q ks)
 ranges_response limits m with_open show q (Some by) ks =

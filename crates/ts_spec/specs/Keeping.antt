@@ -1,4 +1,4 @@
--- What the other commands do to what is kept.
+-- What the other commands do to the stored data.
 use Rattle.std.specs.Prelude.{ℕ, ◌+◌, Bool, not, ◌&&◌, ◌||◌, nat_le, if◌then◌else◌, List, [], ◌∷◌, ◌++◌, filter, Option, Some, None}
 use Rattle.std.specs.Option.{unwrap_or}
 use Rattle.ts_spec.specs.declared.bucket.Aggregator.{Aggregator}
@@ -11,11 +11,11 @@ use Rattle.ts_spec.specs.State.{edge_of}
 use Rattle.ts_spec.specs.Command.{Spec, Change}
 use Rattle.ts_spec.specs.Kept.{Kept, Keeping}
 
--- what is kept of a new series
+-- the stored form of a new series
 abbrev pub kept_fresh : Spec → List Point → Option ℕ → Kept
 kept_fresh spec ps high = record { options = spec.options; labels = spec.labels; list = ps; high = high; born = 0; rules = []; source = None }
 
--- a key with the given parts in place of its own, from its new edge on
+-- a series after TS.ALTER: its new options and labels, without the samples before its new edge
 abbrev pub kept_altered : Change → Kept → Kept
 kept_altered c d = record d {
   options = record {
@@ -29,38 +29,38 @@ kept_altered c d = record d {
   list = at_times (nat_le (edge_of (unwrap_or c.retention d.options.retention) d.high)) d.list;
 }
 
--- with f's value in place of the one at the key, if it is there
+-- applies f to the series at the key, if it exists
 abbrev pub keep_changed : Key → (Kept → Kept) → Keeping → Keeping
 keep_changed key f m = each (λ k d. if same k key then f d else d) m
 
--- a source with one more rule
+-- a source after TS.CREATERULE
 abbrev pub kept_with_rule : Key → Aggregator → Grid → Kept → Kept
 kept_with_rule dest agg grid d = record d {
   born = d.born + 1;
   rules = d.rules ++ record { dest = dest; agg = agg; grid = grid; made = d.born + 1; current = None; running = nothing } ∷ [];
 }
 
--- after a rule is made
+-- all series after TS.CREATERULE
 abbrev pub keep_ruled : (source dest : Key) → Aggregator → Grid → Keeping → Keeping
 keep_ruled source dest agg grid m = keep_changed dest (λ d. record d { source = Some source }) (keep_changed source (kept_with_rule dest agg grid) m)
 
--- the source of a key, unless the rule from it is one of those that end
+-- the source of a key, or `None` if the rule from it ends
 abbrev pub source_left : (Key → Key → Bool) → Key → Option Key → Option Key
 source_left ends k None = None
 source_left ends k (Some source) = if ends source k then None else Some source
 
--- a key after that: its list stays
+-- a series after the rules that pass the test end; its samples stay
 abbrev pub kept_ended : (Key → Key → Bool) → Key → Kept → Kept
 kept_ended ends k d = record d { rules = filter (λ q. not (ends k q.dest)) d.rules; source = source_left ends k d.source }
 
--- after the end of the rules whose source and destination pass the test
+-- ends all rules whose source and destination pass the test
 abbrev pub keep_ended : (Key → Key → Bool) → Keeping → Keeping
 keep_ended ends m = each (kept_ended ends) m
 
--- after the end of the rule from one key to another
+-- all series after TS.DELETERULE
 abbrev pub keep_without_rule : (source dest : Key) → Keeping → Keeping
 keep_without_rule source dest m = keep_ended (λ s d. same s source && same d dest) m
 
--- without the key, after the end of each rule from it or to it
+-- removes the key and ends every rule from it or to it
 abbrev pub keep_dropped : Key → Keeping → Keeping
 keep_dropped key m = without_key key (keep_ended (λ s d. same s key || same d key) m)

@@ -1,4 +1,5 @@
--- What is kept of a state: what each key shows, and of each rule the summary of its open bucket. A database keeps no more than that.
+-- What a database stores of a state: the samples that each key shows, and for each rule the summary of its open
+-- bucket. It stores nothing else.
 use Rattle.std.specs.Prelude.{ℕ, List, map, Option, Some, None, option_map}
 use Rattle.ts_spec.specs.declared.series.Options.{Options}
 use Rattle.ts_spec.specs.declared.bucket.Aggregator.{Aggregator}
@@ -10,7 +11,7 @@ use Rattle.ts_spec.specs.Keyed.{Keyed, each}
 use Rattle.ts_spec.specs.State.{Label, Rule, Record, State, Link, link_to}
 use Rattle.ts_spec.specs.Shown.{open_of, shown_by}
 
--- A rule. `current` is the start of its open bucket, and `running` the summary of what it counts there.
+-- A stored rule. `current` is the start of its open bucket, and `running` the summary of what it counts there.
 pub record KeptRule : Type 0 where
   pub dest : Key
   pub agg : Aggregator
@@ -19,7 +20,8 @@ pub record KeptRule : Type 0 where
   pub current : Option ℕ
   pub running : Summary
 
--- A key. `list` is the samples that it shows; `high`, `born` and `rules` are as in a record; `source` is the key whose rule leads to it.
+-- A stored series. `list` has the samples that the key shows. `high`, `born` and `rules` are as in a record. `source`
+-- is the key whose rule writes to this one.
 pub record Kept : Type 0 where
   pub options : Options
   pub labels : List Label
@@ -29,20 +31,20 @@ pub record Kept : Type 0 where
   pub rules : List KeptRule
   pub source : Option Key
 
--- what is kept of all keys
+-- all stored series by key
 abbrev pub Keeping : Type 0
 Keeping = Keyed Kept
 
--- the summary of what a rule counts in the bucket that starts there
+-- the summary of what a rule counts in the bucket that starts at b
 abbrev pub summary_at : Rule → Option ℕ → Summary
 summary_at r None = nothing
 summary_at r (Some b) = summary (members r.grid b r.seen)
 
--- what is kept of a rule
+-- the stored form of a rule
 abbrev pub kept_rule : Rule → KeptRule
 kept_rule r = record { dest = r.dest; agg = r.agg; grid = r.grid; made = r.made; current = open_of r; running = summary_at r (open_of r) }
 
--- what is kept of a record to which this link leads
+-- the stored form of a record, with the rule that writes to it
 abbrev pub kept_record : Option Link → Record → Kept
 kept_record l d = record {
   options = d.options;
@@ -54,6 +56,6 @@ kept_record l d = record {
   source = option_map (λ l. l.source) l;
 }
 
--- what is kept of a state
+-- the stored form of a state
 abbrev pub kept : State → Keeping
 kept m = each (λ k d. kept_record (link_to m k) d) m

@@ -1,4 +1,4 @@
--- What is answered of what is kept.
+-- Replies to queries, computed from the stored data.
 use Rattle.std.specs.Prelude.{ℕ, Bool, true, false, nat_le, if◌then◌else◌, List, [], ◌∷◌, map, length, Option, Some, None}
 use Rattle.ts_spec.specs.declared.limits.Limits.{Limits}
 use Rattle.ts_spec.specs.Sample.{Point, first_of, last_of, put_all}
@@ -17,27 +17,27 @@ use Rattle.ts_spec.specs.Kept.{KeptRule, Kept, Keeping}
 use Rattle.ts_spec.specs.Mending.{bucket_row, kept_rule_to}
 use Rattle.ts_spec.specs.KeptStep.{KeptOutcome, unchanged_with, kept_edge, list_at, kept_rules_at, kept_create, kept_alter, kept_add, kept_madd, kept_incr, kept_delete, kept_create_rule, kept_delete_rule, kept_drop_keys, kept_count_there}
 
--- the rule that leads to a key, by the key of its source
+-- the rule from `source` to the key
 abbrev pub rule_from : Keeping → Key → Option Key → Option KeptRule
 rule_from m k None = None
 rule_from m k (Some source) = kept_rule_to k (kept_rules_at (get source m))
 
--- the row of an open bucket that starts at or past the edge
+-- the row of an open bucket that starts at the edge or later
 abbrev pub open_row : (edge born : ℕ) → KeptRule → Option ℕ → List Point
 open_row low born q None = []
 open_row low born q (Some o) = if nat_le low o then bucket_row q.agg born o q.running else []
 
--- what a key shows with the open bucket of the rule that leads to it
+-- what a key shows with LATEST: its samples and the open bucket of the rule that writes to it
 abbrev pub with_open : Option KeptRule → Kept → List Point
 with_open None d = d.list
 with_open (Some q) d = put_all (open_row (kept_edge d) d.born q q.current) d.list
 
--- the samples that a key shows with the open bucket, and none where no key is
+-- the same; a missing key shows no samples
 abbrev pub latest_list_at : Keeping → Key → Option Kept → List Point
 latest_list_at m k None = []
 latest_list_at m k (Some d) = with_open (rule_from m k d.source) d
 
--- the samples asked
+-- the samples that a query reads, with or without LATEST
 abbrev pub kept_asked : Keeping → (latest : Bool) → Key → List Point
 kept_asked m true k = latest_list_at m k (get k m)
 kept_asked m false k = list_at (get k m)
@@ -47,28 +47,28 @@ abbrev pub kept_range_response : Limits → Keeping → Key → Bool → Query �
 kept_range_response limits m key latest q None = Refused NoKey
 kept_range_response limits m key latest q (Some d) = rows_response (answer limits.empty_rows q (kept_asked m latest key))
 
--- the labels of what is kept at a key
+-- the labels of the stored series at a key
 abbrev pub kept_labels_at : Option Kept → List Label
 kept_labels_at None = []
 kept_labels_at (Some d) = d.labels
 
--- a series in an answer over many
+-- one series in a reply over many
 abbrev pub kept_member : Keeping → Show → Key → List Row → Member
 kept_member m show key rows = record { key = key; labels = labels_shown show (kept_labels_at (get key m)); rows = rows }
 
--- one more member in front, unless its rows are too many
+-- prepends a series, unless it would return too many rows
 abbrev pub kept_member_then : Keeping → Show → Key → Option (List Row) → Option (List Member) → Option (List Member)
 kept_member_then m show key None others = None
 kept_member_then m show key (Some rows) None = None
 kept_member_then m show key (Some rows) (Some others) = Some (kept_member m show key rows ∷ others)
 
--- the members of an answer over many series; none where the rows of one are too many
+-- the series of a reply over many, or `None` if one of them would return too many rows
 abbrev pub kept_members_of : Limits → Keeping → Bool → Show → Query → List Key → Option (List Member)
 kept_members_of limits m latest show q [] = Some []
 kept_members_of limits m latest show q (k ∷ ks) =
     kept_member_then m show k (answer limits.empty_rows q (kept_asked m latest k)) (kept_members_of limits m latest show q ks)
 
--- TS.MRANGE and TS.MREVRANGE over these keys, one by one or in groups
+-- TS.MRANGE and TS.MREVRANGE over these keys, series by series or in groups
 abbrev pub kept_ranges_response : Limits → Keeping → (latest : Bool) → Show → Query → Option GroupBy → List Key → Response
 kept_ranges_response limits m latest show q None ks = members_response (kept_members_of limits m latest show q ks)
 kept_ranges_response limits m latest show q (Some by) ks =
@@ -79,7 +79,7 @@ abbrev pub kept_last_response : Keeping → Key → Bool → Option Kept → Res
 kept_last_response m key latest None = Refused NoKey
 kept_last_response m key latest (Some d) = LastRow (last_row (kept_asked m latest key))
 
--- a series in the answer of TS.MGET
+-- one series in the reply of TS.MGET
 abbrev pub kept_last_member : Keeping → Bool → Show → Key → Member
 kept_last_member m latest show k = kept_member m show k (row_list (last_row (kept_asked m latest k)))
 
@@ -88,15 +88,15 @@ abbrev pub kept_selected_in : List Filter → List (Entry Kept) → List Key
 kept_selected_in filters [] = []
 kept_selected_in filters (e ∷ es) = if all_hold filters e.value.labels then e.key ∷ kept_selected_in filters es else kept_selected_in filters es
 
--- the keys that a question over many series selects
+-- the keys that the filters of a query select
 abbrev pub kept_selection : Keeping → List Filter → List Key
 kept_selection m filters = kept_selected_in filters m.entries
 
--- what is told of a rule
+-- what TS.INFO returns for a rule
 abbrev pub kept_rule_info : KeptRule → RuleInfo
 kept_rule_info q = record { dest = q.dest; grid = q.grid; agg = q.agg }
 
--- what is told of a key
+-- what TS.INFO returns for a key
 abbrev pub kept_info_of : Kept → Info
 kept_info_of d = record {
   total = length d.list;
@@ -113,7 +113,7 @@ abbrev pub kept_info_response : Option Kept → Response
 kept_info_response None = Refused NoKey
 kept_info_response (Some d) = Told (kept_info_of d)
 
--- the step of a command over what is kept, with a reading of the clock
+-- one step over the stored data; `reading` is the time of the clock in milliseconds
 abbrev pub kept_step : Limits → Keeping → (reading : ℕ) → Command → KeptOutcome
 kept_step limits m reading (Create key spec) = kept_create limits m key spec
 kept_step limits m reading (Alter key change) = kept_alter limits m key change

@@ -1,20 +1,20 @@
--- Keys: lists of bytes, and their order.
+-- Keys: byte strings in lexicographic order.
 use Rattle.std.specs.Prelude.{◌≡◌, ℕ, ◌<◌, Bool, true, false, ◌&&◌, ◌||◌, ◌==◌, nat_lt, ◌⊎◌, List, [], ◌∷◌, refl}
 use Rattle.std.proofs.Common.{arith, inl, inr, ltb-true, eqb-true, lt-ltb, tests}
 use Rattle.std.proofs.lemmas.Bool.{false≢true}
 
--- a list of bytes
+-- a byte string
 abbrev pub Key : Type 0
 Key = List ℕ
 
--- whether two keys are the same
+-- whether two keys are equal
 abbrev pub same : Key → Key → Bool
 same [] [] = true
 same [] (y ∷ ys) = false
 same (x ∷ xs) [] = false
 same (x ∷ xs) (y ∷ ys) = (x == y) && same xs ys
 
--- whether a key stands before another, by the order of bytes
+-- whether a key comes before another in lexicographic order
 abbrev pub is_before : Key → Key → Bool
 is_before [] [] = false
 is_before [] (y ∷ ys) = true
@@ -38,7 +38,7 @@ before_less x y a b h = rw (lt-ltb x y h) refl
 before_tie : (x y : ℕ) (a b : Key) → x ≡ y → is_before a b ≡ true → is_before (x ∷ a) (y ∷ b) ≡ true
 before_tie x y a b e h = grind (arith, tests, h)
 
--- a key before one that is before a third is before that one
+-- the order is transitive
 pub before_trans : (a b c : Key) → is_before a b ≡ true → is_before b c ≡ true → is_before a c ≡ true
 before_trans [] [] c h k = absurd (false≢true h)
 before_trans [] (y ∷ b) [] h k = absurd (false≢true k)

@@ -1,4 +1,4 @@
--- Finite maps from keys: lists of entries in ascending order of their keys, each key once.
+-- Finite maps by key: lists of entries in ascending order of their keys, without duplicates.
 use Rattle.std.specs.Prelude.{◌≡◌, ℕ, Bool, true, false, ◌&&◌, if◌then◌else◌, List, [], ◌∷◌, length, Option, Some, None, refl}
 use Rattle.std.specs.Cmp.Derive.{both_true}
 use Rattle.std.proofs.lemmas.Bool.{false≢true}
@@ -9,17 +9,17 @@ pub record Entry (X : Type 0) : Type 0 where
   pub key : Key
   pub value : X
 
--- whether a key stands before those of all entries
+-- whether a key comes before the keys of all entries
 abbrev pub is_below : {X : Type 0} → Key → List (Entry X) → Bool
 is_below k [] = true
 is_below k (e ∷ es) = is_before k e.key && is_below k es
 
--- whether each key stands before those after it
+-- whether the keys are strictly ascending
 abbrev pub is_sorted : {X : Type 0} → List (Entry X) → Bool
 is_sorted [] = true
 is_sorted (e ∷ es) = is_below e.key es && is_sorted es
 
--- a list of entries that is sorted
+-- a map: a sorted list of entries
 pub record Keyed (X : Type 0) : Type 0 where
   pub entries : List (Entry X)
   pub sorted : is_sorted entries ≡ true
@@ -43,7 +43,7 @@ abbrev pub without_in : {X : Type 0} → Key → List (Entry X) → List (Entry 
 without_in k [] = []
 without_in k (e ∷ es) = if same e.key k then without_in k es else e ∷ without_in k es
 
--- the entries with f's value in place of each one
+-- the entries with f applied to each value
 abbrev pub each_in : {X Y : Type 0} → (Key → X → Y) → List (Entry X) → List (Entry Y)
 each_in f [] = []
 each_in f (e ∷ es) = record { key = e.key; value = f e.key e.value } ∷ each_in f es
@@ -73,7 +73,7 @@ below_put j k x (e ∷ es) h b = go (below_put j k x es h (right_of (is_before j
     go ih false true = both_true h b
     go ih false false = b
 
--- an entry is put in at its place
+-- inserting a key keeps the order
 pub sorted_put : {X : Type 0} (k : Key) (x : X) (es : List (Entry X)) → is_sorted es ≡ true → is_sorted (put_in k x es) ≡ true
 sorted_put k x [] h = refl
 sorted_put k x (e ∷ es) h = go (sorted_put k x es (right_of (is_below e.key es) _ h)) (is_before e.key k) (is_before k e.key) refl refl
@@ -92,7 +92,7 @@ below_without j k (e ∷ es) b = go (below_without j k es (right_of (is_before j
     go ih true = ih
     go ih false = both_true (left_of _ _ b) ih
 
--- what is left is in order
+-- removing a key keeps the order
 pub sorted_without : {X : Type 0} (k : Key) (es : List (Entry X)) → is_sorted es ≡ true → is_sorted (without_in k es) ≡ true
 sorted_without k [] h = refl
 sorted_without k (e ∷ es) h = go (sorted_without k es (right_of (is_below e.key es) _ h)) (same e.key k)
@@ -105,7 +105,7 @@ below_each : {X Y : Type 0} (f : Key → X → Y) (j : Key) (es : List (Entry X)
 below_each f j [] = refl
 below_each f j (e ∷ es) = rw (below_each f j es) refl
 
--- the keys stay
+-- changing values keeps the order
 pub sorted_each : {X Y : Type 0} (f : Key → X → Y) (es : List (Entry X)) → is_sorted es ≡ true → is_sorted (each_in f es) ≡ true
 sorted_each f [] h = refl
 sorted_each f (e ∷ es) h =
@@ -113,11 +113,11 @@ sorted_each f (e ∷ es) h =
 
 -- ---- maps
 
--- the map without keys
+-- the empty map
 abbrev pub none : {X : Type 0} → Keyed X
 none = record { entries = []; sorted = refl }
 
--- the value at a key, if the key is there
+-- the value at a key, if there is one
 abbrev pub get : {X : Type 0} → Key → Keyed X → Option X
 get k m = get_in k m.entries
 
@@ -129,10 +129,10 @@ with_key k x m = record { entries = put_in k x m.entries; sorted = sorted_put k 
 abbrev pub without_key : {X : Type 0} → Key → Keyed X → Keyed X
 without_key k m = record { entries = without_in k m.entries; sorted = sorted_without k m.entries m.sorted }
 
--- the map with f's value in place of each one
+-- the map with f applied to each value
 abbrev pub each : {X Y : Type 0} → (Key → X → Y) → Keyed X → Keyed Y
 each f m = record { entries = each_in f m.entries; sorted = sorted_each f m.entries m.sorted }
 
--- how many keys there are
+-- the number of keys
 abbrev pub count_keys : {X : Type 0} → Keyed X → ℕ
 count_keys m = length m.entries

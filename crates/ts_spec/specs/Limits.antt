@@ -1,8 +1,8 @@
--- How much the program lets through.
+-- The limits of the database.
 use Rattle.std.specs.Prelude.{◌-◌, ◌^◌}
 use Rattle.ts_spec.specs.declared.limits.Limits.{Limits}
 
--- the usual limits
+-- the limits that the program runs with
 abbrev pub usual : Limits
 usual = record {
   wire = record { words = 2 ^ 20; word_bytes = 2 ^ 20; request_bytes = 2 ^ 24; line_bytes = 2 ^ 16 };

@@ -1,4 +1,4 @@
--- The commands that make and alter series, and those that make and end rules and keys.
+-- The commands that create and alter series, and those that create and delete rules and keys.
 use Rattle.std.specs.Prelude.{ℕ, suc, ◌+◌, Bool, true, false, nat_lt, nat_le, if◌then◌else◌, List, [], ◌∷◌, ◌++◌, length, Option, Some, None, is_some}
 use Rattle.std.specs.Option.{unwrap_or}
 use Rattle.ts_spec.specs.declared.limits.Limits.{Limits}
@@ -16,11 +16,11 @@ use Rattle.ts_spec.specs.Outcome.{refused, answer_only, Outcome}
 
 -- ---- TS.CREATE and TS.ALTER
 
--- a new series with these samples, the last of them at this time
+-- a new series with these samples; `high` is the time of the last one
 abbrev pub fresh : Spec → List Point → Option ℕ → Record
 fresh spec plain high = record { options = spec.options; labels = spec.labels; plain = plain; high = high; born = 0; rules = [] }
 
--- a new series, within the limits on labels and on keys
+-- adds a series, within the limits on labels and keys
 abbrev pub new_key : Limits → State → Key → Record → Response → Outcome
 new_key limits m key d response =
     if nat_lt limits.labels (length d.labels) then refused m LabelsFull
@@ -31,7 +31,7 @@ abbrev pub create : Limits → State → Key → Spec → Outcome
 create limits m key spec =
     if is_some (get key m) then refused m KeyExists else new_key limits m key (fresh spec [] None) Done
 
--- a record with the given parts in place of its own
+-- a record with the given options and labels in place of its own
 abbrev pub altered : Change → Record → Record
 altered c d = record d {
   options = record {
@@ -44,12 +44,12 @@ altered c d = record d {
   labels = unwrap_or c.labels d.labels;
 }
 
--- whether labels are given that are more than the limit
+-- whether labels are given and exceed the limit
 abbrev pub is_longer : ℕ → Option (List Label) → Bool
 is_longer limit None = false
 is_longer limit (Some labels) = nat_lt limit (length labels)
 
--- TS.ALTER of the record at a key
+-- TS.ALTER on the record at a key
 abbrev pub alter_at : Limits → State → Key → Change → Option Record → Outcome
 alter_at limits m key c None = refused m NoKey
 alter_at limits m key c (Some d) =
@@ -68,16 +68,16 @@ with_rule dest agg grid d = record d {
   rules = d.rules ++ record { dest = dest; agg = agg; grid = grid; made = d.born + 1; top = None; seen = [] } ∷ [];
 }
 
--- whether there is a rule
+-- whether the list has a rule
 abbrev pub has_rules : List Rule → Bool
 has_rules [] = false
 has_rules (r ∷ rs) = true
 
--- after a rule is made
+-- the state after TS.CREATERULE
 abbrev pub ruled : (source dest : Key) → Aggregator → Grid → State → State
 ruled source dest agg grid m = change source (with_rule dest agg grid) m
 
--- TS.CREATERULE of the records at two keys
+-- TS.CREATERULE on the records at two keys
 abbrev pub create_rule_at : Limits → State → (source dest : Key) → Aggregator → Grid → Option Record → Option Record → Outcome
 create_rule_at limits m source dest agg grid None other = refused m NoKey
 create_rule_at limits m source dest agg grid (Some s) None = refused m NoKey
@@ -95,7 +95,7 @@ create_rule limits m source dest agg grid =
     if same source dest then refused m SameKey
     else create_rule_at limits m source dest agg grid (get source m) (get dest m)
 
--- TS.DELETERULE of the record at a source
+-- TS.DELETERULE on the record at the source
 abbrev pub delete_rule_at : State → (source dest : Key) → Option Record → Outcome
 delete_rule_at m source dest None = refused m NoKey
 delete_rule_at m source dest (Some d) =
@@ -107,14 +107,14 @@ delete_rule m source dest = delete_rule_at m source dest (get source m)
 
 -- ---- DEL and EXISTS
 
--- DEL: the keys go one after another, and those that were there are counted
+-- DEL: removes the keys in order and counts those that existed
 abbrev pub drop_keys : State → (so_far : ℕ) → List Key → Outcome
 drop_keys m so_far [] = answer_only m (Count so_far)
 drop_keys m so_far (k ∷ ks) =
     let there : Bool = is_some (get k m) in
     drop_keys (if there then dropped k m else m) (if there then so_far + 1 else so_far) ks
 
--- EXISTS: how many of the words are keys
+-- EXISTS: how many of the words are existing keys
 abbrev pub count_there : State → List Key → ℕ
 count_there m [] = 0
 count_there m (k ∷ ks) = if is_some (get k m) then suc (count_there m ks) else count_there m ks

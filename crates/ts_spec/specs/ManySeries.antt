@@ -1,4 +1,4 @@
--- The options of questions over many series: which series, and which of their labels are shown.
+-- The options of queries over many series: the filters, the labels to return, and the grouping.
 use Rattle.std.specs.Prelude.{Bool, if◌then◌else◌, List, [], ◌∷◌, ◌++◌, codes, Some, is_some, ok_or, unwrap_or, Result, Ok, Err}
 use Rattle.std.specs.Str.{str_eq_ignore_ascii_case}
 use Rattle.ts_spec.specs.declared.bucket.Reducer.{Reducer}
@@ -13,58 +13,58 @@ use Rattle.ts_spec.specs.Ranges.{latest, range_options}
 
 -- ---- words
 
--- the filter, or the fault of a command whose filter is none
+-- the filter, or the BadFilter fault of the command
 abbrev pub or_bad_filter : Result Filter FilterFault → Result Filter Fault
 or_bad_filter (Ok filter) = Ok filter
 or_bad_filter (Err fault) = Err BadFilter
 
--- a filter by a label
+-- parses a filter
 unfoldable pub filter_word : Word → Result Filter Fault
 filter_word word = or_bad_filter (filter_of word)
 
--- filters, one after another
+-- parses filters, one word each
 abbrev pub filters_of : List Word → Result (List Filter) Fault
 filters_of [] = Ok []
 filters_of (word ∷ words) = and_then (filter_word word) (λ f. and_then (filters_of words) (λ fs. Ok (f ∷ fs)))
 
--- labels, one after another
+-- parses label names, which must not be empty
 abbrev pub names_of : List Word → Result (List Word) Fault
 names_of [] = Ok []
 names_of (word ∷ words) = if is_empty word then Err BadLabels else and_then (names_of words) (λ names. Ok (word ∷ names))
 
--- a label to group by
+-- parses a label to group by
 unfoldable pub label_word : Word → Result Word Fault
 label_word word = if is_empty word then Err BadLabels else Ok word
 
--- whether a word is this name, with its letters in either case
+-- whether a word is this option name, in any case
 abbrev pub is_reduce : Word → Bool
 is_reduce word = str_eq_ignore_ascii_case (codes "REDUCE") word
 
--- what is told of a group at one time
+-- parses the name of a reducer
 unfoldable pub reducer_word : Word → Result Reducer Fault
 reducer_word word = named_or UnknownAggregator AggregatorNotInProfile (named reducers word)
 
 -- ---- options
 
--- all labels are shown, or those of a list; only one of the two is said, once
+-- WITHLABELS returns all labels, SELECTED_LABELS those of a list. Only one of the two may be given, once.
 abbrev pub with_labels : Setting
 with_labels = no_words (λ given. is_some given.show) (λ given. record given { show = Some All })
 
 abbrev pub selected_labels : Setting
 selected_labels = some_words (λ given. is_some given.show) (λ words given. and_then (names_of words) (λ names. Ok (record given { show = Some (Selected names) })))
 
--- the filters that a series has to pass
+-- FILTER: the filters that a series must pass
 abbrev pub filter : Setting
 filter = some_words (λ given. is_some given.filters) (λ words given. and_then (filters_of words) (λ fs. Ok (record given { filters = Some fs })))
 
--- `label REDUCE reducer`
+-- GROUPBY: `label REDUCE reducer`
 abbrev pub group_by : Setting
 group_by = three_words (λ given. is_some given.group) (λ name reduce told given.
     and_then (label_word name) (λ label.
     if is_reduce reduce then and_then (reducer_word told) (λ reducer. Ok (record given { group = Some (record { label = label; reducer = reducer }) }))
     else Err BadOption))
 
--- the options that say which series, and which labels
+-- the options for filters and labels
 unfoldable pub shown_options : Table Setting
 shown_options =
     (codes "WITHLABELS", with_labels)
@@ -72,24 +72,24 @@ shown_options =
     ∷ (codes "FILTER", filter)
     ∷ []
 
--- those of a question about the last samples of many series
+-- the options of TS.MGET
 unfoldable pub last_options : Table Setting
 last_options = (codes "LATEST", latest) ∷ shown_options
 
--- those of a question over the intervals of many series
+-- the options of TS.MRANGE and TS.MREVRANGE
 unfoldable pub many_options : Table Setting
 many_options = (codes "GROUPBY", group_by) ∷ shown_options ++ range_options
 
 -- ---- what is asked
 
--- the filters, of which there have to be some
+-- the filters; FILTER is required
 abbrev pub wanted : Given → Result (List Filter) Fault
 wanted given = ok_or given.filters BadOption
 
--- filters, of which one asks for a value
+-- the filters; at least one of them must require a value
 abbrev pub selecting : List Filter → Result (List Filter) Fault
 selecting filters = if has_positive filters then Ok filters else Err NoPositiveFilter
 
--- the labels that are shown: none where nothing is said
+-- the labels to return: none by default
 abbrev pub labels_asked : Given → Show
 labels_asked given = unwrap_or given.show Nothing

@@ -1,4 +1,4 @@
--- What a write and a deletion do to what is kept: to the key itself, to its rules, and to their destinations, which are mended.
+-- How a write and a deletion update the stored data: the series itself, its rules, and the destinations of the rules.
 use Rattle.std.specs.Prelude.{ℕ, ℤ, Bool, false, not, ◌&&◌, ◌==◌, nat_lt, nat_le, if◌then◌else◌, List, [], ◌∷◌, ◌++◌, map, filter, Option, Some, None}
 use Rattle.ts_spec.specs.declared.bucket.Aggregator.{Aggregator}
 use Rattle.ts_spec.specs.Sample.{Point, at_times, between, outside, put, put_all}
@@ -12,20 +12,22 @@ use Rattle.ts_spec.specs.Kept.{KeptRule, Kept, Keeping}
 
 -- ---- rows, and the mending of a destination
 
--- the row of a bucket for a destination with this many rules ever made; none where nothing is counted
+-- The row of a bucket in a destination; `born` is how many rules the destination ever had. There is no row if the
+-- bucket counts nothing.
 abbrev pub bucket_row : Aggregator → (born b : ℕ) → Summary → List Point
 bucket_row agg born b s = if s.count == 0 then [] else record { time = b; value = result_of agg s; made = born } ∷ []
 
--- the highest time, raised to those of the rows
+-- the highest time, raised to the times of the rows
 abbrev pub high_with : List Point → Option ℕ → Option ℕ
 high_with [] high = high
 high_with (row ∷ rows) high = high_with rows (raised row.time high)
 
--- a list whose samples at times that pass the test give way to the rows, from the edge on that the rows raise
+-- A list after an update: without the samples at the times in `gone`, with the rows, and without what is before the
+-- edge that the rows raise.
 abbrev pub mended : (retention : ℕ) → (high : Option ℕ) → (gone : ℕ → Bool) → (rows : List Point) → List Point → List Point
 mended retention high gone rows ps = at_times (nat_le (edge_of retention (high_with rows high))) (put_all rows (at_times (λ t. not (gone t)) ps))
 
--- a destination mended so
+-- a destination after such an update
 abbrev pub mended_kept : (gone : ℕ → Bool) → (rows : List Point) → Kept → Kept
 mended_kept gone rows d = record d { list = mended d.options.retention d.high gone rows d.list; high = high_with rows d.high }
 
@@ -34,18 +36,19 @@ abbrev pub kept_rule_to : Key → List KeptRule → Option KeptRule
 kept_rule_to k [] = None
 kept_rule_to k (q ∷ qs) = if same q.dest k then Some q else kept_rule_to k qs
 
--- the summary of the samples of a bucket that were written since the rule was made
+-- the summary of the samples of bucket b that were written since the rule was created
 abbrev pub counted_anew : KeptRule → ℕ → List Point → Summary
 counted_anew q b ps = summary (filter (λ p. nat_le q.made p.made) (members q.grid b ps))
 
 -- ---- a write
 
--- by where a bucket lies: before the open one, at it, or past it
+-- chooses by the position of bucket b: before the open bucket, equal to it, or after it
 abbrev pub by_bucket : {X : Type 0} → (b : ℕ) → Option ℕ → (before here past : X) → X
 by_bucket b None before here past = past
 by_bucket b (Some o) before here past = if nat_lt b o then before else (if b == o then here else past)
 
--- the open bucket of a rule after a write: pushed by an append, and else told anew from the samples that the source has then
+-- A rule after a write: an append adds the sample to the open bucket; any other write recounts the bucket from the
+-- samples of the source.
 abbrev pub written_rule : (append : Bool) → Point → List Point → KeptRule → KeptRule
 written_rule append p ps q = record q {
   current = raised (start q.grid p.time) q.current;
@@ -53,12 +56,13 @@ written_rule append p ps q = record q {
       (if append then push q.running p else counted_anew q (start q.grid p.time) ps) (push nothing p);
 }
 
--- the row of the open bucket, which closes
+-- the row of the open bucket as it closes
 abbrev pub closing_row : (born : ℕ) → KeptRule → Option ℕ → List Point
 closing_row born q None = []
 closing_row born q (Some o) = bucket_row q.agg born o q.running
 
--- the row that a write tells a destination: that of its bucket, where it is closed, or that of the bucket that it closes
+-- the row that a write sends to a destination: that of the bucket of the sample if it is closed, or that of the
+-- bucket that the write closes
 abbrev pub written_row : Point → List Point → (born : ℕ) → KeptRule → List Point
 written_row p ps born q =
     by_bucket (start q.grid p.time) q.current (bucket_row q.agg born (start q.grid p.time) (counted_anew q (start q.grid p.time) ps)) [] (closing_row born q q.current)
@@ -67,7 +71,7 @@ written_row p ps born q =
 abbrev pub kept_sample : (time : ℕ) (value : ℤ) → Kept → Point
 kept_sample t v s = record { time = t; value = v; made = s.born }
 
--- the key itself, with the sample
+-- the series itself after the write
 abbrev pub kept_with : (time : ℕ) (value : ℤ) → Kept → Kept
 kept_with t v s = record s {
   list = at_times (nat_le (edge_of s.options.retention (raised t s.high))) (put (kept_sample t v s) s.list);
@@ -75,31 +79,31 @@ kept_with t v s = record s {
   rules = map (written_rule (is_append t s.high) (kept_sample t v s) (put (kept_sample t v s) s.list)) s.rules;
 }
 
--- a key to which this rule leads, if one does
+-- a series updated by the rule that writes to it, if there is one
 abbrev pub fed : (rows : (born : ℕ) → KeptRule → List Point) → (gone : KeptRule → ℕ → Bool) → Option KeptRule → Kept → Kept
 fed rows gone None d = d
 fed rows gone (Some q) d = mended_kept (gone q) (rows d.born q) d
 
--- another key after a write to the first
+-- another series after the write
 abbrev pub fed_by_write : (time : ℕ) (value : ℤ) → Kept → Option KeptRule → Kept → Kept
 fed_by_write t v s q d = fed (written_row (kept_sample t v s) (put (kept_sample t v s) s.list)) (λ q b. false) q d
 
--- a key after a write to one of which this is kept
+-- any series after a write to the series `s`
 abbrev pub after_write : Key → (time : ℕ) (value : ℤ) → Option Kept → Key → Kept → Kept
 after_write key t v None k d = d
 after_write key t v (Some s) k d = if same k key then kept_with t v d else fed_by_write t v s (kept_rule_to k s.rules) d
 
--- what is kept after a write of this value to the key
+-- all stored series after a write of this value to the key
 abbrev pub keep_written : Key → (time : ℕ) (value : ℤ) → Keeping → Keeping
 keep_written key t v m = each (after_write key t v (get key m)) m
 
 -- ---- a deletion
 
--- whether one of the samples lies in the bucket that starts there
+-- whether one of the deleted samples was in bucket b
 abbrev pub lies_in : Grid → List Point → ℕ → Bool
 lies_in g gone b = list_any (λ p. start g p.time == b) gone
 
--- the summary of the open bucket, told anew where it held one of the samples
+-- the summary of the open bucket, recounted if one of the deleted samples was in it
 abbrev pub running_without : (gone left : List Point) → KeptRule → Option ℕ → Summary
 running_without gone left q None = q.running
 running_without gone left q (Some o) = if lies_in q.grid gone o then counted_anew q o left else q.running
@@ -108,35 +112,36 @@ running_without gone left q (Some o) = if lies_in q.grid gone o then counted_ane
 abbrev pub deleted_rule : (gone left : List Point) → KeptRule → KeptRule
 deleted_rule gone left q = record q { running = running_without gone left q q.current }
 
--- whether the bucket that starts there is closed, and held one of the samples
+-- whether bucket b is closed and lost a sample
 abbrev pub loses : (gone : List Point) → KeptRule → ℕ → Bool
 loses gone q b = is_past q.current b && lies_in q.grid gone b
 
--- the rows of these buckets, of what is left in them
+-- the rows of these buckets, from the samples that are left
 abbrev pub rows_of : (left : List Point) → (born : ℕ) → KeptRule → List ℕ → List Point
 rows_of left born q [] = []
 rows_of left born q (b ∷ bs) = bucket_row q.agg born b (counted_anew q b left) ++ rows_of left born q bs
 
--- the rows that a deletion tells a destination: those of the closed buckets that lost a sample and have some left
+-- the rows that a deletion sends to a destination: those of the closed buckets that lost a sample and are not empty
+-- now
 abbrev pub deleted_rows : (gone left : List Point) → (born : ℕ) → KeptRule → List Point
 deleted_rows gone left born q = rows_of left born q (filter (loses gone q) (starts q.grid left))
 
--- the key itself, without the samples in the interval
+-- the series itself without the samples of the interval
 abbrev pub kept_without : (from to : ℕ) → Kept → Kept
 kept_without from to s = record s {
   list = outside from to s.list;
   rules = map (deleted_rule (between from to s.list) (outside from to s.list)) s.rules;
 }
 
--- another key after a deletion on the first
+-- another series after the deletion
 abbrev pub fed_by_deletion : (from to : ℕ) → Kept → Option KeptRule → Kept → Kept
 fed_by_deletion from to s q d = fed (deleted_rows (between from to s.list) (outside from to s.list)) (loses (between from to s.list)) q d
 
--- a key after a deletion on one of which this is kept
+-- any series after a deletion from the series `s`
 abbrev pub after_deletion : Key → (from to : ℕ) → Option Kept → Key → Kept → Kept
 after_deletion key from to None k d = d
 after_deletion key from to (Some s) k d = if same k key then kept_without from to d else fed_by_deletion from to s (kept_rule_to k s.rules) d
 
--- what is kept after a deletion of what the key shows in the interval
+-- all stored series after the samples of the interval are deleted from the key
 abbrev pub keep_deleted : Key → (from to : ℕ) → Keeping → Keeping
 keep_deleted key from to m = each (after_deletion key from to (get key m)) m

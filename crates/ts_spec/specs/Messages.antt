@@ -1,9 +1,9 @@
--- What an error reply says.
+-- The texts of error replies.
 use Rattle.std.specs.Prelude.{ℕ, List, codes}
 use Rattle.ts_spec.specs.declared.value.ValueFault.TheVariants as value
 use Rattle.ts_spec.specs.Refusal.{Fault, UnknownCommand, Arity, BadTimestamp, BadValue, BadOption, RepeatedOption, BadLabels, BadChunkSize, BadPolicy, BadEncoding, UnknownAggregator, AggregatorNotInProfile, BadDuration, BadFilter, NoPositiveFilter, Refusal, NoKey, KeyExists, KeysFull, LabelsFull, TooOld, Duplicate, OutOfRange, BeforeLast, SamplesFull, DestinationFull, DeleteBeyondRetention, SameKey, SourceIsDest, DestIsSource, DestHasSource, RulesSpent, RulesFull, NoRule, EmptyRows}
 
--- of words that are no command
+-- the error for a request that does not parse
 abbrev pub fault_message : Fault → List ℕ
 fault_message UnknownCommand = codes "ERR unknown command"
 fault_message Arity = codes "ERR wrong number of arguments"
@@ -22,7 +22,7 @@ fault_message BadDuration = codes "ERR TSDB: invalid bucket duration"
 fault_message BadFilter = codes "ERR TSDB: invalid filter"
 fault_message NoPositiveFilter = codes "ERR TSDB: a filter with a wanted value is needed"
 
--- of a command that the database refuses
+-- the error for a command that the database refuses
 abbrev pub refusal_message : Refusal → List ℕ
 refusal_message NoKey = codes "ERR TSDB: the key does not exist"
 refusal_message KeyExists = codes "ERR TSDB: the key already exists"
@@ -44,6 +44,6 @@ refusal_message RulesFull = codes "ERR TSDB: too many rules"
 refusal_message NoRule = codes "ERR TSDB: the rule does not exist"
 refusal_message EmptyRows = codes "ERR TSDB: too many empty buckets"
 
--- of want of memory
+-- the error when memory runs out
 abbrev pub memory_message : List ℕ
 memory_message = codes "OOM out of memory"

@@ -1,4 +1,4 @@
--- Words that are names: of commands, options, policies, encodings, aggregators, and of what stands for a bucket.
+-- Names in commands: of policies, encodings, aggregators, reducers, alignments and bucket timestamps.
 use Rattle.std.specs.Prelude.{ℕ, List, [], ◌∷◌, if◌then◌else◌, Option, None, Some, Result, Ok, Err, codes}
 use Rattle.std.specs.Str.{str_eq_ignore_ascii_case}
 use Rattle.ts_spec.specs.declared.series.Policy.{Policy}
@@ -14,16 +14,16 @@ use Rattle.ts_spec.specs.declared.bucket.Align.TheVariants.{From, To}
 use Rattle.ts_spec.specs.declared.bucket.Stamp.{Stamp}
 use Rattle.ts_spec.specs.declared.bucket.Stamp.TheVariants.{Low, High, Mid}
 
--- names, and what each stands for
+-- names with their meanings
 abbrev pub Table : Type 0 → Type 0
 Table X = List (List ℕ × X)
 
--- what a word stands for, with its letters in either case
+-- looks a word up in a table, in any case
 abbrev pub named : {X : Type 0} → Table X → List ℕ → Option X
 named [] word = None
 named (row ∷ rows) word = if str_eq_ignore_ascii_case row.0 word then Some row.1 else named rows word
 
--- what becomes of a value whose time has one already
+-- the duplicate policies
 unfoldable pub policies : Table Policy
 policies =
     (codes "BLOCK", policy.Block)
@@ -34,14 +34,14 @@ policies =
     ∷ (codes "SUM", policy.Sum)
     ∷ []
 
--- how chunks hold their samples
+-- the encodings of chunks
 unfoldable pub encodings : Table Encoding
 encodings =
     (codes "COMPRESSED", encoding.Compressed)
     ∷ (codes "UNCOMPRESSED", encoding.Uncompressed)
     ∷ []
 
--- the aggregators, and the names of those that are left out
+-- the aggregators; `None` marks those of RedisTimeSeries that this server does not support
 unfoldable pub aggregators : Table (Option Aggregator)
 aggregators =
     (codes "avg", Some Avg)
@@ -59,7 +59,7 @@ aggregators =
     ∷ (codes "var.s", None)
     ∷ []
 
--- the reducers of groups, and the names of aggregators that are left out
+-- the reducers of GROUPBY; `None` marks those that this server does not support
 unfoldable pub reducers : Table (Option Reducer)
 reducers =
     (codes "avg", Some reducer.Avg)
@@ -75,13 +75,13 @@ reducers =
     ∷ (codes "var.s", None)
     ∷ []
 
--- the aggregator or the reducer that a word was found to name; what is said where it names none, and where it names one that is left out
+-- the meaning of a name, or the fault for an unknown or an unsupported one
 abbrev pub named_or : {X F : Type 0} → (unknown left_out : F) → Option (Option X) → Result X F
 named_or unknown left_out None = Err unknown
 named_or unknown left_out (Some None) = Err left_out
 named_or unknown left_out (Some (Some x)) = Ok x
 
--- the ends of the interval that buckets may begin at
+-- the names of ALIGN
 unfoldable pub aligns : Table Align
 aligns =
     (codes "start", From)
@@ -90,7 +90,7 @@ aligns =
     ∷ (codes "+", To)
     ∷ []
 
--- the times that may stand for a bucket
+-- the names of BUCKETTIMESTAMP
 unfoldable pub stamps : Table Stamp
 stamps =
     (codes "-", Low)

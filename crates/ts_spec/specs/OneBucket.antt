@@ -1,4 +1,4 @@
--- Two states that differ, for one destination, in one bucket of its rule.
+-- Two states that differ, for one destination, in a single bucket of its rule.
 use Rattle.std.specs.Prelude.{◌≡◌, ℕ, ◌≢◌, Some}
 use Rattle.ts_spec.specs.Sample.{at}
 use Rattle.ts_spec.specs.Bucket.{members}
@@ -6,8 +6,9 @@ use Rattle.ts_spec.specs.Key.{Key}
 use Rattle.ts_spec.specs.Keyed.{get}
 use Rattle.ts_spec.specs.State.{Rule, Record, State, rule_into}
 
--- The key is in both the destination of a rule. The rules differ at most in what they count, and that only in the bucket that starts
--- at b. Options, highest time and number of rules ever made are equal, and so are the key's own samples but at b.
+-- In both states a rule writes to the key. The rules may differ in what they count in the bucket that starts at b,
+-- and in nothing else. The options, the highest time and the number of rules ever made are equal. The samples of the
+-- key itself are equal except at b.
 pub record DiffersInOneBucket (m n : State) (k : Key) (b : ℕ) : Type 0 where
   pub first : Record
   pub second : Record

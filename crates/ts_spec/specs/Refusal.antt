@@ -1,8 +1,8 @@
--- Why a command is refused, with nothing changed.
+-- Why a command fails. A failed command changes nothing.
 use Rattle.ts_spec.specs.declared.value.ValueFault.{ValueFault}
 use Rattle.ts_spec.specs.Key.{Key}
 
--- Why words are no command.
+-- Why a request does not parse.
 pub data Fault : Type 0 where
   UnknownCommand : Fault
   Arity : Fault
@@ -26,13 +26,13 @@ pub data Refusal : Type 0 where
   KeyExists : Refusal
   KeysFull : Refusal
   LabelsFull : Refusal
-  -- the time is before the edge of the series
+  -- the time is before the edge (the retention cutoff) of the series
   TooOld : Refusal
   Duplicate : Refusal
   OutOfRange : Refusal
-  -- the time is before the last sample shown
+  -- an increment is before the last sample
   BeforeLast : Refusal
-  -- the written key, or this other one, would show too many samples
+  -- the written key, or this destination, would show too many samples
   SamplesFull : Refusal
   DestinationFull : Key → Refusal
   DeleteBeyondRetention : Refusal

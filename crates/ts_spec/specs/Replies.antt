@@ -1,4 +1,4 @@
--- The reply that gives a response its form.
+-- The reply to each response.
 use Rattle.std.specs.Prelude.{◌≡◌, ◌⊎◌, ℕ, ℤ, pos, List, [], ◌∷◌, map, codes, Option, None, Some}
 use Rattle.ts_spec.specs.declared.bucket.Aggregator.{Aggregator}
 use Rattle.ts_spec.specs.declared.bucket.Aggregator.TheVariants.{Avg, Sum, Min, Max, Range, Count, First, Last}
@@ -15,46 +15,46 @@ use Rattle.ts_spec.specs.Response.{Item, Wrote, IsWrong, IsRefused, ShownLabel, 
 use Rattle.ts_spec.specs.Text.{Reply, Simple, Error, Int, Value, Bulk, Nil, Array, Replies, Empty}
 use Rattle.ts_spec.specs.Text as text
 
--- replies in a row
+-- a sequence of replies
 abbrev pub listed : List Reply → Replies
 listed [] = Empty
 listed (reply ∷ others) = text.Replies.Item reply (listed others)
 
--- an array of these replies
+-- an array reply
 abbrev pub array : List Reply → Reply
 array items = Array (listed items)
 
--- a number of milliseconds, or how many
+-- an integer reply: a time in milliseconds or a count
 abbrev pub number : ℕ → Reply
 number n = Int (pos n)
 
 -- ---- errors
 
--- the error that names a fault
+-- the error reply for a fault
 abbrev pub fault_reply : Fault → Reply
 fault_reply fault = Error (fault_message fault)
 
--- the error that names a refusal
+-- the error reply for a refusal
 abbrev pub refusal_reply : Refusal → Reply
 refusal_reply refusal = Error (refusal_message refusal)
 
--- the error that says that memory ran out
+-- the error reply when memory runs out
 abbrev pub memory_reply : Reply
 memory_reply = Error memory_message
 
 -- ---- the parts of answers
 
--- what is replied to a triple of TS.MADD
+-- the reply to one triple of TS.MADD
 abbrev pub item_reply : Item → Reply
 item_reply (Wrote time) = number time
 item_reply (IsWrong fault) = fault_reply fault
 item_reply (IsRefused refusal) = refusal_reply refusal
 
--- what stands in the reply to TS.MADD: what is told of a triple, or want of memory
+-- an item in the reply to TS.MADD: the reply to a triple, or the error when memory runs out
 abbrev pub IsItemReply : Reply → Type 0
 IsItemReply reply = ((item : Item) × (reply ≡ item_reply item)) ⊎ (reply ≡ memory_reply)
 
--- the millionths of a value, none of nan
+-- a value in millionths, or `None` for NaN
 abbrev pub millionths : Cell → Option ℤ
 millionths (Number value) = Some value
 millionths Nan = None
@@ -63,22 +63,22 @@ millionths Nan = None
 abbrev pub row_reply : Row → Reply
 row_reply row = array (number row.time ∷ Value (millionths row.value) ∷ [])
 
--- a row, or `[]`
+-- the first row, or `[]`
 abbrev pub first_row_reply : List Row → Reply
 first_row_reply [] = array []
 first_row_reply (row ∷ rows) = row_reply row
 
--- the row of the last sample, or `[]` where there is none
+-- the row of the last sample, or `[]` if there is none
 abbrev pub last_row_reply : Option Row → Reply
 last_row_reply None = array []
 last_row_reply (Some row) = row_reply row
 
--- bytes, or nil
+-- a bulk string, or nil
 abbrev pub bulk_or_nil : Option (List ℕ) → Reply
 bulk_or_nil None = Nil
 bulk_or_nil (Some bytes) = Bulk bytes
 
--- `[label, value]`, where a label that is absent has nil
+-- `[label, value]`, with nil for a label that the series lacks
 abbrev pub shown_label_reply : ShownLabel → Reply
 shown_label_reply label = array (Bulk label.name ∷ bulk_or_nil label.value ∷ [])
 
@@ -96,12 +96,12 @@ last_member_reply member = array (Bulk member.key ∷ labels_reply member.labels
 
 -- ---- TS.INFO
 
--- the name of an encoding
+-- the name of an encoding in TS.INFO
 abbrev pub encoding_name : Encoding → List ℕ
 encoding_name Compressed = codes "compressed"
 encoding_name Uncompressed = codes "uncompressed"
 
--- the name of a policy
+-- the name of a policy in TS.INFO
 abbrev pub policy_name : Policy → List ℕ
 policy_name policy.Block = codes "block"
 policy_name policy.First = codes "first"
@@ -110,7 +110,7 @@ policy_name policy.Min = codes "min"
 policy_name policy.Max = codes "max"
 policy_name policy.Sum = codes "sum"
 
--- the name of an aggregator
+-- the name of an aggregator in TS.INFO
 abbrev pub aggregator_name : Aggregator → List ℕ
 aggregator_name Avg = codes "avg"
 aggregator_name Sum = codes "sum"
@@ -129,7 +129,7 @@ label_reply label = array (Bulk label.name ∷ Bulk label.value ∷ [])
 abbrev pub rule_reply : RuleInfo → Reply
 rule_reply rule = array (Bulk rule.dest ∷ number rule.grid.duration ∷ Simple (aggregator_name rule.agg) ∷ number rule.grid.align ∷ [])
 
--- twelve names, each followed by its value
+-- the reply to TS.INFO: twelve names, each followed by its value
 abbrev pub info_reply : Info → Reply
 info_reply info = array (
     Simple (codes "totalSamples") ∷ number info.total
@@ -148,7 +148,7 @@ info_reply info = array (
 
 -- ---- responses
 
--- the reply of a response
+-- the reply to a response
 abbrev pub reply_to : Response → Reply
 reply_to response.Done = Simple (codes "OK")
 reply_to (response.Count n) = number n

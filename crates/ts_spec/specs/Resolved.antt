@@ -1,4 +1,4 @@
--- Commands with a reading of the clock in place of each time that is the clock's.
+-- Commands whose times are resolved: a reading of the clock replaces each `*`.
 use Rattle.std.specs.Prelude.{◌≡◌, ℕ, Bool, true, false, [], ◌∷◌, map, Result, Ok, Err}
 use Rattle.ts_spec.specs.declared.command.At.{At}
 use Rattle.ts_spec.specs.declared.command.At.TheVariants.{Time}
@@ -9,7 +9,7 @@ use Rattle.ts_spec.specs.Response.{Item, Wrote, IsWrong, IsRefused}
 use Rattle.ts_spec.specs.State.{State}
 use Rattle.ts_spec.specs.Writing.{item_of}
 
--- a time, and one of TS.MADD, which may be none
+-- a resolved time, and the resolved time of a triple, which may be bad
 abbrev pub resolved_at : (reading : ℕ) → At → At
 resolved_at reading at = Time (time_of reading at)
 
@@ -17,11 +17,11 @@ abbrev pub resolved_word : (reading : ℕ) → Result At Fault → Result At Fau
 resolved_word reading (Ok at) = Ok (resolved_at reading at)
 resolved_word reading (Err fault) = Err fault
 
--- a triple of TS.MADD with its time resolved
+-- a triple with its time resolved
 abbrev pub resolved_triple : (reading : ℕ) → Triple → Triple
 resolved_triple reading t = record { key = t.key; at = resolved_word reading t.at; value = t.value }
 
--- the command with its times resolved
+-- a command with its times resolved
 abbrev pub resolved : (reading : ℕ) → Command → Command
 resolved reading (Add key at v on spec) = Add key (resolved_at reading at) v on spec
 resolved reading (Madd triples) = Madd (map (resolved_triple reading) triples)
@@ -34,7 +34,7 @@ is_written (Wrote t) = true
 is_written (IsWrong fault) = false
 is_written (IsRefused refusal) = false
 
--- one item is told, and where it is no time of a sample the state stays
+-- The response has one item. Unless that is the time of a written sample, the state is unchanged.
 pub record TellsOne (old : State) (done : Outcome) : Type 0 where
   pub item : Item
   pub told : item_of done.response ≡ item ∷ []

@@ -1,4 +1,4 @@
--- What a command is answered, before it is given the form of a reply.
+-- Responses to commands, before they are encoded as replies.
 use Rattle.std.specs.Prelude.{ℕ, List, Option}
 use Rattle.ts_spec.specs.declared.bucket.Aggregator.{Aggregator}
 use Rattle.ts_spec.specs.Bucket.{Grid}
@@ -8,32 +8,33 @@ use Rattle.ts_spec.specs.declared.series.Options.{Options}
 use Rattle.ts_spec.specs.Refusal.{Fault, Refusal}
 use Rattle.ts_spec.specs.Answer.{Row}
 
--- the answer of one triple of TS.MADD
+-- the response to one triple of TS.MADD
 pub data Item : Type 0 where
-  -- the time of its sample
+  -- the time of the written sample
   Wrote : ℕ → Item
-  -- its time or its value is none
+  -- its time or value is invalid
   IsWrong : Fault → Item
   IsRefused : Refusal → Item
 
--- a label as an answer shows it, with its value if the series has it
+-- a label in a reply, with its value if the series has it
 pub record ShownLabel : Type 0 where
   pub name : List ℕ
   pub value : Option (List ℕ)
 
--- a series in an answer over many
+-- one series in a reply over many
 pub record Member : Type 0 where
   pub key : Key
   pub labels : List ShownLabel
   pub rows : List Row
 
--- what is told of a rule
+-- what TS.INFO returns for a rule
 pub record RuleInfo : Type 0 where
   pub dest : Key
   pub grid : Grid
   pub agg : Aggregator
 
--- what TS.INFO tells: how many samples the key shows, the times of the first and the last (0 where there is none), and how it is kept
+-- What TS.INFO returns: the number of samples that the key shows, the times of the first and the last one (0 if there
+-- is none), and the options, labels and rules of the series.
 pub record Info : Type 0 where
   pub total : ℕ
   pub first : ℕ
@@ -43,10 +44,10 @@ pub record Info : Type 0 where
   pub source : Option Key
   pub rules : List RuleInfo
 
--- What a command is answered.
+-- The response to a command.
 pub data Response : Type 0 where
   Done : Response
-  -- a time, or how many
+  -- a time in milliseconds, or a count
   Count : ℕ → Response
   Refused : Refusal → Response
   Items : List Item → Response

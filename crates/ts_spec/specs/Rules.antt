@@ -1,4 +1,4 @@
--- What a write and a deletion do, what follows each command, and the end of rules.
+-- What a write and a deletion do, what follows each command, and how rules end.
 use Rattle.std.specs.Prelude.{ℕ, Bool, false, not, ◌&&◌, ◌||◌, ◌==◌, nat_lt, nat_le, if◌then◌else◌, ℤ, List, [], ◌∷◌, map, filter, Option, Some, None}
 use Rattle.ts_spec.specs.Sample.{Point, at_times, between, outside, is_within, put}
 use Rattle.ts_spec.specs.Bucket.{start, starts}
@@ -11,11 +11,11 @@ pub use Rattle.ts_spec.specs.Shown.{open_of, is_past, is_closed, has_any, has_me
 
 -- ---- parts of a command
 
--- the sample of a write to a record
+-- the sample of a write
 abbrev pub sample_for : (time : ℕ) (value : ℤ) → Record → Point
 sample_for t v d = record { time = t; value = v; made = d.born }
 
--- a record with the sample at its time, counted by each of its rules
+-- a record after a write, counted by each of its rules
 abbrev pub with_sample : (time : ℕ) (value : ℤ) → Record → Record
 with_sample t v d = record d {
   plain = put (sample_for t v d) d.plain;
@@ -23,54 +23,54 @@ with_sample t v d = record d {
   rules = map (counted (sample_for t v d) d.high (put (sample_for t v d) d.plain)) d.rules;
 }
 
--- a rule touched in the buckets of the samples that are gone
+-- a rule with the buckets of the deleted samples recounted
 abbrev pub recounted : (gone left : List Point) → Rule → Rule
 recounted gone left r = record r { seen = touched (meets gone r) left r }
 
--- a record without the samples in the interval, their buckets touched for each of its rules
+-- a record without the samples of the interval; each of its rules recounts their buckets
 abbrev pub without : (from to : ℕ) → Record → Record
 without from to d = record d {
   plain = outside from to d.plain;
   rules = map (recounted (between from to d.plain) (outside from to d.plain)) d.rules;
 }
 
--- whether an own sample at this time goes, where this link leads to its series
+-- whether the destination of the key loses its own sample at this time
 abbrev pub lost_by : Key → (Rule → ℕ → Bool) → Option Link → ℕ → Bool
 lost_by key touches None t = false
 lost_by key touches (Some l) t = same l.source key && (touches l.rule t && is_closed l.rule t)
 
--- a record without its own samples that go so
+-- a record without the own samples that it loses
 abbrev pub lost_from : Key → (Rule → ℕ → Bool) → Option Link → Record → Record
 lost_from key touches l d = record d { plain = at_times (λ t. not (lost_by key touches l t)) d.plain }
 
--- each destination of the key without its own samples at the starts of buckets that were touched and are closed
+-- removes from each destination of the key the own samples at the starts of closed buckets that were recounted
 abbrev pub lost : Key → (Rule → ℕ → Bool) → State → State
 lost key touches m = each (λ k d. lost_from key touches (link_to m k) d) m
 
--- a rule without the counted samples of the closed buckets whose starts pass the test
+-- a rule without what it counts in the closed buckets whose starts pass the test
 abbrev pub cleared : (ℕ → Bool) → Rule → Rule
 cleared test r = record r { seen = at_times (λ t. not (test (start r.grid t) && is_closed r (start r.grid t))) r.seen }
 
--- the rules to the key, cleared so
+-- the same for rules to the key
 abbrev pub cleared_to : Key → (ℕ → Bool) → Rule → Rule
 cleared_to key test r = cleared (λ b. same r.dest key && test b) r
 
--- a record whose rules to the key are cleared so
+-- the same for all rules of a record that write to the key
 abbrev pub clear_record : Key → (ℕ → Bool) → Record → Record
 clear_record key test d = record d { rules = map (cleared_to key test) d.rules }
 
--- the state with the rule to the key cleared so
+-- the same for the rule that writes to the key
 abbrev pub clear_into : Key → (ℕ → Bool) → State → State
 clear_into key test m = each (λ k d. clear_record key test d) m
 
 -- ---- what follows each command
 
--- whether a rule, if there is one, tells a sample at this time
+-- whether the rule, if there is one, writes a row at this time
 abbrev pub is_row_by : Option Rule → ℕ → Bool
 is_row_by None t = false
 is_row_by (Some r) t = has_row_of r t
 
--- the highest time, raised to these
+-- the highest time, raised to these times
 abbrev pub risen : Option ℕ → List ℕ → Option ℕ
 risen high [] = high
 risen high (b ∷ bs) = risen (raised b high) bs
@@ -80,11 +80,11 @@ abbrev pub high_by : Option Rule → Option ℕ → Option ℕ
 high_by None high = high
 high_by (Some r) high = risen high (filter (is_closed r) (starts r.grid r.seen))
 
--- a record whose highest time has risen so
+-- a record with its highest time raised
 abbrev pub risen_by : Option Rule → Record → Record
 risen_by r d = record d { high = high_by r d.high }
 
--- and without its own samples at the starts of such buckets, and without those before its edge
+-- the same, also without its own samples at the starts of such buckets, and without those before its edge
 abbrev pub tidied_by : Option Rule → Record → Record
 tidied_by r d = record d { high = high_by r d.high; plain = at_times (λ t. nat_le (edge (risen_by r d)) t && not (is_row_by r t)) d.plain }
 
@@ -93,25 +93,26 @@ abbrev pub edge_at : Option Record → ℕ
 edge_at None = 0
 edge_at (Some d) = edge d
 
--- a rule without the counted samples of closed buckets that start before this edge
+-- a rule without what it counts in closed buckets that start before this edge
 abbrev pub expired : (edge : ℕ) → Rule → Rule
 expired low r = cleared (λ b. nat_lt b low) r
 
--- the rules of a record, expired by the edges of their destinations in this state
+-- a rule without what is before the edge of its destination
 abbrev pub expired_in : State → Rule → Rule
 expired_in m r = expired (edge_at (get r.dest m)) r
 
--- a record whose rules are expired so
+-- a record with all its rules expired
 abbrev pub expire_record : State → Record → Record
 expire_record m d = record d { rules = map (expired_in m) d.rules }
 
--- the state with each record tidied by the rule that leads to it
+-- the state with each record tidied by the rule that writes to it
 abbrev pub tidied : State → State
 tidied m = each (λ k d. tidied_by (rule_into m k) d) m
 
--- The state after a command: the highest time of each destination rises to its latest closed bucket with counted samples; its own
--- samples at the starts of such buckets go, and in every series those before the edge; then the counted samples of closed buckets
--- that start before the edge of their destination.
+-- The state after a command. First the highest time of each destination rises to its latest closed bucket with
+-- counted samples. Then the own samples of destinations at the starts of such buckets are removed, and in every
+-- series the samples before the edge. Last, rules drop what they count in closed buckets that start before the edge
+-- of their destination.
 abbrev pub settled : State → State
 settled m = each (λ k d. expire_record (tidied m) d) (tidied m)
 
@@ -122,7 +123,7 @@ abbrev pub high_at : Option Record → Option ℕ
 high_at None = None
 high_at (Some d) = d.high
 
--- after a write of this value to the key
+-- the state after a write of this value to the key
 abbrev pub written : Key → (time : ℕ) (value : ℤ) → State → State
 written key t v m =
     settled (clear_into key (λ b. b == t) (lost key (write_touches t (high_at (get key m))) (change key (with_sample t v) m)))
@@ -132,31 +133,31 @@ abbrev pub plain_at : Option Record → List Point
 plain_at None = []
 plain_at (Some d) = d.plain
 
--- after a deletion of what the key shows in the interval
+-- the state after the samples of the interval are deleted from the key
 abbrev pub deleted : Key → (from to : ℕ) → State → State
 deleted key from to m =
     settled (clear_into key (is_within from to) (lost key (meets (between from to (plain_at (get key m)))) (change key (without from to) m)))
 
--- whether the link to a key ends
+-- whether the rule that writes to a key ends
 abbrev pub ends_into : (Key → Key → Bool) → Key → Option Link → Bool
 ends_into ends k None = false
 ends_into ends k (Some l) = ends l.source k
 
--- a record after that: it keeps what it showed, and the rules that do not end
+-- a record after the rules that pass the test end; it keeps the samples that it showed
 abbrev pub ended_in : (Key → Key → Bool) → State → Key → Record → Record
 ended_in ends m k d = record d {
   plain = if ends_into ends k (link_to m k) then shown_by (rule_into m k) d else d.plain;
   rules = filter (λ r. not (ends k r.dest)) d.rules;
 }
 
--- After the end of the rules whose source and destination pass the test: what their destinations show becomes their own.
+-- Ends all rules whose source and destination pass the test. What their destinations show becomes their own samples.
 abbrev pub ended : (Key → Key → Bool) → State → State
 ended ends m = each (λ k d. ended_in ends m k d) m
 
--- after the end of the rule from one key to another
+-- the state after TS.DELETERULE
 abbrev pub without_rule : (source dest : Key) → State → State
 without_rule source dest m = ended (λ s d. same s source && same d dest) m
 
--- without the key, after the end of each rule from it or to it
+-- removes the key and ends every rule from it or to it
 abbrev pub dropped : Key → State → State
 dropped key m = without_key key (ended (λ s d. same s key || same d key) m)

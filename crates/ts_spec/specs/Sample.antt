@@ -1,27 +1,28 @@
--- Samples, and the lists of them that series hold.
+-- Samples, and lists of them in ascending order of time.
 use Rattle.std.specs.Prelude.{ℕ, ℤ, ◌-◌, ◌^◌, ◌<◌, Bool, not, ◌&&◌, ◌==◌, nat_lt, nat_le, if◌then◌else◌, ⊤, List, [], ◌∷◌, ◌++◌, filter, Option, Some, None}
 
 -- the greatest time, in milliseconds
 abbrev pub MAX_TIME : ℕ
 MAX_TIME = 2 ^ 63 - 1
 
--- a sample: its time in milliseconds, its value in millionths, and how many rules were ever made on its series when it was last written
+-- A sample: its time in milliseconds, its value in millionths, and how many rules its series had ever had when the
+-- sample was last written.
 pub record Point : Type 0 where
   pub time : ℕ
   pub value : ℤ
   pub made : ℕ
 
--- each sample is later than this time
+-- every sample is later than this time
 abbrev pub IsAfter : ℕ → List Point → Type 0
 IsAfter t [] = ⊤
 IsAfter t (p ∷ ps) = (t < p.time) × IsAfter t ps
 
--- each sample is later than those before it
+-- times are strictly ascending
 abbrev pub IsAscending : List Point → Type 0
 IsAscending [] = ⊤
 IsAscending (p ∷ ps) = IsAfter p.time ps × IsAscending ps
 
--- the sample at this time, if the list has one
+-- the sample at this time, if there is one
 abbrev pub at : ℕ → List Point → Option Point
 at t [] = None
 at t (p ∷ ps) = if p.time == t then Some p else at t ps
@@ -38,15 +39,15 @@ is_within from to t = nat_le from t && nat_le t to
 abbrev pub between : (from to : ℕ) → List Point → List Point
 between from to ps = at_times (is_within from to) ps
 
--- the samples that are not in the interval
+-- the samples outside the interval
 abbrev pub outside : (from to : ℕ) → List Point → List Point
 outside from to ps = at_times (λ t. not (is_within from to t)) ps
 
--- the list with p at its time, in the place of a sample there or as a new one
+-- the list with p at its time; replaces a sample at the same time
 abbrev pub put : Point → List Point → List Point
 put p ps = at_times (λ t. nat_lt t p.time) ps ++ p ∷ at_times (nat_lt p.time) ps
 
--- the list with each of these samples at its time
+-- the list after `put` of each of these samples
 abbrev pub put_all : List Point → List Point → List Point
 put_all [] ps = ps
 put_all (q ∷ qs) ps = put q (put_all qs ps)
@@ -56,7 +57,7 @@ abbrev pub first_of : List Point → Option Point
 first_of [] = None
 first_of (p ∷ ps) = Some p
 
--- the later of two samples of an ascending list
+-- the later of two samples
 abbrev pub later_or : Point → Option Point → Point
 later_or p None = p
 later_or p (Some q) = q

@@ -1,4 +1,4 @@
--- The database: a finite map from keys to records.
+-- The state of the database: a finite map from keys to records.
 use Rattle.std.specs.Prelude.{ℕ, zero, suc, ◌-◌, if◌then◌else◌, List, [], ◌∷◌, Option, Some, None, option_map}
 use Rattle.ts_spec.specs.declared.series.Options.{Options}
 use Rattle.ts_spec.specs.declared.bucket.Aggregator.{Aggregator}
@@ -7,13 +7,14 @@ use Rattle.ts_spec.specs.Bucket.{Grid}
 use Rattle.ts_spec.specs.Key.{Key, same}
 use Rattle.ts_spec.specs.Keyed.{Keyed, Entry, none, each}
 
--- a label of a series and its value, both bytes
+-- a label of a series and its value, both byte strings
 pub record Label : Type 0 where
   pub name : List ℕ
   pub value : List ℕ
 
--- A rule of a source. `made` is how many rules the source had ever had once this one was made. `top` is the highest time written
--- to the source since then, and `seen` the samples that the rule counts, in ascending time.
+-- A compaction rule. `made` is how many rules the source had ever had when this one was created, this one included.
+-- `top` is the highest time written to the source since then. `seen` has the samples that the rule counts, in
+-- ascending time.
 pub record Rule : Type 0 where
   pub dest : Key
   pub agg : Aggregator
@@ -22,8 +23,8 @@ pub record Rule : Type 0 where
   pub top : Option ℕ
   pub seen : List Point
 
--- A series. `plain` is its own samples, in ascending time; `high` the highest time that it ever had a sample at; `born` how many
--- rules were ever made on it; `rules` those that it has, in the order of their making.
+-- A series. `plain` has its own samples in ascending time, `high` is the highest time that it ever had a sample at,
+-- `born` is how many rules were ever made on it, and `rules` has its rules in the order of their creation.
 pub record Record : Type 0 where
   pub options : Options
   pub labels : List Label
@@ -32,7 +33,7 @@ pub record Record : Type 0 where
   pub born : ℕ
   pub rules : List Rule
 
--- a map from keys to records
+-- the state: all series by key
 abbrev pub State : Type 0
 State = Keyed Record
 
@@ -40,7 +41,7 @@ State = Keyed Record
 abbrev pub empty : State
 empty = none
 
--- where a rule stands: the key of its source, and the rule
+-- a rule and the key of its source
 pub record Link : Type 0 where
   pub source : Key
   pub rule : Rule
@@ -50,7 +51,7 @@ abbrev pub rule_to : Key → List Rule → Option Rule
 rule_to k [] = None
 rule_to k (r ∷ rs) = if same r.dest k then Some r else rule_to k rs
 
--- the rule of this source, or the link that was found elsewhere
+-- the rule of this source, or the link found elsewhere
 abbrev pub linked_or : Key → Option Rule → Option Link → Option Link
 linked_or s None other = other
 linked_or s (Some r) other = Some (record { source = s; rule = r })

@@ -1,5 +1,5 @@
--- One step of the database: what a command is answered, and the state after it. Of the refusals of a command the first in order is
--- the answer, and then the state stays.
+-- One step of the database: the response to a command, and the state after it. If several refusals apply, the first
+-- in order is the response. A refused command leaves the state unchanged.
 use Rattle.std.specs.Prelude.{ℕ, [], map}
 use Rattle.ts_spec.specs.declared.limits.Limits.{Limits}
 use Rattle.ts_spec.specs.Sample.{at}
@@ -14,7 +14,7 @@ pub use Rattle.ts_spec.specs.Questions.{asked, rows_response, range_response, sh
 pub use Rattle.ts_spec.specs.Groups.{ranges_response}
 pub use Rattle.ts_spec.specs.Writing.{shows_more, first_full, rules_at, unless_full, within_destinations, within_samples, write_merged, value_at, unless_ignored, write, create_with, add_at, add, put_at, put_own, triple_step, item_of, madd, is_before_last, changed_value, increased, incr_by, incr_at, incr, meets_expired, delete_at, delete}
 
--- the step of a command, with a reading of the clock
+-- the step of a command; `reading` is the time of the clock in milliseconds
 abbrev pub step : Limits → State → (reading : ℕ) → Command → Outcome
 step limits m reading (Create key spec) = create limits m key spec
 step limits m reading (Alter key change) = alter limits m key change

@@ -1,4 +1,4 @@
--- The text of a reply in RESP2, and the text of a fault in a stream of requests.
+-- The RESP2 text of a reply, and of a protocol error.
 use Rattle.std.specs.Prelude.{◌≢◌, ℕ, suc, ◌^◌, ◌<◌, ℤ, List, [], ◌∷◌, ◌++◌, length, codes, Option, Some, None}
 use Rattle.std.specs.Fmt.{decimal, signed_decimal}
 use Rattle.ts_spec.specs.Value.{shown_value}
@@ -6,7 +6,7 @@ use Rattle.ts_spec.specs.declared.wire.Kind.{Kind}
 use Rattle.ts_spec.specs.declared.wire.Kind.TheVariants as kind
 
 mutual
-  -- A reply. A value is a number of millionths, or none.
+  -- A reply. A value is a number of millionths, or `None` for NaN.
   pub data Reply : Type 0 where
     Simple : List ℕ → Reply
     Error : List ℕ → Reply
@@ -20,26 +20,26 @@ mutual
     Empty : Replies
     Item : Reply → Replies → Replies
 
--- how many replies there are
+-- the number of replies
 abbrev pub count_of : Replies → ℕ
 count_of Empty = 0
 count_of (Item reply replies) = suc (count_of replies)
 
--- a line ends with CRLF
+-- the end of a line
 abbrev pub CRLF : List ℕ
 CRLF = 13 ∷ 10 ∷ []
 
--- a line that a byte begins
+-- a line with its type byte
 abbrev pub line_text : ℕ → List ℕ → List ℕ
 line_text first text = first ∷ text ++ CRLF
 
--- a value's text, and `NaN` where there is none
+-- the text of a value, or `NaN`
 abbrev pub shown_cell : Option ℤ → List ℕ
 shown_cell None = codes "NaN"
 shown_cell (Some millionths) = shown_value millionths
 
--- the text of a reply: `+`, `-`, `:`, `$` or `*`, and the rest by its kind
 abbrev mutual
+  -- the text of a reply: `+`, `-`, `:`, `$` or `*`, then its content
   pub text : Reply → List ℕ
   text (Simple words) = line_text 43 words
   text (Error words) = line_text 45 words
@@ -54,12 +54,12 @@ abbrev mutual
   texts Empty = []
   texts (Item reply replies) = text reply ++ texts replies
 
--- a text has no CR
+-- the text has no CR
 abbrev pub IsOneLine : List ℕ → Type 0
 IsOneLine [] = Unit {0}
 IsOneLine (byte ∷ bytes) = (byte ≢ 13) × IsOneLine bytes
 
--- what every reply of the server keeps: lines have no CR, and lengths fit 64 bits
+-- what holds of every reply of the server: lines have no CR, and lengths fit 64 bits
 abbrev mutual
   pub IsPlain : Reply → Type 0
   IsPlain (Simple words) = IsOneLine words
@@ -74,7 +74,7 @@ abbrev mutual
   ArePlain Empty = Unit {0}
   ArePlain (Item reply replies) = IsPlain reply × ArePlain replies
 
--- what is said of a fault
+-- the message of a protocol error
 abbrev pub fault_words : Kind → List ℕ
 fault_words kind.Multibulk = codes "ERR Protocol error: invalid multibulk length"
 fault_words kind.Bulk = codes "ERR Protocol error: invalid bulk length"
@@ -82,6 +82,6 @@ fault_words kind.Dollar = codes "ERR Protocol error: expected '$'"
 fault_words kind.Crlf = codes "ERR Protocol error: expected CRLF"
 fault_words kind.TooLarge = codes "ERR Protocol error: request too large"
 
--- the error reply after a fault
+-- the error reply to a protocol error
 abbrev pub fault_text : Kind → List ℕ
 fault_text kind = text (Error (fault_words kind))

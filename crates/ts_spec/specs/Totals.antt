@@ -1,4 +1,4 @@
--- How many samples a state shows.
+-- The number of samples that a state shows.
 use Rattle.std.specs.Prelude.{ℕ, ◌+◌, List, [], ◌∷◌, length}
 use Rattle.ts_spec.specs.Keyed.{Entry}
 use Rattle.ts_spec.specs.State.{Record, State}
@@ -9,6 +9,6 @@ abbrev pub shown_in : State → List (Entry Record) → ℕ
 shown_in m [] = 0
 shown_in m (e ∷ es) = length (shown m e.key) + shown_in m es
 
--- of all keys together
+-- the samples that all keys show
 abbrev pub total_shown : State → ℕ
 total_shown m = shown_in m m.entries

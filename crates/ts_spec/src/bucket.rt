@@ -1,4 +1,4 @@
-/// Which time stands for a bucket in an answer.
+/// Which timestamp a bucket is reported with (BUCKETTIMESTAMP).
 #[derive(Clone, Copy, Debug, PartialEq, Eq)]
 pub enum Stamp {
     /// Its start.
@@ -9,7 +9,7 @@ pub enum Stamp {
     Mid,
 }
 
-/// What is told of the samples of a bucket.
+/// How the samples of a bucket are aggregated.
 #[derive(Clone, Copy, Debug, PartialEq, Eq)]
 pub enum Aggregator {
     /// Their mean, rounded half away from zero.
@@ -30,7 +30,7 @@ pub enum Aggregator {
     Last,
 }
 
-/// What is told of the values that the series of a group have at one time.
+/// How the values that the series of a group have at one time are combined (GROUPBY).
 #[derive(Clone, Copy, Debug, PartialEq, Eq)]
 pub enum Reducer {
     /// Their mean, rounded half away from zero.
@@ -47,7 +47,7 @@ pub enum Reducer {
     Count,
 }
 
-/// What is told of the samples of each bucket, and how long each one is.
+/// The AGGREGATION option: the aggregator and the bucket duration.
 #[derive(Clone, Copy, Debug, PartialEq, Eq)]
 pub struct Aggregation {
     pub agg: Aggregator,
@@ -55,12 +55,12 @@ pub struct Aggregation {
     pub duration: u64,
 }
 
-/// Where one of the buckets of an answer begins.
+/// Where one of the buckets of a query starts (ALIGN).
 #[derive(Clone, Copy, Debug, PartialEq, Eq)]
 pub enum Align {
-    /// At the first time of the interval.
+    /// At the start of the interval.
     From,
-    /// At its last time.
+    /// At the end of the interval.
     To,
     /// At this time, in milliseconds.
     Time(u64),

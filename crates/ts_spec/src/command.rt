@@ -1,8 +1,8 @@
-/// The time that a command gives a sample.
+/// The time of a sample in a command.
 #[derive(Clone, Copy, Debug, PartialEq, Eq)]
 pub enum At {
-    /// The clock's.
+    /// `*`: the time of the clock.
     Clock,
-    /// This one, in milliseconds.
+    /// A time in milliseconds.
     Time(u64),
 }

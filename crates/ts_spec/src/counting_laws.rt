@@ -1,4 +1,4 @@
-//! The law of what a rule counts, on a function that does nothing.
+//! The law of what a rule counts, stated on a function with an empty body.
 
 ghost use Rattle.std.specs.Prelude.{◌≡◌, ℕ, false};
 ghost use Rattle.ts_spec.specs.declared.limits.Limits.{Limits};
@@ -14,9 +14,9 @@ ghost use Rattle.ts_spec.specs.Step.{step};
 ghost use Rattle.ts_spec.specs.Valid.{IsValid};
 ghost use Rattle.ts_spec.specs.CountsAll.{CountsAll, CountsAllFrom, JoinsForEver, StillCountsAll, changes};
 
-/// A rule that was just made counts exactly those of its source's own samples that were written since. Where neither series
-/// has a retention, before a command and after it, a rule that counts all so is the same after it, and counts all, unless
-/// the command is to write to the destination or to delete from it.
+/// A new rule counts every sample that its source has and that was written since the rule was created. If neither
+/// series has a retention before and after a command, such a rule is unchanged by the command and still counts every
+/// new sample, unless the command writes to the destination or deletes from it.
 pub fn a_new_rule_counts_all_that_its_source_has()
     ensures made { (limits : Limits) (m : State) (reading : ℕ) (source dest : Key) (agg : Aggregator) (grid : Grid) → IsValid limits m
         → (step limits m reading (CreateRule source dest agg grid)).response ≡ Done

@@ -1,4 +1,4 @@
-//! Laws of steps and of what is kept of a state, each on a function that does nothing.
+//! Laws of steps and of the stored data, each stated on a function with an empty body.
 
 ghost use Rattle.std.specs.Prelude.{ℕ, ◌≤◌};
 ghost use Rattle.ts_spec.specs.declared.limits.Limits.{Limits};
@@ -11,15 +11,15 @@ ghost use Rattle.ts_spec.specs.Kept.{Keeping};
 ghost use Rattle.ts_spec.specs.KeptQuestions.{kept_step};
 ghost use Rattle.ts_spec.specs.Stands.{StandsFor, IsStepOf};
 
-/// The empty state is valid, and each step keeps a state valid, where a series may show a sample.
+/// The empty state is valid, and each step keeps a state valid, if the limits allow at least one sample per series.
 pub fn each_step_keeps_a_state_valid()
     ensures empty { (limits : Limits) → IsValid limits empty }
     ensures step { (limits : Limits) (m : State) (reading : ℕ) (command : Command) → 1 ≤ limits.samples
         → IsValid limits m → IsValid limits (step limits m reading command).state }
 {}
 
-/// What a database keeps is enough: a step over it is the step of each state that it stands for, with the same answer,
-/// and what is then kept stands for the state that follows. Nothing is kept of the empty state.
+/// The stored data is enough to answer every command. A step over it gives the same response as a step of any state
+/// that it represents, and its result represents the next state. The empty map represents the empty state.
 pub fn what_is_kept_is_enough()
     ensures empty { (limits : Limits) → StandsFor limits none empty }
     ensures step { (limits : Limits) (m : State) (keys : Keeping) (reading : ℕ) (command : Command) → 1 ≤ limits.samples

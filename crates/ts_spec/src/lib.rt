@@ -1,5 +1,5 @@
-//! What the server means: every definition that the contracts of more than one crate cite, and the plain
-//! types that a definition has to name. It stands on nothing and runs nothing.
+//! The specification of the server: every definition that contracts of more than one crate use, and the plain types
+//! that these definitions name. It depends on no other crate of this repository.
 #![tactic(auto)]
 
 mod bucket;

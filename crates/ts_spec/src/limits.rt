@@ -1,24 +1,24 @@
-// How much the database may hold.
+// The limits of the database.
 ghost use Rattle.std.specs.Prelude.{◌≡◌};
 
 use crate::wire::WireLimits;
 
-/// How much the database may hold.
+/// The limits of the database.
 #[derive(Clone, Copy, Debug, PartialEq, Eq)]
 pub struct Limits {
-    /// How large a request may be.
+    /// The limits on one request.
     pub wire: WireLimits,
-    /// Keys.
+    /// The number of keys.
     pub keys: u32,
-    /// Labels per series.
+    /// The number of labels per series.
     pub labels: u32,
-    /// Rules per source.
+    /// The number of rules per source.
     pub rules: u32,
-    /// Samples that a series may show.
+    /// The number of samples that a series may show.
     pub samples: u32,
-    /// Rows per series in an answer that tells of empty buckets.
+    /// The number of rows per series in a reply with empty buckets (EMPTY).
     pub empty_rows: u32,
-    /// Rules made in the life of a series.
+    /// The number of rules created on a series in its lifetime.
     pub born: u32,
 }
 

@@ -1,4 +1,4 @@
-//! Laws of replies, each on a function that does nothing.
+//! Laws of replies, each stated on a function with an empty body.
 
 ghost use Rattle.std.specs.Prelude.{◌≢◌, ◌<◌, ◌^◌, List, length, All};
 ghost use Rattle.ts_spec.specs.declared.wire.Kind.{Kind};
@@ -7,8 +7,8 @@ ghost use Rattle.ts_spec.specs.Response.{Item, Response};
 ghost use Rattle.ts_spec.specs.Text.{Reply, Error, IsPlain, text, fault_words, fault_text};
 ghost use Rattle.ts_spec.specs.Replies.{array, fault_reply, memory_reply, item_reply, reply_to, IsItemReply};
 
-/// Each reply of the server is plain: one whose text is shorter than 2^64 bytes, as any text that is written, and each
-/// error of any length. So the law that a text shows its own end holds of them all.
+/// Every reply of the server is plain: each error, and each other reply whose text is shorter than 2^64 bytes, as
+/// every written text is. So the texts of all of them are self-delimiting.
 pub fn replies_are_plain()
     ensures responses { (r : Response) → length (text (reply_to r)) < 2 ^ 64 → IsPlain (reply_to r) }
     ensures triples { (items : List Reply) → All IsItemReply items → length (text (array items)) < 2 ^ 64
@@ -18,7 +18,7 @@ pub fn replies_are_plain()
     ensures protocol { (kind : Kind) → IsPlain (Error (fault_words kind)) }
 {}
 
-/// No other reply has the text of want of memory, and no other item of TS.MADD.
+/// No other reply, and no other item of TS.MADD, has the text of the out-of-memory error.
 pub fn want_of_memory_shows_as_such()
     ensures responses { (r : Response) → text (reply_to r) ≢ text memory_reply }
     ensures triples { (item : Item) → text (item_reply item) ≢ text memory_reply }

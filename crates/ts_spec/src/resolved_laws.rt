@@ -1,4 +1,4 @@
-//! Laws of commands whose times are resolved, each on a function that does nothing.
+//! Laws of commands with resolved times, each stated on a function with an empty body.
 
 ghost use Rattle.std.specs.Prelude.{◌≡◌, ℕ, ℤ, false, Result};
 ghost use Rattle.ts_spec.specs.declared.command.At.{At};
@@ -11,15 +11,16 @@ ghost use Rattle.ts_spec.specs.Resolved.{resolved, TellsOne};
 ghost use Rattle.ts_spec.specs.State.{State};
 ghost use Rattle.ts_spec.specs.Step.{step, triple_step};
 
-/// A law: a command with its times resolved by a reading of the clock needs no reading, and does at any what the command
-/// does at that one.
+/// A command whose times were resolved by a reading of the clock needs no clock, and has the same effect at any later
+/// reading as the original command at that reading.
 pub fn resolved_times_do_the_same()
     ensures clock { (reading : ℕ) (c : Command) → needs_clock (resolved reading c) ≡ false }
     ensures step { (limits : Limits) (m : State) (reading other : ℕ) (c : Command)
         → step limits m other (resolved reading c) ≡ step limits m reading c }
 {}
 
-/// A law: a triple of TS.MADD is told by one item, and changes nothing where that is not the time of its sample.
+/// The response to a triple of TS.MADD is one item. If that item is not the time of a written sample, the triple
+/// changes nothing.
 pub fn what_is_not_taken_changes_nothing()
     ensures { (limits : Limits) (m : State) (reading : ℕ) (key : Key) (at : Result At Fault) (v : Result ℤ Fault)
         → TellsOne m (triple_step limits m reading key at v) }

@@ -1,68 +1,68 @@
-// How a series is kept, and what a write does where its time already has a sample.
+// The options of a series, and what a write does if its time already has a sample.
 use crate::units::Units;
 
-/// What a write does where its time already has a sample.
+/// What a write does if its time already has a sample.
 #[derive(Clone, Copy, Debug, PartialEq, Eq)]
 pub enum Policy {
-    /// The write is refused.
+    /// Reject the write.
     Block,
-    /// The old value stays.
+    /// Keep the old value.
     First,
-    /// The new value takes its place.
+    /// Overwrite the old value.
     Last,
-    /// The lower of the two.
+    /// Keep the lower value.
     Min,
-    /// The higher of the two.
+    /// Keep the higher value.
     Max,
-    /// Their sum.
+    /// Store the sum of both.
     Sum,
 }
 
-/// How a value meets the one that its time already has.
+/// How a write merges with the value that its time already has.
 #[derive(Clone, Copy, Debug, PartialEq, Eq)]
 pub enum Merge {
-    /// As the policy says.
+    /// By a duplicate policy.
     By(Policy),
-    /// It takes its place, whatever the policy.
+    /// Overwrite the old value, whatever the policy.
     Set,
 }
 
-/// How the chunks of a series are kept.
+/// How the chunks of a series are encoded.
 #[derive(Clone, Copy, Debug, PartialEq, Eq)]
 pub enum Encoding {
-    /// Packed bytes.
+    /// Delta-encoded, in few bytes.
     Compressed,
-    /// Plain samples.
+    /// Fixed-size samples.
     Uncompressed,
 }
 
-/// How close to the last sample of a series one is ignored, where the policy is `Last`.
+/// How close a sample must be to the last one to be ignored, if the policy is `Last` (IGNORE).
 #[derive(Clone, Copy, Debug, PartialEq, Eq)]
 pub struct Ignore {
-    /// At its time or at most so much later, in milliseconds.
+    /// The greatest time difference, in milliseconds.
     pub time: u64,
-    /// With a value that differs by at most this.
+    /// The greatest value difference.
     pub value: Units,
 }
 
 impl Ignore {
-    /// Where nothing is said: at the same time, with an equal value.
+    /// The default: ignores an equal value at the same time.
     pub const EQUAL: Ignore = Ignore {
         time: 0,
         value: Units::ZERO,
     };
 }
 
-/// How a series is kept.
+/// The options of a series.
 #[derive(Clone, Copy, Debug, PartialEq, Eq)]
 pub struct Options {
-    /// In milliseconds; 0 keeps samples for ever.
+    /// How long samples are kept, in milliseconds; 0 keeps them forever.
     pub retention: u64,
     pub encoding: Encoding,
-    /// In bytes.
+    /// The size of a chunk in bytes.
     pub chunk_size: u32,
-    /// What a write does where its time already has a sample.
+    /// What a write does if its time already has a sample.
     pub policy: Policy,
-    /// How close to its last sample it ignores one.
+    /// How close to the last sample a write is ignored.
     pub ignore: Ignore,
 }

@@ -1,4 +1,4 @@
-// Values in millionths, within their bound.
+// Values, as whole numbers of millionths.
 ghost use Rattle.std.specs.Prelude.{◌≡◌, ℤ, pos, neg_ℤ, ◌≤◌, ◌↔◌, unsigned_abs, IsSome, IfSome};
 ghost use Rattle.ts_spec.specs.Value.{bound};
 
@@ -24,7 +24,7 @@ impl Model for Units {
 }
 
 impl Units {
-    /// No millionths.
+    /// Zero.
     pub const ZERO: Units = Units { millionths: 0 };
 
     /// The greatest value.
@@ -33,7 +33,7 @@ impl Units {
     /// The least value.
     pub const MIN: Units = Units { millionths: -BOUND };
 
-    /// The value of so many millionths, or `None` where that is out of range.
+    /// The value of this many millionths, or `None` if it is out of range.
     pub fn new(millionths: i128) -> Option<Units>
         ensures valid { IsSome result ↔ (unsigned_abs millionths ≤ bound) }
         ensures value { IfSome result (λ u. u ≡ millionths) }
@@ -45,7 +45,7 @@ impl Units {
         }
     }
 
-    /// The value of so many millionths, which are in range.
+    /// The value of this many millionths, which must be in range.
     pub fn of_millionths(millionths: i128) -> Units
         requires { unsigned_abs millionths ≤ bound }
         ensures { result ≡ millionths }
@@ -61,7 +61,7 @@ impl Units {
         self.millionths
     }
 
-    /// The value with the other sign. Zero stays.
+    /// The value with its sign changed.
     pub fn negated(self) -> Units
         ensures { result ≡ neg_ℤ self }
     {

@@ -1,17 +1,17 @@
-// Why a text is no value.
+// Why a text is not a valid value.
 ghost use Rattle.std.specs.Prelude.{Some};
 ghost use Rattle.ts_spec.specs.FaultNames.{name_of};
 
 use std::fmt;
 use thiserror::Error;
 
-/// Why a text is no value.
+/// Why a text is not a valid value.
 #[derive(Clone, Copy, PartialEq, Eq, Error)]
 pub enum ValueFault {
-    /// The text is no decimal of 1 to 64 bytes.
+    /// The text is not a decimal of 1 to 64 bytes.
     #[error("not a number")]
     NotANumber,
-    /// The rounded value is above 10^24 millionths, or below their negative.
+    /// The magnitude of the rounded value is above 10^24 millionths.
     #[error("value out of range")]
     OutOfRange,
 }
