@@ -1,17 +1,17 @@
--- The numbers that grow with each sample.
+-- The running count and sum.
 use Rattle.std.specs.Prelude.{ℕ, ◌+◌, ◌<◌, ℤ, ◌+ℤ◌}
 use Rattle.ts_agg.specs.Running.{IsSmall}
 
--- how many values there are, and their sum
+-- the count and the sum of values
 pub record Totals : Type 0 where
   pub count : ℕ
   pub sum : ℤ
 
--- with one more value
+-- after one more value
 abbrev pub added : Totals → ℤ → Totals
 added t v = record { count = t.count + 1; sum = t.sum +ℤ v }
 
--- there is a value, and no more than a total can take
+-- at least one value, and no more than a total can count
 pub record IsTotal (count : ℕ) (sum : ℤ) : Type 0 where
   pub some : 0 < count
   pub small : IsSmall count sum

@@ -1,4 +1,4 @@
--- The names of faults, as Debug prints them.
+-- The names of faults, as `Debug` prints them.
 use Rattle.std.specs.Prelude.{ℕ, List, codes}
 use Rattle.ts_agg.specs.declared.fault.AggFault.{AggFault}
 use Rattle.ts_agg.specs.declared.fault.AggFault.TheVariants.{NotInProfile, Unknown}

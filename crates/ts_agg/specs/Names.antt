@@ -6,10 +6,10 @@ use Rattle.ts_spec.specs.Names.{named, aggregators, reducers, named_or}
 use Rattle.ts_agg.specs.declared.fault.AggFault.{AggFault}
 use Rattle.ts_agg.specs.declared.fault.AggFault.TheVariants.{NotInProfile, Unknown}
 
--- the aggregator that a name stands for
+-- parses the name of an aggregator
 abbrev pub aggregator_read : List ℕ → Result Aggregator AggFault
 aggregator_read name = named_or Unknown NotInProfile (named aggregators name)
 
--- the reducer that a name stands for
+-- parses the name of a reducer
 abbrev pub reducer_read : List ℕ → Result Reducer AggFault
 reducer_read name = named_or Unknown NotInProfile (named reducers name)

@@ -1,14 +1,14 @@
--- What the values of a list come to, and the lists for which it stands.
+-- Running summaries, and the lists that they summarize.
 use Rattle.std.specs.Prelude.{◌≡◌, ℕ, ◌*◌, ◌^◌, ◌≤◌, ℤ, unsigned_abs, List}
 use Rattle.ts_spec.specs.Sample.{Point}
 use Rattle.ts_spec.specs.Value.{bound}
 use Rattle.ts_spec.specs.Aggregate.{Summary, summary}
 
--- it is what the values of the list come to
+-- it is the summary of the list
 abbrev pub StandsFor : Summary → List Point → Type 0
 StandsFor s ps = s ≡ summary ps
 
--- there are at most 10^14 values, and their sum is no more than so many values can come to
+-- a count of at most 10^14, and a sum that this many values can have
 pub record IsSmall (count : ℕ) (sum : ℤ) : Type 0 where
   pub few : count ≤ 10 ^ 14
   pub within : unsigned_abs sum ≤ bound * count

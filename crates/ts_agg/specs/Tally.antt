@@ -1,4 +1,4 @@
--- What a single aggregator keeps of a list, and the lists of which it tells.
+-- The state of a single aggregator, and the lists that it describes.
 use Rattle.std.specs.Prelude.{◌≡◌, ℕ, ◌<◌, List, length}
 use Rattle.ts_spec.specs.declared.bucket.Aggregator.{Aggregator}
 use Rattle.ts_spec.specs.declared.bucket.Aggregator.TheVariants as agg
@@ -7,7 +7,7 @@ use Rattle.ts_spec.specs.Aggregate.{Summary, summary}
 use Rattle.ts_agg.specs.declared.tally.Tally.{Tally}
 use Rattle.ts_agg.specs.declared.tally.Tally.TheVariants.{Avg, Sum, Min, Max, Range, Count, First, Last}
 
--- what an aggregator keeps of what the values of a list come to
+-- the state of an aggregator, from the summary of a list
 abbrev pub tally_of : Aggregator → Summary → Tally
 tally_of agg.Avg s = Avg (record { count = s.count; sum = s.sum })
 tally_of agg.Sum s = Sum (record { count = s.count; sum = s.sum })
@@ -18,12 +18,12 @@ tally_of agg.Count s = Count s.count
 tally_of agg.First s = First s.first
 tally_of agg.Last s = Last s.last
 
--- it is what an aggregator keeps of the list, which is not empty
+-- it is the state of the aggregator over this non-empty list
 pub record Tells (a : Aggregator) (t : Tally) (ps : List Point) : Type 0 where
   pub some : 0 < length ps
   pub kept : t ≡ tally_of a (summary ps)
 
--- how many samples it has counted, if it counts them
+-- how many samples it has counted, or 0 if it does not count them
 abbrev pub counted : Tally → ℕ
 counted (Avg total) = total.count
 counted (Sum total) = total.count

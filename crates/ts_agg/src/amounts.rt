@@ -1,4 +1,4 @@
-// How many samples there are, and what they sum up to: the numbers that grow with each sample.
+// The running count and sum of samples.
 ghost use Rattle.std.specs.Prelude.{◌≡◌, ◌+◌, ◌*◌, ◌<◌, ◌^◌, ℕ, pos, ◌+ℤ◌};
 ghost use Rattle.ts_spec.specs.Value.{clamp, div_round};
 
@@ -6,7 +6,7 @@ use std::marker::Model;
 use ts_decimal::{clamp, div_round};
 use ts_sample::Units;
 
-/// How many samples there are: 10^14 at most.
+/// A count of samples, at most 10^14.
 #[derive(Clone, Copy, Debug, PartialEq, Eq)]
 pub struct Amount {
     count: u64,
@@ -25,7 +25,7 @@ impl Model for Amount {
 }
 
 impl Amount {
-    /// One sample.
+    /// Starts a count at one sample.
     #[inline]
     pub fn one() -> Amount
         ensures { result ≡ 1 }
@@ -33,7 +33,7 @@ impl Amount {
         Amount { count: 1 }
     }
 
-    /// One sample more.
+    /// Counts one more sample. The count must be below 10^14.
     #[inline]
     pub fn increase(&mut self)
         requires { self.old < 10 ^ 14 }
@@ -42,7 +42,7 @@ impl Amount {
         self.count += 1;
     }
 
-    /// The number as a value.
+    /// Returns the count as a value.
     pub fn value(&self) -> Units
         ensures { result ≡ pos (self.now * 1000000) }
     {
@@ -50,7 +50,7 @@ impl Amount {
     }
 }
 
-/// How many samples there are, 10^14 at most, and the sum of their values.
+/// A count of samples, at most 10^14, and the sum of their values in millionths.
 #[derive(Clone, Copy, Debug, PartialEq, Eq)]
 pub struct Total {
     sum: i128,
@@ -72,7 +72,7 @@ impl Model for Total {
 impl Total {
     ghost use Rattle.ts_agg.specs.Amounts.{added};
 
-    /// Of one value.
+    /// Starts with one value.
     #[inline]
     pub fn of(value: Units) -> Total
         ensures { result ≡ record { count = 1; sum = value } }
@@ -83,7 +83,7 @@ impl Total {
         }
     }
 
-    /// One value more.
+    /// Adds one value. The count must be below 10^14.
     #[inline]
     pub fn add(&mut self, value: Units)
         requires { self.old.count < 10 ^ 14 }
@@ -93,14 +93,14 @@ impl Total {
         self.count += 1;
     }
 
-    /// The sum as a value.
+    /// Returns the sum, clamped to the range of values.
     pub fn sum(&self) -> Units
         ensures { result ≡ clamp self.now.sum }
     {
         clamp(self.sum)
     }
 
-    /// The mean.
+    /// Returns the mean, rounded half away from zero.
     pub fn mean(&self) -> Units
         ensures { result ≡ div_round self.now.sum self.now.count }
     {

@@ -1,4 +1,4 @@
-// What a rule counts of its source's samples, by a visitor over them.
+// A visitor that summarizes what a rule counts of its source.
 ghost use Rattle.std.specs.Prelude.{◌≡◌, List, nat_le, filter};
 ghost use Rattle.ts_spec.specs.Sample.{Point};
 ghost use Rattle.ts_spec.specs.Aggregate.{nothing, summary};
@@ -9,8 +9,7 @@ use crate::running::Running;
 use std::marker::Model;
 use ts_sample::{Sample, Visit};
 
-/// A visitor that counts the samples that were made at a number of rules or later: what a rule counts of its source
-/// since it was made. It can take 10^14 samples.
+/// A visitor that summarizes the samples written since a rule was created. It can receive 10^14 samples.
 #[derive(Drop)]
 pub struct Counted {
     made: u32,
@@ -26,7 +25,7 @@ impl Model for Counted {
 }
 
 impl Counted {
-    /// Of no samples.
+    /// Starts with no samples. `made` is how many rules the source had ever had when the rule was created.
     pub fn new(made: u32) -> Counted
         ensures empty { result ≡ record { made = made; running = nothing } }
         ensures visited { (ps : List Point) → (visited counted_one result ps).running
@@ -38,7 +37,7 @@ impl Counted {
         }
     }
 
-    /// What it has counted so far.
+    /// Returns the summary so far.
     pub fn running(&self) -> Running
         ensures { result ≡ self.now.running }
     {

@@ -1,17 +1,17 @@
-// Why a name is no aggregator's.
+// Why a name is not an aggregator.
 ghost use Rattle.std.specs.Prelude.{Some};
 ghost use Rattle.ts_agg.specs.FaultNames.{name_of};
 
 use std::fmt;
 use thiserror::Error;
 
-/// Why a name names no aggregator of this server.
+/// Why a name is not an aggregator of this server.
 #[derive(Clone, Copy, PartialEq, Eq, Error)]
 pub enum AggFault {
-    /// It is one that is left out: twa, std.p, std.s, var.p or var.s.
+    /// An aggregator of RedisTimeSeries that this server does not support: twa, std.p, std.s, var.p or var.s.
     #[error("aggregator not supported")]
     NotInProfile,
-    /// It is not known at all.
+    /// An unknown name.
     #[error("unknown aggregator")]
     Unknown,
 }

@@ -1,4 +1,4 @@
-//! What is told of the samples of a bucket, over a list that grows at its end. Nothing here takes memory.
+//! Aggregators over lists of samples that grow at their end. Nothing here allocates.
 #![tactic(auto)]
 
 mod amounts;

@@ -1,4 +1,4 @@
-// The names of aggregators and reducers, and how a word is looked up in a table of names.
+// The names of aggregators and reducers, and lookup in a table of names.
 ghost use Rattle.std.specs.Prelude.{◌≡◌, map, Ok};
 ghost use Rattle.std.specs.Str.{str_eq_ignore_ascii_case};
 ghost use Rattle.ts_spec.specs.Aggregate.{aggregator_of};
@@ -9,7 +9,7 @@ ghost use Rattle.ts_agg.specs.Names.{aggregator_read, reducer_read};
 use crate::fault::AggFault;
 use ts_spec::{Aggregator, Reducer};
 
-// The names of those that are left out stand for none.
+// `None` marks aggregators of RedisTimeSeries that this server does not support.
 const NAMES: [(&[u8], Option<Aggregator>); 13] = [
     (b"avg", Some(Aggregator::Avg)),
     (b"sum", Some(Aggregator::Sum)),
@@ -40,7 +40,7 @@ const REDUCERS: [(&[u8], Option<Reducer>); 11] = [
     (b"var.s", None),
 ];
 
-/// Whether a word is this name, with letters in either case.
+/// Whether a word is this name, in any case.
 #[inline]
 pub fn is_name(name: &[u8], word: &[u8]) -> bool
     ensures { result ≡ str_eq_ignore_ascii_case name.now word.now }
@@ -48,7 +48,7 @@ pub fn is_name(name: &[u8], word: &[u8]) -> bool
     name.eq_ignore_ascii_case(word)
 }
 
-/// What a word stands for in a table of names, the first that it is.
+/// Returns the entry of a table for a word, in any case. The first match counts.
 pub fn named<T: Copy>(mut table: &[(&[u8], T)], word: &[u8]) -> Option<T>
     ensures { result ≡ named (map (λ row. (row.0.now, row.1)) table.entry.now) word.now }
 {
@@ -61,7 +61,7 @@ pub fn named<T: Copy>(mut table: &[(&[u8], T)], word: &[u8]) -> Option<T>
     None
 }
 
-/// The aggregator of a name, with letters in either case.
+/// Returns the aggregator of a name, in any case.
 #[tactic(auto, unfolding(ts_spec::specs::Names::aggregators))]
 pub fn read_aggregator(name: &[u8]) -> Result<Aggregator, AggFault>
     ensures { result ≡ aggregator_read name.now }
@@ -73,7 +73,7 @@ pub fn read_aggregator(name: &[u8]) -> Result<Aggregator, AggFault>
     }
 }
 
-/// The reducer of a name, with letters in either case.
+/// Returns the reducer of a name, in any case.
 #[tactic(auto, unfolding(ts_spec::specs::Names::reducers))]
 pub fn read_reducer(name: &[u8]) -> Result<Reducer, AggFault>
     ensures { result ≡ reducer_read name.now }
@@ -85,7 +85,7 @@ pub fn read_reducer(name: &[u8]) -> Result<Reducer, AggFault>
     }
 }
 
-/// The aggregator that tells what a reducer does.
+/// Returns the aggregator with the same result as a reducer.
 pub fn aggregator_of(reducer: Reducer) -> Aggregator
     ensures { result ≡ aggregator_of reducer }
 {
@@ -99,7 +99,7 @@ pub fn aggregator_of(reducer: Reducer) -> Aggregator
     }
 }
 
-/// The name of an aggregator, in lower case.
+/// Returns the name of an aggregator, in lower case.
 #[tactic(auto, unfolding(ts_spec::specs::Names::aggregators))]
 pub fn name(agg: Aggregator) -> &'static str
     ensures value { result.now ≡ aggregator_name agg }

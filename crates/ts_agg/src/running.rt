@@ -1,4 +1,4 @@
-// What is kept of samples that come one after another, so that each aggregator can be told at any time.
+// A running summary of samples, from which every aggregator can be computed at any time.
 ghost use Rattle.std.specs.Prelude.{◌≡◌, ◌<◌, ◌^◌, ◌↔◌, List, [], ◌∷◌, ◌++◌, length, nat_lt, int_lt, if◌then◌else◌, Some, IsNone};
 ghost use Rattle.ts_spec.specs.Sample.{Point};
 ghost use Rattle.ts_spec.specs.Aggregate.{aggregate, push, result_of};
@@ -9,11 +9,10 @@ use ts_decimal::{clamp, div_round};
 use ts_sample::{Sample, Units};
 use ts_spec::Aggregator;
 
-// It takes no more samples.
+// The most samples that a summary can count.
 const MOST: u64 = 100_000_000_000_000;
 
-/// What is told of the values of a list: how many there are, their sum, the least, the greatest, the first and
-/// the last. It stands for each list that has these.
+/// The count, sum, least, greatest, first and last value of a list of samples.
 #[derive(Clone, Copy, Debug, PartialEq, Eq)]
 pub struct Running {
     sum: i128,
@@ -52,7 +51,7 @@ impl Model for Running {
 }
 
 impl Running {
-    /// Of no samples.
+    /// The summary of no samples.
     pub fn new() -> Running
         ensures { StandsFor result [] }
     {
@@ -66,14 +65,14 @@ impl Running {
         }
     }
 
-    /// Whether it takes one sample more.
+    /// Whether it can count one more sample.
     pub fn has_room(&self) -> bool
         ensures { result ≡ nat_lt self.now.count (10 ^ 14) }
     {
         self.count < MOST
     }
 
-    /// Adds a sample at the end. It takes 10^14 samples at most.
+    /// Appends a sample. It counts at most 10^14 samples.
     pub fn push(&mut self, s: &Sample)
         requires { self.old.count < 10 ^ 14 }
         ensures pushed { self.new ≡ push self.old s.now }
@@ -94,7 +93,7 @@ impl Running {
         self.count += 1;
     }
 
-    /// What an aggregator tells of the samples, or `None` where there are none.
+    /// Returns the result of an aggregator, or `None` if there are no samples.
     pub fn result(&self, agg: Aggregator) -> Option<Units>
         ensures value { (ps : List Point) → StandsFor self.now ps → 0 < length ps
             → result ≡ Some (aggregate agg ps) }
@@ -108,7 +107,7 @@ impl Running {
         }
     }
 
-    // What an aggregator tells of at least one sample.
+    // The result of an aggregator over at least one sample.
     fn value(&self, agg: Aggregator) -> Units
         requires { 0 < self.now.count }
         ensures { result ≡ result_of agg self.now }

@@ -1,4 +1,4 @@
-// What a single aggregator keeps of the samples of a bucket, one sample after another.
+// The running state of a single aggregator over the samples of a bucket.
 ghost use Rattle.std.specs.Prelude.{◌≡◌, ◌<◌, ◌≤◌, ◌+◌, ◌^◌, List, [], ◌∷◌, ◌++◌};
 ghost use Rattle.ts_spec.specs.Sample.{Point};
 ghost use Rattle.ts_spec.specs.Aggregate.{aggregate};
@@ -9,7 +9,7 @@ use crate::running::{greater, lesser};
 use ts_sample::{Sample, Units};
 use ts_spec::Aggregator;
 
-/// What one aggregator needs of a list of samples that isn't empty, and no more.
+/// The state of one aggregator over a non-empty list of samples. It has only what that aggregator needs.
 #[derive(Clone, Copy, Debug, PartialEq, Eq)]
 pub enum Tally {
     Avg(Total),
@@ -26,7 +26,7 @@ pub enum Tally {
 }
 
 impl Tally {
-    /// For this aggregator, of one sample.
+    /// Starts an aggregator with one sample.
     #[inline]
     pub fn of(agg: Aggregator, first: &Sample) -> Tally
         ensures tells { Tells agg result (first.now ∷ []) }
@@ -45,7 +45,7 @@ impl Tally {
         }
     }
 
-    /// Adds a sample at the end. Where samples are counted, it takes 10^14 at most.
+    /// Appends a sample. Aggregators that count samples accept at most 10^14.
     #[inline]
     pub fn push(&mut self, s: &Sample)
         requires { counted self.old < 10 ^ 14 }
@@ -68,7 +68,7 @@ impl Tally {
         }
     }
 
-    /// What its aggregator tells of the samples.
+    /// Returns the result of the aggregator.
     pub fn value(&self) -> Units
         ensures { (agg : Aggregator) (ps : List Point) → Tells agg self.now ps
             → result ≡ aggregate agg ps }

@@ -1,15 +1,15 @@
--- Grids that a program keeps, and the ends of their buckets.
+-- Valid grids, and the ends of their buckets.
 use Rattle.std.specs.Prelude.{◌≡◌, ℕ, ◌^◌, ◌<◌, ◌≤◌}
 use Rattle.ts_spec.specs.Sample.{MAX_TIME}
 use Rattle.ts_spec.specs.Bucket.{Grid, start}
 
--- its alignment is a time, and its duration is from 1 to 10^14
+-- the alignment is at most MAX_TIME, and the duration is 1 to 10^14 milliseconds
 pub record IsGrid (g : Grid) : Type 0 where
   pub align : g.align ≤ MAX_TIME
   pub some : 1 ≤ g.duration
   pub short : g.duration ≤ 10 ^ 14
 
--- the last time that is in one bucket with t
+-- the last time in the bucket of t
 pub record IsLastOf (g : Grid) (t last : ℕ) : Type 0 where
   pub within : last ≤ MAX_TIME
   pub same : start g last ≡ start g t

@@ -1,4 +1,4 @@
-// Where buckets of time begin and end.
+// Time buckets: where they start and end.
 ghost use Rattle.std.specs.Prelude.{◌≡◌, ◌≤◌, ◌<◌, ◌↔◌, pos, ◌+ℤ◌, IsSome, IfSome, IfNone};
 ghost use Rattle.ts_spec.specs.Sample.{MAX_TIME};
 ghost use Rattle.ts_spec.specs.Bucket.{raw, start, stamp};
@@ -11,7 +11,7 @@ use ts_spec::Stamp;
 /// The longest bucket, in milliseconds.
 pub const LONGEST: u64 = 100_000_000_000_000;
 
-/// Buckets over time, each as long as the others, of which one begins at the alignment.
+/// A grid of buckets of equal duration. One of them starts at the alignment.
 #[derive(Clone, Copy, Debug, PartialEq, Eq)]
 pub struct Grid {
     align: u64,
@@ -32,7 +32,8 @@ impl Model for Grid {
 }
 
 impl Grid {
-    /// The grid of an alignment, at most `MAX_TIME`, and a duration, from 1 to 10^14, both in milliseconds.
+    /// Returns the grid of an alignment (at most `MAX_TIME`) and a duration (1 to 10^14), both in milliseconds, or
+    /// `None` if one is out of range.
     pub fn new(align: u64, duration: u64) -> Option<Grid>
         ensures valid { IsSome result ↔ IsGrid (record { align = align; duration = duration }) }
         ensures value { IfSome result (λ g. g ≡ record { align = align; duration = duration }) }
@@ -44,28 +45,28 @@ impl Grid {
         }
     }
 
-    /// Where one of the buckets begins, in milliseconds.
+    /// The start of one of the buckets, in milliseconds.
     pub fn align(&self) -> u64
         ensures { result ≡ self.now.align }
     {
         self.align
     }
 
-    /// How long each bucket is, in milliseconds.
+    /// The duration of each bucket, in milliseconds.
     pub fn duration(&self) -> u64
         ensures { result ≡ self.now.duration }
     {
         self.duration
     }
 
-    /// Does nothing: it tells a caller the bounds that a reference hides.
+    /// Does nothing at run time. It gives the prover the bounds of a grid behind a reference.
     pub fn known(&self)
         ensures { IsGrid self.now }
     {
         let _align = self.align;
     }
 
-    /// The start of the bucket of a time.
+    /// Returns the start of the bucket of `t`, at least 0.
     pub fn start_of(&self, t: u64) -> u64
         requires { t ≤ MAX_TIME }
         ensures { result ≡ start self.now t }
@@ -73,7 +74,7 @@ impl Grid {
         t.saturating_sub(self.offset(t))
     }
 
-    /// The last time of the bucket of a time, at most `MAX_TIME`.
+    /// Returns the last time in the bucket of `t`, at most `MAX_TIME`.
     pub fn last_of(&self, t: u64) -> u64
         requires { t ≤ MAX_TIME }
         ensures { IsLastOf self.now t result }
@@ -81,7 +82,7 @@ impl Grid {
         MAX_TIME.min(t + (self.duration - 1 - self.offset(t)))
     }
 
-    /// The start of the next bucket, or `None` where that is past `MAX_TIME`.
+    /// Returns the start of the bucket after that of `t`, or `None` if it is past `MAX_TIME`.
     pub fn next_of(&self, t: u64) -> Option<u64>
         requires { t ≤ MAX_TIME }
         ensures next { IfSome result (IsNextOf self.now t) }
@@ -92,7 +93,7 @@ impl Grid {
         if next <= MAX_TIME { Some(next) } else { None }
     }
 
-    /// The time that stands for the bucket of a time.
+    /// Returns the timestamp reported for the bucket of `t`, at most `MAX_TIME`.
     pub fn stamp(&self, t: u64, mode: Stamp) -> u64
         requires { t ≤ MAX_TIME }
         ensures { result ≡ stamp self.now t mode }
@@ -106,7 +107,7 @@ impl Grid {
         MAX_TIME.min(stamp)
     }
 
-    // How far a time is past the start of its bucket, also where that would be before time 0.
+    // The distance of a time from the start of its bucket, even if that start is negative.
     fn offset(&self, t: u64) -> u64
         requires { t ≤ MAX_TIME }
         ensures below { result < self.now.duration }

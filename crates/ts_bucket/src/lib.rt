@@ -1,4 +1,4 @@
-//! Grids of buckets over time, and the times that stand for a bucket. Nothing here takes memory.
+//! Grids of time buckets, and the timestamp that a bucket is reported with. Nothing here allocates.
 #![tactic(auto)]
 
 mod grid;

@@ -1,9 +1,9 @@
--- Samples that are kept in chunks of bounded size.
+-- Chunks: lists of samples encoded in a bounded number of bytes.
 use Rattle.std.specs.Prelude.{◌≡◌, ◌≢◌, ℕ, ◌/◌, ◌≤◌, ◌<◌, ⊤, List, [], ◌∷◌, ◌++◌, take, drop, length, Option, None, Some}
 use Rattle.ts_spec.specs.Sample.{Point, IsAscending}
 use Rattle.ts_sample.specs.Sample.{IsFine}
 
--- each sample is within its bounds
+-- every sample is within its bounds
 abbrev pub AreFine : List Point → Type 0
 AreFine [] = ⊤
 AreFine (p ∷ ps) = IsFine p × AreFine ps
@@ -15,29 +15,29 @@ least_limit = 48
 abbrev pub greatest_limit : ℕ
 greatest_limit = 1048576
 
--- a limit that a chunk may have
+-- a valid limit, in bytes
 pub record IsLimit (limit : ℕ) : Type 0 where
   pub least : least_limit ≤ limit
   pub greatest : limit ≤ greatest_limit
 
--- a list fits where the bytes that the format gives for it are at most the limit
+-- the encoding of the list is within the limit
 abbrev pub Fits : (format : List Point → List ℕ) → (limit : ℕ) → List Point → Type 0
 Fits format limit ps = length (format ps) ≤ limit
 
--- what holds of each chunk: its limit, and its samples, which are in ascending time, within their bounds, and fit
+-- the invariant of a chunk: a valid limit, and samples that are ascending, within their bounds, and fit
 pub record IsChunk (format : List Point → List ℕ) (limit : ℕ) (ps : List Point) : Type 0 where
   pub bounds : IsLimit limit
   pub ascending : IsAscending ps
   pub fine : AreFine ps
   pub fits : Fits format limit ps
 
--- the time is past the last sample
+-- the time is after the last sample
 abbrev pub IsPast : Option Point → ℕ → Type 0
 IsPast None t = ⊤
 IsPast (Some p) t = p.time < t
 
--- Lists that a list is cut into, so that each fits: an empty list makes none, a list that fits makes one, and any other is cut after
--- its first half, rounded down, and each part is cut by the same rule.
+-- How a list is split into lists that fit: an empty list into none, a list that fits into one. Any other list is
+-- split after its first half, rounded down, and each part is split by the same rule.
 pub data IsCut (format : List Point → List ℕ) (limit : ℕ) : List Point → List (List Point) → Type 0 where
   nothing : IsCut format limit [] []
   whole : (ps : List Point) → ps ≢ [] → Fits format limit ps → IsCut format limit ps (ps ∷ [])
@@ -45,12 +45,12 @@ pub data IsCut (format : List Point → List ℕ) (limit : ℕ) : List Point →
       → IsCut format limit (take (length ps / 2) ps) firsts → IsCut format limit (drop (length ps / 2) ps) lasts
       → IsCut format limit ps (firsts ++ lasts)
 
--- the samples of lists, one after another
+-- the concatenation of the lists
 abbrev pub joined : List (List Point) → List Point
 joined [] = []
 joined (ps ∷ pss) = ps ++ joined pss
 
--- each chunk has this limit
+-- every chunk has this limit
 abbrev pub HaveLimit : {C : Type 0} → (most : C → ℕ) → (limit : ℕ) → List C → Type 0
 HaveLimit most limit [] = ⊤
 HaveLimit most limit (c ∷ cs) = (most c ≡ limit) × HaveLimit most limit cs

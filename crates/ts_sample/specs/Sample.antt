@@ -1,9 +1,9 @@
--- What holds of each sample that a program keeps.
+-- The bounds of a sample.
 use Rattle.std.specs.Prelude.{◌≤◌, ◌<◌, ◌^◌, unsigned_abs}
 use Rattle.ts_spec.specs.Sample.{Point, MAX_TIME}
 use Rattle.ts_spec.specs.Value.{bound}
 
--- its time, its value and its number of rules are within their bounds
+-- time, value and number of rules are within their bounds
 pub record IsFine (p : Point) : Type 0 where
   pub time : p.time ≤ MAX_TIME
   pub value : unsigned_abs p.value ≤ bound

@@ -1,8 +1,8 @@
--- What becomes of a visitor that takes samples one after another.
+-- The state of a visitor after a list of samples.
 use Rattle.std.specs.Prelude.{List}
 use Rattle.std.specs.List.{fold}
 use Rattle.ts_spec.specs.Sample.{Point}
 
--- a visitor after these samples, where one sample makes `step` of it
+-- the visitor after these samples; `step` is its state after one sample
 abbrev pub visited : {V : Type 0} → (V → Point → V) → V → List Point → V
 visited step v ps = fold step v ps

@@ -1,11 +1,11 @@
-// The value of a row, or that there is none.
+// The value of a row, or NaN.
 use ts_spec::Units;
 
-/// What a reply shows for a value that may not exist.
+/// The value of a row in a reply, which may be missing.
 #[derive(Clone, Copy, Debug, PartialEq, Eq)]
 pub enum Cell {
     /// A value.
     Number(Units),
-    /// There is no such value.
+    /// No value; the reply has `NaN`.
     Nan,
 }

@@ -1,4 +1,4 @@
-// New chunks for a chunk whose samples change, by the one rule for all formats.
+// Builds the new chunks of a chunk whose samples change, the same way for all formats.
 ghost use Rattle.std.specs.Prelude.{◌≡◌, ◌/◌, ◌<◌, List, length, map, take, drop, IfOk, vec_len, vec_capacity};
 ghost use Rattle.ts_spec.specs.Sample.{Point, IsAscending, outside, put};
 ghost use Rattle.ts_sample.specs.Chunk.{IsCut, HaveLimit};
@@ -13,7 +13,7 @@ use crate::steps::Steps;
 use std::alloc::{AllocError, Global};
 use std::sync::ledger::Ledger;
 
-/// Chunks of the same limit with the sample at its time, in the place of one there or as a new one.
+/// Returns chunks of the same limit with the sample at its time. It replaces a sample at the same time.
 pub(crate) fn with_sample<C: Chunk, L: Ledger>(
     chunk: &C,
     alloc: Global,
@@ -37,7 +37,7 @@ pub(crate) fn with_sample<C: Chunk, L: Ledger>(
     cut_into(alloc, chunk.limit(), &samples)
 }
 
-/// Chunks of the same limit without the samples from one time to another, both included.
+/// Returns chunks of the same limit without the samples from `from` to `to`, both included.
 pub(crate) fn without_interval<C: Chunk, L: Ledger>(
     chunk: &C,
     alloc: Global,
@@ -55,7 +55,7 @@ pub(crate) fn without_interval<C: Chunk, L: Ledger>(
     cut_into(alloc, chunk.limit(), &samples)
 }
 
-// A list of this chunk alone, which has samples.
+// A list of one non-empty chunk.
 fn alone<C: Chunk>(alloc: Global, chunk: C) -> Result<Vec<C>, AllocError>
     requires { 0 < length (C.list chunk) }
     ensures cut { IfOk result (λ v. IsCut C.format (C.most chunk) (C.list chunk) (map C.list v.items)) }
@@ -67,7 +67,7 @@ fn alone<C: Chunk>(alloc: Global, chunk: C) -> Result<Vec<C>, AllocError>
     Ok(chunks)
 }
 
-// A list of these two chunks, which have the halves of the samples that one chunk has no room for.
+// A list of two chunks, with the halves of samples that exceed the limit of one.
 fn both<C: Chunk>(alloc: Global, first: C, second: C) -> Result<Vec<C>, AllocError>
     requires first { 0 < length (C.list first) }
     requires second { 0 < length (C.list second) }
@@ -81,7 +81,7 @@ fn both<C: Chunk>(alloc: Global, first: C, second: C) -> Result<Vec<C>, AllocErr
     Ok(chunks)
 }
 
-// The samples of a chunk, in a list that has room for one more.
+// Decodes a chunk into a list with capacity for one more sample.
 fn decoded<C: Chunk, L: Ledger>(
     chunk: &C,
     alloc: Global,
@@ -96,7 +96,7 @@ fn decoded<C: Chunk, L: Ledger>(
     Ok(gathered.into_samples())
 }
 
-// Puts a sample to its time in an ascending list.
+// Inserts a sample into an ascending list, or replaces the one at its time.
 fn put_at_its_time(samples: &mut Vec<Sample>, sample: &Sample) -> Result<(), AllocError>
     requires { IsAscending samples.old.items }
     ensures { IfOk result (λ _. samples.new.items ≡ put sample.now samples.old.items) }
@@ -108,7 +108,7 @@ fn put_at_its_time(samples: &mut Vec<Sample>, sample: &Sample) -> Result<(), All
     Ok(())
 }
 
-// Takes the samples from one time to another, both included, out of an ascending list.
+// Removes the samples from `from` to `to`, both included, from an ascending list.
 fn take_out(samples: &mut Vec<Sample>, from: u64, to: u64)
     requires { IsAscending samples.old.items }
     ensures { samples.new.items ≡ outside from to samples.old.items }

@@ -1,4 +1,4 @@
-// What every kind of chunk can do, and what holds of it.
+// The interface of chunks, for every format.
 ghost use Rattle.std.specs.Prelude.{◌≡◌, ℕ, ◌+◌, ◌*◌, ◌/◌, ◌<◌, ◌≤◌, nat_le, if◌then◌else◌, List, [], ◌∷◌, ◌++◌, take, drop, length, map, IfOk, IfSome, IfNone};
 ghost use Rattle.ts_spec.specs.Sample.{Point, between, at_times, outside, put, first_of, last_of};
 ghost use Rattle.ts_sample.specs.Chunk.{IsLimit, IsChunk, IsPast, IsCut, HaveLimit, least_limit};
@@ -13,57 +13,57 @@ use crate::visit::Visit;
 use std::alloc::{AllocError, Global};
 use std::sync::ledger::Ledger;
 
-/// Samples in strictly ascending time, kept as bytes of a format, of which there are at most a limit.
+/// Samples in strictly ascending time, encoded as at most `limit` bytes.
 pub trait Chunk: Drop {
     // Its samples.
     ghost list: { Self → List Point };
 
-    // How many bytes it has at most.
+    // The limit, in bytes.
     ghost most: { Self → ℕ };
 
-    // The bytes that its format gives for a list.
+    // The encoding of a list.
     ghost format: { List Point → List ℕ };
 
-    // A place among its samples, from which they are read on.
+    // A position among the samples, from which reading continues.
     type Place: Drop;
 
-    // How many samples are before a place.
+    // The number of samples before a position.
     ghost passed: { Self.Place → ℕ };
 
-    // It is a place among these samples.
+    // A valid position among these samples.
     ghost is_place: { List Point → Self.Place → Type 0 };
 
-    /// A chunk without samples, of 48 to 1,048,576 bytes, all of which are reserved.
+    /// Returns an empty chunk. The limit is 48 to 1,048,576 bytes, all reserved at once.
     fn new(alloc: Global, limit: u32) -> Result<Self, AllocError>
         requires { IsLimit limit }
         ensures list { IfOk result (λ c. list c ≡ []) }
         ensures limit { IfOk result (λ c. most c ≡ limit) };
 
-    /// Does nothing: it tells a caller what holds of every chunk, which a reference hides.
+    /// Does nothing at run time. It gives the prover the invariant of a chunk behind a reference.
     fn known(&self)
         ensures { IsChunk format (most self.now) (list self.now) };
 
-    /// How many bytes it has at most.
+    /// The limit, in bytes.
     fn limit(&self) -> u32
         ensures { result ≡ most self.now };
 
-    /// How many samples it has. It decodes nothing.
+    /// The number of samples. It decodes nothing.
     fn len(&self) -> usize
         ensures { result ≡ length (list self.now) };
 
-    /// Its first sample. It decodes nothing.
+    /// The first sample. It decodes nothing.
     fn first(&self) -> Option<Sample>
         ensures { result ≡ first_of (list self.now) };
 
-    /// Its last sample. It decodes nothing.
+    /// The last sample. It decodes nothing.
     fn last(&self) -> Option<Sample>
         ensures { result ≡ last_of (list self.now) };
 
-    /// How many bytes its samples take.
+    /// The number of encoded bytes.
     fn bytes(&self) -> u32
         ensures { result ≡ length (format (list self.now)) };
 
-    /// The bytes of its samples, as its format has them.
+    /// The encoded bytes.
     fn raw(&self) -> &[u8]
         ensures { result.now ≡ format (list self.now) };
 
@@ -97,21 +97,20 @@ pub trait Chunk: Drop {
         ensures passed { passed place.new ≡ passed place.old + length (take 1 (drop (passed place.old) (list self.now))) }
         ensures counted { steps.new ≡ steps.old + length (take 1 (drop (passed place.old) (list self.now))) };
 
-    /// Whether a sample past the last one would fit. It decodes nothing.
+    /// Whether a sample after the last one would fit. It decodes nothing.
     fn fits(&self, sample: &Sample) -> bool
         requires past { IsPast (last_of (list self.now)) sample.now.time }
         ensures { result ≡ nat_le (length (format (list self.now ++ sample.now ∷ []))) (most self.now) };
 
-    /// Puts a sample past the last one, where it fits, and says whether it did. It takes no memory.
+    /// Appends a sample after the last one if it fits, and returns whether it did. Allocates no memory.
     fn try_append(&mut self, sample: &Sample) -> bool
         requires past { IsPast (last_of (list self.old)) sample.now.time }
         ensures fits { result ≡ nat_le (length (format (list self.old ++ sample.now ∷ []))) (most self.old) }
         ensures list { list self.new ≡ (if result then list self.old ++ sample.now ∷ [] else list self.old) }
         ensures limit { most self.new ≡ most self.old };
 
-    /// One new chunk of the same limit with the sample at its time, in the place of one there or as a new one:
-    /// none where it would not fit. The bytes that the sample leaves as they are are moved. Each sample that is
-    /// decoded for such a chunk is a step.
+    /// Returns one new chunk of the same limit with the sample at its time, or `None` if it would not fit. A sample
+    /// at the same time is replaced. Bytes that do not change are copied. Each decoded sample is a step.
     fn spliced<L: Ledger>(
         &self,
         alloc: Global,
@@ -124,9 +123,9 @@ pub trait Chunk: Drop {
         ensures steps { Takes steps.old steps.new (length (list self.now)) }
         ensures without { IfOk result (λ o. IfNone o (steps.new ≡ steps.old)) };
 
-    /// Two new chunks of the same limit with the sample at its time, in the place of one there or as a new one: the first
-    /// has the first half of the samples, rounded down. None where that takes as long as to make both of all the samples.
-    /// Each sample of the chunk is a step.
+    /// Returns two new chunks of the same limit with the sample at its time; the first has the first half of the
+    /// samples, rounded down. Returns `None` if this would be no faster than encoding all samples again. Each sample
+    /// of the chunk is a step.
     fn halved<L: Ledger>(
         &self,
         alloc: Global,
@@ -139,7 +138,7 @@ pub trait Chunk: Drop {
         ensures steps { Takes steps.old steps.new (length (list self.now)) }
         ensures without { IfOk result (λ o. IfNone o (steps.new ≡ steps.old)) };
 
-    /// New chunks with the sample at its time, in the place of one there or as a new one.
+    /// Returns new chunks with the sample at its time. It replaces a sample at the same time.
     final fn upsert<L: Ledger>(
         &self,
         alloc: Global,
@@ -153,8 +152,8 @@ pub trait Chunk: Drop {
         with_sample(self, alloc, sample, steps)
     }
 
-    /// New chunks without the samples from one time to another, in milliseconds, both included: none where
-    /// nothing is left.
+    /// Returns new chunks without the samples from `from` to `to` (milliseconds, both included); none if no samples
+    /// are left.
     final fn without<L: Ledger>(
         &self,
         alloc: Global,
@@ -169,12 +168,12 @@ pub trait Chunk: Drop {
         without_interval(self, alloc, from, to, steps)
     }
 
-    // A sample takes three bytes or more.
+    // A sample takes at least three bytes.
     ghost at_least: { (ps : List Point) → 3 * length ps ≤ length (format ps) };
 
-    // Without its last samples a list takes no more bytes.
+    // A prefix of a list does not take more bytes than the list.
     ghost grows: { (ps : List Point) (p : Point) → length (format ps) ≤ length (format (ps ++ p ∷ [])) };
 
-    // One sample fits the least limit.
+    // One sample fits into the smallest chunk.
     ghost one_fits: { (p : Point) → IsFine p → length (format (p ∷ [])) ≤ least_limit };
 }

@@ -1,4 +1,4 @@
-// Chunks made anew of samples, by the one rule for all formats.
+// Splits samples into new chunks, the same way for all formats.
 ghost use Rattle.std.specs.Prelude.{◌≡◌, ◌<◌, length, map, IfOk, IfSome, IfNone};
 ghost use Rattle.ts_spec.specs.Sample.{IsAscending};
 ghost use Rattle.ts_sample.specs.Chunk.{IsLimit, IsCut, HaveLimit};
@@ -7,8 +7,8 @@ use crate::chunk::Chunk;
 use crate::sample::Sample;
 use std::alloc::{AllocError, Global};
 
-/// Chunks of this limit that hold these samples: none where there are no samples, one where they fit, and else
-/// those of the first half, rounded down, and then those of the rest.
+/// Returns chunks of this limit with the samples: none for no samples, and one if they fit. Otherwise it splits the
+/// samples in two halves, the first one rounded down, and splits each half the same way.
 pub(crate) fn cut_into<C: Chunk>(
     alloc: Global,
     limit: u32,
@@ -36,7 +36,7 @@ pub(crate) fn cut_into<C: Chunk>(
     Ok(chunks)
 }
 
-// One chunk of this limit with these samples, where they fit.
+// Returns one chunk of this limit with the samples, or `None` if they do not fit.
 fn whole<C: Chunk>(alloc: Global, limit: u32, samples: &[Sample]) -> Result<Option<C>, AllocError>
     requires limit { IsLimit limit }
     requires ascending { IsAscending samples.now }

@@ -1,4 +1,4 @@
-// A visitor that keeps what it is shown.
+// A visitor that collects samples.
 ghost use Rattle.std.specs.Prelude.{◌≡◌, ◌≤◌, [], IfOk};
 ghost use Rattle.ts_sample.specs.Gathered.{with_one_more};
 
@@ -7,7 +7,7 @@ use crate::visit::Visit;
 use std::alloc::{AllocError, Global};
 use std::marker::Model;
 
-/// A visitor that keeps the samples that it takes, in their order.
+/// A visitor that collects the samples that it receives, in their order.
 #[derive(Drop)]
 pub struct Gathered {
     samples: Vec<Sample>,
@@ -23,7 +23,7 @@ impl Model for Gathered {
 }
 
 impl Gathered {
-    /// Without samples yet, and with room for so many.
+    /// An empty collector with capacity for `count` samples.
     pub fn with_room(alloc: Global, count: usize) -> Result<Gathered, AllocError>
         ensures empty { IfOk result (λ g. g.list ≡ []) }
         ensures room { IfOk result (λ g. count ≤ g.room) }
@@ -33,7 +33,7 @@ impl Gathered {
         })
     }
 
-    /// The samples that it took.
+    /// Returns the collected samples.
     pub fn into_samples(self) -> Vec<Sample>
         ensures { result.items ≡ self.list }
     {
@@ -48,7 +48,7 @@ impl Visit for Gathered {
 
     ghost room = { λ g. g.room };
 
-    // It takes no memory.
+    // Allocates no memory.
     fn sample(&mut self, sample: &Sample) {
         self.samples.push_reserved(*sample);
     }

@@ -1,6 +1,5 @@
-//! A sample of a series, and what it is made of: its value in millionths, and the cell that a reply shows
-//! for a value. Visitors take samples one after another, and chunks hold them as bytes. Also the number of
-//! a series in a database, and the counter of steps, which costs nothing when it runs.
+//! Samples of a series, the visitors that receive them one by one, and the chunks that store them as bytes. Also the
+//! id of a series in a database, and a counter of decoding steps that costs nothing at run time.
 #![tactic(auto)]
 
 mod cell;

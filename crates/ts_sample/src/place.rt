@@ -1,11 +1,11 @@
-// Places in an ascending list of samples.
+// Binary search in an ascending list of samples.
 ghost use Rattle.std.specs.Prelude.{◌≡◌, ◌≤◌, nat_lt, nat_le, ◌∷◌, ◌++◌, length, take, drop, slice_get, slice_range, None, Some, IfOk, IfErr, IsSomeAnd};
 ghost use Rattle.ts_spec.specs.Sample.{Point, IsAscending, at, at_times, between, outside, put};
 
 use crate::sample::Sample;
 use std::ops::Range;
 
-/// How many samples of an ascending list are before this time. A time past the last sample costs no search.
+/// Returns the number of samples before `time` in an ascending list. A time past the last sample needs no search.
 pub fn place_of(list: &[Sample], time: u64) -> usize
     requires { IsAscending list.now }
     ensures within { result ≤ length list.now }
@@ -21,7 +21,7 @@ pub fn place_of(list: &[Sample], time: u64) -> usize
     list.partition_point(|sample| sample.time < time)
 }
 
-/// Where the sample of this time stands in an ascending list, or where it would stand.
+/// Returns the index of the sample at `time` in an ascending list, or as an error the index at which to insert one.
 pub fn find(list: &[Sample], time: u64) -> Result<usize, usize>
     requires { IsAscending list.now }
     ensures found { IfOk result (λ i. IsSomeAnd (at time list.now) (λ p. slice_get list.now i ≡ Some p)) }
@@ -39,7 +39,7 @@ pub fn find(list: &[Sample], time: u64) -> Result<usize, usize>
     }
 }
 
-/// Where the samples from one time to another, both included, stand in an ascending list.
+/// Returns the index range of the samples from `from` to `to`, both included, in an ascending list.
 pub fn places_between(list: &[Sample], from: u64, to: u64) -> Range<usize>
     requires { IsAscending list.now }
     ensures ordered { result.start ≤ result.end }
@@ -51,7 +51,8 @@ pub fn places_between(list: &[Sample], from: u64, to: u64) -> Range<usize>
     place_of(&list[..end], from)..end
 }
 
-/// How many samples of an ascending list are up to this time. A time from the last sample on costs no search.
+/// Returns the number of samples at or before `time` in an ascending list. A time at or past the last sample needs no
+/// search.
 pub fn place_past(list: &[Sample], time: u64) -> usize
     requires { IsAscending list.now }
     ensures within { result ≤ length list.now }

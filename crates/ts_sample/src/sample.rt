@@ -5,10 +5,10 @@ use ts_spec::Units;
 /// The greatest time, in milliseconds.
 pub const MAX_TIME: u64 = 9_223_372_036_854_775_807;
 
-/// What a series holds at one time.
+/// A sample: a value at a time.
 #[derive(Clone, Copy, Debug, PartialEq, Eq)]
 pub struct Sample {
-    // The widest field stands first: fields lie in this order, and a sample takes 32 bytes.
+    // Fields are laid out in this order. With the widest one first, a sample takes 32 bytes.
     pub value: Units,
     /// In milliseconds, at most `MAX_TIME`.
     pub time: u64,
@@ -32,7 +32,7 @@ impl Model for Sample {
 impl Sample {
     ghost use Rattle.ts_sample.specs.Sample.{IsFine};
 
-    /// Does nothing: it tells a caller the bounds that a reference hides.
+    /// Does nothing at run time. It gives the prover the bounds of a sample behind a reference.
     pub fn known(&self)
         ensures { IsFine self.now }
     {

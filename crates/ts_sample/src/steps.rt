@@ -1,10 +1,10 @@
-// How much was decoded, counted for the proofs and free when the program runs.
+// Counts decoded samples for the proofs. It costs nothing at run time.
 ghost use Rattle.std.specs.Prelude.{◌≡◌, ℕ, ◌+◌, ◌<◌};
 
 use std::marker::Model;
 use std::sync::ledger::{Blank, Book, Ledger, Share};
 
-/// How many steps were taken. It takes no bytes, and only `tick` and `add` change it.
+/// A counter of steps. It takes no memory, and only `tick` and `add` change it.
 #[derive(Drop)]
 pub struct Steps<L: Ledger> {
     book: Book<L>,
@@ -20,7 +20,7 @@ impl<L: Ledger> Model for Steps<L> {
 }
 
 impl<L: Ledger> Steps<L> {
-    /// No steps yet.
+    /// A counter at zero.
     pub fn new(blank: Blank) -> Steps<L>
         requires name { blank.name ≡ L.name }
         requires parts { blank.parts ≡ L.parts }
@@ -31,7 +31,7 @@ impl<L: Ledger> Steps<L> {
         Steps { book, share }
     }
 
-    /// Counts so many steps at once.
+    /// Counts `count` steps.
     pub fn add(&mut self, count: u64)
         ensures { self.new ≡ self.old + count }
     {

@@ -1,22 +1,22 @@
-// Whoever is shown samples, one after another.
+// Visitors of samples.
 ghost use Rattle.std.specs.Prelude.{◌≡◌, ℕ, ◌+◌, ◌≤◌};
 ghost use Rattle.ts_spec.specs.Sample.{Point};
 
 use crate::sample::Sample;
 
-/// Takes samples one after another. What it has taken in the end is `visited`, in specs/Visit.antt.
+/// Receives samples one by one. `visited` in specs/Visit.antt is its state after a list of them.
 pub trait Visit {
-    // What one sample makes of it.
+    // The state after one sample.
     ghost step: { Self → Point → Self };
 
-    // How many more samples it can take.
+    // How many more samples it can receive.
     ghost room: { Self → ℕ };
 
-    /// Takes one sample.
+    /// Receives one sample.
     fn sample(&mut self, sample: &Sample)
         requires room { 1 ≤ room self.old }
         ensures { self.new ≡ step self.old sample.now };
 
-    // One sample takes at most one place of the room.
+    // Each sample lowers the capacity by at most one.
     ghost lowers: { (v : Self) (p : Point) → room v ≤ room (step v p) + 1 };
 }
