@@ -1,11 +1,27 @@
-//! Laws of the definitions, each stated on a function with an empty body.
+//! Laws of states and steps, each stated on a function with an empty body.
 
-ghost use Rattle.std.specs.Prelude.{◌≡◌, ◌≢◌, ℕ};
+ghost use Rattle.std.specs.Prelude.{◌≡◌, ◌≢◌, ℕ, ◌≤◌, false, ℤ, Result};
 ghost use Rattle.ts_spec.specs.Sample.{at};
 ghost use Rattle.ts_spec.specs.Key.{Key};
-ghost use Rattle.ts_spec.specs.State.{State};
-ghost use Rattle.ts_spec.specs.Rules.{settled, shown};
+ghost use Rattle.ts_spec.specs.State.{State, empty, Rule};
+ghost use Rattle.ts_spec.specs.Rules.{settled, shown, plain_at};
 ghost use Rattle.ts_spec.specs.OneBucket.{DiffersInOneBucket};
+ghost use Rattle.ts_spec.specs.declared.limits.Limits.{Limits};
+ghost use Rattle.ts_spec.specs.Keyed.{none, get};
+ghost use Rattle.ts_spec.specs.Command.{Command, CreateRule};
+ghost use Rattle.ts_spec.specs.Step.{step, triple_step};
+ghost use Rattle.ts_spec.specs.Valid.{IsValid};
+ghost use Rattle.ts_spec.specs.Kept.{Keeping};
+ghost use Rattle.ts_spec.specs.KeptQuestions.{kept_step};
+ghost use Rattle.ts_spec.specs.Stands.{StandsFor, IsStepOf};
+ghost use Rattle.ts_spec.specs.declared.bucket.Aggregator.{Aggregator};
+ghost use Rattle.ts_spec.specs.Bucket.{Grid};
+ghost use Rattle.ts_spec.specs.Response.{Done};
+ghost use Rattle.ts_spec.specs.CountsAll.{CountsAll, CountsAllFrom, JoinsForEver, StillCountsAll, changes};
+ghost use Rattle.ts_spec.specs.declared.command.At.{At};
+ghost use Rattle.ts_spec.specs.Grammar.{needs_clock};
+ghost use Rattle.ts_spec.specs.Refusal.{Fault};
+ghost use Rattle.ts_spec.specs.Resolved.{resolved, TellsOne};
 
 /// Settling a settled state changes nothing.
 pub fn settling_twice_is_settling_once()
@@ -16,4 +32,46 @@ pub fn settling_twice_is_settling_once()
 /// every time except the start of that bucket.
 pub fn one_bucket_shows_at_its_start()
     ensures { (m n : State) (k : Key) (b : ℕ) → DiffersInOneBucket m n k b → (t : ℕ) → t ≢ b → at t (shown m k) ≡ at t (shown n k) }
+{}
+
+/// The empty state is valid, and each step keeps a state valid, if the limits allow at least one sample per series.
+pub fn each_step_keeps_a_state_valid()
+    ensures empty { (limits : Limits) → IsValid limits empty }
+    ensures step { (limits : Limits) (m : State) (reading : ℕ) (command : Command) → 1 ≤ limits.samples
+        → IsValid limits m → IsValid limits (step limits m reading command).state }
+{}
+
+/// The stored data is enough to answer every command. A step over it gives the same response as a step of any state
+/// that it represents, and its result represents the next state. The empty map represents the empty state.
+pub fn what_is_kept_is_enough()
+    ensures empty { (limits : Limits) → StandsFor limits none empty }
+    ensures step { (limits : Limits) (m : State) (keys : Keeping) (reading : ℕ) (command : Command) → 1 ≤ limits.samples
+        → StandsFor limits keys m → IsStepOf limits (step limits m reading command) (kept_step limits keys reading command) }
+{}
+
+/// A new rule counts every sample that its source has and that was written since the rule was created. If neither
+/// series has a retention before and after a command, such a rule is unchanged by the command and still counts every
+/// new sample, unless the command writes to the destination or deletes from it.
+pub fn a_new_rule_counts_all_that_its_source_has()
+    ensures made { (limits : Limits) (m : State) (reading : ℕ) (source dest : Key) (agg : Aggregator) (grid : Grid) → IsValid limits m
+        → (step limits m reading (CreateRule source dest agg grid)).response ≡ Done
+        → CountsAllFrom (step limits m reading (CreateRule source dest agg grid)).state source dest }
+    ensures step { (limits : Limits) (m : State) (reading : ℕ) (command : Command) (source dest : Key) (old new : Rule) → IsValid limits m
+        → changes dest command ≡ false → JoinsForEver m source dest old → JoinsForEver (step limits m reading command).state source dest new
+        → CountsAll (plain_at (get source m)) old → StillCountsAll (step limits m reading command).state source old new }
+{}
+
+/// A command whose times were resolved by a reading of the clock needs no clock. At any reading it has the same effect
+/// as the original command at that one.
+pub fn resolved_times_do_the_same()
+    ensures clock { (reading : ℕ) (c : Command) → needs_clock (resolved reading c) ≡ false }
+    ensures step { (limits : Limits) (m : State) (reading other : ℕ) (c : Command)
+        → step limits m other (resolved reading c) ≡ step limits m reading c }
+{}
+
+/// The response to a triple of TS.MADD is one item. If that item is not the time of a written sample, the triple
+/// changes nothing.
+pub fn what_is_not_taken_changes_nothing()
+    ensures { (limits : Limits) (m : State) (reading : ℕ) (key : Key) (at : Result At Fault) (v : Result ℤ Fault)
+        → TellsOne m (triple_step limits m reading key at v) }
 {}

@@ -1,6 +1,6 @@
 //! Laws of replies, each stated on a function with an empty body.
 
-ghost use Rattle.std.specs.Prelude.{◌≢◌, ◌<◌, ◌^◌, List, length, All};
+ghost use Rattle.std.specs.Prelude.{◌≢◌, ◌<◌, ◌^◌, List, length, All, ◌≡◌, ℕ, [], ◌++◌, map};
 ghost use Rattle.ts_spec.specs.declared.wire.Kind.{Kind};
 ghost use Rattle.ts_spec.specs.Refusal.{Fault};
 ghost use Rattle.ts_spec.specs.Response.{Item, Response};
@@ -24,4 +24,15 @@ pub fn want_of_memory_shows_as_such()
     ensures triples { (item : Item) → text (item_reply item) ≢ text memory_reply }
     ensures faults { (fault : Fault) → text (fault_reply fault) ≢ text memory_reply }
     ensures protocol { (kind : Kind) → fault_text kind ≢ text memory_reply }
+{}
+
+/// The text of a reply is self-delimiting. If the texts of two replies are prefixes of the same bytes, they are
+/// equal, so no text is a proper prefix of another. The text of an array determines the texts of its items.
+pub fn reply_texts_show_their_ends()
+    ensures ends { (a b : Reply) (x y : List ℕ) → IsPlain a → IsPlain b
+        → text a ++ x ≡ text b ++ y → (text a ≡ text b) × (x ≡ y) }
+    ensures front { (a b : Reply) (rest : List ℕ) → IsPlain a → IsPlain b
+        → text b ≡ text a ++ rest → rest ≡ [] }
+    ensures items { (xs ys : List Reply) → IsPlain (array xs) → IsPlain (array ys)
+        → text (array xs) ≡ text (array ys) → map text xs ≡ map text ys }
 {}

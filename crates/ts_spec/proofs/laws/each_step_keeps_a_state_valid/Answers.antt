@@ -1,6 +1,6 @@
 use Rattle.ts_spec.proofs.Allowed.{empty-valid}
 use Rattle.ts_spec.proofs.KeptSteps.{step-valid}
-use Rattle.ts_spec.proofs.kept_laws.each_step_keeps_a_state_valid.Goals as goal
+use Rattle.ts_spec.proofs.laws.each_step_keeps_a_state_valid.Goals as goal
 
 pub returns : goal.returns
 returns c = record { empty = empty-valid; step = step-valid }

@@ -1,7 +1,7 @@
 use Rattle.std.proofs.Common.{[], sym, ◌∙◌, append-nil}
 use Rattle.ts_spec.specs.Text.{text}
 use Rattle.ts_spec.proofs.Texts.{ends, array_shows}
-use Rattle.ts_spec.proofs.text.reply_texts_show_their_ends.Goals as goal
+use Rattle.ts_spec.proofs.reply_laws.reply_texts_show_their_ends.Goals as goal
 
 pub returns-clause-ends : goal.returns-clause-ends
 returns-clause-ends c = λ a b x y ha hb e. ends a b x y ha hb e

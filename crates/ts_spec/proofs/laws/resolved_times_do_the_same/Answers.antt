@@ -1,5 +1,5 @@
 use Rattle.ts_spec.proofs.ResolvedTimes.{step-resolved, no-clock}
-use Rattle.ts_spec.proofs.resolved_laws.resolved_times_do_the_same.Goals as goal
+use Rattle.ts_spec.proofs.laws.resolved_times_do_the_same.Goals as goal
 
 pub returns-clause-clock : goal.returns-clause-clock
 returns-clause-clock c = no-clock
