@@ -3,8 +3,8 @@ use Rattle.std.specs.Prelude.{ℕ, List, Result}
 use Rattle.ts_spec.specs.declared.bucket.Aggregator.{Aggregator}
 use Rattle.ts_spec.specs.declared.bucket.Reducer.{Reducer}
 use Rattle.ts_spec.specs.Names.{named, aggregators, reducers, named_or}
-use Rattle.ts_agg.specs.declared.fault.AggFault.{AggFault}
-use Rattle.ts_agg.specs.declared.fault.AggFault.TheVariants.{NotInProfile, Unknown}
+use Rattle.ts_agg.specs.declared.names.AggFault.{AggFault}
+use Rattle.ts_agg.specs.declared.names.AggFault.TheVariants.{NotInProfile, Unknown}
 
 -- parses the name of an aggregator
 abbrev pub aggregator_read : List ℕ → Result Aggregator AggFault

@@ -3,15 +3,13 @@
 
 mod amounts;
 mod counted;
-mod fault;
 mod names;
 mod running;
 mod tally;
 
 pub use amounts::{Amount, Total};
 pub use counted::Counted;
-pub use fault::AggFault;
-pub use names::{aggregator_of, is_name, name, named, read_aggregator, read_reducer};
+pub use names::{AggFault, aggregator_of, is_name, name, named, read_aggregator, read_reducer};
 pub use running::Running;
 pub use tally::Tally;
 pub use ts_spec::{Aggregator, Reducer};

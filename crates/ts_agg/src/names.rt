@@ -1,12 +1,14 @@
-// The names of aggregators and reducers, and lookup in a table of names.
-ghost use Rattle.std.specs.Prelude.{◌≡◌, map, Ok};
+// The names of aggregators and reducers, lookup in a table of names, and why a name is not an aggregator.
+ghost use Rattle.std.specs.Prelude.{◌≡◌, map, Ok, Some};
 ghost use Rattle.std.specs.Str.{str_eq_ignore_ascii_case};
 ghost use Rattle.ts_spec.specs.Aggregate.{aggregator_of};
 ghost use Rattle.ts_spec.specs.Names.{named};
 ghost use Rattle.ts_spec.specs.Replies.{aggregator_name};
 ghost use Rattle.ts_agg.specs.Names.{aggregator_read, reducer_read};
+ghost use Rattle.ts_agg.specs.FaultNames.{name_of};
 
-use crate::fault::AggFault;
+use std::fmt;
+use thiserror::Error;
 use ts_spec::{Aggregator, Reducer};
 
 // `None` marks aggregators of RedisTimeSeries that this server does not support.
@@ -114,5 +116,27 @@ pub fn name(agg: Aggregator) -> &'static str
         Aggregator::Count => "count",
         Aggregator::First => "first",
         Aggregator::Last => "last",
+    }
+}
+
+/// Why a name is not an aggregator of this server.
+#[derive(Clone, Copy, PartialEq, Eq, Error)]
+pub enum AggFault {
+    /// An aggregator of RedisTimeSeries that this server does not support: twa, std.p, std.s, var.p or var.s.
+    #[error("aggregator not supported")]
+    NotInProfile,
+    /// An unknown name.
+    #[error("unknown aggregator")]
+    Unknown,
+}
+
+impl fmt::Debug for AggFault {
+    ghost debug_output = { λ fault. Some (name_of fault) };
+
+    fn fmt<W: fmt::Write>(&self, f: &mut fmt::Formatter<W>) -> fmt::Result {
+        f.write_str(match self {
+            AggFault::NotInProfile => "NotInProfile",
+            AggFault::Unknown => "Unknown",
+        })
     }
 }
