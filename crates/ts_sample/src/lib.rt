@@ -5,8 +5,6 @@
 mod cell;
 mod changed;
 mod chunk;
-mod cutting;
-mod gathered;
 mod id;
 mod place;
 mod sample;
@@ -15,10 +13,9 @@ mod visit;
 
 pub use cell::Cell;
 pub use chunk::Chunk;
-pub use gathered::Gathered;
 pub use id::Id;
 pub use place::{find, place_of, place_past, places_between};
 pub use sample::{MAX_TIME, Sample};
 pub use steps::Steps;
 pub use ts_spec::Units;
-pub use visit::Visit;
+pub use visit::{Gathered, Visit};

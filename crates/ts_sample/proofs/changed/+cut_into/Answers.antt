@@ -5,7 +5,7 @@ use Rattle.ts_spec.specs.Sample.{Point}
 use Rattle.ts_sample.specs.Chunk.{IsCut, HaveLimit}
 use Rattle.ts_sample.proofs.Lists.{ascending-take, ascending-drop}
 use Rattle.ts_sample.proofs.Fitting.{shorter-front, shorter-rest, two, limits-append, cut-nothing, cut-whole, cut-halves}
-use Rattle.ts_sample.proofs.cutting.+cut_into.Goals as goal
+use Rattle.ts_sample.proofs.changed.+cut_into.Goals as goal
 
 pub returns-in_default-clause-cut : goal.returns-in_default-clause-cut
 returns-in_default-clause-cut g t c =

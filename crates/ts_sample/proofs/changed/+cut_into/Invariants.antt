@@ -1,5 +1,5 @@
 use Rattle.std.proofs.Common.{length}
-use Rattle.ts_sample.proofs.cutting.+cut_into.Given as goal
+use Rattle.ts_sample.proofs.changed.+cut_into.Given as goal
 
 abbrev pub decreases-cut_into : goal.decreases-cut_into
 decreases-cut_into g l = length l.samples.now

@@ -3,7 +3,7 @@ use Rattle.std.specs.Prelude.{List, nat_le}
 use Rattle.ts_spec.specs.Sample.{Point, last_of}
 use Rattle.ts_sample.specs.Chunk.{IsPast}
 use Rattle.ts_sample.proofs.Fitting.{past-taken, too-long}
-use Rattle.ts_sample.proofs.cutting.whole.Goals as goal
+use Rattle.ts_sample.proofs.changed.whole.Goals as goal
 
 pub try_append-requires : goal.try_append-requires
 try_append-requires g c =
