@@ -67,29 +67,29 @@ pub trait Chunk: Drop {
     fn raw(&self) -> &[u8]
         ensures { result.now ≡ format (list self.now) };
 
-    /// Takes a visitor over the samples from one time to another, in milliseconds, both included, in their
-    /// order. Each sample that is decoded is a step.
+    /// Passes the samples from `from` to `to` (milliseconds, both included) to the visitor, in order. Each decoded
+    /// sample is a step.
     fn scan<V: Visit, L: Ledger>(&self, from: u64, to: u64, visit: &mut V, steps: &mut Steps<L>)
         requires room { length (between from to (list self.now)) ≤ V.room visit.old }
         ensures visited { visit.new ≡ visited V.step visit.old (between from to (list self.now)) }
         ensures counted { steps.old + length (between from to (list self.now)) ≤ steps.new }
         ensures bounded { steps.new ≤ steps.old + length (list self.now) };
 
-    /// The place before the first sample of any chunk.
+    /// The position before the first sample, in any chunk.
     fn start() -> Self::Place
         ensures place { (ps : List Point) → is_place ps result }
         ensures passed { passed result ≡ 0 };
 
-    /// The place before the first sample from a time on, in milliseconds. Each sample that is decoded to find it is
-    /// a step.
+    /// The position before the first sample at or after `time` (milliseconds). Each sample decoded to find it is a
+    /// step.
     fn place_from<L: Ledger>(&self, time: u64, steps: &mut Steps<L>) -> Self::Place
         ensures place { is_place (list self.now) result }
         ensures left { drop (passed result) (list self.now) ≡ at_times (nat_le time) (list self.now) }
         ensures within { passed result ≤ length (list self.now) }
         ensures steps { Takes steps.old steps.new (length (list self.now)) };
 
-    /// Reads the sample at a place, which is a step, and moves the place past it. Where no sample is left, there is
-    /// none, and the place stays.
+    /// Reads the sample at a position, as one step, and moves the position past it. Returns `None` if no sample is
+    /// left.
     fn read<L: Ledger>(&self, place: &mut Self::Place, steps: &mut Steps<L>) -> Option<Sample>
         requires { is_place (list self.now) place.old }
         ensures next { result ≡ first_of (drop (passed place.old) (list self.now)) }
