@@ -1,4 +1,4 @@
--- One more sample at the end of a list.
+-- Appending one sample to a list.
 use Rattle.std.proofs.Common.{◌≡◌, ◌≢◌, ℕ, zero, suc, ◌+◌, ◌≤◌, ◌+ℤ◌, refl, sym, ◌∙◌, ap, arith, List, [], ◌∷◌, ◌++◌}
 use Rattle.std.specs.Prelude.{ℤ, unsigned_abs, int_lt, if◌then◌else◌}
 use Rattle.std.proofs.lemmas.Int.{ints, to_z-of_z, fits_signed_from_abs}

@@ -1,4 +1,4 @@
--- What aggregators tell, as the code's numbers of 128 bits show it.
+-- The results of aggregators fit the 128-bit numbers of the code.
 use Rattle.std.proofs.Common.{◌≡◌, ℕ, ◌*◌, ◌^◌, ◌≤◌, pos, sym, ◌∙◌, ap, subst, arith}
 use Rattle.std.specs.Prelude.{ℤ, unsigned_abs}
 use Rattle.std.proofs.lemmas.Int.{to_z-of_z, fits_signed_from_abs}

@@ -1,4 +1,4 @@
--- What a single aggregator keeps, with one more sample at the end of the list.
+-- The state of a single aggregator after one more sample.
 use Rattle.std.proofs.Common.{◌≡◌, ℕ, zero, suc, ◌+◌, ◌<◌, refl, sym, ◌∙◌, ap, arith, List, [], ◌∷◌, ◌++◌, length-append}
 use Rattle.std.specs.Prelude.{ℤ, int_lt, if◌then◌else◌}
 use Rattle.ts_spec.specs.declared.bucket.Aggregator.{Aggregator}

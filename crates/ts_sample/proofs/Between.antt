@@ -1,4 +1,4 @@
--- The samples of an ascending list in an interval of times, and the others.
+-- The samples of an ascending list inside and outside an interval.
 use Rattle.std.proofs.Common.{◌≡◌, ℕ, ◌+◌, ◌-◌, ◌≤◌, Bool, true, false, cond, not, ◌&&◌, List, [], ◌∷◌, ◌++◌, take, drop, refl, sym, ◌∙◌, ap, arith}
 use Rattle.std.specs.Prelude.{nat_lt, nat_le, filter, slice_range}
 use Rattle.std.proofs.lemmas.List.{take-take, take-append-drop, drop-take}

@@ -1,4 +1,4 @@
--- What stands at the place of a time.
+-- The sample at the index that a search finds.
 use Rattle.std.proofs.Common.{◌≡◌, ◌≢◌, ◌⊎◌, inl, inr, ℕ, suc, ◌<◌, ◌≤◌, Bool, true, false, cond, List, [], ◌∷◌, ◌++◌, length, get_or, take, drop, refl, sym, ◌∙◌, ap, subst, arith}
 use Rattle.std.specs.Prelude.{nat_lt, nat_le, nat_eq, Option, None, Some, if◌then◌else◌, slice_get, IsSomeAnd}
 use Rattle.std.proofs.Math.Seq.{drop-cons}

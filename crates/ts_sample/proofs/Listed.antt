@@ -1,4 +1,4 @@
--- Whether a number is among rising ones, as a search tells it.
+-- Membership in ascending numbers, by binary search.
 use Rattle.std.proofs.Common.{◌≡◌, ℕ, ◌<◌, ◌≤◌, false, List, [], ◌∷◌, length, get_or, refl, sym, ◌∙◌, ap, eqb, arith, inl, inr, ne_eqb, eq-eqb}
 use Rattle.std.specs.List.{list_any, All}
 use Rattle.std.specs.List.Sorted.{IsNonDecreasing, IsBinarySearchResult}

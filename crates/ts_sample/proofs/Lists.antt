@@ -1,4 +1,4 @@
--- Parts of lists of samples, and lists put together.
+-- Parts of lists of samples, and their concatenations.
 use Rattle.std.proofs.Common.{◌≡◌, ℕ, zero, suc, ◌<◌, Bool, true, false, cond, List, [], ◌∷◌, ◌++◌, take, drop, refl, ap, arith}
 use Rattle.std.specs.Prelude.{nat_lt, Option, None, Some}
 use Rattle.ts_spec.specs.Sample.{Point, IsAfter, IsAscending, at_times, last_of, later_or, put}

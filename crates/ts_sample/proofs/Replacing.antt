@@ -1,4 +1,4 @@
--- Samples that take the place of others.
+-- Samples that replace others.
 use Rattle.std.proofs.Common.{◌≡◌, ℕ, zero, suc, ◌<◌, ◌≤◌, true, false, List, [], ◌∷◌, length, get_or, set, refl, ◌∙◌, ap, subst, arith}
 use Rattle.std.specs.Prelude.{Option, None, Some, nat_lt, slice_get, IsSomeAnd}
 use Rattle.std.proofs.lemmas.Bool.Decides.{nat_tests}

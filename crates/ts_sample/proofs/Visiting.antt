@@ -1,4 +1,4 @@
--- What a visitor has taken, and the room that it has left.
+-- The state of a visitor after a list, and its remaining capacity.
 use Rattle.std.proofs.Common.{◌≡◌, ℕ, ◌+◌, ◌≤◌, List, [], ◌∷◌, ◌++◌, length, sym, ◌∙◌, ap, append-nil, append_assoc, arith}
 use Rattle.ts_spec.specs.Sample.{Point}
 use Rattle.ts_sample.specs.Gathered.{Gathering, with_one_more}

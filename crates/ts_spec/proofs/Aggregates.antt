@@ -1,4 +1,4 @@
--- Summaries of lists of samples, one sample after another.
+-- Summaries of lists of samples.
 use Rattle.std.proofs.Common.{◌≡◌, ◌+◌, List, [], ◌∷◌, ◌++◌, length, fold, ◌∙◌, arith}
 use Rattle.std.proofs.lemmas.Grind.{fold-append}
 use Rattle.ts_spec.specs.Sample.{Point}

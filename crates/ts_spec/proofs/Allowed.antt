@@ -1,4 +1,4 @@
--- What the tests of a command let through: new series, room at each destination, and new rules.
+-- What the tests of a command guarantee: limits hold for new series, destinations and new rules.
 use Rattle.std.proofs.Common.{◌≡◌, ℕ, zero, suc, ℤ, ◌≤◌, ◌==◌, Bool, true, false, nat_lt, nat_le, if◌then◌else◌, List, [], ◌∷◌, length, Option, Some, None, is_some, refl, sym, ap, subst, arith, ltb-false, leb-false, le-leb}
 use Rattle.std.proofs.lemmas.Bool.{false≢true}
 use Rattle.ts_spec.specs.declared.limits.Limits.{Limits}

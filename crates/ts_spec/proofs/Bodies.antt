@@ -1,4 +1,4 @@
--- The state that a write or a deletion leads to, before it is settled, as one change of each record.
+-- The state after a write or a deletion and before settling, as one change of each record.
 use Rattle.std.proofs.Common.{◌≡◌, ℕ, Bool, true, false, if◌then◌else◌, Option, Some, None, option_map, refl, ap, ◌∙◌}
 use Rattle.ts_spec.specs.Key.{Key, same}
 use Rattle.ts_spec.specs.Keyed.{get}

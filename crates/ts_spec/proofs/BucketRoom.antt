@@ -1,4 +1,4 @@
--- The open bucket of a rule has room for one more sample: with an appended one it still has at most as many as it has milliseconds.
+-- The open bucket of a rule can count one more sample: it never has more samples than milliseconds.
 use Rattle.std.proofs.Common.{◌≡◌, ℕ, suc, ◌+◌, ◌-◌, ◌<◌, ◌≤◌, Bool, true, false, ◌==◌, if◌then◌else◌, List, [], ◌∷◌, map, length, Option, Some, None, refl, sym, ap, ◌∙◌, subst, arith, ltb-true}
 use Rattle.std.specs.Bool.{⊤}
 use Rattle.ts_spec.specs.declared.limits.Limits.{Limits}

@@ -1,4 +1,4 @@
--- The row of a bucket, and what a rule tells, at each time.
+-- The row of a bucket, and the rows of a rule at each time.
 use Rattle.std.proofs.Common.{◌≡◌, ℕ, ◌<◌, ◌≤◌, Bool, true, false, ◌&&◌, ◌==◌, nat_lt, if◌then◌else◌, List, [], ◌∷◌, Option, Some, None, refl, sym, ap, ◌∙◌, ltb-true, eqb-true, eq-eqb, ne_eqb, lt-ltb, le-ltb}
 use Rattle.std.specs.Option.{option_or}
 use Rattle.ts_spec.specs.declared.bucket.Aggregator.{Aggregator}

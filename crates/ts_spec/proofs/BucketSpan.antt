@@ -1,4 +1,4 @@
--- The samples of a bucket stand together in an ascending list.
+-- The samples of a bucket are contiguous in an ascending list.
 use Rattle.std.proofs.Common.{◌≡◌, ℕ, ◌≤◌, Bool, true, false, ◌==◌, nat_le, if◌then◌else◌, List, Option, Some, None, refl, sym, ◌∙◌, arith, eqb-true, eq-eqb, leb-true, le-leb}
 use Rattle.std.proofs.lemmas.Bool.{false≢true, and_parts, and_from}
 use Rattle.ts_spec.specs.Sample.{Point, IsAscending, at, between, is_within}

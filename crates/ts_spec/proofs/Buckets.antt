@@ -1,4 +1,4 @@
--- The starts of buckets: they keep the order of times, and each lies in its own bucket.
+-- The starts of buckets: they are in the order of times, and each is in its own bucket.
 use Rattle.std.proofs.Common.{◌≡◌, ℕ, zero, suc, ◌+◌, ◌-◌, ◌*◌, ◌/◌, ◌<◌, ◌≤◌, Bool, cond, pos, negsuc, neg_ℤ, ◌+ℤ◌, ◌*ℤ◌, refl, sym, ap, ◌∙◌, subst, arith, inl, inr, ◌⊎◌, lt-ltb, le-ltb, mul_comm, mul-le-mul_left, div-lt_iff_lt-mul, mul-suc, add-one}
 use Rattle.std.proofs.lemmas.Bool.{cases_lt}
 use Rattle.std.proofs.lemmas.Nat.{le-div}

@@ -1,4 +1,5 @@
--- What a key shows after a client's write on it and after a client's deletion, and what a destination shows after a command on its source.
+-- What a key shows after a client writes to it or deletes from it, and what a destination shows after a command on
+-- its source.
 use Rattle.std.proofs.Common.{◌≡◌, ℕ, ℤ, ◌≤◌, Bool, true, false, not, ◌&&◌, ◌==◌, nat_le, if◌then◌else◌, List, map, length, Option, Some, None, option_map, refl, sym, ap, ◌∙◌, subst, arith, eqb-true, eq-eqb, ne_eqb, leb-true, le-leb, zero, suc}
 use Rattle.std.specs.Option.{option_or}
 use Rattle.std.proofs.lemmas.Bool.{false≢true}

@@ -1,4 +1,4 @@
--- After whole requests two streams concatenate.
+-- Two streams concatenate if the first ends between two requests.
 use Rattle.std.proofs.Common.{◌≡◌, ℕ, zero, suc, ◌+◌, ◌-◌, Bool, true, false, nat_le, nat_lt, ◌==◌, if◌then◌else◌, List, [], ◌∷◌, ◌++◌, length, refl, sym, ap, ◌∙◌, subst, arith}
 use Rattle.ts_spec.specs.declared.wire.Kind.TheVariants.{Crlf, Dollar, TooLarge}
 use Rattle.ts_spec.specs.declared.wire.WireLimits.{WireLimits}

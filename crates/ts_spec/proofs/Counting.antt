@@ -1,4 +1,4 @@
--- What a rule counts that has counted all eligible samples of its source: after a write and after a deletion it has still.
+-- A rule that counts all eligible samples of its source still does after a write and after a deletion.
 use Rattle.std.proofs.Common.{◌≡◌, ℕ, ℤ, ◌<◌, Bool, true, false, cond, not, ◌||◌, ◌==◌, if◌then◌else◌, List, [], ◌∷◌, ◌++◌, filter, Option, Some, None, refl, sym, ap, ◌∙◌, subst, arith, eqb-true, ltb-true, le-leb, eq-eqb}
 use Rattle.std.specs.Option.{option_or}
 use Rattle.std.proofs.lemmas.Bool.{false≢true}

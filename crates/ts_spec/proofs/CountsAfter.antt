@@ -1,5 +1,5 @@
--- A rule between series without retention is the same, and counts all that its source has, after new options, a new key, the making and
--- the end of rules, and the end of a key.
+-- A rule between series without retention is unchanged and counts all of its source after TS.ALTER, a new key, new or
+-- ended rules, and the deletion of a key.
 use Rattle.std.proofs.Common.{◌≡◌, Bool, true, false, ◌||◌, if◌then◌else◌, [], Option, Some, None, option_map, refl, sym, ap, ◌∙◌, subst}
 use Rattle.ts_spec.specs.declared.limits.Limits.{Limits}
 use Rattle.ts_spec.specs.declared.bucket.Aggregator.{Aggregator}

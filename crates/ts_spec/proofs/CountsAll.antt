@@ -1,5 +1,5 @@
--- A rule that has counted all eligible samples of its source counts them all after a write and after a deletion, where neither the
--- source nor the destination has a retention and the command is not on the destination.
+-- A rule that counts all eligible samples of its source still does after a write and after a deletion, if neither
+-- series has a retention and the command is not on the destination.
 use Rattle.std.proofs.Common.{[], ◌+◌, ◌≤◌}
 use Rattle.std.proofs.lemmas.Bool.{lt-leb}
 use Rattle.ts_spec.specs.declared.bucket.Aggregator.{Aggregator}

@@ -1,4 +1,5 @@
--- A rule between series without retention is the same, and counts all that its source has, after a write and a deletion elsewhere.
+-- A rule between series without retention is unchanged and counts all of its source after a write or a deletion on
+-- another key.
 use Rattle.std.proofs.Common.{◌≡◌, ℕ, ℤ, Bool, true, false, ◌==◌, if◌then◌else◌, filter, Option, Some, None, option_map, refl, sym, ap, ◌∙◌, subst}
 use Rattle.ts_spec.specs.declared.limits.Limits.{Limits}
 use Rattle.ts_spec.specs.Sample.{between, outside, is_within, put}

@@ -1,4 +1,4 @@
--- A deletion over what is kept is a step of the state.
+-- A deletion over the stored data is a step of the state.
 use Rattle.std.proofs.Common.{◌≡◌, ℕ, List, length, nat_lt, refl, sym, ap}
 use Rattle.std.specs.Prelude.{⊤}
 use Rattle.ts_spec.specs.declared.limits.Limits.{Limits}

@@ -1,4 +1,4 @@
--- What is kept of a state after a deletion is what the deletion does to what was kept of it.
+-- Storing and deleting commute.
 use Rattle.std.proofs.Common.{◌≡◌, ℕ, Bool, false, not, ◌&&◌, if◌then◌else◌, List, [], ◌∷◌, map, Option, Some, None, option_map, refl, sym, ap, ◌∙◌, subst}
 use Rattle.std.proofs.lemmas.Bool.{false≢true}
 use Rattle.ts_spec.specs.declared.limits.Limits.{Limits}

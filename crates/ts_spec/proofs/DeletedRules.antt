@@ -1,4 +1,4 @@
--- What a deletion does to what is kept of a rule, and to what the rule tells.
+-- What a deletion does to a stored rule and to its rows.
 use Rattle.std.proofs.Common.{◌≡◌, ℕ, suc, ◌+◌, Bool, true, false, ◌&&◌, ◌||◌, ◌==◌, if◌then◌else◌, List, [], ◌∷◌, length, filter, Option, Some, None, fold, refl, sym, ap, ◌∙◌, arith, eqb-true, eq-eqb, ne_eqb}
 use Rattle.std.specs.Option.{option_or}
 use Rattle.ts_spec.specs.declared.bucket.Aggregator.{Aggregator}

@@ -1,4 +1,4 @@
--- The records that a command on a key leads to: of the key, of its destinations, and of the others.
+-- The records after a command on a key: of the key, of its destinations, and of the others.
 use Rattle.std.proofs.Common.{◌≡◌, ℕ, Bool, true, false, ◌&&◌, nat_le, if◌then◌else◌, List, [], ◌∷◌, map, Option, Some, None, option_map, refl, sym, ap, ◌∙◌}
 use Rattle.std.proofs.Math.Bool.{and-true}
 use Rattle.ts_spec.specs.Sample.{at_times}

@@ -1,4 +1,5 @@
--- How the worked examples are written: keys by one letter, values as whole numbers, and the answers of a list of commands.
+-- Notation of the worked examples: keys of one letter, values as whole numbers, and the responses to a list of
+-- commands.
 use Rattle.std.specs.Prelude.{ℕ, ◌*◌, ◌^◌, pos, true, false, Bool, List, [], ◌∷◌, Some, None, Option, codes}
 use Rattle.ts_spec.specs.declared.series.Policy.{Policy}
 use Rattle.ts_spec.specs.declared.series.Policy.TheVariants.{Block, Last}

@@ -1,4 +1,4 @@
--- Worked examples of filters as texts.
+-- Worked examples: parsing filters.
 use Rattle.std.specs.Prelude.{◌≡◌, refl, [], ◌∷◌, codes, Ok, Err}
 use Rattle.ts_spec.specs.Filter.{Among, NotAmong, Absent, Present}
 use Rattle.ts_spec.specs.FilterText.{filter_of, NoOperator, EmptyLabel, EmptyList}

@@ -1,4 +1,4 @@
--- Streams of which more comes: the requests of a front are a front of the requests, and a fault stays.
+-- Prefixes of streams: the requests of a prefix are a prefix of the requests, and a protocol error stays.
 use Rattle.std.proofs.Common.{ℕ, ◌+◌, List, [], ◌∷◌, ◌++◌, refl}
 use Rattle.ts_spec.specs.declared.wire.WireLimits.{WireLimits}
 use Rattle.ts_spec.specs.Wire.{Request, Stream, Mode, Start, Move, Goto, Whole, Fault, move, at_end, after_move, then_request, read_on}

@@ -1,4 +1,4 @@
--- Worked examples of answers in groups.
+-- Worked examples: GROUPBY.
 use Rattle.std.specs.Prelude.{◌≡◌, refl, pos, ℕ, true, false, List, [], ◌∷◌, ◌++◌, codes, Some, None}
 use Rattle.ts_spec.specs.declared.limits.Limits.{Limits}
 use Rattle.ts_spec.specs.declared.bucket.Aggregator.TheVariants as aggregator

@@ -1,4 +1,4 @@
--- Worked examples of ignored samples, by the steps of the state and by those over what is kept of it.
+-- Worked examples: IGNORE, over the state and over the stored data.
 use Rattle.std.specs.Prelude.{◌≡◌, refl, List, [], ◌∷◌}
 use Rattle.ts_spec.specs.declared.series.Policy.TheVariants.{Last, Sum}
 use Rattle.ts_spec.specs.Value.{clamp}

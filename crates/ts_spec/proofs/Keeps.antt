@@ -1,4 +1,4 @@
--- That a write and a deletion keep a state valid.
+-- A write and a deletion keep a state valid.
 use Rattle.std.proofs.Common.{◌≡◌, ℕ, suc, ℤ, ◌≤◌, Bool, true, false, ◌==◌, if◌then◌else◌, List, [], ◌∷◌, map, length, Option, Some, None, option_map, refl, sym, ap, ◌∙◌, subst}
 use Rattle.ts_spec.specs.declared.limits.Limits.{Limits}
 use Rattle.ts_spec.specs.Sample.{Point, is_within, put, between, outside}

@@ -1,4 +1,4 @@
--- Questions are answered from what is kept as from the state.
+-- Queries have the same responses over the stored data as over the state.
 use Rattle.std.proofs.Common.{◌≡◌, ℕ, ℤ, ◌==◌, Bool, true, false, ◌&&◌, nat_le, if◌then◌else◌, List, [], ◌∷◌, map, length, Option, Some, None, option_map, refl, sym, ap, ◌∙◌, arith, ne_eqb}
 use Rattle.std.proofs.lemmas.Simd.{map-map}
 use Rattle.ts_spec.specs.declared.limits.Limits.{Limits}

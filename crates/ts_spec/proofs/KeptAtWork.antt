@@ -1,4 +1,4 @@
--- Worked examples of what is kept: the steps of the state and those over what is kept of it give the same answers.
+-- Worked examples: steps over the state and over the stored data have the same responses.
 use Rattle.std.specs.Prelude.{◌≡◌, refl, List, [], ◌∷◌}
 use Rattle.ts_spec.specs.declared.limits.Limits.{Limits}
 use Rattle.ts_spec.specs.declared.bucket.Aggregator.TheVariants as aggregator

@@ -1,4 +1,4 @@
--- What is kept of each key after a write or a deletion on one of them: what the command changes, and what stays.
+-- The stored series of each key after a write or a deletion on one of them.
 use Rattle.std.proofs.Common.{◌≡◌, ℕ, Bool, true, false, ◌&&◌, nat_lt, if◌then◌else◌, List, [], ◌∷◌, map, Option, Some, None, option_map, refl, sym, ap, ◌∙◌, arith, le-ltb}
 use Rattle.ts_spec.specs.Bucket.{members}
 use Rattle.ts_spec.specs.Aggregate.{summary}

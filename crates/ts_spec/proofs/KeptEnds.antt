@@ -1,4 +1,4 @@
--- What is kept after the end of rules and of keys.
+-- The stored data after rules end and keys are deleted.
 use Rattle.std.proofs.Common.{◌≡◌, ℕ, ◌+◌, Bool, true, false, not, ◌&&◌, ◌||◌, if◌then◌else◌, cond, List, [], ◌∷◌, map, filter, Option, Some, None, is_some, option_map, refl, sym, ap, ◌∙◌}
 use Rattle.std.specs.Prelude.{⊤}
 use Rattle.ts_spec.specs.declared.limits.Limits.{Limits}

@@ -1,4 +1,4 @@
--- What is kept of a state, read off at each key, and the tests of a step on it.
+-- The stored data of a state at each key, and the tests of a step on it.
 use Rattle.std.proofs.Common.{◌≡◌, ℕ, Bool, true, false, cond, ◌||◌, nat_lt, List, [], ◌∷◌, map, length, Option, Some, None, is_some, option_map, refl, sym, ap, ◌∙◌}
 use Rattle.std.proofs.lemmas.List.{length-map}
 use Rattle.ts_spec.specs.Bucket.{start}

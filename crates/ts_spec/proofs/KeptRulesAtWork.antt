@@ -1,4 +1,4 @@
--- The worked examples of rules, answered from what is kept.
+-- Worked examples of rules, over the stored data.
 use Rattle.std.specs.Prelude.{◌≡◌, refl, [], ◌∷◌}
 use Rattle.ts_spec.specs.Command.{DelRange, DeleteRule}
 use Rattle.ts_spec.specs.Sample.{MAX_TIME}

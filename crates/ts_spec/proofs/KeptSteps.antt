@@ -1,4 +1,5 @@
--- The laws of steps, read off one walk: a step over what is kept is that of the state, it keeps the state valid, and a rule counts on.
+-- The laws of steps, from one case analysis: a step over the stored data is that of the state, keeps the state valid,
+-- and a rule keeps counting.
 use Rattle.std.proofs.Common.{◌≡◌, ℕ, ℤ, ◌≤◌, ◌++◌, Bool, false, List, [], ◌∷◌, map, Result, Ok, Err, refl, ap, ◌∙◌}
 use Rattle.std.specs.Prelude.{⊤}
 use Rattle.std.proofs.lemmas.Bool.{or_parts}

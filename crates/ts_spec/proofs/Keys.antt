@@ -1,4 +1,4 @@
--- Keys and their order.
+-- The order of keys.
 use Rattle.std.proofs.Common.{◌≡◌, ◌<◌, true, false, ◌==◌, ◌⊎◌, [], ◌∷◌, refl, sym, arith, inl, inr, eqb-true, eq-eqb, le-ltb, lt-ltb, ne_eqb}
 use Rattle.std.proofs.lemmas.Bool.{cases_order, false≢true, and_parts}
 use Rattle.ts_spec.specs.Key.{Key, same, is_before}

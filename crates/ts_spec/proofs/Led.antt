@@ -1,4 +1,5 @@
--- What a step leads to, over a valid state and over what is kept of it. One walk over the tests of the commands serves them all.
+-- The result of a step, over a valid state and over its stored data. One case analysis over the tests of the commands
+-- serves all laws.
 use Rattle.std.proofs.Common.{◌≡◌, ℕ, ◌≤◌, Bool, true, false, if◌then◌else◌, length, Option, Some, None, option_map, refl, sym, ap, ◌∙◌}
 use Rattle.std.specs.Prelude.{⊤}
 use Rattle.ts_spec.specs.declared.limits.Limits.{Limits}

@@ -1,4 +1,4 @@
--- Worked examples of requests that are lines.
+-- Worked examples: inline commands.
 use Rattle.std.specs.Prelude.{◌≡◌, ℕ, refl, List, [], ◌∷◌, codes}
 use Rattle.ts_spec.specs.declared.wire.Kind.TheVariants.{TooLarge}
 use Rattle.ts_spec.specs.declared.wire.WireLimits.{WireLimits}

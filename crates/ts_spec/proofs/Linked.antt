@@ -1,4 +1,4 @@
--- That the links of a state stay sole where its records change.
+-- Links stay unique when records change.
 use Rattle.std.proofs.Common.{◌≡◌, Bool, true, false, cond, List, [], ◌∷◌, map, Option, Some, None, option_map, refl, sym, ap, ◌∙◌, subst}
 use Rattle.ts_spec.specs.Key.{Key, same}
 use Rattle.ts_spec.specs.Keyed.{Entry, Keyed, each_in, get, each}

@@ -1,4 +1,4 @@
--- Links from sources to destinations, and that they stay where records change but keep the destinations of their rules.
+-- Links from sources to destinations. They stay if records change but the destinations of their rules do not.
 use Rattle.std.proofs.Common.{◌≡◌, Bool, true, false, cond, List, [], ◌∷◌, map, Option, Some, None, option_map, refl, sym, ap, ◌∙◌, subst}
 use Rattle.std.proofs.lemmas.Bool.{false≢true, and_parts}
 use Rattle.ts_spec.specs.Key.{Key, same}

@@ -1,4 +1,4 @@
--- That the making of a rule keeps a state valid.
+-- Creating a rule keeps a state valid.
 use Rattle.std.proofs.Common.{◌≡◌, ℕ, ◌<◌, ◌≤◌, ◌+◌, Bool, true, false, if◌then◌else◌, List, [], ◌∷◌, ◌++◌, map, length, Option, Some, None, option_map, refl, sym, ap, ◌∙◌, subst, arith}
 use Rattle.std.specs.Option.{option_or}
 use Rattle.ts_spec.specs.declared.limits.Limits.{Limits}

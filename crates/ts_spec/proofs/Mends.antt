@@ -1,4 +1,4 @@
--- The mending of a destination: after a command on its source what is kept of it has the new rows at their times.
+-- The update of a destination: after a command on its source, its stored series has the new rows at their times.
 use Rattle.std.proofs.Common.{◌≡◌, ℕ, ◌≤◌, Bool, true, false, not, ◌||◌, ◌==◌, nat_le, if◌then◌else◌, List, [], ◌∷◌, map, filter, Option, Some, None, is_some, option_map, refl, sym, ap, ◌∙◌, arith, leb-true, le-leb}
 use Rattle.std.specs.Option.{option_or}
 use Rattle.std.proofs.lemmas.Bool.{false≢true}

@@ -1,4 +1,4 @@
--- A new rule counts all that its source has that was written since: there is nothing yet.
+-- A new rule counts all samples written since it was created: there are none yet.
 use Rattle.std.proofs.Common.{◌≡◌, ℕ, Bool, true, false, nat_le, if◌then◌else◌, filter, length, Option, Some, None, is_some, refl, sym, ap, ◌∙◌}
 use Rattle.ts_spec.specs.declared.limits.Limits.{Limits}
 use Rattle.ts_spec.specs.declared.bucket.Aggregator.{Aggregator}

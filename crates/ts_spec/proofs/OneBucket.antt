@@ -1,4 +1,5 @@
--- Where two states differ in one bucket of a destination, it shows the same at every time but the start of that bucket.
+-- If two states differ in one bucket of a destination, it shows the same at every time except the start of that
+-- bucket.
 use Rattle.std.proofs.Common.{◌≡◌, ◌≢◌, ℕ, List, ◌&&◌, nat_le, if◌then◌else◌, Option, Some, None, sym, ap, ◌∙◌}
 use Rattle.std.specs.Option.{option_or}
 use Rattle.ts_spec.specs.Sample.{Point, at}

@@ -1,4 +1,4 @@
--- The words of the server's own stand on one line.
+-- The texts of the server itself have no CR.
 use Rattle.std.proofs.Common.{◌≡◌, ℕ, ◌==◌, Bool, true, false, not, ◌&&◌, List, [], ◌∷◌, refl}
 use Rattle.std.proofs.lemmas.Bool.{false≢true, eqb-false, and_parts}
 use Rattle.ts_spec.specs.declared.value.ValueFault.TheVariants as value

@@ -1,4 +1,4 @@
--- The replies of the server are plain, where their texts are shorter than 2^64 bytes.
+-- The replies of the server are plain if their texts are shorter than 2^64 bytes.
 use Rattle.std.proofs.Common.{◌≡◌, ℕ, ◌+◌, ◌^◌, ◌<◌, ◌≤◌, ⊎_elim, List, [], ◌∷◌, ◌++◌, map, length, codes, Option, Some, None, All, refl, sym, subst, arith, length-append}
 use Rattle.std.proofs.lemmas.List.Elements.{All-head, All-tail}
 use Rattle.std.specs.Fmt.{decimal}

@@ -1,4 +1,4 @@
--- Worked examples of questions and of duplicate policies.
+-- Worked examples: queries and duplicate policies.
 use Rattle.std.specs.Prelude.{◌≡◌, refl, [], ◌∷◌, true, false, Some, negsuc, ◌-◌, ◌^◌, ◌*◌}
 use Rattle.ts_spec.specs.declared.series.Policy.TheVariants as policy
 use Rattle.ts_spec.specs.declared.bucket.Aggregator.TheVariants as aggregator

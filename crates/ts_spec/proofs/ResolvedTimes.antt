@@ -1,4 +1,4 @@
--- A command with its times resolved does what it does.
+-- A command with resolved times has the same effect.
 use Rattle.std.proofs.Common.{◌≡◌, ℕ, true, false, if◌then◌else◌, List, [], ◌∷◌, ◌++◌, map, refl, ◌∙◌, ap}
 use Rattle.std.specs.Prelude.{Result, Ok, Err, ℤ}
 use Rattle.ts_spec.specs.declared.command.At.{At}

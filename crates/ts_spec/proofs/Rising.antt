@@ -1,4 +1,4 @@
--- Rising lists of numbers, as are the starts of the buckets of an ascending list.
+-- Strictly ascending lists of numbers, such as the starts of buckets.
 use Rattle.std.proofs.Common.{◌≡◌, ◌≢◌, ℕ, ◌<◌, ◌≤◌, Bool, true, false, cond, ◌==◌, List, [], ◌∷◌, filter, refl, sym, ◌∙◌, arith, eq-eqb}
 use Rattle.std.specs.Bool.{⊤}
 use Rattle.std.proofs.lemmas.Bool.{false≢true}

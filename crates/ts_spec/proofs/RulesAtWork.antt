@@ -1,4 +1,4 @@
--- Worked examples of rules: what their destinations show after each command.
+-- Worked examples: what destinations show after each command.
 use Rattle.std.specs.Prelude.{◌≡◌, refl, [], ◌∷◌}
 use Rattle.ts_spec.specs.Command.{DelRange, DeleteRule}
 use Rattle.ts_spec.specs.Sample.{MAX_TIME}

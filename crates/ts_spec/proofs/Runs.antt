@@ -1,4 +1,4 @@
--- Laws of runs, and of the requests that come first in a stream.
+-- Laws of runs, and of the first requests of a stream.
 use Rattle.std.proofs.Common.{◌≡◌, ℕ, List, [], ◌∷◌, ◌++◌, refl, sym, ◌∙◌, ap, subst, append_assoc}
 use Rattle.std.proofs.lemmas.List.{append-nil}
 use Rattle.ts_spec.specs.Wire.{Request, Stream, requests_of, ending_of}

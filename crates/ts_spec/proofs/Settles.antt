@@ -1,4 +1,4 @@
--- Settling: what it does to each record, and that settling twice is settling once.
+-- What settling does to each record, and that it is idempotent.
 use Rattle.std.proofs.Common.{◌≡◌, ℕ, Bool, true, false, cond, not, ◌&&◌, ◌||◌, ◌==◌, nat_lt, nat_le, List, [], ◌∷◌, map, filter, Option, Some, None, option_map, refl, sym, ap, ◌∙◌, subst, arith, eqb-true, eq-eqb, map-id}
 use Rattle.std.proofs.lemmas.Bool.{false≢true, and_parts, and_from}
 use Rattle.ts_spec.specs.Sample.{Point, at_times}

@@ -1,4 +1,4 @@
--- That records stay sound where they lose samples, and where they are settled.
+-- Records stay sound when they lose samples and when they are settled.
 use Rattle.std.proofs.Common.{◌≡◌, ℕ, ◌<◌, Bool, true, false, not, ◌&&◌, nat_lt, if◌then◌else◌, List, [], ◌∷◌, map, Option, Some, None, refl, sym, ◌∙◌, subst}
 use Rattle.ts_spec.specs.Sample.{Point, IsAscending, at, at_times}
 use Rattle.ts_spec.specs.Bucket.{start}

@@ -1,4 +1,4 @@
--- That a write and a deletion keep a record sound.
+-- A write and a deletion keep a record sound.
 use Rattle.std.proofs.Common.{◌≡◌, ℕ, ℤ, ◌<◌, ◌≤◌, max, Bool, true, false, cond, not, ◌==◌, if◌then◌else◌, List, [], ◌∷◌, ◌++◌, map, Option, Some, None, refl, sym, ap, ◌∙◌, subst, arith, ◌⊎◌, inl, inr, ltb-true, leb-true}
 use Rattle.std.specs.Option.{option_or}
 use Rattle.ts_spec.specs.Sample.{Point, IsAscending, at, at_times, between, outside, is_within, put}

@@ -1,4 +1,5 @@
--- A mending by a test is one over an interval of times: what stays there is put back with the rows.
+-- An update at the times of a test is an update of an interval: samples in it that stay are inserted again with the
+-- rows.
 use Rattle.std.proofs.Common.{◌≡◌, ℕ, ◌≤◌, Bool, true, false, not, nat_le, if◌then◌else◌, List, Option, Some, None, is_some, refl, sym, ap, ◌∙◌}
 use Rattle.std.specs.Option.{option_or}
 use Rattle.std.proofs.lemmas.Bool.{false≢true}

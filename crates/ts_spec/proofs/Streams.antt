@@ -1,4 +1,4 @@
--- Reading a stream: one byte, and the bytes of a word.
+-- Parsing one byte, and the bytes of a word.
 use Rattle.std.proofs.Common.{◌≡◌, ℕ, zero, suc, ◌+◌, ◌-◌, ◌<◌, List, [], ◌∷◌, ◌++◌, length, refl, sym, ap, ◌∙◌, append_assoc, append-nil, arith}
 use Rattle.ts_spec.specs.declared.wire.WireLimits.{WireLimits}
 use Rattle.ts_spec.specs.Wire.{Inside, Mode, Body, WordReturn, Partial, Move, Goto, move, at_end, after_move, after_length, on_body, read_on}

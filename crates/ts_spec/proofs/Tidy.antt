@@ -1,4 +1,4 @@
--- What is known of a settled state.
+-- Facts on settled states.
 use Rattle.std.proofs.Common.{◌≡◌, ℕ, Bool, true, false, not, nat_le, if◌then◌else◌, List, [], ◌∷◌, map, Option, Some, None, option_map, refl, sym, ap, ◌∙◌, subst}
 use Rattle.std.proofs.lemmas.Bool.{false≢true, and_parts}
 use Rattle.ts_spec.specs.Sample.{Point, at, at_times}

@@ -1,4 +1,5 @@
--- What a rule counts after a touch: in the touched buckets the eligible samples of its source, in the others what it counted.
+-- What a rule counts after a recount: the eligible samples of its source in the recounted buckets, and what it
+-- counted in the others.
 use Rattle.std.proofs.Common.{◌≡◌, ℕ, Bool, true, false, not, ◌==◌, if◌then◌else◌, List, filter, Option, Some, None, refl, sym, ap, ◌∙◌, eqb-true}
 use Rattle.std.specs.Option.{option_or}
 use Rattle.ts_spec.specs.Sample.{Point, IsAscending, at, at_times}

@@ -1,4 +1,5 @@
--- A deletion leaves samples in no bucket that it touches but the first and the last: so at most two rows are told anew.
+-- Of the buckets that a deletion overlaps, only the first and the last can keep samples. So it recomputes at most two
+-- rows.
 use Rattle.std.proofs.Common.{◌≡◌, ◌≢◌, ℕ, ◌<◌, ◌≤◌, Bool, true, false, cond, not, ◌==◌, nat_le, List, [], ◌∷◌, ◌⊎◌, inl, inr, refl, sym, ap, ◌∙◌, arith, eqb-true, leb-true, le-leb}
 use Rattle.std.proofs.lemmas.Bool.{cases_lt, false≢true, and_parts, and_from}
 use Rattle.ts_spec.specs.Sample.{Point, between, outside, is_within}

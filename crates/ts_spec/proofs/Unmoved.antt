@@ -1,4 +1,4 @@
--- What a command leaves as it is.
+-- What a command leaves unchanged.
 use Rattle.std.proofs.Common.{◌≡◌, ℕ, Bool, true, false, cond, not, ◌&&◌, List, [], ◌∷◌, map, Option, Some, None, refl, sym, ap, ◌∙◌}
 use Rattle.ts_spec.specs.Sample.{Point, at_times}
 use Rattle.ts_spec.specs.Bucket.{start}

@@ -1,4 +1,4 @@
--- What is told of a triple of TS.MADD, and that one whose sample is not written changes nothing.
+-- The response to a triple of TS.MADD, and that a failed triple changes nothing.
 use Rattle.std.proofs.Common.{ℕ, Bool, true, false, if◌then◌else◌, [], ◌∷◌, refl, sym}
 use Rattle.std.proofs.lemmas.Bool.{false≢true}
 use Rattle.std.specs.Prelude.{nat_lt, ℤ, Option, None, Some, Result, Ok, Err}

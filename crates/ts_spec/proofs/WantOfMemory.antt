@@ -1,4 +1,4 @@
--- No other reply has the text of want of memory.
+-- No other reply has the text of the out-of-memory error.
 use Rattle.std.proofs.Common.{◌≡◌, ◌≢◌, ℕ, List, [], ◌∷◌, Option, Some, None, refl, sym, ap, ◌∙◌}
 use Rattle.std.proofs.lemmas.Bool.{eqb-false}
 use Rattle.ts_spec.specs.declared.value.ValueFault.TheVariants as value

@@ -1,4 +1,4 @@
--- Worked examples of the words that ask for groups.
+-- Worked examples: parsing GROUPBY.
 use Rattle.std.specs.Prelude.{◌≡◌, refl, List, [], ◌∷◌, ◌++◌, codes, false, None, Some, Result, Ok, Err}
 use Rattle.ts_spec.specs.declared.bucket.Reducer.{Reducer}
 use Rattle.ts_spec.specs.declared.bucket.Reducer.TheVariants.{Max, Count}

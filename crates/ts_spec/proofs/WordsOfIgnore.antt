@@ -1,4 +1,4 @@
--- Worked examples of the words for what is ignored.
+-- Worked examples: parsing IGNORE.
 use Rattle.std.specs.Prelude.{◌≡◌, refl, pos, [], ◌∷◌, codes, Some, None, Ok, Err}
 use Rattle.ts_spec.specs.declared.series.Encoding.TheVariants.{Compressed}
 use Rattle.ts_spec.specs.declared.series.Policy.TheVariants.{Last}

@@ -1,4 +1,4 @@
--- Worked examples of the words for labels, and of questions over many series.
+-- Worked examples: parsing labels and queries over many series.
 use Rattle.std.specs.Prelude.{◌≡◌, refl, [], ◌∷◌, codes, true, false, None, Some, Ok, Err}
 use Rattle.ts_spec.specs.declared.series.Encoding.TheVariants.{Compressed}
 use Rattle.ts_spec.specs.declared.series.Policy.TheVariants.{Block}

@@ -1,4 +1,4 @@
--- Worked examples of the words of questions with buckets.
+-- Worked examples: parsing queries with buckets.
 use Rattle.std.specs.Prelude.{◌≡◌, refl, List, [], ◌∷◌, codes, true, false, Result, Ok, Err}
 use Rattle.ts_spec.specs.declared.bucket.Aggregator.TheVariants as aggregator
 use Rattle.ts_spec.specs.declared.bucket.Stamp.TheVariants as stamp

@@ -1,4 +1,4 @@
--- Worked examples of the words of rules, and of questions that ask open buckets too.
+-- Worked examples: parsing rules and LATEST.
 use Rattle.std.specs.Prelude.{◌≡◌, refl, true, [], ◌∷◌, codes, Ok, Err}
 use Rattle.ts_spec.specs.declared.bucket.Aggregator.TheVariants.{Avg, Max}
 use Rattle.ts_spec.specs.Command.{CreateRule, DeleteRule, Get, MGet, InfoOf, Nothing}

@@ -1,4 +1,4 @@
--- Writes and increments over what is kept are steps of the state.
+-- Writes and increments over the stored data are steps of the state.
 use Rattle.std.proofs.Common.{◌≡◌, ℕ, ℤ, ◌≤◌, Bool, nat_lt, if◌then◌else◌, List, length, Option, Some, None, is_some, refl, sym, ap, ◌∙◌, subst, ltb-false}
 use Rattle.std.specs.Prelude.{⊤}
 use Rattle.std.specs.Option.{unwrap_or}

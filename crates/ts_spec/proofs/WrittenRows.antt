@@ -1,4 +1,4 @@
--- The rows that a write tells a destination: they mend it.
+-- The rows that a write sends to a destination update it.
 use Rattle.std.proofs.Common.{◌≡◌, ℕ, ℤ, ◌<◌, ◌≤◌, max, Bool, true, false, not, ◌&&◌, ◌==◌, nat_lt, if◌then◌else◌, List, [], filter, Option, Some, None, option_map, refl, sym, ap, ◌∙◌, subst, arith, inl, inr, ltb-true}
 use Rattle.std.specs.Option.{option_or}
 use Rattle.std.proofs.lemmas.Bool.{cases_order, cases_lt, cases_eq}

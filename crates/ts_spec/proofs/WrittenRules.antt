@@ -1,4 +1,4 @@
--- What is kept of a rule after a write to its source.
+-- The stored form of a rule after a write to its source.
 use Rattle.std.proofs.Common.{◌≡◌, ℕ, ℤ, ◌<◌, max, Bool, true, false, ◌==◌, if◌then◌else◌, Option, Some, None, option_map, refl, sym, ap, ◌∙◌, arith, inl, inr, eq-eqb, ne_eqb, lt-ltb, le-ltb}
 use Rattle.std.proofs.lemmas.Bool.{cases_order}
 use Rattle.ts_spec.specs.Sample.{put}
