@@ -44,7 +44,7 @@ module _ (s : Summary) (p : Point) (sum : ℤ) (total : sum ≡ s.sum +ℤ p.val
   later_pushed least greatest some lower higher =
       same_summary (summary_of (s.count + 1) sum least greatest s.first p.value) (push s p) refl total (lower ∙ sym (kept_later s.count _ p.value some)) (higher ∙ sym (kept_later s.count _ p.value some)) (sym (kept_later s.count _ p.value some)) refl
 
--- what stood for a list stands for it with the sample
+-- a summary of a list becomes that of the list with the sample
 pub stands_pushed : (s t : Summary) (p : Point) → t ≡ push s p → (ps : List Point) → StandsFor s ps → StandsFor t (ps ++ p ∷ [])
 stands_pushed s t p is ps stands = is ∙ ap (λ (r : Summary). push r p) stands ∙ sym (summary-push ps p)
 

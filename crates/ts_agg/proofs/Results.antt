@@ -12,7 +12,7 @@ use Rattle.ts_agg.specs.Running.{IsSmall}
 pub sum_fits : (count : ℕ) (sum : ℤ) → IsSmall count sum → SFits w128 sum
 sum_fits count sum small = fits_signed_from_abs w128 sum (omega arith)
 
--- a mean is a value as it stands
+-- a mean is in the range of values
 pub mean : (count : ℕ) (sum m : ℤ) → IsSmall count sum → m ≡ div_round (to_z w128 (of_z w128 sum)) count → ((most : ℕ) → unsigned_abs (to_z w128 (of_z w128 sum)) ≤ most * count → unsigned_abs m ≤ most) → SFits w128 m
     → clamp (to_z w128 (of_z w128 m)) ≡ div_round sum count
 mean count sum m small is within fits =
@@ -20,6 +20,6 @@ mean count sum m small is within fits =
     let few : unsigned_abs (to_z w128 (of_z w128 sum)) ≤ bound * count = subst (λ z. unsigned_abs z ≤ bound * count) (sym read) small.within in
     ap clamp (to_z-of_z w128 m fits) ∙ clamp-within m (within bound few) ∙ is ∙ ap (λ z. div_round z count) read
 
--- and so is a number of samples
+-- and so is a count of samples
 pub counted : (count : ℕ) (n : ℤ) → count ≤ 10 ^ 14 → n ≡ pos (count * 1000000) → clamp n ≡ pos (count * 1000000)
 counted count n few is = ap clamp is ∙ clamp-within (pos (count * 1000000)) (omega arith)

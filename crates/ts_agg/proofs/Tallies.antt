@@ -11,7 +11,7 @@ use Rattle.ts_agg.specs.declared.tally.Tally.TheVariants.{Avg, Sum, Min, Max, Ra
 use Rattle.ts_agg.specs.Amounts.{added}
 use Rattle.ts_agg.specs.Tally.{tally_of, Tells}
 
--- what is kept after one more sample
+-- the state after one more sample
 abbrev pub pushed : Tally → Point → Tally
 pushed (Avg total) p = Avg (added total p.value)
 pushed (Sum total) p = Sum (added total p.value)
@@ -22,7 +22,7 @@ pushed (Count amount) p = Count (amount + 1)
 pushed (First first) p = First first
 pushed (Last last) p = Last p.value
 
--- what is kept of a range, from its equal ends
+-- the state of a range, from its equal ends
 pub same_range : (l g least greatest : ℤ) → l ≡ least → g ≡ greatest → Range l g ≡ Range least greatest
 same_range l g least greatest low high = ap (λ (x : ℤ). Range x g) low ∙ ap (λ (x : ℤ). Range least x) high
 
@@ -30,7 +30,7 @@ same_range l g least greatest low high = ap (λ (x : ℤ). Range x g) low ∙ ap
 abbrev summary_of : (count : ℕ) (sum least greatest first last : ℤ) → Summary
 summary_of count sum least greatest first last = record { count = count; sum = sum; least = least; greatest = greatest; first = first; last = last }
 
--- of some samples: the first one was kept, and the others are compared with it
+-- of some samples: the first one is stored, and the others are compared with it
 kept-pushed : (a : Aggregator) (n : ℕ) (sum least greatest first last : ℤ) (p : Point)
     → pushed (tally_of a (summary_of (suc n) sum least greatest first last)) p ≡ tally_of a (push (summary_of (suc n) sum least greatest first last) p)
 kept-pushed agg.Avg n sum least greatest first last p = refl
@@ -47,7 +47,7 @@ kept-push : (a : Aggregator) (count : ℕ) (sum least greatest first last : ℤ)
 kept-push a zero sum least greatest first last p some = absurd (omega arith)
 kept-push a (suc n) sum least greatest first last p some = kept-pushed a n sum least greatest first last p
 
--- it tells of the list with the sample
+-- it describes the list with the sample
 pub one-more : (a : Aggregator) (t new : Tally) (p : Point) (ps : List Point) → new ≡ pushed t p → Tells a t ps → Tells a new (ps ++ p ∷ [])
 one-more a t new p ps is told =
     let s = summary ps in

@@ -8,14 +8,15 @@ use Rattle.std.proofs.lemmas.Nat.{div-mul-add, div-add-mod', mod_below, mul-le}
 use Rattle.std.proofs.Math.Nat.{div-le_self, mul-div-le, lt-div-mul-add}
 use Rattle.ts_spec.specs.Bucket.{Grid, raw, start, from_zero}
 
--- the number of the bucket of t; the one that begins at the alignment has the alignment as its number, so that none is negative
+-- the index of the bucket of t; the bucket at the alignment has the alignment as its index, so that no index is
+-- negative
 abbrev pub number_at : (a d t : ℕ) → ℕ
 number_at a d t = (t + (a * d - a)) / d
 
 abbrev pub number : Grid → ℕ → ℕ
 number g t = number_at g.align g.duration t
 
--- the start of the bucket of t, in whose place stands its distance from the alignment in durations
+-- the start of the bucket of t, by its distance from the alignment in durations
 raw_at : (a d t : ℕ) (z q : ℤ) → pos t -ℤ pos a ≡ z → int_div_euclid z (pos d) ≡ q → raw (record { align = a; duration = d }) t ≡ pos a +ℤ (pos d *ℤ q)
 raw_at a d t z q away floor = ap (λ x. pos a +ℤ (pos d *ℤ int_div_euclid x (pos d))) away ∙ ap (λ x. pos a +ℤ (pos d *ℤ x)) floor
 
@@ -65,7 +66,7 @@ early a d t some before =
     let sum : pos a +ℤ neg_ℤ (pos (d * suc q)) +ℤ pos (a * d) ≡ pos (a + d * n) = omega (arith, ints) in
     ap (λ x. x +ℤ pos (a * d)) at ∙ sum
 
--- the start of a bucket is so many durations after that of the first one
+-- the start of a bucket is `index` durations after that of the first one
 pub numbered : (g : Grid) (t : ℕ) → 1 ≤ g.duration → raw g t +ℤ pos (g.align * g.duration) ≡ pos (g.align + g.duration * number g t)
 numbered g t some = go (cases_lt t g.align)
   where
@@ -78,11 +79,11 @@ from_zero_is (pos n) k m is = omega (arith, ints)
 from_zero_is (negsuc n) k m is = omega (arith, ints)
 
 module _ (g : Grid) (some : 1 ≤ g.duration) where
-  -- the numbers begin before every time
+  -- the indices begin before every time
   pub grows : g.align ≤ g.align * g.duration
   grows = let e : g.align * 1 ≤ g.align * g.duration = mul-le g.align 1 g.align g.duration (omega arith) some in omega arith
 
-  -- the start of a bucket, by its number
+  -- the start of a bucket, by its index
   pub start_number : (t : ℕ) → start g t ≡ g.duration * number g t - (g.align * g.duration - g.align)
   start_number t = from_zero_is (raw g t) (g.align * g.duration) (g.align + g.duration * number g t) (numbered g t some) ∙ (let e = grows in omega arith)
 
@@ -103,7 +104,7 @@ module _ (g : Grid) (some : 1 ≤ g.duration) where
       let s = start_number u in
       omega arith
 
-  -- starts keep the order of numbers
+  -- starts are in the order of indices
   pub no_later : (t u : ℕ) → number g t ≤ number g u → start g t ≤ start g u
   no_later t u le =
       let f : g.duration * number g t ≤ g.duration * number g u = mul-le-mul_left g.duration le in

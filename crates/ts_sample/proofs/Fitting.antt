@@ -29,7 +29,7 @@ module _ (format : List Point → List ℕ) (grows : (ps : List Point) (p : Poin
       let same : length (format ((ps ++ q ∷ []) ++ qs)) ≡ length (format (ps ++ q ∷ qs)) = ap (λ l. length (format l)) (append_assoc ps (q ∷ []) qs) in
       omega (arith, grows ps q, grows-on (ps ++ q ∷ []) qs)
 
-  -- where a front of a list doesn't fit, the list doesn't
+  -- if a prefix of a list does not fit, the list does not
   pub too-long : (limit : ℕ) (ps : List Point) (i : ℕ) (p : Point) → i < length ps → p ≡ get_or ps i p → false ≡ nat_le (length (format (take i ps ++ p ∷ []))) limit
       → limit < length (format ps)
   too-long limit ps i p lt is more =

@@ -31,7 +31,7 @@ module _ (x i : ℕ) (ps : List Point) (rises : IsAscending ps) (before : take i
       let reached : nat_le x x ≡ true = grind (arith, nat_tests) in
       ap (at x) after ∙ at-times x (nat_le x) ps ∙ ap (λ b. if b then at x ps else None) reached
 
-  -- the sample at the place has the time
+  -- the sample at the index has the time
   found_there : (p : Point) (rest : List Point) → drop i ps ≡ p ∷ rest → p.time ≡ x → at x ps ≡ Some p
   found_there p rest is same =
       let here : nat_eq p.time x ≡ true = grind (arith, nat_tests) in
@@ -40,17 +40,17 @@ module _ (x i : ℕ) (ps : List Point) (rises : IsAscending ps) (before : take i
   at_place : (p : Point) → i < length ps → p ≡ get_or ps i p → drop i ps ≡ p ∷ drop (suc i) ps
   at_place p within is = drop-cons ps i p within ∙ ap (λ (q : Point). q ∷ drop (suc i) ps) (sym is)
 
-  -- what the place has, where its time is x
+  -- the sample at the index, if its time is x
   pub found : (p : Point) → i < length ps → p ≡ get_or ps i p → p.time ≡ x → IsSomeAnd (at x ps) (λ q. slice_get ps i ≡ Some q)
   found p within is same =
       subst (λ o. IsSomeAnd o (λ q. slice_get ps i ≡ Some q)) (sym (found_there p (drop (suc i) ps) (at_place p within is) same))
       (slice_get_read ps (length ps) i p refl within is)
 
-  -- no sample is at the place
+  -- there is no sample at the index
   pub absent_past : length ps ≤ i → at x ps ≡ None
   absent_past past = sym at_rest ∙ ap (at x) (drop_all i ps past)
 
-  -- the sample at the place is later
+  -- the sample at the index is later
   absent_later : (p : Point) (rest : List Point) → drop i ps ≡ p ∷ rest → p.time ≢ x → at x ps ≡ None
   absent_later p rest is other =
       let not_here : nat_eq p.time x ≡ false = grind (arith, nat_tests) in
@@ -62,7 +62,7 @@ module _ (x i : ℕ) (ps : List Point) (rises : IsAscending ps) (before : take i
   pub absent_here : (p : Point) → i < length ps → p ≡ get_or ps i p → p.time ≢ x → at x ps ≡ None
   absent_here p within is other = absent_later p (drop (suc i) ps) (at_place p within is) other
 
-  -- with a sample of that time in its place the list is the one with the sample put to its time
+  -- replacing the sample at the index is `put`
   pub put_between : at x ps ≡ None → (p : Point) → p.time ≡ x → take i ps ++ p ∷ drop i ps ≡ put p ps
   put_between none p same =
       let back : drop i ps ≡ at_times (nat_lt x) ps = after ∙ ascending-same _ _ (ascending-times (nat_le x) ps rises) (ascending-times (nat_lt x) ps rises)

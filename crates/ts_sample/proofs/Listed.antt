@@ -15,7 +15,7 @@ pub listed-any : (us : List ℕ) (t : ℕ) → is_listed us t ≡ list_any (λ u
 listed-any [] t = refl
 listed-any (u ∷ us) t = ap (λ b. eqb u t || b) (listed-any us t)
 
--- where a number stands among the others, or would stand
+-- the index of a number among the others, or its insertion index
 abbrev Found : List ℕ → ℕ → Result ℕ ℕ → Type 0
 Found us t r =
     MatchResult r (λ i. (i < length us) × (get_or us i 0 ≡ t))
@@ -29,7 +29,7 @@ other us t i below above k d within =
       | inr more ↦ ne_eqb (get_or us k d) t (λ is. absurd (omega (arith, above k more within, same, is)))
     ]
 
--- a number between two of them that stand side by side is not among them
+-- a number between two neighbours is not in the list
 pub unlisted : (us : List ℕ) (t i : ℕ) → ((k : ℕ) → k < i → get_or us k 0 < t) → ((k : ℕ) → i ≤ k → k < length us → t < get_or us k 0) → is_listed us t ≡ false
 unlisted us t i below above = listed-any us t ∙ list_any_none (λ u. eqb u t) us (other us t i below above)
 
@@ -37,6 +37,6 @@ told : (us : List ℕ) (t : ℕ) (r : Result ℕ ℕ) → Found us t r → is_ok
 told us t (Ok i) found = sym (listed-any us t ∙ list_any_at (λ u. eqb u t) us i 0 found.0 (eq-eqb (get_or us i 0) t found.1))
 told us t (Err i) found = sym (unlisted us t i found.1 found.2)
 
--- a search among rising numbers tells it
+-- a binary search decides it
 pub listed-by-search : (us : List ℕ) (t : ℕ) (r : Result ℕ ℕ) → IsNonDecreasing us → IsBinarySearchResult (λ u. nat_cmp u t) us r → is_ok r ≡ is_listed us t
 listed-by-search us t r rising found = told us t r (searched us t r found (λ i j le within. rising i j 0 le within))

@@ -42,21 +42,21 @@ pub filter_alike : {X : Type 0} (p q : X → Bool) → ((x : X) → p x ≡ q x)
 filter_alike p q same [] = refl
 filter_alike {X} p q same (x ∷ xs) = rw (same x) (ap (λ (l : List X). cond (q x) (x ∷ l) l) (filter_alike p q same xs))
 
--- the place where the times reach t cuts the samples before t from the others
+-- the index where the times reach t splits off the samples before t
 pub cut_at : (t : ℕ) (ps : List Point) (i : ℕ) → IsPartitionPoint (λ p. nat_lt p.time t ≡ true) (λ p. nat_lt p.time t ≡ false) ps i → i ≤ length ps
     → (take i ps ≡ at_times (λ n. nat_lt n t) ps) × (drop i ps ≡ at_times (nat_le t) ps)
 cut_at t ps i h le =
     let both = parted (λ p. nat_lt p.time t) ps i h le in
     (both.0, both.1 ∙ filter_alike (λ p. not (nat_lt p.time t)) (λ p. nat_le t p.time) (λ p. not_before t p.time) ps)
 
--- the place where the times pass t cuts the samples up to t from the others
+-- the index where the times pass t splits off the samples up to t
 pub cut_past : (t : ℕ) (ps : List Point) (i : ℕ) → IsPartitionPoint (λ p. nat_le p.time t ≡ true) (λ p. nat_le p.time t ≡ false) ps i → i ≤ length ps
     → (take i ps ≡ at_times (λ n. nat_le n t) ps) × (drop i ps ≡ at_times (nat_lt t) ps)
 cut_past t ps i h le =
     let both = parted (λ p. nat_le p.time t) ps i h le in
     (both.0, both.1 ∙ filter_alike (λ p. not (nat_le p.time t)) (λ p. nat_lt t p.time) (λ p. not_past t p.time) ps)
 
--- a time past the last sample stands at the end
+-- a time past the last sample has the index at the end
 pub past_all : (t : ℕ) (ps : List Point) → IsAscending ps → ((d : Point) → 0 < length ps → (get_or ps (length ps - 1) d).time < t)
     → IsPartitionPoint (λ p. nat_lt p.time t ≡ true) (λ p. nat_lt p.time t ≡ false) ps (length ps)
 past_all t ps h last = (

@@ -8,7 +8,7 @@ use Rattle.ts_spec.proofs.Samples.{at-time}
 use Rattle.ts_sample.specs.Chunk.{AreFine}
 use Rattle.ts_sample.proofs.Parted.{after_each}
 
--- each sample is up to the greatest time
+-- each sample is up to MAX_TIME
 pub between-all : (ps : List Point) → AreFine ps → between 0 MAX_TIME ps ≡ ps
 between-all [] h = refl
 between-all (p ∷ ps) h =
@@ -30,7 +30,7 @@ all-past x (p ∷ ps) h =
     let here : nat_lt x p.time ≡ true = grind (arith, nat_tests) in
     rw here (ap (λ (l : List Point). p ∷ l) (all-past x ps h.1))
 
--- written over the sample of its time, a sample is put to its time
+-- overwriting the sample at its time is `put`
 put-over : (ps : List Point) (i : ℕ) (p : Point) → IsAscending ps → i < length ps → (get_or ps i p).time ≡ p.time → set ps i p ≡ put p ps
 put-over [] i p h lt same = absurd (omega arith)
 put-over (q ∷ ps) zero p h lt same =

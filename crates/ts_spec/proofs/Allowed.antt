@@ -20,11 +20,11 @@ pub missing : {X : Type 0} (o : Option X) → is_some o ≡ false → o ≡ None
 missing None e = refl
 missing (Some x) e = absurd (false≢true (sym e))
 
--- a new series, with samples that it has room for
+-- a new series whose samples are within the limit
 abbrev pub IsNewRecord : Limits → Record → Type 0
 IsNewRecord limits c = IsSound c × (c.rules ≡ []) × (at_times (nat_le (edge c)) c.plain ≡ c.plain) × (c.born ≡ 0) × (length c.plain ≤ limits.samples)
 
--- it may come where the limits on labels and on keys are kept
+-- it may be created within the limits on labels and keys
 pub is-new : (limits : Limits) (m : State) (key : Key) (c : Record) → get key m ≡ None → IsNewRecord limits c → nat_lt limits.labels (length c.labels) ≡ false → nat_le limits.keys (count_keys m) ≡ false → IsNew limits m key c
 is-new limits m key c missing new few room = record {
   missing = missing;
@@ -54,7 +54,7 @@ one-new limits spec t v room = (record { ascending = (tt, tt); own = λ u p e. o
     kept : at_times (nat_le (edge_of spec.options.retention (Some t))) (record { time = t; value = v; made = 0 } ∷ []) ≡ record { time = t; value = v; made = 0 } ∷ []
     kept = ap (λ (b : Bool). if b then record { time = t; value = v; made = 0 } ∷ [] else []) (le-leb (edge_of spec.options.retention (Some t)) t (low spec.options.retention))
 
--- where no destination is full each has room
+-- if no destination is full, each is within its limit
 pub none-full : (limits : Limits) (n : State) (rs : List Rule) → first_full limits.samples n rs ≡ None → EachRule (λ r. length (shown n r.dest) ≤ limits.samples) rs
 none-full limits n [] h = tt
 none-full limits n (r ∷ rs) h = go (shows_more limits.samples n r.dest) refl h (none-full limits n rs)
@@ -65,7 +65,7 @@ none-full limits n (r ∷ rs) h = go (shows_more limits.samples n r.dest) refl h
     go true x y ih = absurd (cc y)
     go false x y ih = (ltb-false limits.samples (length (shown n r.dest)) x, ih y)
 
--- a rule that is not refused may be made
+-- a rule that is not refused may be created
 pub rulable : (limits : Limits) (m : State) (source dest : Key) (s d : Record) → get source m ≡ Some s → get dest m ≡ Some d → same source dest ≡ false → is_some (link_to m source) ≡ false →
     has_rules d.rules ≡ false → is_some (link_to m dest) ≡ false → nat_le limits.born s.born ≡ false → nat_le limits.rules (length s.rules) ≡ false → IsRulable limits m source dest s d
 rulable limits m source dest s d e f other a b c g h = record {

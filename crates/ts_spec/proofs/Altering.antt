@@ -58,7 +58,7 @@ bodies-nothing key f m =
         let rules : map (cleared_to key (λ b. false)) c.rules ≡ c.rules = all c.rules in
         λ i. Some (record c { plain = plain i; rules = rules i })
 
--- what a rule tells, of a settled state, is not before the edge of its destination
+-- in a settled state, no row of a rule is before the edge of its destination
 pub told-edge : (m : State) (k : Key) (l : Link) (d : Record) (b : ℕ) → settled m ≡ m → link_to m k ≡ Some l → get k m ≡ Some d → has_row_of l.rule b ≡ true → nat_le (edge d) b ≡ true
 told-edge m k l d b h x there t =
     let low : edge_at (get l.rule.dest m) ≡ edge d = ap (λ (j : Key). edge_at (get j m)) (link-dest m k l x) ∙ ap edge_at there in
@@ -100,7 +100,7 @@ module _ (limits : Limits) (m : State) (key : Key) (d : Record) (c : Change) (v 
   altering : IsDone m key d (altered c) (λ d r. r)
   altering = record { linked = v.linked; settled = v.settled; there = there; keeps = altered-keeps c }
 
-  -- New options take from what the key shows the samples before its new edge.
+  -- New options remove the samples before the new edge from what the key shows.
   pub shown-altered : shown (settled (bodies key (altered c) (λ r b. false) (λ b. false) m)) key ≡ at_times (nat_le (edge (altered c d))) (shown m key)
   shown-altered = go (link_to m key) refl
     where
@@ -143,7 +143,7 @@ module _ (limits : Limits) (m : State) (key : Key) (d : Record) (c : Change) (v 
       and-false true = refl
       and-false false = refl
 
-  -- New options and labels keep the state valid, where the labels are few enough.
+  -- TS.ALTER keeps the state valid, if the labels are within the limit.
   pub valid-altered : is_longer limits.labels c.labels ≡ false → IsValid limits (settled (change key (altered c) m))
   valid-altered few =
       subst (λ (n : State). IsValid limits (settled n)) (bodies-nothing key (altered c) m)

@@ -14,7 +14,7 @@ use Rattle.ts_spec.proofs.PlainWrite.{get-change}
 use Rattle.ts_spec.proofs.Unmoved.{lost-elsewhere, lost-unlinked, cleared-elsewhere}
 use Rattle.ts_spec.proofs.Sound.{sound-each, sound-settled, sound-lost, sound-clear_record}
 
--- the three changes of a command on a key: to its own record, to its destinations, and to the rule that leads to it
+-- the three changes of a command on a key: to its own record, to its destinations, and to the rule that writes to it
 abbrev pub bodies : Key → (Record → Record) → (Rule → ℕ → Bool) → (ℕ → Bool) → State → State
 bodies key f touches test m = clear_into key test (lost key touches (change key f m))
 

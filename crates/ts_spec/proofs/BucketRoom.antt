@@ -42,7 +42,8 @@ counted-before d r t u p s h x = go r.top refl d.high refl
         let three : high < t = ltb-true high t (ap (is_append t) (sym f) ∙ h) in
         omega arith
 
--- The running summary of a rule counts fewer samples than its open bucket has milliseconds, where one is appended to that.
+-- If a sample is appended to the open bucket of a rule, the running summary counts fewer samples than the bucket has
+-- milliseconds.
 pub running-room : (d : Record) (r : Rule) (t : ℕ) → IsSoundRule d r → 1 ≤ r.grid.duration → is_append t d.high ≡ true → open_of r ≡ Some (start r.grid t) →
     (kept_rule r).running.count < r.grid.duration
 running-room d r t s h fresh here =
@@ -58,7 +59,7 @@ running-room d r t s h fresh here =
     passed u p true e = e
     passed u p false e = absurd (cc e)
 
--- each of these rules has room for a sample at this time, if that is in its open bucket
+-- each of these rules can count one more sample at this time, if that is in its open bucket
 abbrev pub HaveRoom : ℕ → List KeptRule → Type 0
 HaveRoom t [] = ⊤
 HaveRoom t (q ∷ qs) = (q.current ≡ Some (start q.grid t) → q.running.count < q.grid.duration) × HaveRoom t qs
@@ -67,7 +68,7 @@ rules-room : (d : Record) (t : ℕ) (rs : List Rule) → is_append t d.high ≡ 
 rules-room d t [] fresh h x = tt
 rules-room d t (r ∷ rs) fresh h x = (λ here. running-room d r t x.0 h.0 fresh here, rules-room d t rs fresh h.1 x.1)
 
--- So has each rule of what stands for a state, for a sample that is appended.
+-- The same for each stored rule, and a sample that is appended.
 pub stands-room : (limits : Limits) (keys : Keeping) (m : State) (k : Key) (c : Kept) (t : ℕ) → StandsFor limits keys m → AllHaveDurations keys → get k keys ≡ Some c → is_append t c.high ≡ true →
     HaveRoom t c.rules
 stands-room limits keys m k c t s h x fresh =

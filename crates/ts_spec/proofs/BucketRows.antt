@@ -24,7 +24,7 @@ at-bucket agg born b c ps = go (b == c) refl
     go true e = ap (λ (n : ℕ). at n (bucket_row agg born b (summary ps))) (sym (eqb-true b c e)) ∙ at-row agg born b ps
     go false e = at-other_row agg born b c (summary ps) e
 
--- what a rule tells at a time, by its open bucket
+-- the row of a rule at a time, by its open bucket
 pub tells-row : (r : Rule) (born c : ℕ) → tells r born c ≡ (if is_past (open_of r) c then row_over r.agg born c (members r.grid c r.seen) else None)
 tells-row r born c = go (is_past (open_of r) c)
   where
@@ -40,7 +40,7 @@ any-at (q ∷ ps) t p h = refl
 
 -- ---- tests of times
 
--- both tests hold of no number
+-- no number passes both tests
 pub unmet : (a : Bool) (c b x : ℕ) → (c ≡ b → c < x → ⊥) → ((a && (c == b)) && nat_lt c x) ≡ false
 unmet a c b x f = go a (c == b) (nat_lt c x) refl refl
   where
@@ -50,7 +50,7 @@ unmet a c b x f = go a (c == b) (nat_lt c x) refl refl
     go true true false u w = refl
     go true true true u w = absurd (f (eqb-true c b u) (ltb-true c x w))
 
--- what is told at a time before the open bucket, and from it on
+-- the row at a time before the open bucket, and from it on
 pub closed : (c o : ℕ) (x : Option Point) → c < o → (if nat_lt c o then x else None) ≡ x
 closed c o x h = ap (λ (b : Bool). if b then x else None) (lt-ltb c o h)
 

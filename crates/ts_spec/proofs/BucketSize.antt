@@ -7,7 +7,8 @@ use Rattle.ts_spec.specs.Bucket.{Grid, start, members}
 use Rattle.ts_spec.proofs.Buckets.{start-late, start-early, start-le, past-div}
 use Rattle.ts_spec.proofs.Samples.{IsBefore, ascending-times}
 
--- Two times of one bucket are less than its duration apart. A bucket that would begin before time 0 is cut there, and so shorter.
+-- Two times of one bucket are less than its duration apart. A bucket that would begin before time 0 is cut there, so
+-- it is shorter.
 pub same-bucket : (g : Grid) (t u : ℕ) → 1 ≤ g.duration → start g t ≡ start g u → u < t + g.duration
 same-bucket g t u h e = go (cases_lt u g.align) (start-le g t (omega arith))
   where

@@ -6,8 +6,9 @@ use Rattle.ts_spec.specs.Bucket.{Grid, start, members}
 use Rattle.ts_spec.proofs.Buckets.{start-le, start-start, start-order}
 use Rattle.ts_spec.proofs.Samples.{at-times, ascending-times, ascending-same}
 
--- The members of the bucket of a time are the samples between its start and its last time. A bucket that would begin before time 0, or
--- end past the greatest time, is shorter than its duration: so its last time is not told by that.
+-- The members of the bucket of a time are the samples between its start and its last time. A bucket that would begin
+-- before time 0, or
+-- end past MAX_TIME, is shorter than its duration: so its last time is not told by that.
 pub members-between : (g : Grid) (t last : ℕ) (ps : List Point) → 1 ≤ g.duration → IsAscending ps → start g last ≡ start g t →
     ((u : ℕ) (p : Point) → at u ps ≡ Some p → start g u ≡ start g t → u ≤ last) → members g (start g t) ps ≡ between (start g t) last ps
 members-between g t last ps h a same latest =

@@ -6,7 +6,7 @@ use Rattle.std.proofs.Math.Nat.{eq-zero-or-pos, div-mul-le_self, mul-div-le, div
 use Rattle.std.specs.Int.{int_div_euclid}
 use Rattle.ts_spec.specs.Bucket.{Grid, from_zero, start}
 
--- at most 0 where the second number is the greater
+-- at most 0 if the second number is greater
 less : (a k : ℕ) → from_zero (pos a +ℤ neg_ℤ (pos k)) ≡ a - k
 less a zero = omega arith
 less a (suc k) = elim (cases_lt a (suc k)) [
@@ -58,7 +58,7 @@ start-mono g t u h l = go (cases_lt t g.align) (cases_lt u g.align)
         let r : start g u ≡ g.align + g.duration * ((u - g.align) / g.duration) = start-late g u y in
         omega arith
 
--- where buckets have no length they all start at the alignment
+-- buckets without length all start at the alignment
 start-still : (g : Grid) (t : ℕ) → g.duration ≡ 0 → start g t ≡ g.align
 start-still g t h = go (cases_lt t g.align)
   where
@@ -105,7 +105,7 @@ last-div d q h =
     let high : (q + 1) * d ≡ d * q + d = mul_comm (q + 1) d ∙ ap (λ (x : ℕ). d * x) (add-one q) ∙ mul-suc d q in
     div-eq_of_lt-le {k = q} d {m = d * suc q - 1} (omega arith) (omega arith)
 
--- A start lies in the bucket that it starts.
+-- A start is in its own bucket.
 pub start-start : (g : Grid) (t : ℕ) → 0 < g.duration → start g (start g t) ≡ start g t
 start-start g t h = go (cases_lt t g.align)
   where

@@ -25,7 +25,7 @@ use Rattle.ts_spec.proofs.ShownAfter.{tells, tells-expired, shown-tidied, length
 
 -- ---- the command on a key, in general
 
--- where no rule leads to the key: its own samples from the edge on
+-- without a rule that writes to the key: its own samples from the edge on
 pub shown-source : (m : State) (key : Key) (d : Record) (f : Record → Record) (g : Record → Rule → Rule) (touches : Rule → ℕ → Bool) (test : ℕ → Bool) → IsDone m key d f g → link_to m key ≡ None →
     shown (settled (bodies key f touches test m)) key ≡ at_times (nat_le (edge (f d))) (f d).plain
 shown-source m key d f g touches test h x =
@@ -35,7 +35,7 @@ shown-source m key d f g touches test h x =
     (rule-settled (bodies key f touches test m) key
     ∙ ap (λ (o : Option Link). option_map (λ r. expired (edge_at (get r.dest (tidied (bodies key f touches test m)))) r) (option_map (λ (l : Link). l.rule) o)) (link-bodies-none key f g touches test m key h.keeps x))
 
--- where a rule leads to it: at a time, what the rule tells that is not cleared, or its own sample
+-- with such a rule: at each time, the row of the rule if it is not cleared, or else the own sample
 pub shown-own : (m : State) (key : Key) (d : Record) (f : Record → Record) (g : Record → Rule → Rule) (touches : Rule → ℕ → Bool) (test : ℕ → Bool) (l : Link) → IsDone m key d f g → link_to m key ≡ Some l →
     ((b : ℕ) → IsUpTo d.high b → IsUpTo (f d).high b) → (t : ℕ) →
     at t (shown (settled (bodies key f touches test m)) key) ≡ (if nat_le (edge (f d)) t then option_or (if test t then None else tells l.rule (f d).born t) (at t (f d).plain) else None)
@@ -62,7 +62,7 @@ ascending-key m key s = go (get key m) refl
     go None x = subst IsAscending (sym (shown-missing m key x)) tt
     go (Some d) x = subst IsAscending (sym (shown-there m key d x)) (ascending-shown (rule_into m key) d (s key d x).ascending)
 
--- A deletion takes the samples of the interval from what the key shows, and leaves the others.
+-- A deletion removes the samples of the interval from what the key shows, and no others.
 pub shown-deleted : (limits : Limits) (m : State) (key : Key) (d : Record) (from to : ℕ) → IsValid limits m → get key m ≡ Some d →
     shown (deleted key from to m) key ≡ outside from to (shown m key)
 shown-deleted limits m key d from to v there = go (link_to m key) refl
@@ -89,7 +89,7 @@ shown-deleted limits m key d from to v there = go (link_to m key) refl
         cases t false true = refl
         cases t false false = refl
 
--- A deletion keeps the state valid, where the key's destinations show few enough samples after it.
+-- A deletion keeps the state valid, if the destinations of the key stay within the limit on samples.
 pub deletion-valid : (limits : Limits) (m : State) (key : Key) (d : Record) (from to : ℕ) → IsValid limits m → get key m ≡ Some d →
     EachRule (λ r. length (shown (deleted key from to m) r.dest) ≤ limits.samples) d.rules → IsValid limits (deleted key from to m)
 deletion-valid limits m key d from to v there dests =
@@ -111,7 +111,7 @@ edge-raised retention t None = omega arith
 edge-raised zero t (Some h) = omega arith
 edge-raised (suc n) t (Some h) = omega arith
 
--- A write puts its sample into what the key shows, and what is then before the edge goes.
+-- A write puts its sample into what the key shows, and removes what is then before the edge.
 pub shown-written : (limits : Limits) (m : State) (key : Key) (d : Record) (t : ℕ) (v : ℤ) → IsValid limits m → get key m ≡ Some d →
     shown (written key t v m) key ≡ at_times (nat_le (edge_of d.options.retention (raised t d.high))) (put (sample_for t v d) (shown m key))
 shown-written limits m key d t v h there = go (link_to m key) refl
@@ -145,7 +145,8 @@ shown-written limits m key d t v h there = go (link_to m key) refl
 
 -- ---- a destination of the key
 
--- What a destination shows at a time after a command on its source: what the rule then tells, or its own sample unless that was lost.
+-- What a destination shows at a time after a command on its source: the new row of the rule, or its own sample
+-- unless that was lost.
 pub shown-dest : (m : State) (key : Key) (d : Record) (f : Record → Record) (g : Record → Rule → Rule) (touches : Rule → ℕ → Bool) (test : ℕ → Bool) → IsDone m key d f g →
     (k : Key) (r : Rule) (e : Record) → link_to m k ≡ Some (record { source = key; rule = r }) → get k m ≡ Some e → (t : ℕ) →
     at t (shown (settled (bodies key f touches test m)) k) ≡

@@ -83,7 +83,7 @@ counts-all-written t v d r s k e = go (is_append t d.high) refl
         (λ u. at-touched (λ c. c == start r.grid t) (put (sample_for t v d) d.plain) d.plain r u (ascending-put (sample_for t v d) d.plain s.ascending) s.ascending e (outside_bucket u)
         ∙ sym (at-filter u (is_eligible r) (put (sample_for t v d) d.plain) (ascending-put (sample_for t v d) d.plain s.ascending)))
 
--- a sample of a list meets its own bucket
+-- a sample of a list is in its own bucket
 meets-own : (ps : List Point) (r : Rule) (t : ℕ) (p : Point) → at t ps ≡ Some p → meets ps r (start r.grid t) ≡ true
 meets-own [] r t p h = absurd (cc h)
 meets-own (q ∷ ps) r t p h = go (q.time == t) refl h (meets-own ps r t p)

@@ -46,7 +46,7 @@ counts-on-new m s k key old c limits v missing none h r x u w =
     let dest : get k (with_key key c m) ≡ get k m = other-new m key c v.linked missing none k (there-other m key c v.linked missing none k t.record_of t.there) in
     counts-moved m (with_key key c m) s old r (ap plain_at source) (h r y (sym (ap retention_at source) ∙ u) (sym (ap retention_at dest) ∙ w))
 
--- ---- the making of a rule
+-- ---- creating a rule
 
 pub counts-on-ruled : (limits : Limits) (m : State) (s k source dest : Key) (agg : Aggregator) (grid : Grid) (c d : Record) (old : Rule) → IsValid limits m → IsRulable limits m source dest c d →
     link_to m k ≡ Some (record { source = s; rule = old }) → CountsOn old m s k → CountsOn old (ruled source dest agg grid m) s k

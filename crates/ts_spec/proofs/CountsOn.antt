@@ -18,7 +18,7 @@ use Rattle.ts_spec.proofs.Exact.{IsDone}
 use Rattle.ts_spec.proofs.ClientChanges.{write-done, deletion-done}
 use Rattle.ts_spec.proofs.CountsAll.{CountsFrom, CountsForEver, link-settled, counts-all-after-write, counts-all-after-deletion}
 
--- Where a rule leads from one key to another and neither has a retention, it is the old one still, and counts all.
+-- If a rule connects two keys and neither has a retention, it is unchanged and counts all samples.
 abbrev pub CountsOn : Rule → State → Key → Key → Type 0
 CountsOn old m s k = (r : Rule) → link_to m k ≡ Some (record { source = s; rule = r }) → retention_at (get s m) ≡ 0 → retention_at (get k m) ≡ 0 → StillCountsAll m s old r
 

@@ -28,12 +28,13 @@ use Rattle.ts_spec.proofs.KeptBodies.{kept-bodies, kept-bodies-missing, kept-els
 use Rattle.ts_spec.proofs.Mends.{IsMending, kept-mended}
 use Rattle.ts_spec.proofs.DeletedRules.{kept-recounted, tells-recounted, lost-loses}
 
--- the premise of the mending: at the closed buckets that lost a sample the recounted rule tells exactly the rows, elsewhere what it told
+-- the premise of the update: at closed buckets that lost a sample the recounted rule has exactly the rows, elsewhere
+-- its old ones
 pub mending-deleted : (gone left : List Point) (born : ℕ) (key : Key) (r : Rule) → IsAscending left → IsAscending r.seen →
     IsMending r (recounted gone left r) born (lost_by key (meets gone) (Some (record { source = key; rule = recounted gone left r }))) (loses gone (kept_rule r)) (deleted_rows gone left born (kept_rule r))
 mending-deleted gone left born key r h k = record { told = λ t. tells-recounted gone left born r t h k; own = λ t e. lost-loses gone left key r t }
 
--- what is kept of the rules of the key
+-- the stored rules of the key
 rules-deleted : (gone left : List Point) (d : Record) (rs : List Rule) → IsAscending left → EachRule (IsSoundRule d) rs →
     map kept_rule (map (recounted gone left) rs) ≡ map (deleted_rule gone left) (map kept_rule rs)
 rules-deleted gone left d [] h x = refl
@@ -97,7 +98,7 @@ module _ (limits : Limits) (m : State) (key : Key) (d : Record) (from to : ℕ) 
           ap (λ (rs : List Rule). map kept_rule (map (recount d) rs)) none
           ∙ ap (λ (rs : List Rule). map (deleted_rule (between from to (shown_by (rule_into m key) d)) (outside from to (shown_by (rule_into m key) d))) (map kept_rule rs)) (sym none)
 
-  -- What is kept of the key itself.
+  -- The stored series of the key itself.
   pub key-deleted : get key (kept (deleted key from to m)) ≡ Some (kept_without from to (kept_record (link_to m key) d))
   key-deleted =
       let list : shown (deleted key from to m) key ≡ outside from to (shown_by (rule_into m key) d) = shown-deleted limits m key d from to v there ∙ ap (outside from to) (shown-there m key d there) in
@@ -113,7 +114,7 @@ module _ (limits : Limits) (m : State) (key : Key) (d : Record) (from to : ℕ) 
 
   -- ---- its destinations
 
-  -- What is kept of a destination is mended.
+  -- The stored series of a destination is updated.
   pub dest-deleted-kept : (k : Key) (r : Rule) (e : Record) → link_to m k ≡ Some (record { source = key; rule = r }) → rule_to k d.rules ≡ Some r → get k m ≡ Some e →
       get k (kept (deleted key from to m)) ≡
       Some (mended_kept (loses (between from to d.plain) (kept_rule r)) (deleted_rows (between from to d.plain) (outside from to d.plain) e.born (kept_rule r)) (kept_record (link_to m k) e))
@@ -129,7 +130,7 @@ module _ (limits : Limits) (m : State) (key : Key) (d : Record) (from to : ℕ) 
 
   -- ---- each key
 
-  -- what the deletion does to what is kept of another key, by the rule of the key that leads there
+  -- what the deletion does to another stored series, by the rule of the key that writes to it
   elsewhere-deleted : (k : Key) (c : Kept) (o : Option Rule) → same k key ≡ false → rule_to k d.rules ≡ o →
       after_deletion key from to (Some (kept_record (link_to m key) d)) k c ≡ fed_by_deletion from to (kept_record (link_to m key) d) (option_map kept_rule o) c
   elsewhere-deleted k c o other x =
@@ -175,7 +176,7 @@ module _ (limits : Limits) (m : State) (key : Key) (d : Record) (from to : ℕ) 
           ∙ sym (kept-there m k c y)
           ∙ sym (kept-elsewhere key (without from to) recount touched_by (is_within from to) m (deletion-keeps from to) k v.settled x)
 
-  -- What is kept after a deletion is what the deletion does to what was kept.
+  -- Storing and deleting commute.
   pub kept-deleted : kept (deleted key from to m) ≡ keep_deleted key from to (kept m)
   kept-deleted =
       sym (kept-each (kept m) (after_deletion key from to (get key (kept m))) m (deleted key from to m) refl

@@ -18,7 +18,7 @@ use Rattle.ts_spec.proofs.Touching.{members-touched}
 
 -- ---- the open bucket
 
--- The running summary is told anew where the open bucket held a sample that goes, and else stays.
+-- The running summary is recounted if the open bucket lost a sample, and stays otherwise.
 pub kept-recounted : (gone left : List Point) (r : Rule) → IsAscending left → IsAscending r.seen → kept_rule (recounted gone left r) ≡ deleted_rule gone left (kept_rule r)
 kept-recounted gone left r h k =
     let running : summary_at (recounted gone left r) (open_of r) ≡ running_without gone left (kept_rule r) (open_of r) = go (open_of r) refl in
@@ -82,7 +82,7 @@ any-filter : (test : Point → Bool) (ps : List Point) → has_any ps ≡ false 
 any-filter test [] h = refl
 any-filter test (p ∷ ps) h = absurd (cc h)
 
--- the rows that a deletion tells a destination, at a time
+-- the rows that a deletion sends to a destination, at a time
 pub at-deleted_rows : (gone left : List Point) (born : ℕ) (r : Rule) (t : ℕ) →
     at t (deleted_rows gone left born (kept_rule r)) ≡
     (if is_closed r t && meets gone r t
@@ -102,9 +102,9 @@ at-deleted_rows gone left born r t =
     go true false e =
         ap (λ (z : Bool). if z then Some (sample_over r born t (filter (is_eligible r) (members r.grid t left))) else None) (sym (any-filter (is_eligible r) (members r.grid t left) e))
 
--- ---- what the rule tells
+-- ---- the rows of the rule
 
--- A recounted rule tells the rows where closed buckets lost a sample, and elsewhere what it told.
+-- A recounted rule has the new rows at closed buckets that lost a sample, and its old ones elsewhere.
 pub tells-recounted : (gone left : List Point) (born : ℕ) (r : Rule) (t : ℕ) → IsAscending left → IsAscending r.seen →
     tells (recounted gone left r) born t ≡ option_or (at t (deleted_rows gone left born (kept_rule r))) (if loses gone (kept_rule r) t then None else tells r born t)
 tells-recounted gone left born r t h k =

@@ -28,7 +28,7 @@ module _ (limits : Limits) (m : State) (ends : Key → Key → Bool) (v : IsVali
 
   -- ---- links
 
-  -- a link that is left was there, and its rule does not end
+  -- a remaining link existed before, and its rule does not end
   pub link-before : (k : Key) (l : Link) → link_to (ended ends m) k ≡ Some l → (link_to m k ≡ Some l) × (ends l.source k ≡ false)
   link-before k l x =
       let f : Found (ended ends m).entries k l = link-found (ended ends m) k l x in
@@ -42,7 +42,7 @@ module _ (limits : Limits) (m : State) (ends : Key → Key → Bool) (v : IsVali
       go c y true e z = absurd (cc z)
       go c y false e z = (rule-link m l.source k c l.rule v.linked y z, e)
 
-  -- a rule that does not end is left
+  -- a rule that does not end remains
   pub link-left : (k : Key) (l : Link) → link_to m k ≡ Some l → ends l.source k ≡ false → link_to (ended ends m) k ≡ Some l
   link-left k l x e =
       let f : Found m.entries k l = link-found m k l x in
@@ -84,7 +84,7 @@ module _ (limits : Limits) (m : State) (ends : Key → Key → Bool) (v : IsVali
           again true e = Gone l x e
           again false e = Left l x e
 
-  -- what its record shows by the link that is left is what it showed
+  -- its record shows by the remaining link what it showed before
   shown-kept : (k : Key) (d : Record) → get k m ≡ Some d → Fate k → shown_by (rule_into (ended ends m) k) (ended_in ends m k d) ≡ shown_by (rule_into m k) d
   shown-kept k d x (Free y) =
       ap (λ (o : Option Link). shown_by (option_map (λ (l : Link). l.rule) o) (ended_in ends m k d)) (link-none-left k y)
@@ -98,7 +98,7 @@ module _ (limits : Limits) (m : State) (ends : Key → Key → Bool) (v : IsVali
       ∙ shown-alike (rule_into m k) (ended_in ends m k d) d
       (record { options = refl; labels = refl; plain = ap (λ (b : Bool). if b then shown_by (rule_into m k) d else d.plain) (ap (ends_into ends k) y ∙ e); high = refl; born = refl })
 
-  -- The end of rules changes nothing that is shown.
+  -- Ending rules changes nothing that is shown.
   pub shown-ended : (k : Key) (d : Record) → get k m ≡ Some d → shown (ended ends m) k ≡ shown m k
   shown-ended k d x = shown-there (ended ends m) k (ended_in ends m k d) (get-ended k d x) ∙ shown-kept k d x (fate k) ∙ sym (shown-there m k d x)
 
@@ -221,7 +221,7 @@ module _ (limits : Limits) (m : State) (ends : Key → Key → Bool) (v : IsVali
       untrue true e = absurd (false≢true e)
       untrue false e = refl
 
-  -- The end of rules keeps the state valid.
+  -- Ending rules keeps the state valid.
   pub valid-ended : IsValid limits (ended ends m)
   valid-ended = record {
     sound = λ k c x. (let f : From (ended_in ends m k) (get k m) c = from-ended k c x in subst IsSound f.gives (sound-ended k f.value f.is));

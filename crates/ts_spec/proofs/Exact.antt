@@ -37,7 +37,7 @@ module _ (m : State) (key : Key) (d : Record) (f : Record → Record) (g : Recor
   here-same : (if same key key then f d else d) ≡ f d
   here-same = ap (λ (b : Bool). if b then f d else d) (same-refl key)
 
-  -- ---- a key that no rule leads to
+  -- ---- a key that no rule writes to
 
   pub source-body : link_to m key ≡ None → body key f touches test m key d ≡ clear_record key test (f d)
   source-body x =
@@ -55,7 +55,8 @@ module _ (m : State) (key : Key) (d : Record) (f : Record → Record) (g : Recor
           (link-none (λ k c. if same k key then f c else c) (λ k c r. if same k key then g c r else r) (change-keeps key f g h.keeps) key m x)
           (get-change m key key f ∙ ap (option_map (λ c. if same key key then f c else c)) h.there ∙ ap (λ (c : Record). Some c) here-same)
 
-  -- the record of the source: its samples from the edge on, and its rules expired by the edges that their destinations then have
+  -- the record of the source: its samples from the edge on, and its rules expired by the edges that their
+  -- destinations then have
   pub source-after : link_to m key ≡ None →
       get key (settled (bodies key f touches test m)) ≡
       Some (record (f d) { plain = at_times (nat_le (edge (f d))) (f d).plain; rules = map (λ r. expired (edge_at (get r.dest (settled (bodies key f touches test m)))) r) (f d).rules })
@@ -127,7 +128,7 @@ module _ (m : State) (key : Key) (d : Record) (f : Record → Record) (g : Recor
       ∙ ap (λ (j : Key). Some (expired (edge_at (get j (tidied (bodies key f touches test m)))) (g d r))) (h.keeps.dest d r ∙ link-dest m k (record { source = key; rule = r }) x)
       ∙ ap (λ (n : ℕ). Some (expired n (g d r))) (sym (edges-settled (bodies key f touches test m) k))
 
-  -- ---- a key that a rule leads to
+  -- ---- a key that a rule writes to
 
   source-other : (l : Link) → link_to m key ≡ Some l → same l.source key ≡ false
   source-other l x = go (same l.source key) refl

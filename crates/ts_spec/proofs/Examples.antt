@@ -22,7 +22,7 @@ abbrev pub responses_from : State → List Command → List Response
 responses_from m [] = []
 responses_from m (c ∷ cs) = let o : Outcome = step usual m 0 c in o.response ∷ responses_from o.state cs
 
--- what the commands are answered, from the empty database on
+-- the responses to the commands, from the empty database on
 abbrev pub responses : List Command → List Response
 responses cs = responses_from empty cs
 

@@ -54,7 +54,7 @@ edge-elsewhere key f g touches test m k d h s e x =
     ∙ ap edge (record-tidy m k d s x)
     ∙ ap edge_at (sym x)
 
--- and the rule that leads to it
+-- and the rule that writes to it
 pub rule-elsewhere : (key : Key) (f : Record → Record) (g : Record → Rule → Rule) (touches : Rule → ℕ → Bool) (test : ℕ → Bool) (m : State) (k : Key) (d : Record) → KeepsRules f g → settled m ≡ m → IsElsewhere m key k → get k m ≡ Some d →
     rule_into (settled (bodies key f touches test m)) k ≡ rule_into m k
 rule-elsewhere key f g touches test m k d h s e x =
@@ -70,7 +70,7 @@ rule-elsewhere key f g touches test m k d h s e x =
         subst (λ (j : Key). edge_at (get j (tidied (bodies key f touches test m))) ≡ edge_at (get j m)) (sym dest) (edge-elsewhere key f g touches test m k d h s e x) in
         ap (λ (q : Rule). Some q) (ap (λ (n : ℕ). expired n l.rule) same_edge ∙ link-expired m k l s y)
 
--- Where a command writes to one key, what is shown stays at each key that is neither it nor one of its destinations.
+-- A command that writes to one key changes what is shown only at that key and its destinations.
 pub shown-elsewhere : (key : Key) (f : Record → Record) (g : Record → Rule → Rule) (touches : Rule → ℕ → Bool) (test : ℕ → Bool) (m : State) (k : Key) → KeepsRules f g → settled m ≡ m → IsElsewhere m key k →
     shown (settled (bodies key f touches test m)) k ≡ shown m k
 shown-elsewhere key f g touches test m k h s e = go (get k m) refl
@@ -92,7 +92,7 @@ shown-elsewhere key f g touches test m k h s e = go (get k m) refl
         ∙ ap (shown_by (rule_into m k)) (record-tidy m k d s x)
         ∙ sym (shown-there m k d x)
 
--- where a key stands to the one that a command writes to
+-- the role of a key in a command: the written key, a destination of it, or another key
 pub data Place (m : State) (key k : Key) : Type 0 where
   Here : same k key ≡ true → Place m key k
   Destination : (l : Link) → link_to m k ≡ Some l → same l.source key ≡ true → Place m key k
@@ -124,7 +124,7 @@ length-map : (g : Rule → Rule) (rs : List Rule) → length (map g rs) ≡ leng
 length-map g [] = refl
 length-map g (r ∷ rs) = ap suc (length-map g rs)
 
--- A command on a key keeps the state valid, where the key and its destinations show few enough samples after it.
+-- A command on a key keeps the state valid, if the key and its destinations stay within the limit on samples.
 pub valid-bodies : (limits : Limits) (m : State) (key : Key) (d : Record) (f : Record → Record) (g : Record → Rule → Rule) (touches : Rule → ℕ → Bool) (test : ℕ → Bool) →
     KeepsRules f g → KeepsLimits limits f → ((c : Record) → IsSound c → IsSound (f c)) → IsValid limits m → get key m ≡ Some d →
     length (shown (settled (bodies key f touches test m)) key) ≤ limits.samples →
@@ -182,7 +182,7 @@ valid-bodies limits m key d f g touches test h keeps sound v there own dests = r
           samples = samples k inner.value inner.is (place-of m key k);
         })
 
--- A write keeps the state valid, where the key and its destinations show few enough samples after it.
+-- A write keeps the state valid, if the key and its destinations stay within the limit on samples.
 pub valid-written : (limits : Limits) (m : State) (key : Key) (d : Record) (t : ℕ) (v : ℤ) → IsValid limits m → get key m ≡ Some d →
     length (shown (written key t v m) key) ≤ limits.samples → EachRule (λ r. length (shown (written key t v m) r.dest) ≤ limits.samples) d.rules →
     IsValid limits (written key t v m)
@@ -190,7 +190,7 @@ valid-written limits m key d t v h there own dests =
     valid-bodies limits m key d (with_sample t v) (λ c r. counted (sample_for t v c) c.high (put (sample_for t v c) c.plain) r) (write_touches t (high_at (get key m))) (λ b. b == t)
     (sample-keeps t v) (record { labels = λ c x. x; born = λ c. refl }) (λ c x. sound-written t v c x) h there own dests
 
--- A deletion keeps the state valid, where the key and its destinations show few enough samples after it.
+-- A deletion keeps the state valid, if the key and its destinations stay within the limit on samples.
 pub valid-deleted : (limits : Limits) (m : State) (key : Key) (d : Record) (from to : ℕ) → IsValid limits m → get key m ≡ Some d →
     length (shown (deleted key from to m) key) ≤ limits.samples → EachRule (λ r. length (shown (deleted key from to m) r.dest) ≤ limits.samples) d.rules →
     IsValid limits (deleted key from to m)

@@ -30,7 +30,7 @@ use Rattle.ts_spec.proofs.KeptMaps.{read-kept, list-kept, rule_from-kept}
 abbrev row_of_bucket : (born b : ℕ) → ℤ → Point
 row_of_bucket born b v = record { time = b; value = v; made = born }
 
--- the row of the summary of a list, which is none where the list is empty
+-- the row of the summary of a list; an empty list has none
 pub row-summary : (agg : Aggregator) (born b : ℕ) (ps : List Point) →
     bucket_row agg born b (summary ps) ≡ (if has_any ps then row_of_bucket born b (aggregate agg ps) ∷ [] else [])
 row-summary agg born b ps = ap (λ (n : ℕ). if n == 0 then [] else row_of_bucket born b (result_of agg (summary ps)) ∷ []) (summary-count ps) ∙ go ps (aggregate agg ps)
@@ -66,12 +66,12 @@ latest-kept m k =
     read-kept m k (latest_list_at (kept m) k) (λ o. latest_at o (rule_into m k)) refl
     (λ d x. ap (λ (o : Option KeptRule). with_open o (kept_record (link_to m k) d)) (rule_from-kept m k) ∙ with-open (rule_into m k) (link_to m k) d refl)
 
--- The samples asked are those of the state.
+-- A query reads the same samples as over the state.
 pub asked-kept : (m : State) (and_open : Bool) (k : Key) → kept_asked (kept m) and_open k ≡ asked m and_open k
 asked-kept m true k = latest-kept m k
 asked-kept m false k = list-kept m k
 
--- ---- answers over one series
+-- ---- queries over one series
 
 pub range-kept : (limits : Limits) (m : State) (k : Key) (and_open : Bool) (q : Query) → kept_range_response limits (kept m) k and_open q (get k (kept m)) ≡ range_response limits m k and_open q (get k m)
 range-kept limits m k and_open q =
@@ -89,7 +89,7 @@ info-kept m k =
     let rules : map kept_rule_info (map kept_rule d.rules) ≡ map rule_info d.rules = map-map kept_rule_info kept_rule d.rules in
     λ i. Told (record (info_of m k d) { total = length (list i); first = time_or_0 (first_of (list i)); last = time_or_0 (last_of (list i)); rules = rules i })))
 
--- ---- answers over many
+-- ---- queries over many series
 
 pub labels-kept : (m : State) (k : Key) → kept_labels_at (get k (kept m)) ≡ labels_at (get k m)
 labels-kept m k = read-kept m k kept_labels_at labels_at refl (λ d x. refl)

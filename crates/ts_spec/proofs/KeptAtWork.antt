@@ -19,7 +19,7 @@ abbrev pub kept_responses_from : Limits → Keeping → List Command → List Re
 kept_responses_from limits m [] = []
 kept_responses_from limits m (x ∷ xs) = let o : KeptOutcome = kept_step limits m 0 x in o.response ∷ kept_responses_from limits o.keys xs
 
--- what the commands are answered from what is kept, from the empty database on
+-- the responses from the stored data, from the empty database on
 abbrev pub kept_responses : List Command → List Response
 kept_responses xs = kept_responses_from usual none xs
 
@@ -43,7 +43,7 @@ pub late_before_the_rule_kept : kept_responses late_script ≡ late_answers
 unfolding clamp
 late_before_the_rule_kept = refl
 
--- ---- a bucket that a deletion takes nothing from
+-- ---- a bucket that loses nothing to a deletion
 
 abbrev untouched_script : List Command
 untouched_script = create s ∷ create d ∷ sum_rule s d ∷ add s 2 1 ∷ add s 12 1 ∷ add s 31 1 ∷ replace d 0 99 ∷ range d ∷ DelRange s 5 15 ∷ range d ∷ []
@@ -60,7 +60,7 @@ pub untouched_bucket_kept : kept_responses untouched_script ≡ untouched_answer
 unfolding clamp
 untouched_bucket_kept = refl
 
--- ---- a destination that keeps less
+-- ---- a destination with a shorter retention
 
 abbrev retained_script : List Command
 retained_script = create s ∷ create_kept_for 5 d ∷ sum_rule s d ∷ add s 2 1 ∷ add s 12 1 ∷ add s 31 1 ∷ range d ∷ []
@@ -92,7 +92,7 @@ short_first_bucket = refl
 pub short_first_bucket_kept : kept_responses short_script ≡ short_answers
 short_first_bucket_kept = refl
 
--- ---- a deletion that would tell a destination too many samples
+-- ---- a deletion after which a destination would show too many samples
 
 abbrev at_most_three : Limits
 at_most_three = record usual { samples = 3 }

@@ -19,7 +19,7 @@ use Rattle.ts_spec.proofs.KeptMaps.{kept-there, kept-missing}
 
 -- ---- cleared rules
 
--- A clearing takes only counted samples of closed buckets, and what is kept of the rule stays.
+-- Clearing drops only counted samples of closed buckets, so the stored rule stays.
 pub kept-cleared : (test : ℕ → Bool) (r : Rule) → kept_rule (cleared test r) ≡ kept_rule r
 kept-cleared test r = let running : summary_at (cleared test r) (open_of r) ≡ summary_at r (open_of r) = go (open_of r) refl in λ i. record (kept_rule r) { running = running i }
   where
@@ -35,7 +35,7 @@ kept-cleared test r = let running : summary_at (cleared test r) (open_of r) ≡ 
         untouched true = refl
         untouched false = refl
 
--- rules that change to others of which the same is kept
+-- rules that change but have the same stored form
 pub kept-rules-same : (g : Rule → Rule) (rs : List Rule) → ((r : Rule) → kept_rule (g r) ≡ kept_rule r) → map kept_rule (map g rs) ≡ map kept_rule rs
 kept-rules-same g [] h = refl
 kept-rules-same g (r ∷ rs) h =
@@ -58,7 +58,8 @@ module _ (key : Key) (f : Record → Record) (g : Record → Rule → Rule) (tou
           let from : Found m.entries k l = link-found m k l x in
           ap (option_map (λ (q : Link). q.source)) (link-bodies-some key f g touches test m k l from.record_of h x from.there)
 
-  -- what is kept of a key: of its changed record, with what it then shows and its highest time, raised by the rule that leads to it
+  -- the stored series of a key: from its changed record, with what it then shows, and its highest time raised by
+  -- the rule that writes to it
   pub kept-bodies : (k : Key) (c : Record) → get k m ≡ Some c →
       get k (kept (settled (bodies key f touches test m))) ≡
       Some (record (kept_record (link_to m k) (if same k key then f c else c)) {
@@ -87,7 +88,7 @@ module _ (key : Key) (f : Record → Record) (g : Record → Rule → Rule) (tou
       kept-missing (settled (bodies key f touches test m)) k
       (get-settled (bodies key f touches test m) k ∙ ap (option_map (settled_record (bodies key f touches test m) k)) (get-bodies key f touches test m k ∙ ap (option_map (body key f touches test m k)) x))
 
-  -- What is kept of a key that is neither that of the command nor one of its destinations stays.
+  -- The stored series of a key stays, unless it is the key of the command or one of its destinations.
   pub kept-elsewhere : (k : Key) → settled m ≡ m → IsElsewhere m key k → get k (kept (settled (bodies key f touches test m))) ≡ get k (kept m)
   kept-elsewhere k s e = go (get k m) refl
     where

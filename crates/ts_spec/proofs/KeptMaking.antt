@@ -42,7 +42,7 @@ kept-with m key c linked missing none =
     go k false x = get-kept m k
 
 module _ {Room : Type 0} {changed : Key → Bool} {Known : Key → Key → Rule → Type 0} (limits : Limits) (m : State) (v : IsValid limits m) where
-  -- a new series answers the same, and leads to what is kept of the state with it
+  -- creating a series has the same response, and gives the stored form of the new state
   led-new_key : (key : Key) (c : Record) (r : Response) → get key m ≡ None →
       c.rules ≡ [] → (Room → IsNewRecord limits c) → IsLed limits Room changed Known m (new_key limits m key c r) (kept_new_key limits (kept m) key (kept_record None c) r)
   led-new_key key c r missing none new =

@@ -35,7 +35,7 @@ some-mapped f (Some x) = refl
 pub some-kept : (m : State) (k : Key) → is_some (get k (kept m)) ≡ is_some (get k m)
 some-kept m k = ap is_some (get-kept m k) ∙ some-mapped (kept_record (link_to m k)) (get k m)
 
--- what is read off what is kept of a key is what is read off its record, where it is for none and for some
+-- a function of the stored series equals a function of the record, if it does for a missing key and for an existing one
 pub read-kept : {X : Type 0} (m : State) (k : Key) (f : Option Kept → X) (g : Option Record → X) → f None ≡ g None → ((d : Record) → get k m ≡ Some d → f (Some (kept_record (link_to m k) d)) ≡ g (Some d)) →
     f (get k (kept m)) ≡ g (get k m)
 read-kept m k f g none some = ap f (get-kept m k) ∙ go (get k m) refl
@@ -44,7 +44,7 @@ read-kept m k f g none some = ap f (get-kept m k) ∙ go (get k m) refl
     go None x = none
     go (Some d) x = some d x
 
--- What is kept of each key of a state is what is kept of the state.
+-- Storing each key stores the state.
 pub kept-same : (keys : Keeping) (n : State) → ((k : Key) → get k keys ≡ option_map (kept_record (link_to n k)) (get k n)) → keys ≡ kept n
 kept-same keys n h = maps-same keys (kept n) (λ k. h k ∙ sym (get-kept n k))
 
@@ -79,7 +79,7 @@ any-rules (r ∷ rs) = refl
 pub count-rules : (rs : List Rule) → length (map kept_rule rs) ≡ length rs
 count-rules rs = length-map rs kept_rule
 
--- the rule that leads to a key, found by the key of its source
+-- the rule that writes to a key, found by the key of its source
 pub rule_from-kept : (m : State) (k : Key) → rule_from (kept m) k (option_map (λ l. l.source) (link_to m k)) ≡ option_map kept_rule (rule_into m k)
 rule_from-kept m k = go (link_to m k) refl
   where

@@ -56,7 +56,7 @@ led-madd limits m v reading items (x ∷ xs) =
 
 -- ---- steps
 
--- where there is always room, and nothing is to be known
+-- steps without a limit on samples, and without premises
 known-all : {Room : Type 0} {changed : Key → Bool} {Known : Key → Key → Rule → Type 0} {limits : Limits} {m : State} {done : Outcome} {kept_done : KeptOutcome} →
     IsLed limits ⊤ changed (λ s k old. ⊤) m done kept_done → IsLed limits Room changed Known m done kept_done
 known-all led = record { is_step = λ room. led.is_step tt; counts = λ s k old other known h. led.counts s k old other tt h }
@@ -85,7 +85,7 @@ led-step limits m v reading Quit = led-told limits m v Done Done refl
 led-step limits m v reading (Drop keys) = known-all (led-dropped limits m v 0 keys)
 led-step limits m v reading (Exists keys) = led-told limits m v _ _ (ap (λ (n : ℕ). Count n) (there-kept m keys))
 
--- A step over what is kept is the step of each state that it stands for.
+-- A step over the stored data is a step of each state that it represents.
 pub kept-step : (limits : Limits) (m : State) (keys : Keeping) (reading : ℕ) (c : Command) → 1 ≤ limits.samples → StandsFor limits keys m → IsStepOf limits (step limits m reading c) (kept_step limits keys reading c)
 kept-step limits m keys reading c room s = rw s.kept ((led-step limits m s.valid reading c).is_step room)
 
@@ -93,12 +93,13 @@ kept-step limits m keys reading c room s = rw s.kept ((led-step limits m s.valid
 pub step-valid : (limits : Limits) (m : State) (reading : ℕ) (c : Command) → 1 ≤ limits.samples → IsValid limits m → IsValid limits (step limits m reading c).state
 step-valid limits m reading c room v = ((led-step limits m v reading c).is_step room).stands.valid
 
--- Where a rule leads from one key to another before a step and after it, and none of both has a retention, it is the same one, and counts all where it did before.
+-- If a rule connects two keys before and after a step, and neither has a retention, then it is the same rule, and
+-- still counts all samples if it did before.
 pub still-counts : (limits : Limits) (m : State) (reading : ℕ) (c : Command) (s k : Key) (old new : Rule) → IsValid limits m → changes k c ≡ false →
     JoinsForEver m s k old → JoinsForEver (step limits m reading c).state s k new → CountsAll (plain_at (get s m)) old → StillCountsAll (step limits m reading c).state s old new
 still-counts limits m reading c s k old new v other j n a =
     (led-step limits m v reading c).counts s k old other (record { joins = j; counts = a }) (counts-now m s k old j.linked a) new n.linked n.source_for_ever n.dest_for_ever
 
--- Nothing is kept of the empty state.
+-- The empty state is stored as the empty map.
 pub empty-stands : (limits : Limits) → StandsFor limits none empty
 empty-stands limits = record { valid = empty-valid limits; kept = kept-same none empty (λ k. refl) }

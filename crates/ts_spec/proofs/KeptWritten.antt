@@ -94,7 +94,7 @@ module _ (limits : Limits) (m : State) (key : Key) (d : Record) (t : ℕ) (v : �
 
   -- ---- the other keys
 
-  -- the rule to another key, as it is kept
+  -- the stored rule to another key
   rule-kept : (k : Key) (r : Rule) → link_to m k ≡ Some (record { source = key; rule = r }) → rule_to k d.rules ≡ Some r
   rule-kept k r x =
       let f : Found m.entries k (record { source = key; rule = r }) = link-found m k (record { source = key; rule = r }) x in
@@ -104,7 +104,7 @@ module _ (limits : Limits) (m : State) (key : Key) (d : Record) (t : ℕ) (v : �
   abbrev source : Kept
   source = kept_record (link_to m key) d
 
-  -- what is kept of a key that the source's rule leads to, or no rule
+  -- the stored series of a key that a rule of the source writes to, or no rule
   after-there : (k : Key) (c : Kept) (o : Option KeptRule) → same k key ≡ false → kept_rule_to k (map kept_rule d.rules) ≡ o → after_write key t v (Some source) k c ≡ fed_by_write t v source o c
   after-there k c o x y = ap (λ (b : Bool). if b then kept_with t v c else fed_by_write t v source (kept_rule_to k (map kept_rule d.rules)) c) x ∙ ap (λ (q : Option KeptRule). fed_by_write t v source q c) y
 
@@ -141,7 +141,7 @@ module _ (limits : Limits) (m : State) (key : Key) (d : Record) (t : ℕ) (v : �
       go None = refl
       go (Some c) = sym (ap (λ (q : Kept). Some q) (after-there k c None e.other (rule_to-kept k d.rules ∙ ap (option_map kept_rule) (no_rule (rule_to k d.rules) refl))))
 
-  -- What is kept after a write is the function of what was kept.
+  -- Storing and writing commute.
   pub kept-written : kept (written key t v m) ≡ keep_written key t v (kept m)
   kept-written = maps-same (kept (written key t v m)) (keep_written key t v (kept m))
       (λ k. at-key k (place-of m key k)

@@ -27,12 +27,12 @@ same-sym (x ∷ j) (y ∷ k) = elim (cases_order x y) [
   | inr (inr e) ↦ rw (ne_eqb x y (λ d. absurd (omega arith)), ne_eqb y x (λ d. absurd (omega arith))) refl
 ]
 
--- a key does not stand before itself
+-- a key is not before itself
 pub before-irrefl : (k : Key) → is_before k k ≡ false
 before-irrefl [] = refl
 before-irrefl (x ∷ k) = rw (le-ltb x x (omega arith), eq-eqb x x refl) (before-irrefl k)
 
--- of two keys that are not the same one stands before the other
+-- of two different keys, one is before the other
 pub before-total : (j k : Key) → is_before j k ≡ false → is_before k j ≡ false → j ≡ k
 before-total [] [] h g = refl
 before-total [] (y ∷ k) h g = absurd (false≢true (sym h))

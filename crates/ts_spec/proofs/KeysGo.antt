@@ -19,7 +19,7 @@ use Rattle.ts_spec.proofs.RuleLists.{each-rule-both, settled-by, rules-expired}
 use Rattle.ts_spec.proofs.EndingRules as ending
 use Rattle.ts_spec.proofs.KeysComeAndGo.{HasRule, link-agrees}
 
--- ---- a key goes
+-- ---- deleting a key
 
 length-without : (k : Key) (es : List (Entry Record)) → length (without_in k es) ≤ length es
 length-without k [] = omega arith
@@ -29,7 +29,7 @@ length-without k (e ∷ es) = go (same e.key k) (length-without k es)
     go true ih = omega arith
     go false ih = omega arith
 
--- a key that no rule leads to and that has no rules
+-- a key that no rule writes to and that has no rules
 pub record IsLoose (m : State) (key : Key) : Type 0 where
   pub no_source : link_to m key ≡ None
   pub no_rules : (d : Record) → get key m ≡ Some d → d.rules ≡ []
@@ -124,7 +124,7 @@ loose-ended limits m key v = record { no_source = no_source; no_rules = no_rules
         ∙ ap (λ (b : Bool). filter (λ (r : Rule). not (b || same r.dest key)) f.value.rules) (same-refl key)
         ∙ filter-none f.value.rules
 
--- The end of a key keeps the state valid.
+-- Deleting a key keeps the state valid.
 pub valid-dropped : (limits : Limits) (m : State) (key : Key) → IsValid limits m → IsValid limits (dropped key m)
 valid-dropped limits m key v =
     valid-without limits (ended (λ s d. same s key || same d key) m) key (ending.valid-ended limits m (λ s d. same s key || same d key) v) (loose-ended limits m key v)

@@ -24,21 +24,22 @@ pub record IsKnown (m : State) (s k : Key) (old : Rule) : Type 0 where
   pub joins : JoinsForEver m s k old
   pub counts : CountsAll (plain_at (get s m)) old
 
--- What a command leads to: where there is room for it, the step over what is kept is that of the state; and a known rule counts on, where
--- the command does not change the key to which it leads.
+-- The result of a command. Within the limits, the step over the stored data is that of the state. A known rule keeps
+-- counting, if
+-- the command does not change the key that it writes to.
 pub record IsLed (limits : Limits) (Room : Type 0) (changed : Key → Bool) (Known : Key → Key → Rule → Type 0) (m : State) (done : Outcome) (kept_done : KeptOutcome) : Type 0 where
   pub is_step : Room → IsStepOf limits done kept_done
   pub counts : (s k : Key) (old : Rule) → changed k ≡ false → Known s k old → CountsOn old m s k → CountsOn old done.state s k
 
 module _ {Room : Type 0} {changed : Key → Bool} {Known : Key → Key → Rule → Type 0} (limits : Limits) (m : State) (v : IsValid limits m) where
-  -- where nothing changes, and the same is answered
+  -- nothing changes, and the responses are equal
   pub led-told : (q r : Response) → q ≡ r → IsLed limits Room changed Known m (answer_only m r) (unchanged_with (kept m) q)
   led-told q r e = record { is_step = λ room. record { response = sym e; stands = record { valid = v; kept = refl } }; counts = λ s k old other known h. h }
 
   pub led-refused : (refusal : Refusal) → IsLed limits Room changed Known m (refused m refusal) (kept_refused (kept m) refusal)
   led-refused refusal = led-told (Refused refusal) (Refused refusal) refl
 
-  -- refused by the same test, and else led
+  -- refused by the same test, or else related
   pub led-unless : (a b : Bool) (refusal : Refusal) (done : Outcome) (kept_done : KeptOutcome) → b ≡ a → (a ≡ false → IsLed limits Room changed Known m done kept_done) →
       IsLed limits Room changed Known m (if a then refused m refusal else done) (if b then kept_refused (kept m) refusal else kept_done)
   led-unless a b refusal done kept_done e f = rw e (go a refl)
@@ -77,7 +78,7 @@ module _ {Room : Type 0} {changed : Key → Bool} {Known : Key → Key → Rule 
       go None x = f (none-full limits done.state d.rules (ap (λ (p : Option Record). first_full limits.samples done.state (rules_at p)) (sym there) ∙ x))
       go (Some j) x = led-refused (DestinationFull j)
 
-  -- on the record at a key: led where it is for none and for some
+  -- on the record at a key: related if it is for a missing key and for an existing one
   pub led-at : (key : Key) (f : Option Record → Outcome) (g : Option Kept → KeptOutcome) → (get key m ≡ None → IsLed limits Room changed Known m (f None) (g None)) →
       ((d : Record) → get key m ≡ Some d → IsLed limits Room changed Known m (f (Some d)) (g (Some (kept_record (link_to m key) d)))) → IsLed limits Room changed Known m (f (get key m)) (g (get key (kept m)))
   led-at key f g none some = rw (get-kept m key) (go (get key m) refl)
@@ -86,7 +87,7 @@ module _ {Room : Type 0} {changed : Key → Bool} {Known : Key → Key → Rule 
       go None x = none x
       go (Some d) x = some d x
 
--- Of each state that is stood for it is the step.
+-- It is the step of each represented state.
 pub led-stands : (limits : Limits) (keys : Keeping) (m : State) → StandsFor limits keys m → {Room : Type 0} {changed : Key → Bool} {done : Outcome} (g : Keeping → KeptOutcome) → Room →
     IsLed limits Room changed (λ s k old. ⊤) m done (g (kept m)) → IsStepOf limits done (g keys)
 led-stands limits keys m s {done = done} g room led = rw s.kept (led.is_step room)

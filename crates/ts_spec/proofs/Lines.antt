@@ -9,7 +9,7 @@ use Rattle.ts_spec.specs.declared.wire.WireLimits.{WireLimits}
 use Rattle.ts_spec.specs.Wire.{Inside, Partial, Mode, Count, CountFeed, Length, LengthFeed, Move, Goto, Fault, Line, Blank, Zero, Number, Minus, LineMove, Goes, Returns, Wrong, FEED, MINUS, RETURN, digit_of, with_digit, want, move, line_step, on_count, on_length, after_count, after_length, at_end, after_move, read_on}
 use Rattle.ts_spec.proofs.Streams.{read_on-byte}
 
--- what a byte of a line does, where its CR does this
+-- what a byte of a line does, if its CR does this
 abbrev pub on_line : (Line → Mode) → (ℕ → Move) → Kind → LineMove → Move
 on_line mode ends kind (Goes line) = Goto (mode line)
 on_line mode ends kind (Returns n) = ends n
@@ -49,12 +49,12 @@ length_line limits so_far = record {
     length_moves (Returns n) = refl
     length_moves Wrong = refl
 
--- where the CR leads to the mode of an LF
+-- if the CR leads to the mode for LF
 pub record IsFed (limits : WireLimits) (mode : Mode) (next : Move) : Type 0 where
   pub moves : (byte : ℕ) → move limits mode byte ≡ want byte FEED Crlf next
   pub inside : (begin : ℕ) → at_end mode begin ≡ Inside begin
 
--- the byte that is wanted, and any other
+-- the expected byte, and any other
 pub want-same : (byte wanted : ℕ) (kind : Kind) (m : Move) → byte ≡ wanted → want byte wanted kind m ≡ m
 want-same byte wanted kind m e = ap (λ test. if test then m else Fault kind) (eq-eqb byte wanted e)
 

@@ -7,7 +7,7 @@ use Rattle.ts_spec.specs.Valid.{EachRule, IsSoleLink, IsLinked}
 use Rattle.ts_spec.proofs.Maps.{get-each}
 use Rattle.ts_spec.proofs.Links.{IsReshape, Found, rule_to-map, rule_to-dest, link-found, link-some}
 
--- where an answer came from
+-- the source of a response
 pub record From {X Y : Type 0} (h : X → Y) (o : Option X) (y : Y) : Type 0 where
   pub value : X
   pub is : o ≡ Some value
@@ -64,7 +64,7 @@ sole-each f g h m k d r e s = record {
   no_rules = h.rules r.dest s.dest ∙ ap (map (g r.dest s.dest)) s.no_rules;
 }
 
--- links stay sole where records change but keep the destinations of their rules
+-- links stay unique if records change but the destinations of their rules do not
 pub linked-each : (f : Key → Record → Record) (g : Key → Record → Rule → Rule) → IsReshape f g → (m : State) → IsLinked m → IsLinked (each f m)
 linked-each f g h m l k e x =
     let from : From (f k) (get k m) e = get-from f k m e x in
@@ -72,7 +72,7 @@ linked-each f g h m l k e x =
     subst (EachRule (IsSoleLink (each f m) k)) rules
     (each-rule-map (IsSoleLink m k) (IsSoleLink (each f m) k) (g k from.value) from.value.rules (λ r s. sole-each f g h m k from.value r from.is s) (l k from.value from.is))
 
--- ---- where all rules change in one way
+-- ---- all rules change in the same way
 
 -- the link with its rule changed
 abbrev pub with_rule_by : (Rule → Rule) → Link → Link

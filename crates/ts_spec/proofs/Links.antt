@@ -31,7 +31,7 @@ rule_to-dest k (q ∷ rs) r h = go (same q.dest k) refl h (rule_to-dest k rs r)
     go true e x ih = let eq : q ≡ r = cc x in ap (λ (y : Rule). y.dest) (sym eq) ∙ same-true q.dest k e
     go false e x ih = ih x
 
--- where a link was found
+-- the entry where a link was found
 pub record Found (es : List (Entry Record)) (k : Key) (l : Link) : Type 0 where
   pub record_of : Record
   pub there : get_in l.source es ≡ Some record_of

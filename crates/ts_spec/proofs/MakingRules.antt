@@ -25,7 +25,7 @@ use Rattle.ts_spec.proofs.RuleLists.{rule_to-append, each-rule-append, in_order-
 abbrev pub new_rule : Key → Aggregator → Grid → Record → Rule
 new_rule dest agg grid s = record { dest = dest; agg = agg; grid = grid; made = s.born + 1; top = None; seen = [] }
 
--- where a rule may be made
+-- a rule may be created
 pub record IsRulable (limits : Limits) (m : State) (source dest : Key) (s d : Record) : Type 0 where
   pub other : same source dest ≡ false
   pub source_there : get source m ≡ Some s
@@ -258,7 +258,7 @@ module _ (limits : Limits) (m : State) (source dest : Key) (agg : Aggregator) (g
           (record { link = link-made; dest = d; there = dest-after; no_rules = h.dest_rules })))
       go (IsOther e f) = sole-after k c f
 
-  -- The making of a rule changes nothing that is shown.
+  -- Creating a rule changes nothing that is shown.
   pub shown-ruled : (k : Key) (c : Record) → get k (ruled source dest agg grid m) ≡ Some c → shown (ruled source dest agg grid m) k ≡ shown m k
   shown-ruled k c x = shown-there (ruled source dest agg grid m) k c x ∙ go (which k c x)
     where
@@ -297,7 +297,7 @@ module _ (limits : Limits) (m : State) (source dest : Key) (agg : Aggregator) (g
             samples = subst (λ (ps : List Point). length ps ≤ limits.samples) (sym (shown-ruled k c x)) (subst (λ (j : Key). length (shown m j) ≤ limits.samples) (sym e) w.samples);
           })
 
-  -- The making of a rule keeps the state valid.
+  -- Creating a rule keeps the state valid.
   pub valid-ruled : IsValid limits (ruled source dest agg grid m)
   valid-ruled = record {
     sound = λ k c x. sound (which k c x);

@@ -21,8 +21,9 @@ use Rattle.ts_spec.proofs.ShownAfter.{tells}
 use Rattle.ts_spec.proofs.ClientChanges.{ascending-key, edge-raised, shown-dest}
 use Rattle.ts_spec.proofs.KeptBodies.{kept-bodies}
 
--- A rule r becomes r1 by a command on its source. At times that pass `gone` r1 tells a destination exactly the rows, and at others
--- a row or what r told. Where there is no row, the destination's own samples that are lost are those at times that pass `gone`.
+-- A rule r becomes r1 by a command on its source. At times in `gone`, r1 has exactly the new rows, and at others
+-- either a new row or that of r.
+-- Without a row, the destination loses its own samples exactly at the times in `gone`.
 pub record IsMending (r r1 : Rule) (born : ℕ) (lost gone : ℕ → Bool) (rows : List Point) : Type 0 where
   pub told : (t : ℕ) → tells r1 born t ≡ option_or (at t rows) (if gone t then None else tells r born t)
   pub own : (t : ℕ) → at t rows ≡ None → lost t ≡ gone t
@@ -41,7 +42,7 @@ risen-swap : (bs cs : List ℕ) (high : Option ℕ) → risen (risen high bs) cs
 risen-swap [] cs high = refl
 risen-swap (b ∷ bs) cs high = risen-swap bs cs (raised b high) ∙ ap (λ (x : Option ℕ). risen x bs) (risen-raised cs b high)
 
--- raised by either of two lists where each is covered by what the other raises
+-- raised by either of two lists, each covered by what the other raises
 pub risen-alike : (bs cs : List ℕ) (high : Option ℕ) → ((b : ℕ) → has bs b ≡ true → IsUpTo (risen high cs) b) → ((c : ℕ) → has cs c ≡ true → IsUpTo (risen high bs) c) →
     risen high bs ≡ risen high cs
 risen-alike bs cs high f g = sym (risen-same cs (risen high bs) g) ∙ risen-swap bs cs high ∙ risen-same bs (risen high cs) f
@@ -78,7 +79,7 @@ high-mended r r1 born lost gone rows high h up =
     (λ b x. risen-covers (filter (is_closed r1) (starts r1.grid r1.seen)) b high (has-told r1 b ∙ told-by b ∙ row b (at b rows) (sym (has-times b rows) ∙ x)))
     ∙ sym (high_with-risen rows high)
   where
-    -- whether r1 tells a sample
+    -- whether r1 has a row
     told-by : (b : ℕ) → has_row_of r1 b ≡ is_some (option_or (at b rows) (if gone b then None else tells r born b))
     told-by b = sym (some-tells r1 born b) ∙ ap is_some (h.told b)
 
@@ -102,7 +103,7 @@ high_with-up retention (p ∷ rows) high =
     let rest : edge_of retention (raised p.time high) ≤ edge_of retention (high_with rows (raised p.time high)) = high_with-up retention rows (raised p.time high) in
     omega arith
 
--- what a mended destination shows at a time
+-- what an updated destination shows at a time
 at-mended : (r r1 : Rule) (lost gone : ℕ → Bool) (rows : List Point) (e : Record) (t : ℕ) → IsMending r r1 e.born lost gone rows →
     at t (mended e.options.retention e.high gone rows (shown_by (Some r) e)) ≡
     (if nat_le (edge_of e.options.retention (high_with rows e.high)) t then option_or (tells r1 e.born t) (if not (lost t) then at t e.plain else None) else None)
@@ -136,7 +137,7 @@ at-mended r r1 lost gone rows e t h =
 -- ---- a destination
 
 module _ (m : State) (key : Key) (d : Record) (f : Record → Record) (g : Record → Rule → Rule) (touches : Rule → ℕ → Bool) (test : ℕ → Bool) (h : IsDone m key d f g) where
-  -- What is kept of a destination after a command on its source is what was kept of it, mended.
+  -- The stored series of a destination after a command on its source is the old one, updated.
   pub kept-mended : EachRecord (λ k c. IsSound c) m → EachRecord (λ k c. IsSound c) (settled (bodies key f touches test m)) →
       (k : Key) (r : Rule) (e : Record) (gone : ℕ → Bool) (rows : List Point) → link_to m k ≡ Some (record { source = key; rule = r }) → get k m ≡ Some e →
       IsMending r (g d r) e.born (lost_by key touches (Some (record { source = key; rule = g d r }))) gone rows →

@@ -42,7 +42,7 @@ made-from limits m source dest agg grid (Some c) (Some d) v e f other =
       counts = counts-all-made dest agg grid c (v.sound source c e) ∙ ap (λ (o : Option Record). filter (is_eligible (new_rule dest agg grid c)) (plain_at o)) (sym (source-after limits m source dest agg grid c d v h));
     }
 
--- A rule that was just made counts all that its source has that was written since.
+-- A new rule counts every sample of its source that was written since.
 pub new-counts : (limits : Limits) (m : State) (reading : ℕ) (source dest : Key) (agg : Aggregator) (grid : Grid) → IsValid limits m →
     (step limits m reading (CreateRule source dest agg grid)).response ≡ Done → CountsAllFrom (step limits m reading (CreateRule source dest agg grid)).state source dest
 new-counts limits m reading source dest agg grid v =

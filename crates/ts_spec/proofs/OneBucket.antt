@@ -12,7 +12,7 @@ use Rattle.ts_spec.specs.OneBucket.{DiffersInOneBucket}
 use Rattle.ts_spec.proofs.Shows.{at-shown}
 use Rattle.ts_spec.proofs.Keeps.{shown-there}
 
--- what a rule tells at a time depends on what it counts there
+-- the row of a rule at a time depends only on what it counts there
 told-same : (r : Rule) (qs : List Point) (born t : ℕ) → members r.grid t r.seen ≡ members r.grid t qs →
     (if has_row_of r t then Some (bucket_sample r born t) else None) ≡ (if has_row_of (record r { seen = qs }) t then Some (bucket_sample (record r { seen = qs }) born t) else None)
 told-same r qs born t h =

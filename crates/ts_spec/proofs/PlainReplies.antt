@@ -195,7 +195,7 @@ triples-lines (item ∷ items) h = (first (All-head IsItemReply item items h), t
     first : IsItemReply item → HasLines item
     first = ⊎_elim (λ t. subst HasLines (sym t.1) (item-lines t.0)) (λ e. subst HasLines (sym e) memory-plain)
 
--- The reply to a response is plain, where its text is shorter than 2^64 bytes.
+-- The reply to a response is plain, if its text is shorter than 2^64 bytes.
 pub reply-plain : (r : Response) → length (text (reply_to r)) < 2 ^ 64 → IsPlain (reply_to r)
 reply-plain r n = plain-lines (reply_to r) (reply-lines r) n
 

@@ -22,7 +22,7 @@ use Rattle.ts_spec.proofs.Unmoved.{cleared-elsewhere, leads-elsewhere, lost-else
 abbrev pub kept : Record → Record
 kept d = record d { plain = at_times (nat_le (edge d)) d.plain }
 
--- the key's record, of a settled state, has no rules, and no rule leads to it
+-- the key's record, of a settled state, has no rules, and no rule writes to it
 pub record IsPlain (m : State) (key : Key) (d : Record) : Type 0 where
   pub settled : settled m ≡ m
   pub there : get key m ≡ Some d
@@ -66,7 +66,7 @@ others-tidy m key d f g h s k other =
     ∙ sym (get-tidied m k)
     ∙ ap (get k) (tidied-settled m h.settled)
 
--- After a change of a plain series nothing else moves.
+-- A change of a plain series changes nothing else.
 pub settled-change : (m : State) (key : Key) (d : Record) (f : Record → Record) (g : Record → Rule → Rule) → IsPlain m key d → KeepsRules f g →
     settled (change key f m) ≡ with_key key (kept (f d)) m
 settled-change m key d f g h s = maps-same (settled (change key f m)) (with_key key (kept (f d)) m) (λ k. go k (same k key) refl)

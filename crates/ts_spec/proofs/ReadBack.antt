@@ -9,11 +9,11 @@ use Rattle.ts_spec.specs.Encoded.{encoded_word, encoded_words, encoded_request, 
 use Rattle.ts_spec.proofs.Streams.{read_on-nil, read_on-byte, read_on-word, after_length-body}
 use Rattle.ts_spec.proofs.Lines.{count_line, length_line, length_ends-goes, line_is_read}
 
--- some place after these bytes, from which the stream goes on
+-- an offset after these bytes, from which the stream continues
 abbrev Leads : Stream → (ℕ → Stream) → Type 0
 Leads stream rest = (place : ℕ) × (stream ≡ rest place)
 
--- how many words come
+-- the word count
 count_is_read : (limits : WireLimits) (later place begin : ℕ) (more : List ℕ) → suc later < 2 ^ 64 → suc later ≤ limits.words
     → Leads (read_on limits place begin Start (STAR ∷ (decimal (suc later) ++ RETURN ∷ FEED ∷ more)))
     (λ place. read_on limits place begin (Mark (record { words = []; later = later; room = limits.request_bytes })) more)

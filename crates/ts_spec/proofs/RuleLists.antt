@@ -153,7 +153,7 @@ rules-expired m k d h e = fixed d.rules (ap (λ (q : Record). q.rules) (record-e
     fixed [] x = tt
     fixed (r ∷ rs) x = (first-same (expired_in m r) r (map (expired_in m) rs) rs x, fixed rs (rest-same (expired_in m r) r (map (expired_in m) rs) rs x))
 
--- a record without a rule that leads to it is tidy where none of its samples is before its edge
+-- a record without a rule that writes to it is tidy where none of its samples is before its edge
 pub tidy-unlinked : (d : Record) → at_times (nat_le (edge d)) d.plain ≡ d.plain → tidied_by None d ≡ d
 tidy-unlinked d h =
     let plain : at_times (λ t. nat_le (edge d) t && true) d.plain ≡ d.plain = times-same (λ t. nat_le (edge d) t && true) (nat_le (edge d)) d.plain (λ t. and-true (nat_le (edge d) t)) ∙ h in

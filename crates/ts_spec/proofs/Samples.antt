@@ -131,7 +131,7 @@ ascending-put_all (q ∷ qs) ps h = ascending-put q (put_all qs ps) (ascending-p
 at-first : (p : Point) (ps : List Point) → at p.time (p ∷ ps) ≡ Some p
 at-first p ps = rw (eq-eqb p.time p.time refl) refl
 
--- what stands in the rest of an ascending list stands in the whole
+-- the samples in the rest of an ascending list are in the whole list
 at-rest : (p : Point) (ps : List Point) (t : ℕ) (q : Point) → IsAscending (p ∷ ps) → at t ps ≡ Some q → at t (p ∷ ps) ≡ Some q
 at-rest p ps t q h e = go (p.time == t) refl
   where

@@ -87,7 +87,7 @@ upto-high (Some r) high u h = upto-risen (filter (is_closed r) (starts r.grid r.
 
 -- ---- each record
 
--- a rule without some of its counted samples tells less
+-- a rule that counts fewer samples has fewer rows
 pub told-cleared : (test : ℕ → Bool) (o : Option Rule) (b : ℕ) → is_row_by (option_map (cleared test) o) b ≡ true → is_row_by o b ≡ true
 told-cleared test None b h = h
 told-cleared test (Some r) b h =
@@ -146,7 +146,7 @@ told-expired n (Some r) b h = told-cleared (λ c. nat_lt c (edge_at (get r.dest 
 abbrev pub stays : (low : ℕ) → Option Rule → ℕ → Bool
 stays low o t = nat_le low t && not (is_row_by o t)
 
--- a record that is tidied by a rule stays so by one that tells less
+-- a record that is tidied by a rule is tidied by one with fewer rows
 tidied-again : (n : State) (o q : Option Rule) (d : Record) → ((b : ℕ) → is_row_by q b ≡ true → is_row_by o b ≡ true) →
     tidied_by q (expire_record n (tidied_by o d)) ≡ expire_record n (tidied_by o d)
 tidied-again n o q d less =
@@ -179,14 +179,14 @@ settled-tidy m = maps-same (tidied (settled m)) (settled m) (λ k. get-tidied (s
         (tidied-again (tidied m) (rule_into m k) (rule_into (settled m) k) d
         (λ b h. told-expired (tidied m) (rule_into m k) b (ap (λ (q : Option Rule). is_row_by q b) (sym (rule-settled m k)) ∙ h)))
 
--- expiry twice by the same edge is expiry once
+-- expiry by the same edge is idempotent
 expired-twice : (low : ℕ) (r : Rule) → expired low (expired low r) ≡ expired low r
 expired-twice low r = λ i. record r { seen = same i }
   where
     same : at_times (λ t. not (nat_lt (start r.grid t) low && is_closed r (start r.grid t))) (at_times (λ t. not (nat_lt (start r.grid t) low && is_closed r (start r.grid t))) r.seen) ≡ at_times (λ t. not (nat_lt (start r.grid t) low && is_closed r (start r.grid t))) r.seen
     same = times-within (λ t. not (nat_lt (start r.grid t) low && is_closed r (start r.grid t))) (λ t. not (nat_lt (start r.grid t) low && is_closed r (start r.grid t))) r.seen (λ t h. h)
 
--- Settling twice is settling once.
+-- Settling is idempotent.
 pub settled-twice : (m : State) → settled (settled m) ≡ settled m
 settled-twice m =
     ap (λ (x : State). each (λ k d. expire_record x d) x) (settled-tidy m)

@@ -32,7 +32,7 @@ members-cleared g gone b (p ∷ ps) = go (gone (start g p.time)) (start g p.time
     go false true false e f h ih = ap (λ (c : Bool). cond c (p ∷ members g b (at_times (λ t. not (gone (start g t))) ps)) (members g b (at_times (λ t. not (gone (start g t))) ps))) f ∙ ap (λ (qs : List Point). p ∷ qs) (ih ∙ ap (λ (c : Bool). if c then [] else members g b ps) h)
     go false false z e f h ih = ap (λ (c : Bool). cond c (p ∷ members g b (at_times (λ t. not (gone (start g t))) ps)) (members g b (at_times (λ t. not (gone (start g t))) ps))) f ∙ ih ∙ ap (λ (c : Bool). if c then [] else members g b ps) h
 
--- what a rule tells at a time
+-- the row of a rule at a time
 abbrev pub tells : Rule → (born : ℕ) → ℕ → Option Point
 tells r born t = if has_row_of r t then Some (bucket_sample r born t) else None
 
@@ -40,7 +40,7 @@ tells r born t = if has_row_of r t then Some (bucket_sample r born t) else None
 abbrev pub sample_over : Rule → (born : ℕ) → ℕ → List Point → Point
 sample_over r born t ps = record { time = t; value = aggregate r.agg ps; made = born }
 
--- what it tells once it is cleared: nothing where the test holds
+-- its row after clearing: none if the test holds
 pub tells-cleared : (test : ℕ → Bool) (r : Rule) (born t : ℕ) → tells (cleared test r) born t ≡ (if test t then None else tells r born t)
 tells-cleared test r born t =
     ap (λ (ps : List Point). if is_closed r t && has_any ps then Some (sample_over r born t ps) else None)

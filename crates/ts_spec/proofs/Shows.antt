@@ -51,7 +51,7 @@ has-filter test (c ∷ bs) b = go (test c) (c == b) (test b) refl refl refl (has
     go false true false e f h ih = rw h at ih
     go false false z e f h ih = rw (← h) ih
 
--- the times of the samples that a rule tells
+-- the times of the rows of a rule
 pub has-told : (r : Rule) (b : ℕ) → has (filter (is_closed r) (starts r.grid r.seen)) b ≡ has_row_of r b
 has-told r b = has-filter (is_closed r) (starts r.grid r.seen) b ∙ ap (λ (x : Bool). is_closed r b && x) (has-starts r.grid r.seen b)
 
@@ -64,7 +64,7 @@ at-samples r born t (b ∷ bs) = go (b == t) refl (at-samples r born t bs)
     go true e ih = ap (λ (c : ℕ). Some (bucket_sample r born c)) (eqb-true b t e)
     go false e ih = ih
 
--- a closed bucket with counted samples tells one sample, at its start
+-- a closed bucket with counted samples has one row, at its start
 pub at-told : (r : Rule) (born t : ℕ) → at t (closed_rows r born) ≡ (if has_row_of r t then Some (bucket_sample r born t) else None)
 at-told r born t =
     at-samples r born t (filter (is_closed r) (starts r.grid r.seen)) ∙ ap (λ (x : Bool). if x then Some (bucket_sample r born t) else None) (has-told r t)

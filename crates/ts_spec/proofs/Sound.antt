@@ -13,7 +13,7 @@ use Rattle.ts_spec.proofs.Settles.{stays, upto-high}
 
 -- ---- parts of lists
 
--- an ascending list whose samples all stand in the other
+-- an ascending list whose samples are all in the other
 pub record IsPart (qs ps : List Point) : Type 0 where
   pub ascending : IsAscending qs
   pub of : (t : ℕ) (p : Point) → at t qs ≡ Some p → at t ps ≡ Some p
@@ -25,7 +25,7 @@ part-times test ps h = record { ascending = ascending-times test ps h; of = λ t
     go t p true e = e
     go t p false e = absurd (cc e)
 
--- ---- where own samples go and the highest time rises
+-- ---- own samples are removed and the highest time rises
 
 rule-smaller : (d : Record) (plain : List Point) (high : Option ℕ) → IsPart plain d.plain → ((t : ℕ) → IsUpTo d.high t → IsUpTo high t) →
     (r : Rule) → IsSoundRule d r → IsSoundRule (record d { plain = plain; high = high }) r
@@ -51,7 +51,7 @@ sound-smaller d plain high part up s = record {
   rules = each-rule-to (IsSoundRule d) (IsSoundRule (record d { plain = plain; high = high })) d.rules (rule-smaller d plain high part up) s.rules;
 }
 
--- ---- where counted samples go
+-- ---- counted samples are dropped
 
 made_after-map : (g : Rule → Rule) → ((r : Rule) → (g r).made ≡ r.made) → (n : ℕ) (rs : List Rule) → IsMadeAfter n rs → IsMadeAfter n (map g rs)
 made_after-map g h n [] x = tt

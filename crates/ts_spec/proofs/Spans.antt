@@ -18,7 +18,7 @@ use Rattle.ts_spec.proofs.TwoRows.{end_rows, two-rows}
 
 -- ---- in general
 
--- what a list has in an interval after a mending by a test: the rows, and its samples that stay
+-- a list in an interval after an update by a test: the rows, and its samples that stay
 abbrev pub span_rows : (gone : ℕ → Bool) → (rows : List Point) → (low up : ℕ) → List Point → List Point
 span_rows gone rows low up ps = put_all rows (at_times (λ t. not (gone t)) (between low up ps))
 
@@ -29,7 +29,7 @@ at-span gone rows low up ps t =
     ∙ ap (option_or (at t rows))
     (at-times t (λ u. not (gone u)) (between low up ps) ∙ ap (λ (o : Option Point). if not (gone t) then o else None) (at-times t (is_within low up) ps))
 
--- what is put back raises no highest time
+-- inserting a sample again does not raise the highest time
 pub high-span : (gone : ℕ → Bool) (rows : List Point) (low up : ℕ) (ps : List Point) (high : Option ℕ) → ((t : ℕ) (p : Point) → at t ps ≡ Some p → IsUpTo high t) →
     high_with (span_rows gone rows low up ps) high ≡ high_with rows high
 high-span gone rows low up ps high below =
@@ -53,7 +53,8 @@ high-span gone rows low up ps high below =
     covered b None e true false p f h = absurd (false≢true h)
     covered b None e false y p f h = absurd (false≢true h)
 
--- A mending by a test that holds only in an interval is one over the interval, with what stays there and the rows.
+-- An update by a test that holds only in an interval is an update of the interval, with the samples that stay and
+-- the rows.
 pub mended-span : (retention : ℕ) (high : Option ℕ) (gone : ℕ → Bool) (rows : List Point) (low up : ℕ) (ps : List Point) → IsAscending ps →
     ((t : ℕ) → gone t ≡ true → is_within low up t ≡ true) → ((t : ℕ) (p : Point) → at t ps ≡ Some p → IsUpTo high t) →
     mended retention high gone rows ps ≡ mended retention high (is_within low up) (span_rows gone rows low up ps) ps
@@ -83,8 +84,9 @@ mended-span retention high gone rows low up ps a inside below =
 
 -- ---- for a deletion
 
--- A destination is mended after a deletion over the interval from the first start to the last: with the row of the first bucket and
--- that of the last, and its own samples there that stay.
+-- A deletion updates a destination over the interval from the first start to the last: with the row of the first
+-- bucket, that of the last,
+-- and its own samples there that stay.
 pub mended-deletion : (retention : ℕ) (high : Option ℕ) (from to : ℕ) (ps : List Point) (born : ℕ) (q : KeptRule) (list : List Point) → from ≤ to → IsAscending ps → IsAscending list →
     ((t : ℕ) (p : Point) → at t list ≡ Some p → IsUpTo high t) →
     mended retention high (loses (between from to ps) q) (deleted_rows (between from to ps) (outside from to ps) born q) list ≡

@@ -34,7 +34,7 @@ bytes_end (byte ∷ a) (next ∷ b) x y n e =
     let ends = bytes_end a b x y (omega arith) rest in
     (ap (λ a. byte ∷ a) ends.0 ∙ ap (λ first. first ∷ b) same, ends.1)
 
--- a text is a line and what stands behind it
+-- a text is a line and what follows it
 abbrev first_of : Reply → ℕ
 first_of (Simple words) = 43
 first_of (Error words) = 45
@@ -82,7 +82,7 @@ IsOneLine-line_of (Bulk bytes) h = IsOneLine-digits (decimal (length bytes)) (Ar
 IsOneLine-line_of Nil h = (eqb-false 45 13 refl, (eqb-false 49 13 refl, tt))
 IsOneLine-line_of (Array replies) h = IsOneLine-digits (decimal (count_of replies)) (AreDigits-decimal (count_of replies))
 
--- what stands behind a line of bytes
+-- what follows a line of bytes
 bulk_ends : (bytes : List ℕ) (b : Reply) (x y : List ℕ) → length bytes < 2 ^ 64 → IsPlain b → 36 ≡ first_of b → decimal (length bytes) ≡ line_of b
     → bytes ++ CRLF ++ x ≡ body_of b ++ y → (bytes ++ CRLF ≡ body_of b) × (x ≡ y)
 bulk_ends bytes (Simple words) x y small plain f l e = absurd (eqb-false 36 43 refl f)
@@ -105,7 +105,7 @@ nil_ends (Bulk bytes) x y plain f l e = absurd (digits-minus (decimal (length by
 nil_ends Nil x y plain f l e = (refl, e)
 nil_ends (Array replies) x y plain f l e = absurd (eqb-false 36 42 refl f)
 
--- nothing stands behind any other line
+-- nothing follows any other line
 bare_ends : (b : Reply) (first : ℕ) (x y : List ℕ) → first ≢ 36 → first ≢ 42 → first ≡ first_of b → x ≡ body_of b ++ y → ([] ≡ body_of b) × (x ≡ y)
 bare_ends (Simple words) first x y no_bulk no_array f e = (refl, e)
 bare_ends (Error words) first x y no_bulk no_array f e = (refl, e)
@@ -119,7 +119,7 @@ bare_ends (Array replies) first x y no_bulk no_array f e = absurd (no_array f)
 abbrev Ends : Reply → Type 0
 Ends a = (b : Reply) (x y : List ℕ) → IsPlain a → IsPlain b → text a ++ x ≡ text b ++ y → (text a ≡ text b) × (x ≡ y)
 
--- it is enough that what stands behind the line ends
+-- it is enough that what follows the line ends
 text_ends : (a : Reply)
     → ((b : Reply) (x y : List ℕ) → IsPlain b → first_of a ≡ first_of b → line_of a ≡ line_of b → body_of a ++ x ≡ body_of b ++ y → (body_of a ≡ body_of b) × (x ≡ y))
     → Ends a
@@ -153,7 +153,7 @@ item_ends reply replies one others (Item next more) x y n ha hb e =
     let rest = others more x y (omega arith) ha.1 hb.1 first.1 in
     (ap (λ text. text ++ texts replies) first.0 ∙ ap (λ rest. text next ++ rest) rest.0, rest.1)
 
--- what stands behind a line of replies
+-- what follows a line of replies
 array_ends : (replies : Replies) → AllEnd replies → (b : Reply) (x y : List ℕ) → IsPlain (Array replies) → IsPlain b → 42 ≡ first_of b → decimal (count_of replies) ≡ line_of b
     → texts replies ++ x ≡ body_of b ++ y → (texts replies ≡ body_of b) × (x ≡ y)
 array_ends replies all (Simple words) x y ha hb f l e = absurd (eqb-false 42 43 refl f)
@@ -197,6 +197,6 @@ texts_alike (x ∷ xs) (y ∷ ys) hx hy n e =
     let others : map text xs ≡ map text ys = texts_alike xs ys hx.1 hy.1 (omega arith) first.1 in
     ap (λ (w : List ℕ). w ∷ map text xs) first.0 ∙ ap (λ (ws : List (List ℕ)). text y ∷ ws) others
 
--- An array's text shows the text of each of its replies.
+-- The text of an array determines the texts of its items.
 pub array_shows : (xs ys : List Reply) → IsPlain (array xs) → IsPlain (array ys) → text (array xs) ≡ text (array ys) → map text xs ≡ map text ys
 array_shows xs ys hx hy e = let alike = arrays_alike (listed xs) (listed ys) hx hy e in texts_alike xs ys hx.1 hy.1 alike.0 alike.1

@@ -9,7 +9,7 @@ use Rattle.ts_spec.specs.Rules.{is_eligible, taken_anew, touched}
 use Rattle.ts_spec.proofs.Samples.{at-times, at-put_all, at-filter, passing, ascending-times, ascending-filter, ascending-same}
 use Rattle.ts_spec.proofs.SoundWrites.{ascending-touched}
 
--- the counted samples of a touched rule, at a time
+-- the counted samples of a recounted rule, at a time
 pub at-touch : (test : ℕ → Bool) (plain : List Point) (r : Rule) (t : ℕ) → IsAscending plain →
     at t (touched test plain r) ≡
     option_or (if test (start r.grid t) then passing (is_eligible r) (at t plain) else None) (if not (test (start r.grid t)) then at t r.seen else None)
@@ -24,7 +24,7 @@ at-touch test plain r t h =
     inside true = refl
     inside false = refl
 
--- The members of a touched bucket are the eligible ones of the source; those of another bucket stay.
+-- The members of a recounted bucket are the eligible samples of the source. Those of other buckets stay.
 pub members-touched : (test : ℕ → Bool) (plain : List Point) (r : Rule) (b : ℕ) → IsAscending plain → IsAscending r.seen →
     members r.grid b (touched test plain r) ≡ (if test b then filter (is_eligible r) (members r.grid b plain) else members r.grid b r.seen)
 members-touched test plain r b h k = go (test b) refl

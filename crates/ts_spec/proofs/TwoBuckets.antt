@@ -30,7 +30,7 @@ met g from to b (p ∷ ps) h = go (is_within from to p.time) refl (start g p.tim
     go true e false f k ih = ih (rw f at k)
     go false e y f k ih = ih k
 
--- a time outside the interval whose bucket is met lies in the first bucket or in the last
+-- a time outside the interval whose bucket overlaps it is in the first bucket or in the last
 pub met-outside : (g : Grid) (from to b t : ℕ) → IsMet g from to b → is_within from to t ≡ false → start g t ≡ b → (b ≡ start g from) ⊎ (b ≡ start g to)
 met-outside g from to b t x e s = go (cases_lt t from) (cases_lt to t)
   where
@@ -47,7 +47,7 @@ met-outside g from to b t x e s = go (cases_lt t from) (cases_lt to t)
         inr (omega arith)
     go (inr y) (inr z) = absurd (false≢true (sym e ∙ and_from (nat_le from t) (nat_le t to) (le-leb from t y) (le-leb t to z)))
 
--- A touched bucket that is neither that of `from` nor that of `to` has no sample left.
+-- An overlapped bucket that is neither that of `from` nor that of `to` has no sample left.
 pub emptied : (g : Grid) (from to b : ℕ) (ps : List Point) → lies_in g (between from to ps) b ≡ true → b ≢ start g from → b ≢ start g to →
     members g b (outside from to ps) ≡ []
 emptied g from to b ps touched not_first not_last = all ps
@@ -66,7 +66,7 @@ emptied g from to b ps touched not_first not_last = all ps
         go false e true f ih = absurd (no (met-outside g from to b q.time (met g from to b ps touched) e (eqb-true (start g q.time) b f)))
         go false e false f ih = ap (λ (y : Bool). cond y (q ∷ members g b (outside from to qs)) (members g b (outside from to qs))) f ∙ ih
 
--- The touched buckets start between the first and the last.
+-- The overlapped buckets start between the first and the last.
 pub touched-within : (g : Grid) (from to b : ℕ) (ps : List Point) → lies_in g (between from to ps) b ≡ true → is_within (start g from) (start g to) b ≡ true
 touched-within g from to b ps touched =
     let x : IsMet g from to b = met g from to b ps touched in

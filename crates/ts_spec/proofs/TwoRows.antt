@@ -89,7 +89,8 @@ at-row_at gone left born q b t = go (b == t) refl (loses gone q b) refl
     go false e true f = at-other_row q.agg born b t (counted_anew q b left) e
     go false e false f = refl
 
--- The rows of a deletion are the row of the bucket of `from` and that of `to`, each where it is closed and lost a sample.
+-- The rows of a deletion are the row of the bucket of `from` and that of `to`, each if the bucket is closed and lost
+-- a sample.
 pub two-rows : (from to : ℕ) (ps : List Point) (born : ℕ) (q : KeptRule) → from ≤ to → IsAscending ps →
     deleted_rows (between from to ps) (outside from to ps) born q ≡ end_rows (between from to ps) (outside from to ps) born q (start q.grid from) (start q.grid to)
 two-rows from to ps born q order a =

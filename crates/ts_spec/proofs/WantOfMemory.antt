@@ -20,7 +20,7 @@ abbrev second : List ℕ → ℕ
 second [] = 0
 second (byte ∷ bytes) = first bytes
 
--- want of memory begins with another byte than `E` behind its sign
+-- the out-of-memory error does not have `E` after its sign
 not-error : (a : Reply) → second (text a) ≡ 69 → text a ≢ text memory_reply
 not-error a h e = eqb-false 69 79 refl (sym h ∙ ap second e)
 
@@ -88,13 +88,13 @@ last-not-memory : (row : Option Row) → text (last_row_reply row) ≢ text memo
 last-not-memory None = not-sign (last_row_reply None) 42 refl (eqb-false 42 45 refl)
 last-not-memory (Some row) = not-sign (last_row_reply (Some row)) 42 refl (eqb-false 42 45 refl)
 
--- what is told of a triple of TS.MADD
+-- the reply to a triple of TS.MADD
 pub item-not-memory : (item : Item) → text (item_reply item) ≢ text memory_reply
 item-not-memory (Wrote time) = not-sign (item_reply (Wrote time)) 58 refl (eqb-false 58 45 refl)
 item-not-memory (IsWrong fault) = fault-not-memory fault
 item-not-memory (IsRefused refusal) = refusal-not-memory refusal
 
--- No response has the text of want of memory.
+-- No response has the text of the out-of-memory error.
 pub reply-not-memory : (r : Response) → text (reply_to r) ≢ text memory_reply
 reply-not-memory response.Done = not-sign (reply_to response.Done) 43 refl (eqb-false 43 45 refl)
 reply-not-memory (response.Count n) = not-sign (reply_to (response.Count n)) 58 refl (eqb-false 58 45 refl)

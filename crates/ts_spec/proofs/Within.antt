@@ -39,7 +39,7 @@ line_within limit negative (Number n) byte h = line_either limit (byte == RETURN
 line_within limit negative Minus byte h = line_either limit (byte == 49) (Goes MinusOne) Wrong tt tt
 line_within limit negative MinusOne byte h = line_either limit (byte == RETURN) (Returns 0) Wrong (omega arith) tt
 
--- the words so far fit, and so many bytes more
+-- the words so far fit, and this many more bytes
 pub record FitSoFar (limits : WireLimits) (so_far : Partial) (bytes : ℕ) : Type 0 where
   pub words : length so_far.words + suc so_far.later ≤ limits.words
   pub each : All (λ word. length word ≤ limits.word_bytes) so_far.words

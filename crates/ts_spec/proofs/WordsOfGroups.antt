@@ -57,7 +57,7 @@ pub too_few_words : asked (filtered ++ codes "GROUPBY" ∷ [] ∷ codes "REDUCE"
 unfolding commands end_word many_options shown_options range_options filter_word filter_of
 too_few_words = refl
 
--- REDUCE is no option of its own, so it is one more word of a list
+-- REDUCE is not an option, so it is one more word of a list
 pub reduce_in_a_list : asked (filtered ++ codes "REDUCE" ∷ []) ≡ Err BadFilter
 unfolding commands end_word many_options shown_options range_options filter_word filter_of
 reduce_in_a_list = refl

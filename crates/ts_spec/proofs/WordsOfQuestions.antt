@@ -10,7 +10,7 @@ use Rattle.ts_spec.specs.Settings.{Word, and_then, nothing, options, end_word, t
 use Rattle.ts_spec.specs.Ranges.{range_options, query, aggregator_word, duration_word, align_word, stamp_word}
 use Rattle.ts_spec.proofs.Examples.{question, tens}
 
--- what two ends, and the options after them, ask
+-- the query of two ends and the options after them
 abbrev asked : (from to : Word) → List Word → Result Query Fault
 asked from to words =
     and_then (end_word from) (λ first. and_then (end_word to) (λ last.

@@ -28,13 +28,13 @@ use Rattle.ts_spec.proofs.CountsOn.{counts-on-written}
 use Rattle.ts_spec.proofs.Led.{IsLed, led-told, led-refused, led-unless, led-ignored, led-destinations, led-at, led-stands}
 use Rattle.ts_spec.proofs.KeptMaking.{led-create_with}
 
--- a key ignores the same samples by what is kept of it
+-- a stored series ignores the same samples
 ignored-kept : (m : State) (key : Key) (d : Record) (t : ℕ) (x : ℤ) → get key m ≡ Some d → kept_ignored (kept_record (link_to m key) d) t x ≡ ignored m key d t x
 ignored-kept m key d t x there =
     ap (λ (b : Bool). if b then None else ignored_after d.options (last_of (kept_record (link_to m key) d).list) t x) (some-mapped (λ (l : Link). l.source) (link_to m key))
     ∙ ap (λ (ps : List Point). if is_some (link_to m key) then None else ignored_after d.options (last_of ps) t x) (sym (shown-there m key d there))
 
--- ---- to a key that is there
+-- ---- to an existing key
 
 module _ {Room : Type 0} {Known : Key → Key → Rule → Type 0} (limits : Limits) (m : State) (v : IsValid limits m) (key : Key) (d : Record) (there : get key m ≡ Some d) where
   led-merged : (t : ℕ) (w : Merged) → IsLed limits Room (λ k. same k key) Known m (write_merged limits m key t w) (kept_write_merged limits (kept m) key t w)
@@ -91,7 +91,7 @@ module _ {Room : Type 0} {Known : Key → Key → Rule → Type 0} (limits : Lim
       led-at limits m v key (incr_at limits m key x t spec) (kept_incr_at limits (kept m) key x t spec) (λ e. led-create_with limits m v key spec t x room e)
       (λ d there. led-incr_by limits m v key d there x t)
 
--- ---- the same of each state that is stood for
+-- ---- the same for each represented state
 
 pub add-step : (limits : Limits) (keys : Keeping) (m : State) (key : Key) (t : ℕ) (x : ℤ) (on : Option Policy) (spec : Spec) → 1 ≤ limits.samples → StandsFor limits keys m →
     IsStepOf limits (add limits m key t x on spec) (kept_add limits keys key t x on spec)

@@ -25,7 +25,7 @@ pub open-raised : (g : Grid) (t : ℕ) (top : Option ℕ) → option_map (start 
 open-raised g t None = refl
 open-raised g t (Some u) = ap (λ (n : ℕ). Some n) (start-max g u t)
 
--- a bucket in which nothing of an ascending list lies
+-- a bucket without samples of an ascending list
 pub members-none : (g : Grid) (b : ℕ) (ps : List Point) → IsAscending ps → ((t : ℕ) (p : Point) → at t ps ≡ Some p → start g t ≡ b → ⊥) → members g b ps ≡ []
 members-none g b ps h f =
     ascending-same (members g b ps) [] (ascending-times (λ t. start g t == b) ps h) tt
@@ -42,7 +42,7 @@ members-none g b ps h f =
 abbrev pub counted_by : (time : ℕ) (value : ℤ) → Record → Rule → Rule
 counted_by t v d r = counted (sample_for t v d) d.high (put (sample_for t v d) d.plain) r
 
--- no time up to the rule's highest one lies in the bucket
+-- no time up to the highest one of the rule is in the bucket
 abbrev pub IsFresh : Rule → ℕ → Type 0
 IsFresh r b = (u : ℕ) → IsUpTo r.top u → start r.grid u ≡ b → ⊥
 

@@ -34,7 +34,7 @@ append-here d r t h s e x = start-order r.grid h t (go d.high refl (s.top h e))
         omega arith
 
 module _ (t : ℕ) (v : ℤ) (d : Record) (own : IsSound d) (r : Rule) (s : IsSoundRule d r) (born : ℕ) where
-  -- what the rule then tells at a time, by its open bucket
+  -- the new row of the rule at a time, by its open bucket
   tells-after : (c : ℕ) → tells (counted_by t v d r) born c ≡
       (if is_past (raised (start r.grid t) (open_of r)) c then row_over r.agg born c (members r.grid c (counted_by t v d r).seen) else None)
   tells-after c =
@@ -48,7 +48,7 @@ module _ (t : ℕ) (v : ℤ) (d : Record) (own : IsSound d) (r : Rule) (s : IsSo
       let same : p.time ≡ u = at-time u r.seen p x in
       let at_most : start r.grid u ≤ start r.grid h = start-order r.grid u h (omega arith) in absurd (omega arith))
 
-  -- the rule as it is kept, by its highest time
+  -- the stored rule, by its highest time
   abbrev kept_by : Option ℕ → KeptRule
   kept_by top = record (kept_rule r) { current = option_map (start r.grid) top; running = summary_at r (option_map (start r.grid) top) }
 
@@ -69,7 +69,7 @@ module _ (t : ℕ) (v : ℤ) (d : Record) (own : IsSound d) (r : Rule) (s : IsSo
   row-past : (h c : ℕ) → start r.grid h < start r.grid t → at c (rows_by (Some h)) ≡ (if start r.grid h == c then row_over r.agg born (start r.grid h) (members r.grid (start r.grid h) r.seen) else None)
   row-past h c x = ap (at c) (by-past (start r.grid t) (start r.grid h) _ _ _ x) ∙ at-bucket r.agg born (start r.grid h) c (members r.grid (start r.grid h) r.seen)
 
-  -- a late write before the open bucket tells the row of its bucket
+  -- a late write before the open bucket sends the row of its bucket
   row-there : row_over r.agg born (start r.grid t) anew ≡ Some (record { time = start r.grid t; value = aggregate r.agg anew; made = born })
   row-there = ap (λ (b : Bool). if b then Some (record { time = start r.grid t; value = aggregate r.agg anew; made = born }) else None) (any-at anew t (sample_for t v d) (at-written t v d own r s))
 
@@ -77,7 +77,7 @@ module _ (t : ℕ) (v : ℤ) (d : Record) (own : IsSound d) (r : Rule) (s : IsSo
   over-other : (c : ℕ) → (start r.grid t ≡ c → ⊥) → row_over r.agg born c (members r.grid c (counted_by t v d r).seen) ≡ row_over r.agg born c (members r.grid c r.seen)
   over-other c x = ap (row_over r.agg born c) (members-other t v d own r s c x)
 
-  -- what is told at a time, where the rule had an open bucket
+  -- the row at a time, if the rule had an open bucket
   at-each : (h c : ℕ) → r.top ≡ Some h →
       (if nat_lt c (max (start r.grid h) (start r.grid t)) then row_over r.agg born c (members r.grid c (counted_by t v d r).seen) else None) ≡
       option_or (at c (rows_by (Some h))) (if nat_lt c (start r.grid h) then row_over r.agg born c (members r.grid c r.seen) else None)
@@ -140,7 +140,7 @@ module _ (t : ℕ) (v : ℤ) (d : Record) (own : IsSound d) (r : Rule) (s : IsSo
             | inr z ↦ unclosed c (start r.grid t) _ z
           ]
 
-  -- what is told at a time
+  -- the row at a time
   told-after : (c : ℕ) → tells (counted_by t v d r) born c ≡ option_or (at c (written_row (sample_for t v d) (put (sample_for t v d) d.plain) born (kept_rule r))) (tells r born c)
   told-after c = tells-after c ∙ go r.top refl ∙ ap (option_or (at c (rows_by r.top))) (sym (tells-row r born c))
     where
@@ -154,7 +154,7 @@ module _ (t : ℕ) (v : ℤ) (d : Record) (own : IsSound d) (r : Rule) (s : IsSo
       ]
       go (Some h) e = at-each h c e
 
-  -- where there is no row, no own sample of the destination is lost
+  -- without a row, the destination loses no own sample
   lost-none : (key : Key) (c : ℕ) → at c (written_row (sample_for t v d) (put (sample_for t v d) d.plain) born (kept_rule r)) ≡ None →
       lost_by key (write_touches t d.high) (Some (record { source = key; rule = counted_by t v d r })) c ≡ false
   lost-none key c none =
@@ -172,7 +172,7 @@ module _ (t : ℕ) (v : ℤ) (d : Record) (own : IsSound d) (r : Rule) (s : IsSo
               sym (row-before h c z ∙ here-same (start r.grid t) c _ (sym y) ∙ row-there) ∙ w in
               cc one
 
-  -- The rows of a write mend a destination of the rule.
+  -- The rows of a write update a destination of the rule.
   pub write-mends : (key : Key) → IsMending r (counted_by t v d r) born (lost_by key (write_touches t d.high) (Some (record { source = key; rule = counted_by t v d r }))) (λ b. false)
       (written_row (sample_for t v d) (put (sample_for t v d) d.plain) born (kept_rule r))
   write-mends key = record { told = told-after; own = lost-none key }

@@ -12,7 +12,7 @@ use Rattle.ts_spec.specs.Mending.{counted_anew, by_bucket, written_rule}
 use Rattle.ts_spec.proofs.Aggregates.{summary-push}
 use Rattle.ts_spec.proofs.WrittenCounts.{open-raised, counted_by, fresh-none, fresh-past, members-other, members-here, members-anew, members-fresh}
 
--- ---- where a bucket lies
+-- ---- the position of a bucket
 
 pub by-before : {X : Type 0} (b o : ℕ) (x y z : X) → b < o → by_bucket b (Some o) x y z ≡ x
 by-before b o x y z h = ap (λ (c : Bool). if c then x else (if b == o then y else z)) (lt-ltb b o h)
@@ -23,7 +23,7 @@ by-here b o x y z h = ap (λ (c : Bool). if c then x else (if b == o then y else
 pub by-past : {X : Type 0} (b o : ℕ) (x y z : X) → o < b → by_bucket b (Some o) x y z ≡ z
 by-past b o x y z h = ap (λ (c : Bool). if c then x else (if b == o then y else z)) (le-ltb b o (omega arith)) ∙ ap (λ (c : Bool). if c then y else z) (ne_eqb b o (λ e. absurd (omega arith)))
 
--- ---- what is kept of the rule
+-- ---- the stored rule
 
 module _ (t : ℕ) (v : ℤ) (d : Record) (own : IsSound d) (r : Rule) (s : IsSoundRule d r) where
   -- what its open bucket counts, if that is the one of the sample
@@ -36,7 +36,7 @@ module _ (t : ℕ) (v : ℤ) (d : Record) (own : IsSound d) (r : Rule) (s : IsSo
       go true x = ap summary (members-here t v d own r s x) ∙ summary-push (members r.grid (start r.grid t) r.seen) (sample_for t v d)
       go false x = ap summary (members-anew t v d own r s x)
 
-  -- what it counts where the rule had an open bucket
+  -- what it counts, if the rule had an open bucket
   running-after : (h : ℕ) → r.top ≡ Some h → summary (members r.grid (max (start r.grid h) (start r.grid t)) (counted_by t v d r).seen) ≡
       by_bucket (start r.grid t) (Some (start r.grid h)) (summary (members r.grid (start r.grid h) r.seen))
       (if is_append t d.high then push (summary (members r.grid (start r.grid h) r.seen)) (sample_for t v d) else counted_anew (kept_rule r) (start r.grid t) (put (sample_for t v d) d.plain))
@@ -73,7 +73,7 @@ module _ (t : ℕ) (v : ℤ) (d : Record) (own : IsSound d) (r : Rule) (s : IsSo
       go None e = ap summary (members-fresh t v d own r s (fresh-none r (start r.grid t) e))
       go (Some h) e = running-after h e
 
-  -- What is kept of a rule after a write is the function of what was kept.
+  -- Storing a rule and writing commute.
   pub kept-counted : kept_rule (counted_by t v d r) ≡ written_rule (is_append t d.high) (sample_for t v d) (put (sample_for t v d) d.plain) (kept_rule r)
   kept-counted =
       let current : open_of (counted_by t v d r) ≡ raised (start r.grid t) (open_of r) = open-raised r.grid t r.top in
