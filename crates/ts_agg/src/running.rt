@@ -1,5 +1,6 @@
 // A running summary of samples, from which every aggregator can be computed at any time.
-ghost use Rattle.std.specs.Prelude.{◌≡◌, ◌<◌, ◌^◌, ◌↔◌, List, [], ◌∷◌, ◌++◌, length, nat_lt, int_lt, if◌then◌else◌, Some, IsNone};
+ghost use Rattle.std.specs.Prelude.{◌≡◌, ◌<◌, ◌^◌, ◌↔◌, List, [], ◌∷◌, ◌++◌, length, nat_lt, int_lt, if◌then◌else◌};
+ghost use Rattle.std.specs.Prelude.{Some, IsNone};
 ghost use Rattle.ts_spec.specs.Sample.{Point};
 ghost use Rattle.ts_spec.specs.Aggregate.{aggregate, push, result_of};
 ghost use Rattle.ts_agg.specs.Running.{StandsFor};

@@ -1,5 +1,6 @@
 // Builds the new chunks of a chunk whose samples change, the same way for all formats.
-ghost use Rattle.std.specs.Prelude.{◌≡◌, ◌/◌, ◌<◌, List, length, map, take, drop, IfOk, vec_len, vec_capacity, IfSome, IfNone};
+ghost use Rattle.std.specs.Prelude.{◌≡◌, ◌/◌, ◌<◌, List, length, map, take, drop, IfOk, vec_len, vec_capacity, IfSome};
+ghost use Rattle.std.specs.Prelude.{IfNone};
 ghost use Rattle.ts_spec.specs.Sample.{Point, IsAscending, outside, put};
 ghost use Rattle.ts_sample.specs.Chunk.{IsCut, HaveLimit, IsLimit};
 ghost use Rattle.ts_sample.specs.Steps.{Takes};
@@ -19,7 +20,8 @@ pub(crate) fn with_sample<C: Chunk, L: Ledger>(
     sample: &Sample,
     steps: &mut Steps<L>,
 ) -> Result<Vec<C>, AllocError>
-    ensures cut { IfOk result (λ v. IsCut C.format (C.most chunk.now) (put sample.now (C.list chunk.now)) (map C.list v.items)) }
+    ensures cut { IfOk result
+        (λ v. IsCut C.format (C.most chunk.now) (put sample.now (C.list chunk.now)) (map C.list v.items)) }
     ensures limits { IfOk result (λ v. HaveLimit C.most (C.most chunk.now) v.items) }
     ensures steps { Takes steps.old steps.new (length (C.list chunk.now)) }
 {
@@ -44,7 +46,8 @@ pub(crate) fn without_interval<C: Chunk, L: Ledger>(
     to: u64,
     steps: &mut Steps<L>,
 ) -> Result<Vec<C>, AllocError>
-    ensures cut { IfOk result (λ v. IsCut C.format (C.most chunk.now) (outside from to (C.list chunk.now)) (map C.list v.items)) }
+    ensures cut { IfOk result
+        (λ v. IsCut C.format (C.most chunk.now) (outside from to (C.list chunk.now)) (map C.list v.items)) }
     ensures limits { IfOk result (λ v. HaveLimit C.most (C.most chunk.now) v.items) }
     ensures steps { Takes steps.old steps.new (length (C.list chunk.now)) }
 {
@@ -71,7 +74,9 @@ fn both<C: Chunk>(alloc: Global, first: C, second: C) -> Result<Vec<C>, AllocErr
     requires first { 0 < length (C.list first) }
     requires second { 0 < length (C.list second) }
     requires alike { C.most second ≡ C.most first }
-    ensures cut { (ps : List Point) → C.most first < length (C.format ps) → C.list first ≡ take (length ps / 2) ps → C.list second ≡ drop (length ps / 2) ps → IfOk result (λ v. IsCut C.format (C.most first) ps (map C.list v.items)) }
+    ensures cut { (ps : List Point) → C.most first < length (C.format ps) → C.list first ≡ take (length ps / 2) ps
+        → C.list second ≡ drop (length ps / 2) ps
+        → IfOk result (λ v. IsCut C.format (C.most first) ps (map C.list v.items)) }
     ensures limits { IfOk result (λ v. HaveLimit C.most (C.most first) v.items) }
 {
     let mut chunks = alone(alloc, first)?;

@@ -1,5 +1,6 @@
 // The interface of chunks, for every format.
-ghost use Rattle.std.specs.Prelude.{◌≡◌, ℕ, ◌+◌, ◌*◌, ◌/◌, ◌<◌, ◌≤◌, nat_le, if◌then◌else◌, List, [], ◌∷◌, ◌++◌, take, drop, length, map, IfOk, IfSome, IfNone};
+ghost use Rattle.std.specs.Prelude.{◌≡◌, ℕ, ◌+◌, ◌*◌, ◌/◌, ◌<◌, ◌≤◌, nat_le, if◌then◌else◌, List, [], ◌∷◌, ◌++◌, take};
+ghost use Rattle.std.specs.Prelude.{drop, length, map, IfOk, IfSome, IfNone};
 ghost use Rattle.ts_spec.specs.Sample.{Point, between, at_times, outside, put, first_of, last_of};
 ghost use Rattle.ts_sample.specs.Chunk.{IsLimit, IsChunk, IsPast, IsCut, HaveLimit, least_limit};
 ghost use Rattle.ts_sample.specs.Sample.{IsFine};
@@ -94,7 +95,8 @@ pub trait Chunk: Drop {
         requires { is_place (list self.now) place.old }
         ensures next { result ≡ first_of (drop (passed place.old) (list self.now)) }
         ensures place { is_place (list self.now) place.new }
-        ensures passed { passed place.new ≡ passed place.old + length (take 1 (drop (passed place.old) (list self.now))) }
+        ensures passed { passed place.new
+            ≡ passed place.old + length (take 1 (drop (passed place.old) (list self.now))) }
         ensures counted { steps.new ≡ steps.old + length (take 1 (drop (passed place.old) (list self.now))) };
 
     /// Whether a sample after the last one would fit. It decodes nothing.
@@ -132,8 +134,12 @@ pub trait Chunk: Drop {
         sample: &Sample,
         steps: &mut Steps<L>,
     ) -> Result<Option<(Self, Self)>, AllocError>
-        ensures first { IfOk result (λ o. IfSome o (λ r. list r.0 ≡ take (length (put sample.now (list self.now)) / 2) (put sample.now (list self.now)))) }
-        ensures second { IfOk result (λ o. IfSome o (λ r. list r.1 ≡ drop (length (put sample.now (list self.now)) / 2) (put sample.now (list self.now)))) }
+        ensures first { IfOk result
+            (λ o. IfSome o (λ r. list r.0
+            ≡ take (length (put sample.now (list self.now)) / 2) (put sample.now (list self.now)))) }
+        ensures second { IfOk result
+            (λ o. IfSome o (λ r. list r.1
+            ≡ drop (length (put sample.now (list self.now)) / 2) (put sample.now (list self.now)))) }
         ensures limits { IfOk result (λ o. IfSome o (λ r. (most r.0 ≡ most self.now) × (most r.1 ≡ most self.now))) }
         ensures steps { Takes steps.old steps.new (length (list self.now)) }
         ensures without { IfOk result (λ o. IfNone o (steps.new ≡ steps.old)) };
@@ -145,7 +151,8 @@ pub trait Chunk: Drop {
         sample: &Sample,
         steps: &mut Steps<L>,
     ) -> Result<Vec<Self>, AllocError>
-        ensures cut { IfOk result (λ v. IsCut format (most self.now) (put sample.now (list self.now)) (map list v.items)) }
+        ensures cut { IfOk result
+            (λ v. IsCut format (most self.now) (put sample.now (list self.now)) (map list v.items)) }
         ensures limits { IfOk result (λ v. HaveLimit most (most self.now) v.items) }
         ensures steps { Takes steps.old steps.new (length (list self.now)) }
     {
@@ -161,7 +168,8 @@ pub trait Chunk: Drop {
         to: u64,
         steps: &mut Steps<L>,
     ) -> Result<Vec<Self>, AllocError>
-        ensures cut { IfOk result (λ v. IsCut format (most self.now) (outside from to (list self.now)) (map list v.items)) }
+        ensures cut { IfOk result
+            (λ v. IsCut format (most self.now) (outside from to (list self.now)) (map list v.items)) }
         ensures limits { IfOk result (λ v. HaveLimit most (most self.now) v.items) }
         ensures steps { Takes steps.old steps.new (length (list self.now)) }
     {

@@ -1,5 +1,6 @@
 // Binary search in an ascending list of samples.
-ghost use Rattle.std.specs.Prelude.{◌≡◌, ◌≤◌, nat_lt, nat_le, ◌∷◌, ◌++◌, length, take, drop, slice_get, slice_range, None, Some, IfOk, IfErr, IsSomeAnd};
+ghost use Rattle.std.specs.Prelude.{◌≡◌, ◌≤◌, nat_lt, nat_le, ◌∷◌, ◌++◌, length, take, drop, slice_get, slice_range};
+ghost use Rattle.std.specs.Prelude.{None, Some, IfOk, IfErr, IsSomeAnd};
 ghost use Rattle.ts_spec.specs.Sample.{Point, IsAscending, at, at_times, between, outside, put};
 
 use crate::sample::Sample;
@@ -26,7 +27,8 @@ pub fn find(list: &[Sample], time: u64) -> Result<usize, usize>
     requires { IsAscending list.now }
     ensures found { IfOk result (λ i. IsSomeAnd (at time list.now) (λ p. slice_get list.now i ≡ Some p)) }
     ensures absent { IfErr result (λ _. at time list.now ≡ None) }
-    ensures between { IfErr result (λ i. (i ≤ length list.now) × ((p : Point) → p.time ≡ time → take i list.now ++ p ∷ drop i list.now ≡ put p list.now)) }
+    ensures between { IfErr result (λ i. (i ≤ length list.now)
+        × ((p : Point) → p.time ≡ time → take i list.now ++ p ∷ drop i list.now ≡ put p list.now)) }
 {
     let place = place_of(list, time);
     let Some(there) = list.get(place) else {

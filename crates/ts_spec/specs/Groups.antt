@@ -109,7 +109,7 @@ group by show count reverse value ms = record {
 abbrev pub groups : GroupBy → Show → (count : Option ℕ) → (reverse : Bool) → List Labelled → List Member
 groups by show count reverse ms = map (λ value. group by show count reverse value (having by.label value ms)) (values by.label ms)
 
--- ---- the series that a question asks
+-- ---- the series of a query
 
 -- the keys that have the label
 abbrev pub labelled_keys : (label : List ℕ) → (labels : Key → List Label) → List Key → List Key

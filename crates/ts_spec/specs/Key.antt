@@ -21,7 +21,7 @@ is_before [] (y ∷ ys) = true
 is_before (x ∷ xs) [] = false
 is_before (x ∷ xs) (y ∷ ys) = nat_lt x y || ((x == y) && is_before xs ys)
 
--- ---- the order can be chained
+-- ---- the order is transitive
 
 before_cases : (x y : ℕ) (a b : Key) → is_before (x ∷ a) (y ∷ b) ≡ true → (x < y) ⊎ ((x ≡ y) × (is_before a b ≡ true))
 before_cases x y a b h = go (nat_lt x y) (x == y) (is_before a b) refl refl refl h

@@ -80,7 +80,7 @@ last_options = (codes "LATEST", latest) ∷ shown_options
 unfoldable pub many_options : Table Setting
 many_options = (codes "GROUPBY", group_by) ∷ shown_options ++ range_options
 
--- ---- what is asked
+-- ---- the query
 
 -- the filters; FILTER is required
 abbrev pub wanted : Given → Result (List Filter) Fault

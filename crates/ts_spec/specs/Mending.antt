@@ -10,7 +10,7 @@ use Rattle.ts_spec.specs.State.{edge_of}
 use Rattle.ts_spec.specs.Rules.{raised, is_append, list_any, is_past}
 use Rattle.ts_spec.specs.Kept.{KeptRule, Kept, Keeping}
 
--- ---- rows, and the mending of a destination
+-- ---- rows, and the update of a destination
 
 -- The row of a bucket in a destination; `born` is how many rules the destination ever had. There is no row if the
 -- bucket counts nothing.

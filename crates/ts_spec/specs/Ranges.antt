@@ -111,7 +111,7 @@ range_options =
 abbrev pub has_list : List Word → Bool
 has_list = has_name (codes "FILTER_BY_TS")
 
--- ---- what is asked
+-- ---- the query
 
 -- whether ALIGN, BUCKETTIMESTAMP or EMPTY is given without AGGREGATION
 abbrev pub lacks_aggregation : Given → Bool

@@ -36,7 +36,7 @@ then_all (placed ∷ more) rest = Then placed.request placed.after (then_all mor
 abbrev pub requests_in : List Placed → List Request
 requests_in done = map (λ p. p.request) done
 
--- ---- the end that a client asks for
+-- ---- QUIT
 
 -- whether a parsed command is QUIT
 abbrev pub says_quit : Result Command Fault → Bool

@@ -31,7 +31,8 @@ pub fn settling_twice_is_settling_once()
 /// If two states differ for one destination in a single bucket of its rule, the destination shows the same samples at
 /// every time except the start of that bucket.
 pub fn one_bucket_shows_at_its_start()
-    ensures { (m n : State) (k : Key) (b : ℕ) → DiffersInOneBucket m n k b → (t : ℕ) → t ≢ b → at t (shown m k) ≡ at t (shown n k) }
+    ensures { (m n : State) (k : Key) (b : ℕ) → DiffersInOneBucket m n k b → (t : ℕ) → t ≢ b
+        → at t (shown m k) ≡ at t (shown n k) }
 {}
 
 /// The empty state is valid, and each step keeps a state valid, if the limits allow at least one sample per series.
@@ -46,19 +47,24 @@ pub fn each_step_keeps_a_state_valid()
 pub fn what_is_kept_is_enough()
     ensures empty { (limits : Limits) → StandsFor limits none empty }
     ensures step { (limits : Limits) (m : State) (keys : Keeping) (reading : ℕ) (command : Command) → 1 ≤ limits.samples
-        → StandsFor limits keys m → IsStepOf limits (step limits m reading command) (kept_step limits keys reading command) }
+        → StandsFor limits keys m
+        → IsStepOf limits (step limits m reading command) (kept_step limits keys reading command) }
 {}
 
 /// A new rule counts every sample that its source has and that was written since the rule was created. If neither
 /// series has a retention before and after a command, such a rule is unchanged by the command and still counts every
 /// new sample, unless the command writes to the destination or deletes from it.
 pub fn a_new_rule_counts_all_that_its_source_has()
-    ensures made { (limits : Limits) (m : State) (reading : ℕ) (source dest : Key) (agg : Aggregator) (grid : Grid) → IsValid limits m
+    ensures made { (limits : Limits) (m : State) (reading : ℕ) (source dest : Key) (agg : Aggregator) (grid : Grid)
+        → IsValid limits m
         → (step limits m reading (CreateRule source dest agg grid)).response ≡ Done
         → CountsAllFrom (step limits m reading (CreateRule source dest agg grid)).state source dest }
-    ensures step { (limits : Limits) (m : State) (reading : ℕ) (command : Command) (source dest : Key) (old new : Rule) → IsValid limits m
-        → changes dest command ≡ false → JoinsForEver m source dest old → JoinsForEver (step limits m reading command).state source dest new
-        → CountsAll (plain_at (get source m)) old → StillCountsAll (step limits m reading command).state source old new }
+    ensures step { (limits : Limits) (m : State) (reading : ℕ) (command : Command) (source dest : Key) (old new : Rule)
+        → IsValid limits m
+        → changes dest command ≡ false → JoinsForEver m source dest old
+        → JoinsForEver (step limits m reading command).state source dest new
+        → CountsAll (plain_at (get source m)) old
+        → StillCountsAll (step limits m reading command).state source old new }
 {}
 
 /// A command whose times were resolved by a reading of the clock needs no clock. At any reading it has the same effect
