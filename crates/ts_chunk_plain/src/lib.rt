@@ -3,7 +3,6 @@
 #![tactic(auto)]
 
 mod chunk;
-mod piece;
 mod pieces;
 
 pub use chunk::PlainChunk;
