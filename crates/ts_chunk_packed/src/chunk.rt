@@ -2,12 +2,10 @@
 ghost use Rattle.std.specs.Prelude.{◌≡◌, Some};
 ghost use Rattle.std.specs.Option.{unwrap_or};
 
-mod fields;
-mod halves;
 mod parts;
 mod splice;
 
-use crate::chunk::halves::are_halves;
+use crate::chunk::splice::are_halves;
 use crate::coding::{WIDEST, encode, width_of};
 use crate::late_marks::LateMarks;
 use crate::mark::{Mark, Offset};

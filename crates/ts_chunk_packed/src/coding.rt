@@ -1,8 +1,8 @@
-// A sample as bytes, by what is known of those before it.
-ghost use Rattle.std.specs.Prelude.{◌≡◌, ◌+◌, ◌^◌, ◌≤◌, pos, ◌+ℤ◌, ◌-ℤ◌, ◌≤ℤ◌, ◌<ℤ◌, ◌++◌, length, unsigned_abs, vec_len, vec_capacity};
-ghost use Rattle.ts_spec.specs.Sample.{MAX_TIME};
+// A sample as bytes: its differences from the sample before it.
+ghost use Rattle.std.specs.Prelude.{◌≡◌, ◌+◌, ◌^◌, ◌≤◌, pos, ◌+ℤ◌, ◌-ℤ◌, ◌≤ℤ◌, ◌<ℤ◌, ◌++◌, length, unsigned_abs, vec_len, vec_capacity, ℕ, List};
+ghost use Rattle.ts_spec.specs.Sample.{MAX_TIME, Point};
 ghost use Rattle.ts_spec.specs.Value.{bound};
-ghost use Rattle.ts_chunk_packed.specs.Packed.{coded, gap, number_of, sample_of, zigzag, unzigzag};
+ghost use Rattle.ts_chunk_packed.specs.Packed.{coded, gap, number_of, sample_of, zigzag, unzigzag, packed, decoded};
 ghost use Rattle.ts_chunk_packed.specs.Reading.{Begins, Follows};
 
 use crate::context::Context;
@@ -171,3 +171,9 @@ fn made_after(from: u32, bytes: &[u8]) -> (u32, &[u8])
     let (number, rest) = read(bytes);
     (ahead(from as u64, number) as u32, rest)
 }
+
+/// Samples that were packed are read back from their bytes, in whatever order their times are, and what follows the
+/// bytes is left.
+pub fn packed_samples_read_back()
+    ensures { (ps : List Point) (rest : List ℕ) → decoded (length ps) (packed ps ++ rest) ≡ (ps, rest) }
+{}

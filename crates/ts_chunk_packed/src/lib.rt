@@ -6,7 +6,6 @@ mod chunk;
 mod coding;
 mod context;
 mod late_marks;
-mod laws;
 mod mark;
 mod marks;
 mod number;
@@ -16,4 +15,4 @@ mod walk;
 mod zigzag;
 
 pub use chunk::PackedChunk;
-pub use laws::packed_samples_read_back;
+pub use coding::packed_samples_read_back;

@@ -1,5 +1,5 @@
-// Parts of a chunk: what is left of it from a time or a place on, what stands before, and the rest of another.
-ghost use Rattle.std.specs.Prelude.{◌≡◌, ◌+◌, ◌<◌, nat_lt, nat_le, if◌then◌else◌, ◌==◌, ◌++◌, length, None, IfOk, IfSome, IfNone};
+// Parts of a chunk: the samples before a time or a mark, those after it, and the fields themselves.
+ghost use Rattle.std.specs.Prelude.{◌≡◌, ◌+◌, ◌<◌, nat_lt, nat_le, if◌then◌else◌, ◌==◌, ◌++◌, length, None, IfOk, IfSome, IfNone, ◌≤◌, ◌*◌};
 ghost use Rattle.ts_spec.specs.Sample.{IsAscending, at_times};
 ghost use Rattle.ts_chunk_packed.specs.Marks.{AreMarks, IsMark, IsPlace, EndsAt, passed};
 ghost use Rattle.ts_chunk_packed.specs.Packed.{begin, state_from, packed};
@@ -166,6 +166,14 @@ impl PackedChunk {
         self.marks.keep_moved(&other.marks, from, to);
         true
     }
+
+    /// How many places past some of its samples it knows, from which these can be read on, in 48 bytes each: at most one for
+    /// each 256 bytes.
+    pub fn marks(&self) -> usize
+        ensures { 256 * result ≤ length (packed self.now.list) }
+    {
+        self.marks.len()
+    }
 }
 
 // The first of so many samples, where this is the first of those and others.
@@ -173,4 +181,17 @@ fn kept_first(count: u32, first: Option<Sample>) -> Option<Sample>
     ensures { result ≡ (if count == 0 then None else first) }
 {
     if count == 0 { None } else { first }
+}
+
+// A chunk is these fields and no others: a further one, such as a copy of its samples, does not compile here.
+fn fields(it: &PackedChunk) {
+    let PackedChunk {
+        limit: _,
+        bytes: _,
+        count: _,
+        step: _,
+        first: _,
+        last: _,
+        marks: _,
+    } = it;
 }

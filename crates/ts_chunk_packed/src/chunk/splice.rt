@@ -1,12 +1,16 @@
-// A chunk with one more sample, or with another one at its time.
-ghost use Rattle.std.specs.Prelude.{◌≡◌, ◌<◌, ◌≤◌, length, IfOk, IfSome, IfNone};
+// A late sample in a chunk: put in at its time, or the chunk split in two where it gets too long.
+ghost use Rattle.std.specs.Prelude.{◌≡◌, ◌<◌, ◌≤◌, length, IfOk, IfSome, IfNone, ◌+◌, ◌/◌, nat_eq, ◌++◌};
 ghost use Rattle.ts_spec.specs.Sample.{put};
 ghost use Rattle.ts_chunk_packed.specs.Packed.{packed};
+ghost use Rattle.ts_chunk_packed.specs.Marks.{AreMarks};
+ghost use Rattle.ts_chunk_packed.specs.Rest.{IsRestOf};
 
 use super::PackedChunk;
+use crate::late_marks::LateMarks;
+use crate::rest::Rest;
 use crate::splicing::take_over;
 use std::alloc::{AllocError, Global};
-use ts_sample::{Chunk, Sample};
+use ts_sample::{Chunk, MAX_TIME, Sample};
 
 impl PackedChunk {
     // A chunk of the same limit with the sample at its time, and how many samples were decoded for it: none where it
@@ -34,5 +38,104 @@ impl PackedChunk {
             return Ok(None);
         }
         Ok(Some((chunk, count - rest.len())))
+    }
+
+    // Two chunks of the same limit with the sample at its time, so cut that each has half if there was none at that time:
+    // none where they would not fit.
+    pub(super) fn split_with(
+        &self,
+        alloc: Global,
+        sample: &Sample,
+    ) -> Result<Option<(PackedChunk, PackedChunk)>, AllocError>
+        ensures list { IfOk result (λ o. IfSome o (λ r. r.0.list ++ r.1.list ≡ put sample.now self.now.list)) }
+        ensures limits { IfOk result (λ o. IfSome o (λ r. (r.0.limit ≡ self.now.limit) × (r.1.limit ≡ self.now.limit))) }
+    {
+        self.known();
+        let mut rest = self.rest_at(None);
+        let mut marks = LateMarks::with_room(alloc, self.limit)?;
+        self.pass_half(sample, &mut rest, &mut marks);
+        let Some((first, second)) = self.split(alloc, rest, marks)? else {
+            return Ok(None);
+        };
+        let Some(begins) = second.first() else {
+            return Ok(None);
+        };
+        if sample.time < begins.time {
+            let Some((first, _)) = first.with_sample(alloc, sample)? else {
+                return Ok(None);
+            };
+            return Ok(Some((first, second)));
+        }
+        let Some((second, _)) = second.with_sample(alloc, sample)? else {
+            return Ok(None);
+        };
+        Ok(Some((first, second)))
+    }
+
+    // Passes the samples that are the first half, or are it with this one, and sets the marks past them that are due. Nothing
+    // but speed depends on where it ends.
+    fn pass_half(&self, sample: &Sample, rest: &mut Rest<'_>, marks: &mut LateMarks)
+        requires rest { IsRestOf self.now.list rest.old }
+        requires marks { (of : IsRestOf self.now.list rest.old) → AreMarks of.front marks.old }
+        ensures rest { IsRestOf self.now.list rest.new }
+        ensures marks { (of : IsRestOf self.now.list rest.new) → AreMarks of.front marks.new }
+    {
+        for _ in 0..self.count.saturating_sub(1) / 2 {
+            self.pass_next(MAX_TIME, rest, marks);
+        }
+        sample.known();
+        self.pass_next(sample.time + 1, rest, marks);
+    }
+
+    // Passes the next sample, if it is before a time, and sets the mark past it if one is due.
+    fn pass_next(&self, time: u64, rest: &mut Rest<'_>, marks: &mut LateMarks)
+        requires rest { IsRestOf self.now.list rest.old }
+        requires marks { (of : IsRestOf self.now.list rest.old) → AreMarks of.front marks.old }
+        ensures rest { IsRestOf self.now.list rest.new }
+        ensures marks { (of : IsRestOf self.now.list rest.new) → AreMarks of.front marks.new }
+    {
+        if !rest.pass(time) {
+            return;
+        }
+        let place = self.place_of(rest);
+        marks.set(rest.context(), place);
+    }
+
+    // The samples before those that are left of it, with these marks, and the others, in chunks of the same limit: none where the
+    // others would not fit, or where there are none. The bytes of all but the first few of these stay as they are.
+    fn split(
+        &self,
+        alloc: Global,
+        mut rest: Rest<'_>,
+        marks: LateMarks,
+    ) -> Result<Option<(PackedChunk, PackedChunk)>, AllocError>
+        requires rest { IsRestOf self.now.list rest }
+        requires marks { (of : IsRestOf self.now.list rest) → AreMarks of.front marks }
+        ensures whole { IfOk result (λ o. IfSome o (λ r. r.0.list ++ r.1.list ≡ self.now.list)) }
+        ensures limits { IfOk result (λ o. IfSome o (λ r. (r.0.limit ≡ self.now.limit) × (r.1.limit ≡ self.now.limit))) }
+    {
+        self.known();
+        let first = self.all_before(alloc, &rest, marks)?;
+        let mut second = PackedChunk::new(alloc, self.limit())?;
+        let Some(sample) = rest.next() else {
+            return Ok(None);
+        };
+        if !second.try_append(&sample) {
+            return Ok(None);
+        }
+        if !take_over(&mut second, &mut rest, self) {
+            return Ok(None);
+        }
+        Ok(Some((first, second)))
+    }
+}
+
+// Whether two lists of so many samples are the halves of one, of which the first is rounded down.
+pub(super) fn are_halves(first: usize, second: usize) -> bool
+    ensures { result ≡ nat_eq first ((first + second) / 2) }
+{
+    match second.checked_sub(first) {
+        Some(more) => more < 2,
+        None => false,
     }
 }
