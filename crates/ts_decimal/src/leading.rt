@@ -3,7 +3,7 @@ ghost use Rattle.std.specs.Prelude.{◌≡◌, ℕ, ◌+◌, ◌*◌, ◌^◌, �
 ghost use Rattle.ts_spec.specs.Value.{digits, after_digits, fraction, after_fraction, number_after};
 ghost use Rattle.ts_decimal.specs.Leading.{Leads};
 
-use crate::digit::split_digit;
+use crate::lexer::split_digit;
 
 /// A digit is kept only below this number, so thirty digits are kept at most: more than a value's bound has.
 const KEPT: u128 = 100_000_000_000_000_000_000_000_000_000;

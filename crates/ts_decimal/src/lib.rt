@@ -2,16 +2,14 @@
 //! Nothing here takes memory.
 #![tactic(auto)]
 
-mod digit;
-mod exponent;
 mod laws;
 mod leading;
+mod lexer;
 mod powers;
 mod printing;
 mod reading;
 mod rounding;
 mod short;
-mod sign;
 
 pub use laws::{decimal_is_spelled, printed_reads_back, value_is_nearest};
 pub use printing::{print, put_value};

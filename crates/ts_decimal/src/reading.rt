@@ -4,11 +4,10 @@ ghost use Rattle.ts_spec.specs.Value.{bound, value, nearest, signed, decimal_of}
 ghost use Rattle.ts_decimal.specs.Leading.{Leads};
 ghost use Rattle.ts_decimal.specs.Reading.{IsSpelled, in_range_of};
 
-use crate::exponent::read_exponent;
 use crate::leading::Leading;
+use crate::lexer::{read_exponent, split_sign};
 use crate::powers::power_of_ten;
 use crate::short::short_magnitude;
-use crate::sign::split_sign;
 use ts_sample::Units;
 use ts_spec::ValueFault;
 

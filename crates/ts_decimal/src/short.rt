@@ -3,7 +3,7 @@ ghost use Rattle.std.specs.Prelude.{◌≡◌, ℕ, ◌+◌, ◌*◌, ◌^◌, �
 ghost use Rattle.ts_spec.specs.Value.{digits, after_digits, number_after, decimal_of};
 ghost use Rattle.ts_decimal.specs.Reading.{IsRounded};
 
-use crate::digit::split_digit;
+use crate::lexer::split_digit;
 use crate::powers::power_of_ten;
 use crate::reading::PLACES;
 

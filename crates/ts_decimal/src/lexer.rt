@@ -1,10 +1,32 @@
-// The exponent of a value's text.
-ghost use Rattle.std.specs.Prelude.{◌≡◌, ◌≤◌, ◌<◌, ℕ, true, false, MatchOption, IfSome};
-ghost use Rattle.ts_spec.specs.Value.{is_short, number_after, exponent};
+// The parts of a decimal text: its sign, one digit, and its exponent.
+ghost use Rattle.std.specs.Prelude.{◌≡◌, ◌≤◌, length, MatchOption, ◌<◌, ℕ, true, false, IfSome};
+ghost use Rattle.ts_spec.specs.Value.{is_negative, unsigned, is_short, number_after, exponent};
+ghost use Rattle.ts_decimal.specs.Digits.{BeginsWith, HasNoDigit};
 
-use crate::digit::split_digit;
-use crate::sign::split_sign;
 use std::marker::Model;
+
+/// Whether the text begins with a minus, and the text after its sign, if it has one.
+pub fn split_sign(text: &[u8]) -> (bool, &[u8])
+    ensures negative { result.0 ≡ is_negative text.now }
+    ensures rest { result.1.now ≡ unsigned text.now }
+    ensures bound { length result.1.now ≤ length text.now }
+{
+    match text {
+        [b'-', rest @ ..] => (true, rest),
+        [b'+', rest @ ..] => (false, rest),
+        _ => (false, text),
+    }
+}
+
+/// The digit that the text begins with, and the text after it.
+pub fn split_digit(text: &[u8]) -> Option<(u8, &[u8])>
+    ensures { MatchOption result (HasNoDigit text.now) (λ p. BeginsWith text.now p.0 p.1.now) }
+{
+    match text {
+        [digit @ b'0'..=b'9', after @ ..] => Some((digit - b'0', after)),
+        _ => None,
+    }
+}
 
 /// Ten to the power `up`, over ten to the power `down`.
 #[derive(Clone, Copy)]
