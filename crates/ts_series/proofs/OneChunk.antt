@@ -9,7 +9,7 @@ use Rattle.ts_sample.specs.Chunk.{IsChunk, AreFine}
 use Rattle.ts_sample.specs.Visit.{visited}
 use Rattle.ts_sample.proofs.Parted.{filter_alike}
 use Rattle.ts_sample.proofs.Replacing.{none-before}
-use Rattle.ts_series.specs.declared.ends.Ends.{Ends}
+use Rattle.ts_series.specs.declared.chunk_questions.Ends.{Ends}
 use Rattle.ts_series.proofs.Counting.{times-length}
 use Rattle.ts_series.proofs.EarlyLate.{after-less}
 

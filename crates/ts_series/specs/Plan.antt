@@ -9,9 +9,9 @@ use Rattle.ts_spec.specs.declared.series.Policy.{Policy}
 use Rattle.ts_spec.specs.Sample.{Point, at_times, outside, put_all}
 use Rattle.ts_spec.specs.State.{edge_of}
 use Rattle.ts_spec.specs.Mending.{high_with}
-use Rattle.ts_series.specs.declared.edit.Interval.{Interval}
-use Rattle.ts_series.specs.declared.edit.Rows.{Rows}
-use Rattle.ts_series.specs.declared.edit.Rows.TheVariants.{Empty, One, Many}
+use Rattle.ts_series.specs.declared.line_plan.Interval.{Interval}
+use Rattle.ts_series.specs.declared.line_plan.Rows.{Rows}
+use Rattle.ts_series.specs.declared.line_plan.Rows.TheVariants.{Empty, One, Many}
 use Rattle.ts_sample.specs.Chunk.{joined}
 use Rattle.ts_series.specs.Stored.{Stored, Change, no_change, pieces_after, IsChangeOf, HasLimits}
 use Rattle.ts_series.specs.History.{History, list_of, low, limit_for, format_of}

@@ -9,9 +9,8 @@ ghost use Rattle.ts_series.specs.Plan.{IsForIn, Alters, options_with};
 
 use crate::change::Change;
 use crate::edge::edge_at;
-use crate::edit::Rows;
 use crate::line::Line;
-use crate::line_plan::LinePlan;
+use crate::line_plan::{LinePlan, Rows};
 use std::alloc::AllocError;
 use std::sync::ledger::Ledger;
 use ts_sample::{Chunk, Steps};

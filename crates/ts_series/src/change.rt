@@ -5,8 +5,7 @@ ghost use Rattle.ts_spec.specs.Sample.{IsAscending, at_times};
 ghost use Rattle.ts_sample.specs.Chunk.{joined};
 ghost use Rattle.ts_series.specs.Stored.{points, pieces_after, limits_after, no_change, replaced, with_last, AreAmong, AreChunks, AreKept, HasRoomFor, IsChangeOf, IsTrimmed};
 
-use crate::chunks::Chunks;
-use crate::counts::count_in;
+use crate::chunks::{Chunks, count_in};
 use crate::ring::replace_between;
 use std::alloc::Global;
 use std::collections::VecDeque;

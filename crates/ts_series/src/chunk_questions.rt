@@ -1,5 +1,5 @@
-// Questions on the chunks of a series. Each decodes one chunk at most, but a scan.
-ghost use Rattle.std.specs.Prelude.{◌≡◌, ◌+◌, ◌*◌, ◌≤◌, nat_lt, nat_le, [], length, take, slice_index_or};
+// Queries over the chunks of a series. Each decodes at most one chunk, except a scan.
+ghost use Rattle.std.specs.Prelude.{◌≡◌, None, ◌+◌, ◌*◌, ◌≤◌, nat_lt, nat_le, [], length, take, slice_index_or};
 ghost use Rattle.ts_spec.specs.Sample.{at, at_times, between, first_of, last_of};
 ghost use Rattle.ts_sample.specs.Chunk.{joined};
 ghost use Rattle.ts_sample.specs.Visit.{visited};
@@ -8,10 +8,52 @@ ghost use Rattle.ts_series.specs.Stored.{points, longest};
 ghost use Rattle.ts_series.specs.Seams.{IsSeamed};
 
 use crate::chunks::Chunks;
-use crate::ends::Ends;
+use std::marker::Model;
 use std::ops::Range;
 use std::sync::ledger::Ledger;
 use ts_sample::{Chunk, Sample, Steps, Visit};
+
+#[derive(Drop)]
+pub(crate) struct Ends {
+    pub(crate) first: Option<Sample>,
+    pub(crate) last: Option<Sample>,
+    pub(crate) count: usize,
+}
+
+impl Ends {
+    // Of no samples yet.
+    pub(crate) fn new() -> Ends
+        ensures first { result.first ≡ None }
+        ensures last { result.last ≡ None }
+        ensures count { result.count ≡ 0 }
+    {
+        Ends {
+            first: None,
+            last: None,
+            count: 0,
+        }
+    }
+}
+
+impl Visit for Ends {
+    ghost use Rattle.std.specs.Prelude.{◌+◌, ◌-◌, ◌^◌, Option, Some};
+    ghost use Rattle.std.specs.Option.{option_or};
+    ghost use Rattle.std.proofs.Common.{arith};
+
+    ghost step = { λ e p. record { first = option_or e.first (Some p); last = Some p; count = e.count + 1 } };
+
+    ghost room = { λ e. 2 ^ 64 - 1 - e.count };
+
+    fn sample(&mut self, sample: &Sample) {
+        if self.first.is_none() {
+            self.first = Some(*sample);
+        }
+        self.last = Some(*sample);
+        self.count += 1;
+    }
+
+    ghost lowers = { λ e p. Prim.omega arith };
+}
 
 impl<C: Chunk> Chunks<C> {
     // Takes a visitor over the samples from one time to another, both included, in their order.

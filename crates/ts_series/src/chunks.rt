@@ -1,14 +1,20 @@
 // The chunks of a series, in order of time.
-ghost use Rattle.std.specs.Prelude.{◌≡◌, ◌≤◌, nat_le, [], length, take, drop};
-ghost use Rattle.ts_spec.specs.Sample.{IsAscending, last_of, at_times};
-ghost use Rattle.ts_sample.specs.Chunk.{joined};
-ghost use Rattle.ts_series.specs.Stored.{points, IsMeeting, AllMeet, IsTrimmed, HaveBegun};
+ghost use Rattle.std.specs.Prelude.{◌≡◌, ◌≤◌, nat_le, [], length, take, drop, ◌<◌, ◌+◌, ◌*◌, ◌^◌, map, slice_range, option_map, IfOk, IfSome};
+ghost use Rattle.ts_spec.specs.Sample.{IsAscending, last_of, at_times, between};
+ghost use Rattle.ts_sample.specs.Chunk.{joined, IsLimit};
+ghost use Rattle.ts_series.specs.Stored.{points, IsMeeting, AllMeet, IsTrimmed, HaveBegun, longest};
+ghost use Rattle.ts_sample.specs.Steps.{Takes};
+ghost use Rattle.std.specs.VecDeque.{deque_capacity};
+ghost use Rattle.ts_series.specs.History.{limit_for};
+ghost use Rattle.ts_series.specs.Plan.{places_for};
 
-use std::alloc::Global;
+use crate::change::Change;
+use std::alloc::{AllocError, Global};
 use std::collections::VecDeque;
 use std::marker::Model;
 use std::ops::Range;
-use ts_sample::{Chunk, Sample};
+use std::sync::ledger::Ledger;
+use ts_sample::{Chunk, Sample, Steps};
 
 #[derive(Drop)]
 pub(crate) struct Chunks<C: Chunk> {
@@ -92,6 +98,59 @@ impl<C: Chunk> Chunks<C> {
         let start = self.before(from);
         start..self.upto(to).max(start)
     }
+
+    // At least as many samples as an interval has: those of all chunks that may have some of them. Nothing is decoded.
+    pub(crate) fn count_near(&self, from: u64, to: u64) -> usize
+        ensures least { length (between from to (points self.now)) ≤ result }
+        ensures most { result ≤ length (between from to (points self.now)) + 2 * longest self.now.pieces }
+    {
+        let places = self.meeting(from, to);
+        self.count_of(places.start, places.end)
+    }
+
+    // How many samples an interval has. That takes no memory.
+    pub(crate) fn count_between<L: Ledger>(&self, from: u64, to: u64, steps: &mut Steps<L>) -> usize
+        ensures count { result ≡ length (between from to (points self.now)) }
+        ensures steps { Takes steps.old steps.new (2 * longest self.now.pieces) }
+    {
+        // Does nothing: where a field is read, the bounds of the samples are known.
+        let _ = &self.chunks;
+        let upto = self.count_before(to.saturating_add(1), steps);
+        let before = self.count_before(from, steps);
+        upto.saturating_sub(before)
+    }
+
+    // How many samples the chunks from one place up to another have.
+    pub(crate) fn count_of(&self, start: usize, end: usize) -> usize
+        requires ordered { start ≤ end }
+        requires within { end ≤ length self.now.pieces }
+        ensures { result ≡ length (joined (slice_range self.now.pieces start end)) }
+    {
+        // Does nothing: it tells that all samples together can be counted.
+        let _all = self.len();
+        let mut count = 0;
+        for place in start..end {
+            count += self.chunks[place].len();
+        }
+        count
+    }
+
+    // A larger place for the chunks, where those of a change don't fit into the present one.
+    pub(crate) fn larger(
+        &self,
+        change: &Change<C>,
+        alloc: Global,
+    ) -> Result<Option<VecDeque<C>>, AllocError>
+        ensures empty { IfOk result (λ o. IfSome o (λ q. q.items ≡ [])) }
+        ensures enough { IfOk result (λ o. length self.now.pieces + length change.now.pieces ≤ places_for (option_map (λ q. deque_capacity q) o) self.now) }
+    {
+        let (len, more) = (self.chunks.len(), change.chunks.len());
+        if more <= self.chunks.capacity() - len {
+            return Ok(None);
+        }
+        let size = len.saturating_add(len.max(more)).max(4);
+        Ok(Some(VecDeque::with_capacity(alloc, size)?))
+    }
 }
 
 // A list of chunks is these fields and no others: a further one, such as a copy of its samples, does not compile here.
@@ -100,4 +159,24 @@ fn fields<C: Chunk>(it: &Chunks<C>) {
         chunks: _,
         count: _,
     } = it;
+}
+
+// How many samples these chunks have.
+pub(crate) fn count_in<C: Chunk>(chunks: &[C]) -> usize
+    requires { length (joined (map C.list chunks.now)) < 2 ^ 64 }
+    ensures { result ≡ length (joined (map C.list chunks.now)) }
+{
+    let mut count = 0;
+    for chunk in chunks {
+        count += chunk.len();
+    }
+    count
+}
+
+// The limit of a new chunk: the size that is given, within the bounds of a limit.
+pub(crate) fn new_limit(chunk_size: u32) -> u32
+    ensures limit { result ≡ limit_for chunk_size }
+    ensures bounds { IsLimit result }
+{
+    chunk_size.clamp(48, 1_048_576)
 }

@@ -5,9 +5,8 @@ ghost use Rattle.ts_sample.specs.Steps.{Takes};
 ghost use Rattle.ts_series.specs.History.{list_of, reach};
 ghost use Rattle.ts_series.specs.Plan.{IsForIn, Cuts};
 
-use crate::edit::{Interval, Rows};
 use crate::line::Line;
-use crate::line_plan::LinePlan;
+use crate::line_plan::{Interval, LinePlan, Rows};
 use std::alloc::AllocError;
 use std::sync::ledger::Ledger;
 use ts_sample::{Chunk, Steps};

@@ -1,4 +1,4 @@
-// Questions about a series of one kind of chunk.
+// Queries over a series of one kind of chunk.
 ghost use Rattle.std.specs.Prelude.{◌≡◌, ◌≤◌, ◌+◌, ◌*◌, ℕ, suc, nat_lt, nat_le, length};
 ghost use Rattle.ts_spec.specs.Sample.{MAX_TIME, at, at_times, between, first_of, last_of};
 ghost use Rattle.ts_sample.specs.Visit.{visited};
@@ -7,9 +7,9 @@ ghost use Rattle.ts_sample.specs.Steps.{Takes};
 ghost use Rattle.ts_series.specs.History.{list_of, reach, IsKeptIn};
 ghost use Rattle.ts_series.specs.Seams.{IsSeamed, Around};
 
+use crate::chunks::new_limit;
 use crate::line::Line;
 use crate::line_cursor::LineCursor;
-use crate::room::new_limit;
 use std::sync::ledger::Ledger;
 use ts_sample::{Chunk, Sample, Steps, Visit};
 
@@ -128,5 +128,16 @@ impl<C: Chunk> Line<C> {
         ensures seams { IsSeamed self.now.held.pieces from to steps.old steps.new }
     {
         self.chunks.scan(from.max(self.edge()), to, visit, steps);
+    }
+
+    // Whether it has a sample from one time to another, in milliseconds, both included.
+    pub(crate) fn has_between<L: Ledger>(&self, from: u64, to: u64, steps: &mut Steps<L>) -> bool
+        ensures has { result ≡ nat_lt 0 (length (between from to (list_of self.now))) }
+        ensures steps { Takes steps.old steps.new (reach self.now) }
+    {
+        match self.chunks.first_from(from.max(self.edge()), steps) {
+            None => false,
+            Some(first) => first.time <= to,
+        }
     }
 }

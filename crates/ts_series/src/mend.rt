@@ -10,12 +10,11 @@ ghost use Rattle.ts_series.specs.Plan.{AreWithin, AreMade, IsForIn, after};
 ghost use Rattle.ts_series.specs.Mend.{IsMend, IsRowPast, mended_list};
 
 use crate::change::Change;
+use crate::chunks::new_limit;
 use crate::edge::{edge_at, high_after};
-use crate::edit::{Interval, Rows};
 use crate::line::Line;
-use crate::line_plan::LinePlan;
+use crate::line_plan::{Interval, LinePlan, Rows};
 use crate::plan::PutFault;
-use crate::room::new_limit;
 use std::alloc::AllocError;
 use std::sync::ledger::Ledger;
 use ts_sample::{Chunk, Sample, Steps, place_of};

@@ -6,8 +6,7 @@ ghost use Rattle.ts_sample.specs.Steps.{Takes};
 ghost use Rattle.ts_series.specs.Stored.{points, longest, pieces_after, IsMeeting, IsReady, AreChunks, AreAmong, HasLimits, IsUpTo};
 
 use crate::change::Change;
-use crate::chunks::Chunks;
-use crate::counts::count_in;
+use crate::chunks::{Chunks, count_in};
 use std::alloc::{AllocError, Global};
 use std::sync::ledger::Ledger;
 use ts_sample::{Chunk, Sample, Steps};

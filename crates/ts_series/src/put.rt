@@ -9,12 +9,11 @@ ghost use Rattle.ts_series.specs.Plan.{IsForIn};
 ghost use Rattle.ts_series.specs.Put.{met, PutAnswers, IsWrite, Writes, Fits, list_after};
 
 use crate::change::Change;
+use crate::chunks::new_limit;
 use crate::edge::{edge_at, raise};
-use crate::edit::Rows;
 use crate::line::Line;
-use crate::line_plan::LinePlan;
+use crate::line_plan::{LinePlan, Rows};
 use crate::plan::PutFault;
-use crate::room::new_limit;
 use std::alloc::AllocError;
 use std::sync::ledger::Ledger;
 use ts_sample::{Chunk, Sample, Steps, Units};

@@ -1,5 +1,5 @@
-// A time from which on there are so many samples.
-ghost use Rattle.std.specs.Prelude.{◌≡◌, ◌≤◌, ◌⊎◌, nat_lt, [], length, take};
+// Where a scan for a number of samples may stop or start.
+ghost use Rattle.std.specs.Prelude.{◌≡◌, ◌≤◌, ◌+◌, ◌⊎◌, nat_lt, [], length, drop, take};
 ghost use Rattle.ts_spec.specs.Sample.{at_times, between};
 ghost use Rattle.ts_sample.specs.Chunk.{joined};
 ghost use Rattle.ts_series.specs.Stored.{points};
@@ -11,6 +11,41 @@ use crate::line::Line;
 use ts_sample::Chunk;
 
 impl<C: Chunk> Chunks<C> {
+    // How many chunks have a sample before this time.
+    fn begun_before(&self, time: u64) -> usize
+        ensures within { result ≤ length self.now.pieces }
+        ensures later { at_times (λ t. nat_lt t time) (joined (drop result self.now.pieces)) ≡ [] }
+    {
+        if time == 0 {
+            return 0;
+        }
+        self.upto(time - 1)
+    }
+
+    // A time from one to another up to which there are so many samples, or the later one. Nothing is decoded.
+    pub(crate) fn time_for(&self, from: u64, to: u64, count: u64) -> u64
+        requires { from ≤ to }
+        ensures within { (from ≤ result) × (result ≤ to) }
+        ensures reach { (result ≡ to) ⊎ (count ≤ length (between from result (points self.now))) }
+        ensures seam { (result ≡ to) ⊎ IsSeam (result + 1) self.now.pieces }
+    {
+        // Does nothing: it tells that all samples together can be counted.
+        let _all = self.len();
+        let start = self.begun_before(from);
+        let mut found = 0;
+        for place in start..self.chunks.len() {
+            let chunk = &self.chunks[place];
+            found += chunk.len();
+            if count <= found as u64 {
+                return match chunk.last() {
+                    None => to,
+                    Some(last) => last.time.min(to),
+                };
+            }
+        }
+        to
+    }
+
     // How many chunks, the first ones, have no sample past this time.
     fn ended_by(&self, time: u64) -> usize
         ensures within { result ≤ length self.now.pieces }
@@ -45,6 +80,21 @@ impl<C: Chunk> Chunks<C> {
 }
 
 impl<C: Chunk> Line<C> {
+    // A time from one to another, in milliseconds, up to which it has so many samples, or the later one. Nothing is
+    // decoded.
+    pub(crate) fn time_for(&self, from: u64, to: u64, count: u64) -> u64
+        requires { from ≤ to }
+        ensures within { (from ≤ result) × (result ≤ to) }
+        ensures reach { (result ≡ to) ⊎ (count ≤ length (between from result (list_of self.now))) }
+        ensures seam { (result ≡ to) ⊎ IsSeam (result + 1) self.now.held.pieces }
+    {
+        let start = from.max(self.edge());
+        if to < start {
+            return to;
+        }
+        self.chunks.time_for(start, to, count)
+    }
+
     // A time from one to another, in milliseconds, from which on it has so many samples, or the earlier one. Nothing
     // is decoded.
     pub(crate) fn time_from(&self, from: u64, to: u64, count: u64) -> u64
