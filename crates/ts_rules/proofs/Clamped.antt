@@ -13,7 +13,7 @@ use Rattle.ts_spec.proofs.Samples.{at-time, at-times, ascending-times, ascending
 use Rattle.ts_series.specs.History.{History, IsKept, list_of}
 use Rattle.ts_rules.specs.declared.rule.Rule.{Rule}
 use Rattle.ts_rules.specs.declared.plan.RulePlan.{RulePlan}
-use Rattle.ts_rules.specs.declared.fault.RuleFault.{RuleFault}
+use Rattle.ts_rules.specs.declared.plan.RuleFault.{RuleFault}
 use Rattle.ts_rules.specs.Rules.{kept_with_dest, IsChanged}
 use Rattle.ts_rules.specs.Plans.{IsMendedBy, IsPlanned}
 use Rattle.ts_rules.specs.PlansOfDeletions.{IsPlanOfDeletion}

@@ -17,7 +17,7 @@ use Rattle.ts_spec.proofs.Spans.{span_rows, high-span, mended-deletion}
 use Rattle.ts_series.specs.History.{History, IsKept, list_of}
 use Rattle.ts_series.specs.Plan.{Plan, AreWithin, AreMade}
 use Rattle.ts_rules.specs.declared.rule.Rule.{Rule}
-use Rattle.ts_rules.specs.declared.fault.RuleFault.{RuleFault}
+use Rattle.ts_rules.specs.declared.plan.RuleFault.{RuleFault}
 use Rattle.ts_rules.specs.Rules.{kept_with_dest, one_of}
 use Rattle.ts_rules.specs.Plans.{mended_list, IsMendedBy, IsMending}
 use Rattle.ts_rules.specs.Deletions.{gone_of, left_of, is_lost, rows_left, row_left, span_left}

@@ -9,8 +9,8 @@ use Rattle.ts_spec.specs.Mending.{high_with}
 use Rattle.ts_spec.proofs.Samples.{at-times, at-put, ascending-times, ascending-put, ascending-same}
 use Rattle.ts_series.specs.History.{History, IsKept, list_of}
 use Rattle.ts_series.specs.Plan.{Plan}
-use Rattle.ts_rules.specs.declared.fault.RuleFault.{RuleFault}
-use Rattle.ts_rules.specs.declared.fault.RuleFault.TheVariants.{Full, Memory}
+use Rattle.ts_rules.specs.declared.plan.RuleFault.{RuleFault}
+use Rattle.ts_rules.specs.declared.plan.RuleFault.TheVariants.{Full, Memory}
 use Rattle.ts_rules.specs.Plans.{mended_list, IsMendedBy, IsUnplanned, IsMending}
 use Rattle.ts_rules.proofs.Times.{within-from, within-to}
 

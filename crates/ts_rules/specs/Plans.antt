@@ -7,8 +7,8 @@ use Rattle.ts_series.specs.History.{History, list_of}
 use Rattle.ts_series.specs.Plan.{Plan, after, IsFor}
 use Rattle.ts_rules.specs.declared.rule.Rule.{Rule}
 use Rattle.ts_rules.specs.declared.plan.RulePlan.{RulePlan}
-use Rattle.ts_rules.specs.declared.fault.RuleFault.{RuleFault}
-use Rattle.ts_rules.specs.declared.fault.RuleFault.TheVariants.{Full, Memory}
+use Rattle.ts_rules.specs.declared.plan.RuleFault.{RuleFault}
+use Rattle.ts_rules.specs.declared.plan.RuleFault.TheVariants.{Full, Memory}
 use Rattle.ts_rules.specs.Rules.{IsChanged}
 
 -- a destination after a plan, or as it is where there is none

@@ -4,7 +4,7 @@ use Rattle.ts_spec.specs.Sample.{Point}
 use Rattle.ts_series.specs.History.{History}
 use Rattle.ts_rules.specs.declared.rule.Rule.{Rule}
 use Rattle.ts_rules.specs.declared.plan.RulePlan.{RulePlan}
-use Rattle.ts_rules.specs.declared.fault.RuleFault.{RuleFault}
+use Rattle.ts_rules.specs.declared.plan.RuleFault.{RuleFault}
 use Rattle.ts_rules.specs.Writes.{rule_after, row_for_dest}
 use Rattle.ts_rules.specs.Plans.{IsPlanned}
 

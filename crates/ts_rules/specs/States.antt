@@ -12,7 +12,7 @@ use Rattle.ts_spec.specs.Mending.{kept_rule_to, kept_sample}
 use Rattle.ts_series.specs.History.{History, list_of}
 use Rattle.ts_rules.specs.declared.rule.Rule.{Rule}
 use Rattle.ts_rules.specs.declared.plan.RulePlan.{RulePlan}
-use Rattle.ts_rules.specs.declared.fault.RuleFault.TheVariants.{Full}
+use Rattle.ts_rules.specs.declared.plan.RuleFault.TheVariants.{Full}
 use Rattle.ts_rules.specs.Rules.{kept_with_dest}
 use Rattle.ts_rules.specs.Plans.{after_plan}
 use Rattle.ts_rules.specs.PlansOfWrites.{IsPlanOfWrite}

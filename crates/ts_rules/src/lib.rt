@@ -3,30 +3,24 @@
 #![tactic(auto)]
 
 mod count;
-mod count_lost;
 mod counted_with;
 mod deletion;
 mod end_rows;
-mod fault;
 mod fullness;
 mod interval_cursor;
 mod laws;
 mod lost;
 mod mending;
-mod open_bucket;
 mod plan;
 mod planned;
 mod room;
 mod rule;
 mod shared_bucket;
 mod span;
-mod touched;
 mod write;
 
-pub use fault::RuleFault;
 pub use laws::plans_are_what_is_kept;
-pub use open_bucket::latest;
-pub use plan::RulePlan;
+pub use plan::{RuleFault, RulePlan};
 pub use planned::{plan_delete, plan_put, plan_put_shared};
-pub use rule::Rule;
+pub use rule::{Rule, latest};
 pub use shared_bucket::SharedBucket;

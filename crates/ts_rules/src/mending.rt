@@ -10,7 +10,7 @@ ghost use Rattle.ts_rules.specs.Rules.{one_of};
 ghost use Rattle.ts_rules.specs.Plans.{IsMending};
 ghost use Rattle.ts_rules.specs.Shares.{IsPastAll};
 
-use crate::fault::RuleFault;
+use crate::plan::RuleFault;
 use std::sync::ledger::Ledger;
 use ts_sample::{Sample, Steps};
 use ts_series::{PutFault, Series, SeriesPlan};

@@ -1,5 +1,11 @@
-// What a change of a source comes to for one rule, ready to be done.
+// The plan of a change for one rule, and why there is none.
+ghost use Rattle.std.specs.Prelude.{Some};
+ghost use Rattle.ts_rules.specs.FaultNames.{name_of};
+
 use crate::rule::Rule;
+use std::alloc::AllocError;
+use std::fmt;
+use thiserror::Error;
 use ts_series::SeriesPlan;
 
 /// What a change of a source comes to for one of its rules.
@@ -9,4 +15,26 @@ pub struct RulePlan {
     pub rule: Rule,
     /// The change of the destination, or `None` where it stays as it is.
     pub dest: Option<SeriesPlan>,
+}
+
+/// Why a change is not planned for a rule.
+#[derive(Drop, Error)]
+pub enum RuleFault {
+    /// The destination would show too many samples.
+    #[error("too many samples of a destination")]
+    Full,
+    /// There was no memory.
+    #[error(transparent)]
+    Memory(AllocError),
+}
+
+impl fmt::Debug for RuleFault {
+    ghost debug_output = { λ fault. Some (name_of fault) };
+
+    fn fmt<W: fmt::Write>(&self, f: &mut fmt::Formatter<W>) -> fmt::Result {
+        f.write_str(match self {
+            RuleFault::Full => "Full",
+            RuleFault::Memory(_) => "Memory(AllocError)",
+        })
+    }
 }

@@ -13,10 +13,9 @@ ghost use Rattle.ts_rules.specs.Shares.{write_share, deletion_share, IsEasyWrite
 
 use crate::count::ends_left;
 use crate::deletion::Deletion;
-use crate::fault::RuleFault;
 use crate::fullness::is_full;
 use crate::mending::with_row;
-use crate::plan::RulePlan;
+use crate::plan::{RuleFault, RulePlan};
 use crate::room::Room;
 use crate::rule::Rule;
 use crate::shared_bucket::SharedBucket;

@@ -10,8 +10,8 @@ ghost use Rattle.ts_rules.specs.Deletions.{is_lost, rows_left, span_left};
 ghost use Rattle.ts_rules.specs.Room.{HasRoom, count_touched};
 
 use crate::deletion::Deletion;
-use crate::fault::RuleFault;
 use crate::mending::mended;
+use crate::plan::RuleFault;
 use std::sync::ledger::Ledger;
 use ts_sample::{Gathered, Sample, Steps, Visit};
 use ts_series::{Series, SeriesPlan};
