@@ -1,4 +1,4 @@
-// A chunk in the packed format.
+// The packed chunk format.
 ghost use Rattle.std.specs.Prelude.{◌≡◌, Some};
 ghost use Rattle.std.specs.Option.{unwrap_or};
 
@@ -15,7 +15,8 @@ use std::marker::Model;
 use std::sync::ledger::Ledger;
 use ts_sample::{Chunk, Sample, Steps, Visit};
 
-/// Samples in 3 to 27 bytes each, by their differences from the ones before them.
+/// A chunk that stores each sample in 3 to 27 bytes, as differences from the samples before it. It allocates only
+/// when it is created, and its marks with the first late sample.
 #[derive(Drop)]
 pub struct PackedChunk {
     limit: u32,
@@ -50,7 +51,7 @@ impl Chunk for PackedChunk {
 
     ghost format = { packed };
 
-    // A mark past the samples before it: none before the first sample.
+    // A mark after the samples already read, or `None` at the front.
     type Place = Option<Mark>;
 
     ghost passed = { passed };
@@ -187,7 +188,7 @@ impl Chunk for PackedChunk {
     ghost one_fits = { one_within };
 }
 
-// Keeps the first sample, and this one where there was none.
+// Sets `first` if it is not set yet.
 fn keep_first(first: &mut Option<Sample>, sample: &Sample)
     ensures { first.new ≡ Some (unwrap_or first.old sample.now) }
 {

@@ -1,4 +1,4 @@
-// A chunk that keeps each sample in 28 bytes, so that none has to be decoded to find another.
+// The plain chunk format: 28 bytes per sample, so any sample can be found without decoding the others.
 ghost use Rattle.std.specs.Prelude.{⊤};
 ghost use Rattle.ts_chunk_plain.specs.Plain.{plain};
 
@@ -10,7 +10,7 @@ use std::marker::Model;
 use std::sync::ledger::Ledger;
 use ts_sample::{Chunk, Sample, Steps, Visit};
 
-/// Samples in 28 bytes each.
+/// A chunk that stores each sample in 28 bytes. It allocates only when it is created.
 #[derive(Drop)]
 pub struct PlainChunk {
     limit: u32,
@@ -40,7 +40,7 @@ impl Chunk for PlainChunk {
 
     ghost format = { plain };
 
-    // How many samples are before it.
+    // The index of the next sample.
     type Place = usize;
 
     ghost passed = { λ place. place };
@@ -142,7 +142,7 @@ impl Chunk for PlainChunk {
         }))
     }
 
-    // Samples of 28 bytes are made anew about as fast as they are moved.
+    // A plain chunk never splits: rebuilding 28-byte samples costs about as much as moving them.
     fn halved<L: Ledger>(
         &self,
         _alloc: Global,
@@ -159,7 +159,7 @@ impl Chunk for PlainChunk {
     ghost one_fits = { one_within };
 }
 
-// A chunk is these fields and no others: a further one, such as a copy of its samples, does not compile here.
+// Fails to compile if a field is added, such as a second copy of the samples.
 fn fields(it: &PlainChunk) {
     let PlainChunk {
         limit: _,

@@ -1,11 +1,11 @@
-// The parts of a decimal text: its sign, one digit, and its exponent.
+// Splits a sign, a digit or an exponent off a decimal text.
 ghost use Rattle.std.specs.Prelude.{◌≡◌, ◌≤◌, length, MatchOption, ◌<◌, ℕ, true, false, IfSome};
 ghost use Rattle.ts_spec.specs.Value.{is_negative, unsigned, is_short, number_after, exponent};
 ghost use Rattle.ts_decimal.specs.Digits.{BeginsWith, HasNoDigit};
 
 use std::marker::Model;
 
-/// Whether the text begins with a minus, and the text after its sign, if it has one.
+/// Returns whether `text` starts with a minus, and the text after the optional sign.
 pub fn split_sign(text: &[u8]) -> (bool, &[u8])
     ensures negative { result.0 ≡ is_negative text.now }
     ensures rest { result.1.now ≡ unsigned text.now }
@@ -18,7 +18,7 @@ pub fn split_sign(text: &[u8]) -> (bool, &[u8])
     }
 }
 
-/// The digit that the text begins with, and the text after it.
+/// The leading digit of `text` and the rest, or `None` if it does not start with a digit.
 pub fn split_digit(text: &[u8]) -> Option<(u8, &[u8])>
     ensures { MatchOption result (HasNoDigit text.now) (λ p. BeginsWith text.now p.0 p.1.now) }
 {
@@ -28,7 +28,7 @@ pub fn split_digit(text: &[u8]) -> Option<(u8, &[u8])>
     }
 }
 
-/// Ten to the power `up`, over ten to the power `down`.
+/// The factor 10^up / 10^down.
 #[derive(Clone, Copy)]
 pub struct Scale {
     pub up: usize,
@@ -45,7 +45,7 @@ impl Model for Scale {
     ghost inverse = { λ s. record { up = s.up; down = s.down } };
 }
 
-/// The number of a text of one to three digits.
+/// Parses a text of one to three digits. Any other text is `None`.
 fn short_number(text: &[u8]) -> Option<usize>
     ensures value { MatchOption result (is_short text.now ≡ false) (λ n. (is_short text.now ≡ true) × (n ≡ number_after 0 text.now)) }
     ensures bound { IfSome result (λ n. n < 1000) }
@@ -62,7 +62,8 @@ fn short_number(text: &[u8]) -> Option<usize>
     if rest.is_empty() { Some(number) } else { None }
 }
 
-/// The exponent that ends a text after its digits.
+/// Parses the exponent at the end of a decimal: an empty text, or `e` or `E`, an optional sign and one to three
+/// digits. Any other text is `None`.
 pub fn read_exponent(text: &[u8]) -> Option<Scale>
     ensures value { result ≡ exponent text.now }
     ensures bound { IfSome result (λ s. (s.up < 1000) × (s.down < 1000)) }

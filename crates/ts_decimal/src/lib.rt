@@ -1,5 +1,4 @@
-//! Values as decimal text, and the two ways in which arithmetic on them is brought back to a value.
-//! Nothing here takes memory.
+//! Values as decimal text, and the rounding and clamping that arithmetic on values needs. Nothing here allocates.
 #![tactic(auto)]
 
 mod laws;

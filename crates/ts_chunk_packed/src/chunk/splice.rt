@@ -1,4 +1,4 @@
-// A late sample in a chunk: put in at its time, or the chunk split in two where it gets too long.
+// A late sample: inserted at its time, or the chunk split in two if it gets too long.
 ghost use Rattle.std.specs.Prelude.{◌≡◌, ◌<◌, ◌≤◌, length, IfOk, IfSome, IfNone, ◌+◌, ◌/◌, nat_eq, ◌++◌};
 ghost use Rattle.ts_spec.specs.Sample.{put};
 ghost use Rattle.ts_chunk_packed.specs.Packed.{packed};
@@ -13,8 +13,8 @@ use std::alloc::{AllocError, Global};
 use ts_sample::{Chunk, MAX_TIME, Sample};
 
 impl PackedChunk {
-    // A chunk of the same limit with the sample at its time, and how many samples were decoded for it: none where it
-    // would not fit.
+    // A chunk of the same limit with `sample` at its time, and the number of samples decoded to build it. `None` if
+    // it does not fit.
     pub(super) fn with_sample(
         &self,
         alloc: Global,
@@ -40,8 +40,8 @@ impl PackedChunk {
         Ok(Some((chunk, count - rest.len())))
     }
 
-    // Two chunks of the same limit with the sample at its time, so cut that each has half if there was none at that time:
-    // none where they would not fit.
+    // Two chunks of the same limit with `sample` at its time, split in halves if there was no sample at that time.
+    // `None` if they do not fit.
     pub(super) fn split_with(
         &self,
         alloc: Global,
@@ -72,8 +72,8 @@ impl PackedChunk {
         Ok(Some((first, second)))
     }
 
-    // Passes the samples that are the first half, or are it with this one, and sets the marks past them that are due. Nothing
-    // but speed depends on where it ends.
+    // Skips the first half of the samples, or a sample less if `sample` belongs to that half, and sets each mark that
+    // becomes due. Where it stops affects only speed.
     fn pass_half(&self, sample: &Sample, rest: &mut Rest<'_>, marks: &mut LateMarks)
         requires rest { IsRestOf self.now.list rest.old }
         requires marks { (of : IsRestOf self.now.list rest.old) → AreMarks of.front marks.old }
@@ -87,7 +87,7 @@ impl PackedChunk {
         self.pass_next(sample.time + 1, rest, marks);
     }
 
-    // Passes the next sample, if it is before a time, and sets the mark past it if one is due.
+    // Skips the next sample if it is before `time`, and sets a mark after it if one is due.
     fn pass_next(&self, time: u64, rest: &mut Rest<'_>, marks: &mut LateMarks)
         requires rest { IsRestOf self.now.list rest.old }
         requires marks { (of : IsRestOf self.now.list rest.old) → AreMarks of.front marks.old }
@@ -101,8 +101,9 @@ impl PackedChunk {
         marks.set(rest.context(), place);
     }
 
-    // The samples before those that are left of it, with these marks, and the others, in chunks of the same limit: none where the
-    // others would not fit, or where there are none. The bytes of all but the first few of these stay as they are.
+    // Splits the chunk in front of `rest` into two chunks of the same limit, with `marks` for the first. `None` if
+    // the second does not fit or would be empty. The second chunk copies all but its first few samples without coding
+    // them again.
     fn split(
         &self,
         alloc: Global,
@@ -130,7 +131,7 @@ impl PackedChunk {
     }
 }
 
-// Whether two lists of so many samples are the halves of one, of which the first is rounded down.
+// Whether two lists of these lengths are the halves of one list, the first rounded down.
 pub(super) fn are_halves(first: usize, second: usize) -> bool
     ensures { result ≡ nat_eq first ((first + second) / 2) }
 {

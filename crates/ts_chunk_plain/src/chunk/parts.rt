@@ -1,4 +1,4 @@
-// Parts of a chunk: its samples as 28-byte pieces, and the bytes and ends of either side of an index.
+// Helpers of `PlainChunk`: its samples as 28-byte pieces, and the bytes before and after an index.
 ghost use Rattle.std.specs.Prelude.{◌≡◌, ◌≤◌, [], ◌∷◌, ◌++◌, map, take, drop, length};
 ghost use Rattle.ts_chunk_plain.specs.Plain.{plain, sample_of};
 ghost use Rattle.ts_sample.specs.Chunk.{AreFine};
@@ -9,7 +9,7 @@ use crate::pieces::WIDTH;
 use ts_sample::{Chunk, Sample};
 
 impl PlainChunk {
-    // The bytes of each sample.
+    // Each sample's bytes.
     pub(super) fn pieces(&self) -> &[[u8; WIDTH]]
         ensures list { map sample_of result.now ≡ self.now.list }
         ensures ascending { IsAscending (map sample_of result.now) }
@@ -19,7 +19,7 @@ impl PlainChunk {
         pieces
     }
 
-    // The bytes of the first so many of its samples.
+    // The bytes of the first `count` samples.
     pub(super) fn before(&self, count: usize) -> &[u8]
         requires { count ≤ length self.now.list }
         ensures { result.now ≡ plain (take count self.now.list) }
@@ -27,7 +27,7 @@ impl PlainChunk {
         self.bytes.split_at(count * WIDTH).0
     }
 
-    // The bytes of its samples but for the first so many.
+    // The bytes of the samples after the first `count`.
     pub(super) fn past(&self, count: usize) -> &[u8]
         requires { count ≤ length self.now.list }
         ensures { result.now ≡ plain (drop count self.now.list) }
@@ -35,7 +35,7 @@ impl PlainChunk {
         self.bytes.split_at(count * WIDTH).1
     }
 
-    // The first of the first so many of its samples and this one.
+    // The first sample once `sample` follows the first `count` samples.
     pub(super) fn first_with(&self, count: usize, sample: &Sample) -> Option<Sample>
         requires { count ≤ length self.now.list }
         ensures { result ≡ first_of (take count self.now.list ++ sample.now ∷ []) }
@@ -47,7 +47,7 @@ impl PlainChunk {
         }
     }
 
-    // The last of this sample and its own but for the first so many.
+    // The last sample once `sample` precedes the samples after the first `count`.
     pub(super) fn last_with(&self, count: usize, sample: &Sample) -> Option<Sample>
         requires { count ≤ length self.now.list }
         ensures { result ≡ last_of (sample.now ∷ drop count self.now.list) }
