@@ -16,7 +16,7 @@ use std::sync::ledger::Ledger;
 use ts_sample::{Chunk, Sample, Steps, Visit};
 
 /// A chunk that stores each sample in 3 to 27 bytes, as differences from the samples before it. It allocates only
-/// when it is created, and its marks with the first late sample.
+/// when it is created.
 #[derive(Drop)]
 pub struct PackedChunk {
     limit: u32,

@@ -13,17 +13,17 @@ use ts_agg::Running;
 use ts_sample::Sample;
 use ts_series::Series;
 
-// A deletion of the samples from one time to another, both included, on the source of a rule. The source is as it
-// is before.
+// A deletion of the samples from `from` to `to`, both inclusive, on the source of a rule. `source` is still as it was
+// before.
 #[derive(Clone, Copy)]
 pub(crate) struct Deletion<'a> {
     pub(crate) rule: &'a Rule,
     pub(crate) source: &'a Series,
     pub(crate) from: u64,
     pub(crate) to: u64,
-    // The starts of the buckets that hold a sample that goes, in their order.
+    // The starts of the buckets that lose a sample, in ascending order.
     pub(crate) lost: &'a [u64],
-    // What is left in the bucket of the first time, and in that of the last one.
+    // What remains in the bucket of `from` and in that of `to`.
     pub(crate) first: Running,
     pub(crate) last: Running,
     pub ghost in_order: { from ≤ to },
@@ -35,7 +35,7 @@ pub(crate) struct Deletion<'a> {
 }
 
 impl Deletion<'_> {
-    // The rule after it: the open bucket is told anew where it held a sample that goes.
+    // The rule after the deletion. Recounts its open bucket if that lost a sample.
     pub(crate) fn rule_left(&self) -> Rule
         ensures { IsChanged (rule_left self.now.source.now self.now.from self.now.to) self.now.rule.now result }
     {
@@ -48,7 +48,7 @@ impl Deletion<'_> {
         opened(self.rule, Some(open), self.left_in(open))
     }
 
-    // What is left in a bucket that holds a sample that goes.
+    // What remains in a bucket that loses a sample.
     fn left_in(&self, start: u64) -> Running
         requires { lies_in self.now.rule.now.grid (gone_of self.now.source.now self.now.from self.now.to) start ≡ true }
         ensures { result ≡ counted_anew (kept_with_dest [] self.now.rule.now) start (left_of self.now.source.now self.now.from self.now.to) }
@@ -63,8 +63,8 @@ impl Deletion<'_> {
         }
     }
 
-    // The row of the bucket that starts there and has this left, if it is closed, lost a sample and has some left.
-    // `born` is the destination's.
+    // The row of the bucket that starts at `start`, if the bucket is closed, lost a sample and still has some. `left`
+    // is what remains in it, and `born` the destination's rule count.
     pub(crate) fn row_left(&self, start: u64, left: &Running, born: u32) -> Option<Sample>
         requires time { start ≤ MAX_TIME }
         requires left { left.now ≡ counted_anew (kept_with_dest [] self.now.rule.now) start (left_of self.now.source.now self.now.from self.now.to) }
@@ -76,14 +76,14 @@ impl Deletion<'_> {
         row(self.rule.agg, born, start, left)
     }
 
-    // Whether the bucket that starts there is closed, and holds a sample that goes.
+    // Whether the bucket that starts at `start` is closed and loses a sample.
     pub(crate) fn loses(&self, start: u64) -> bool
         ensures { result ≡ is_lost self.now.rule.now self.now.source.now self.now.from self.now.to start }
     {
         self.rule.is_closed(start) && self.touches(start)
     }
 
-    // Whether a bucket starts there that holds a sample that goes.
+    // Whether a bucket starts at `start` and loses a sample.
     fn touches(&self, start: u64) -> bool
         ensures { result ≡ lies_in self.now.rule.now.grid (gone_of self.now.source.now self.now.from self.now.to) start }
     {

@@ -16,8 +16,8 @@ use std::sync::ledger::Ledger;
 use ts_sample::Steps;
 use ts_series::Series;
 
-// How many of the samples shown stand for a closed bucket that holds one of those that go. Both are in their order, so
-// that of a start and a sample the earlier one is done with.
+// The number of destination samples whose buckets are closed and lose a sample. Both cursors are in ascending time,
+// so this merges them and advances the earlier one.
 pub(crate) fn count_lost<L: Ledger>(
     rule: &Rule,
     mut gone: IntervalCursor<'_>,
@@ -46,14 +46,15 @@ pub(crate) fn count_lost<L: Ledger>(
     count
 }
 
-// One, where a bucket starts at this time that is closed.
+// 1 if a closed bucket starts at `time`, otherwise 0.
 fn count_at(rule: &Rule, start: u64, time: u64) -> usize
     ensures { result ≡ (if (start == time) && is_past rule.now.current start then 1 else 0) }
 {
     usize::from(start == time && rule.is_closed(start))
 }
 
-// Whether it would show more than the limit after a deletion of the samples from one time to another, both included.
+// Whether the destination would have more than `limit` samples after the deletion of the samples from `from` to `to`,
+// both inclusive.
 pub(crate) fn is_full<L: Ledger>(
     rule: &Rule,
     source: &Series,

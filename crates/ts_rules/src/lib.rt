@@ -1,5 +1,5 @@
-//! Rules over linked series: what a write and a deletion on a source come to for a rule of it and for the rule's
-//! destination, which shows what the rule tells. A change is planned here; the series commit it.
+//! Compaction rules: what a write to a source or a deletion on it means for the rule and for its destination, which
+//! stores one row per closed bucket. This crate plans the change, and ts_series commits it.
 #![tactic(auto)]
 
 mod count;

@@ -1,4 +1,4 @@
-// The plan of a change for one rule, and why there is none.
+// The plan of a change for one rule, and why planning can fail.
 ghost use Rattle.std.specs.Prelude.{Some};
 ghost use Rattle.ts_rules.specs.FaultNames.{name_of};
 
@@ -8,22 +8,22 @@ use std::fmt;
 use thiserror::Error;
 use ts_series::SeriesPlan;
 
-/// What a change of a source comes to for one of its rules.
+/// The planned effect of a change of a source on one of its rules.
 #[derive(Drop)]
 pub struct RulePlan {
-    /// The rule after it.
+    /// The rule after the change.
     pub rule: Rule,
-    /// The change of the destination, or `None` where it stays as it is.
+    /// The change of the destination, or `None` if it stays as it is.
     pub dest: Option<SeriesPlan>,
 }
 
-/// Why a change is not planned for a rule.
+/// Why a change fails for a rule.
 #[derive(Drop, Error)]
 pub enum RuleFault {
-    /// The destination would show too many samples.
+    /// The destination would have too many samples.
     #[error("too many samples of a destination")]
     Full,
-    /// There was no memory.
+    /// Out of memory.
     #[error(transparent)]
     Memory(AllocError),
 }

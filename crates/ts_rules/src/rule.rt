@@ -11,25 +11,25 @@ use ts_bucket::Grid;
 use ts_sample::{Id, Sample};
 use ts_spec::Aggregator;
 
-/// A rule of a series, its source: each bucket of the source's samples gives one sample to another series, its
-/// destination, once the bucket is closed.
+/// A compaction rule of a source series. Once a bucket of the source's samples is closed, the rule writes its
+/// aggregate to the destination series as one sample.
 #[derive(Clone, Copy, Debug, PartialEq, Eq)]
 pub struct Rule {
     /// The destination.
     pub dest: Id,
     pub agg: Aggregator,
     pub grid: Grid,
-    /// How many rules the source had ever had once this one was made: it counts the samples written since.
+    /// The source's rule count once this rule was created. The rule counts the samples written since then.
     pub made: u32,
-    /// The start of its open bucket, in milliseconds. The buckets before that are closed.
+    /// The start of the open bucket, in milliseconds. All buckets before it are closed.
     pub current: Option<u64>,
-    /// What it counts in its open bucket.
+    /// The running aggregate of the open bucket.
     pub running: Running,
     pub ghost in_time: { ForSome current (λ t. t ≤ MAX_TIME) },
 }
 
 impl Rule {
-    // Whether the bucket that starts there is before the open one.
+    // Whether the bucket that starts at `start` is before the open one.
     pub(crate) fn is_closed(&self, start: u64) -> bool
         ensures { result ≡ is_past self.now.current start }
     {
@@ -40,7 +40,7 @@ impl Rule {
     }
 }
 
-// A rule is these fields and no others: a further one, such as a copy of its samples, does not compile here.
+// Fails to compile if a field is added, such as a second copy of the samples.
 fn fields(it: &Rule) {
     let Rule {
         dest: _,
@@ -52,15 +52,15 @@ fn fields(it: &Rule) {
     } = it;
 }
 
-/// The sample that a destination would be told of the open bucket, if that counts one. `born` is how many rules
-/// were ever made on the destination. It takes no memory.
+/// The row that the destination would get for the open bucket, or `None` if the bucket is empty. `born` is the
+/// destination's rule count. Allocates nothing.
 pub fn latest(rule: &Rule, born: u32) -> Option<Sample>
     ensures { result ≡ first_of (open_row born rule.now) }
 {
     row(rule.agg, born, rule.current?, &rule.running)
 }
 
-// The row of the bucket that starts there and comes to this, if that counts a sample.
+// The row of the bucket that starts at `start`, or `None` if the bucket is empty.
 pub(crate) fn row(agg: Aggregator, born: u32, start: u64, running: &Running) -> Option<Sample>
     requires { start ≤ MAX_TIME }
     ensures { one_of result ≡ bucket_row agg born start running.now }
@@ -73,7 +73,7 @@ pub(crate) fn row(agg: Aggregator, born: u32, start: u64, running: &Running) -> 
     })
 }
 
-// A rule with another open bucket.
+// The rule with another open bucket.
 pub(crate) fn opened(rule: &Rule, current: Option<u64>, running: Running) -> Rule
     requires { ForSome current (λ t. t ≤ MAX_TIME) }
     ensures { IsOpenAt current running rule.now result }

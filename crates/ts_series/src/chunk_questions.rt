@@ -21,7 +21,7 @@ pub(crate) struct Ends {
 }
 
 impl Ends {
-    // Of no samples yet.
+    // No samples yet.
     pub(crate) fn new() -> Ends
         ensures first { result.first ≡ None }
         ensures last { result.last ≡ None }
@@ -56,7 +56,7 @@ impl Visit for Ends {
 }
 
 impl<C: Chunk> Chunks<C> {
-    // Takes a visitor over the samples from one time to another, both included, in their order.
+    // Passes the samples from `from` to `to`, both inclusive, to `visit`, oldest first.
     pub(crate) fn scan<V: Visit, L: Ledger>(
         &self,
         from: u64,
@@ -76,7 +76,7 @@ impl<C: Chunk> Chunks<C> {
         }
     }
 
-    // The sample at this time.
+    // The sample at `time`.
     pub(crate) fn at<L: Ledger>(&self, time: u64, steps: &mut Steps<L>) -> Option<Sample>
         ensures at { result ≡ at time (points self.now) }
         ensures steps { Takes steps.old steps.new (longest self.now.pieces) }
@@ -87,12 +87,12 @@ impl<C: Chunk> Chunks<C> {
         ends.last
     }
 
-    // The last sample before this time.
+    // The last sample before `time`.
     pub(crate) fn last_before<L: Ledger>(&self, time: u64, steps: &mut Steps<L>) -> Option<Sample>
         ensures before { result ≡ last_of (at_times (λ t. nat_lt t time) (points self.now)) }
         ensures steps { Takes steps.old steps.new (longest self.now.pieces) }
     {
-        // Does nothing: where a field is read, the order of the chunks is known.
+        // Does nothing at run time: reading the field tells the proof that the chunks are in order.
         let _ = &self.chunks;
         let place = self.before(time);
         match self.earlier_at(place, time, steps).last {
@@ -101,7 +101,7 @@ impl<C: Chunk> Chunks<C> {
         }
     }
 
-    // The first sample from this time on.
+    // The first sample at or after `time`.
     pub(crate) fn first_from<L: Ledger>(&self, time: u64, steps: &mut Steps<L>) -> Option<Sample>
         ensures first { result ≡ first_of (at_times (nat_le time) (points self.now)) }
         ensures steps { Takes steps.old steps.new (longest self.now.pieces) }
@@ -116,7 +116,7 @@ impl<C: Chunk> Chunks<C> {
         ends.first
     }
 
-    // How many samples are before this time. Where the first is not, that costs nothing.
+    // The number of samples before `time`. Decodes nothing if the first sample is not before it.
     pub(crate) fn count_before<L: Ledger>(&self, time: u64, steps: &mut Steps<L>) -> usize
         ensures count { result ≡ length (at_times (λ t. nat_lt t time) (points self.now)) }
         ensures steps { Takes steps.old steps.new (longest self.now.pieces) }
@@ -133,7 +133,7 @@ impl<C: Chunk> Chunks<C> {
         count + self.earlier_at(place, time, steps).count
     }
 
-    // The samples before a time in the chunk at a place, if there is one.
+    // The first, the last and the number of the samples before `time` in chunk `place`, if there is such a chunk.
     fn earlier_at<L: Ledger>(&self, place: usize, time: u64, steps: &mut Steps<L>) -> Ends
         ensures last { result.last ≡ last_of (at_times (λ t. nat_lt t time) (slice_index_or self.now.pieces place [])) }
         ensures count { result.count ≡ length (at_times (λ t. nat_lt t time) (slice_index_or self.now.pieces place [])) }
@@ -145,7 +145,7 @@ impl<C: Chunk> Chunks<C> {
         }
     }
 
-    // The last sample of so many chunks, the first ones.
+    // The last sample of the first `count` chunks.
     fn last_of_first(&self, count: usize) -> Option<Sample>
         requires within { count ≤ length self.now.pieces }
         ensures last { result ≡ last_of (joined (take count self.now.pieces)) }
@@ -157,7 +157,8 @@ impl<C: Chunk> Chunks<C> {
     }
 }
 
-// The samples of a chunk before a time. Where the first is not, nothing is decoded.
+// The first, the last and the number of a chunk's samples before `time`. Decodes nothing if its first sample is not
+// before it.
 fn earlier_in<C: Chunk, L: Ledger>(chunk: &C, time: u64, steps: &mut Steps<L>) -> Ends
     ensures last { result.last ≡ last_of (at_times (λ t. nat_lt t time) (C.list chunk.now)) }
     ensures count { result.count ≡ length (at_times (λ t. nat_lt t time) (C.list chunk.now)) }

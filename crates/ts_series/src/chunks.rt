@@ -1,4 +1,4 @@
-// The chunks of a series, in order of time.
+// The chunks of a series in order of time, their counts, and the capacity for more of them.
 ghost use Rattle.std.specs.Prelude.{◌≡◌, ◌≤◌, nat_le, [], length, take, drop, ◌<◌, ◌+◌, ◌*◌, ◌^◌, map, slice_range, option_map, IfOk, IfSome};
 ghost use Rattle.ts_spec.specs.Sample.{IsAscending, last_of, at_times, between};
 ghost use Rattle.ts_sample.specs.Chunk.{joined, IsLimit};
@@ -19,7 +19,7 @@ use ts_sample::{Chunk, Sample, Steps};
 #[derive(Drop)]
 pub(crate) struct Chunks<C: Chunk> {
     pub(crate) chunks: VecDeque<C>,
-    // How many samples they have.
+    // The number of samples in all chunks.
     pub(crate) count: usize,
 }
 
@@ -46,7 +46,7 @@ impl<C: Chunk> Chunks<C> {
         }
     }
 
-    // How many samples they have.
+    // The number of samples in all chunks.
     pub(crate) fn len(&self) -> usize
         ensures { result ≡ length (points self.now) }
     {
@@ -64,7 +64,7 @@ impl<C: Chunk> Chunks<C> {
         }
     }
 
-    // How many chunks have no sample from this time on.
+    // The number of chunks whose samples are all before `time`.
     pub(crate) fn before(&self, time: u64) -> usize
         ensures within { result ≤ length self.now.pieces }
         ensures earlier { at_times (nat_le time) (joined (take result self.now.pieces)) ≡ [] }
@@ -76,7 +76,7 @@ impl<C: Chunk> Chunks<C> {
         })
     }
 
-    // How many chunks have a sample up to this time.
+    // The number of chunks that start at or before `time`.
     pub(crate) fn upto(&self, time: u64) -> usize
         ensures within { result ≤ length self.now.pieces }
         ensures later { at_times (λ t. nat_le t time) (joined (drop result self.now.pieces)) ≡ [] }
@@ -88,18 +88,19 @@ impl<C: Chunk> Chunks<C> {
         })
     }
 
-    // Where the chunks stand that may have samples of an interval.
+    // The range of chunks that may have samples from `from` to `to`.
     pub(crate) fn meeting(&self, from: u64, to: u64) -> Range<usize>
         ensures meeting { IsMeeting from to self.now.pieces result.start result.end }
         ensures each { AllMeet from to self.now.pieces result.start result.end }
     {
-        // Does nothing: where a field is read, the order of the chunks is known.
+        // Does nothing at run time: reading the field tells the proof that the chunks are in order.
         let _ = &self.chunks;
         let start = self.before(from);
         start..self.upto(to).max(start)
     }
 
-    // At least as many samples as an interval has: those of all chunks that may have some of them. Nothing is decoded.
+    // An upper bound of the number of samples from `from` to `to`: all samples of the chunks that may have some.
+    // Decodes nothing.
     pub(crate) fn count_near(&self, from: u64, to: u64) -> usize
         ensures least { length (between from to (points self.now)) ≤ result }
         ensures most { result ≤ length (between from to (points self.now)) + 2 * longest self.now.pieces }
@@ -108,25 +109,25 @@ impl<C: Chunk> Chunks<C> {
         self.count_of(places.start, places.end)
     }
 
-    // How many samples an interval has. That takes no memory.
+    // The number of samples from `from` to `to`. Allocates nothing.
     pub(crate) fn count_between<L: Ledger>(&self, from: u64, to: u64, steps: &mut Steps<L>) -> usize
         ensures count { result ≡ length (between from to (points self.now)) }
         ensures steps { Takes steps.old steps.new (2 * longest self.now.pieces) }
     {
-        // Does nothing: where a field is read, the bounds of the samples are known.
+        // Does nothing at run time: reading the field tells the proof the bounds of the samples.
         let _ = &self.chunks;
         let upto = self.count_before(to.saturating_add(1), steps);
         let before = self.count_before(from, steps);
         upto.saturating_sub(before)
     }
 
-    // How many samples the chunks from one place up to another have.
+    // The number of samples in chunks `start..end`.
     pub(crate) fn count_of(&self, start: usize, end: usize) -> usize
         requires ordered { start ≤ end }
         requires within { end ≤ length self.now.pieces }
         ensures { result ≡ length (joined (slice_range self.now.pieces start end)) }
     {
-        // Does nothing: it tells that all samples together can be counted.
+        // Does nothing at run time: it tells the proof that the total count does not overflow.
         let _all = self.len();
         let mut count = 0;
         for place in start..end {
@@ -135,7 +136,7 @@ impl<C: Chunk> Chunks<C> {
         count
     }
 
-    // A larger place for the chunks, where those of a change don't fit into the present one.
+    // A larger buffer for the chunks, or `None` if the present one can hold those of the change.
     pub(crate) fn larger(
         &self,
         change: &Change<C>,
@@ -153,7 +154,7 @@ impl<C: Chunk> Chunks<C> {
     }
 }
 
-// A list of chunks is these fields and no others: a further one, such as a copy of its samples, does not compile here.
+// Fails to compile if a field is added, such as a second copy of the samples.
 fn fields<C: Chunk>(it: &Chunks<C>) {
     let Chunks {
         chunks: _,
@@ -161,7 +162,7 @@ fn fields<C: Chunk>(it: &Chunks<C>) {
     } = it;
 }
 
-// How many samples these chunks have.
+// The number of samples in these chunks.
 pub(crate) fn count_in<C: Chunk>(chunks: &[C]) -> usize
     requires { length (joined (map C.list chunks.now)) < 2 ^ 64 }
     ensures { result ≡ length (joined (map C.list chunks.now)) }
@@ -173,7 +174,7 @@ pub(crate) fn count_in<C: Chunk>(chunks: &[C]) -> usize
     count
 }
 
-// The limit of a new chunk: the size that is given, within the bounds of a limit.
+// The size limit of a new chunk, in bytes: `chunk_size`, clamped to the allowed range.
 pub(crate) fn new_limit(chunk_size: u32) -> u32
     ensures limit { result ≡ limit_for chunk_size }
     ensures bounds { IsLimit result }

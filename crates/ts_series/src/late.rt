@@ -40,7 +40,7 @@ impl<C: Chunk> Line<C> {
         }
     }
 
-    // Plans a write at a time that has this value.
+    // Plans a write at a time that has a sample with value `old`.
     fn put_over<L: Ledger>(
         &self,
         old: Units,
@@ -62,7 +62,7 @@ impl<C: Chunk> Line<C> {
     }
 }
 
-// Whether a write comes to its own value, whatever its time has.
+// Whether a write sets its own value, whether or not its time has a sample.
 pub(crate) fn always_writes(how: Merge) -> bool
     ensures { result ≡ true → (old : Option ℤ) (new : ℤ) → merge how old new ≡ To new }
 {
@@ -72,7 +72,7 @@ pub(crate) fn always_writes(how: Merge) -> bool
     }
 }
 
-// The value to write where the time has this one, if one is written.
+// The value to write at a time that has the value `old`, or `None` to leave it.
 pub(crate) fn merged(how: Merge, old: Units, new: Units) -> Result<Option<Units>, PutFault>
     ensures { IsMerged (merge how (Some old) new) result }
 {
@@ -95,7 +95,7 @@ fn merged_by(policy: Policy, old: Units, new: Units) -> Result<Option<Units>, Pu
     }
 }
 
-// The sum of two values, where it is in range.
+// The sum of two values, or `OutOfRange`.
 fn total(old: Units, new: Units) -> Result<Option<Units>, PutFault>
     ensures { IsMerged (within_bound (old +ℤ new)) result }
 {

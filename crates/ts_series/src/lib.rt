@@ -1,5 +1,5 @@
-//! One series: its samples in order of time, how it is kept, what is asked of it, and how it is written. A
-//! change is planned first, which may fail, and then committed, which can't.
+//! One time series: its samples in order of time, its options, the queries it answers and the changes it takes. A
+//! change is planned first, which can fail, and then committed, which cannot.
 #![tactic(auto)]
 
 mod alter;

@@ -12,14 +12,14 @@ use std::slice;
 use ts_sample::{Chunk, Sample};
 use ts_spec::{Encoding, Options};
 
-// The times from one to another, both included. Where `from` is above `to` there are none.
+// The times from `from` to `to`, both inclusive. Empty if `from` is above `to`.
 #[derive(Clone, Copy)]
 pub(crate) struct Interval {
     pub(crate) from: u64,
     pub(crate) to: u64,
 }
 
-// Samples in ascending time. One takes no memory.
+// Samples in ascending time. A single one needs no allocation.
 #[derive(Drop)]
 pub(crate) enum Rows {
     Empty,
@@ -28,7 +28,7 @@ pub(crate) enum Rows {
 }
 
 impl Rows {
-    // Rows that are these samples.
+    // A copy of these samples.
     pub(crate) fn of(alloc: Global, samples: &[Sample]) -> Result<Rows, AllocError>
         ensures { IfOk result (λ rows. listed rows ≡ samples.now) }
     {
@@ -54,13 +54,13 @@ impl Rows {
     }
 }
 
-// A change of a series that can be committed: it has the memory that it takes.
+// A planned change of a series. It owns the memory that it needs, so a commit cannot fail.
 #[derive(Drop)]
 pub(crate) struct LinePlan<C: Chunk> {
-    // The interval that is taken out, and how many samples are in it.
+    // The interval to delete, and the number of samples in it.
     pub(crate) cut: Option<Interval>,
     pub(crate) removed: u64,
-    // How the series is kept that it was made from.
+    // The encoding of the series that the plan was made for.
     pub(crate) encoding: Encoding,
     pub(crate) wrote: Rows,
     pub(crate) options: Option<Options>,
@@ -97,14 +97,14 @@ impl<C: Chunk> LinePlan<C> {
         }
     }
 
-    // The first of the samples that are written, or `None` where none is.
+    // The first sample to write, or `None`.
     pub(crate) fn wrote(&self) -> Option<Sample>
         ensures { result ≡ first_of self.now.wrote }
     {
         self.wrote.as_slice().first().copied()
     }
 
-    // How many samples a deletion takes out.
+    // The number of samples to delete.
     pub(crate) fn removed(&self) -> u64
         ensures { result ≡ self.now.removed }
     {

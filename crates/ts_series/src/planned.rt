@@ -1,4 +1,4 @@
-// Changes of the chunks of a series, planned with the memory that they take.
+// Plans changes of the chunks, and allocates what they need.
 ghost use Rattle.std.specs.Prelude.{◌≡◌, ℕ, ◌≤◌, ◌<◌, ◌*◌, [], ◌∷◌, length, IfOk, map, take, slice_range, None};
 ghost use Rattle.ts_spec.specs.Sample.{between, last_of, outside, put};
 ghost use Rattle.ts_sample.specs.Chunk.{IsLimit, IsChunk, IsPast, joined};
@@ -12,7 +12,7 @@ use std::sync::ledger::Ledger;
 use ts_sample::{Chunk, Sample, Steps};
 
 impl<C: Chunk> Chunks<C> {
-    // A sample past the last one: into the room of the last chunk, or into a new chunk of this size.
+    // Adds a sample after the last one: to the last chunk, or in a new chunk of this size.
     pub(crate) fn appended(
         &self,
         alloc: Global,
@@ -28,8 +28,8 @@ impl<C: Chunk> Chunks<C> {
         self.past(alloc, self.chunks.len(), sample, chunk_size)
     }
 
-    // The chunks before a place, and no others, with a sample past theirs: it goes into the room of the last of
-    // them, or into a new chunk of this size.
+    // Keeps only the chunks before index `place`, and adds a sample after theirs: to the last of them, or in a new
+    // chunk of this size.
     pub(crate) fn past(
         &self,
         alloc: Global,
@@ -63,7 +63,7 @@ impl<C: Chunk> Chunks<C> {
         })
     }
 
-    // A sample at a time that is not past the last one.
+    // Writes a sample at a time that is not after the last one.
     pub(crate) fn inserted<L: Ledger>(
         &self,
         alloc: Global,
@@ -88,7 +88,7 @@ impl<C: Chunk> Chunks<C> {
         })
     }
 
-    // The list without the samples of an interval, and how many these are.
+    // Deletes an interval's samples, and counts them.
     pub(crate) fn without<L: Ledger>(
         &self,
         alloc: Global,
@@ -105,7 +105,7 @@ impl<C: Chunk> Chunks<C> {
         ensures lengths { IfOk result (λ r. longest r.0.pieces ≤ longest self.now.pieces) }
         ensures steps { Takes steps.old steps.new (2 * longest self.now.pieces) }
     {
-        // Does nothing: where a field is read, the order of the chunks is known.
+        // Does nothing at run time: reading the field tells the proof that the chunks are in order.
         let _ = &self.chunks;
         let places = self.meeting(from, to);
         let (start, end) = (places.start, places.end);
@@ -122,7 +122,8 @@ impl<C: Chunk> Chunks<C> {
         ))
     }
 
-    // What the chunks that meet an interval are without its samples. Only the first and the last of them have others.
+    // New chunks for those that overlap an interval, without its samples. Only the first and the last of them have
+    // other samples.
     fn left_between<L: Ledger>(
         &self,
         alloc: Global,
@@ -152,7 +153,7 @@ impl<C: Chunk> Chunks<C> {
     }
 }
 
-// A chunk of this limit with one sample.
+// A chunk of size `limit` with one sample.
 pub(crate) fn begun<C: Chunk>(alloc: Global, sample: &Sample, limit: u32) -> Result<C, AllocError>
     requires { IsLimit limit }
     ensures list { IfOk result (λ c. C.list c ≡ sample.now ∷ []) }

@@ -11,7 +11,7 @@ use crate::line::Line;
 use ts_sample::Chunk;
 
 impl<C: Chunk> Chunks<C> {
-    // How many chunks have a sample before this time.
+    // The number of chunks that start before `time`.
     fn begun_before(&self, time: u64) -> usize
         ensures within { result ≤ length self.now.pieces }
         ensures later { at_times (λ t. nat_lt t time) (joined (drop result self.now.pieces)) ≡ [] }
@@ -22,14 +22,14 @@ impl<C: Chunk> Chunks<C> {
         self.upto(time - 1)
     }
 
-    // A time from one to another up to which there are so many samples, or the later one. Nothing is decoded.
+    // An end time for a scan from `from` that yields at least `count` samples, or `to`. Decodes nothing.
     pub(crate) fn time_for(&self, from: u64, to: u64, count: u64) -> u64
         requires { from ≤ to }
         ensures within { (from ≤ result) × (result ≤ to) }
         ensures reach { (result ≡ to) ⊎ (count ≤ length (between from result (points self.now))) }
         ensures seam { (result ≡ to) ⊎ IsSeam (result + 1) self.now.pieces }
     {
-        // Does nothing: it tells that all samples together can be counted.
+        // Does nothing at run time: it tells the proof that the total count does not overflow.
         let _all = self.len();
         let start = self.begun_before(from);
         let mut found = 0;
@@ -46,7 +46,7 @@ impl<C: Chunk> Chunks<C> {
         to
     }
 
-    // How many chunks, the first ones, have no sample past this time.
+    // The number of chunks that end at or before `time`.
     fn ended_by(&self, time: u64) -> usize
         ensures within { result ≤ length self.now.pieces }
         ensures earlier { at_times (nat_lt time) (joined (take result self.now.pieces)) ≡ [] }
@@ -54,14 +54,14 @@ impl<C: Chunk> Chunks<C> {
         self.before(time.saturating_add(1))
     }
 
-    // A time from one to another from which on there are so many samples, or the earlier one. Nothing is decoded.
+    // A start time for a scan up to `to` that yields at least `count` samples, or `from`. Decodes nothing.
     pub(crate) fn time_from(&self, from: u64, to: u64, count: u64) -> u64
         requires { from ≤ to }
         ensures within { (from ≤ result) × (result ≤ to) }
         ensures reach { (result ≡ from) ⊎ (count ≤ length (between result to (points self.now))) }
         ensures seam { (result ≡ from) ⊎ IsSeam result self.now.pieces }
     {
-        // Does nothing: it tells that all samples together can be counted.
+        // Does nothing at run time: it tells the proof that the total count does not overflow.
         let _all = self.len();
         let end = self.ended_by(to);
         let mut found = 0;
@@ -80,8 +80,8 @@ impl<C: Chunk> Chunks<C> {
 }
 
 impl<C: Chunk> Line<C> {
-    // A time from one to another, in milliseconds, up to which it has so many samples, or the later one. Nothing is
-    // decoded.
+    // An end time, in milliseconds, for a scan from `from` that yields at least `count` samples, or `to`. Decodes
+    // nothing.
     pub(crate) fn time_for(&self, from: u64, to: u64, count: u64) -> u64
         requires { from ≤ to }
         ensures within { (from ≤ result) × (result ≤ to) }
@@ -95,8 +95,8 @@ impl<C: Chunk> Line<C> {
         self.chunks.time_for(start, to, count)
     }
 
-    // A time from one to another, in milliseconds, from which on it has so many samples, or the earlier one. Nothing
-    // is decoded.
+    // A start time, in milliseconds, for a scan up to `to` that yields at least `count` samples, or `from`. Decodes
+    // nothing.
     pub(crate) fn time_from(&self, from: u64, to: u64, count: u64) -> u64
         requires { from ≤ to }
         ensures within { (from ≤ result) × (result ≤ to) }
