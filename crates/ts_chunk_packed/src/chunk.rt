@@ -37,7 +37,8 @@ impl Model for PackedChunk {
 
     ghost view = { λ c. record { limit = c.limit; list = samples_of c.count c.bytes.items } };
 
-    ghost invariant = { λ c. IsMarked c.limit (vec_capacity c.bytes) c.bytes.items c.count c.step c.first c.last c.marks };
+    ghost invariant = { λ c. IsMarked c.limit (vec_capacity c.bytes) c.bytes.items c.count c.step c.first c.last
+        c.marks };
 }
 
 impl Chunk for PackedChunk {

@@ -1,5 +1,6 @@
 // Codes a sample as its differences from the sample before it.
-ghost use Rattle.std.specs.Prelude.{◌≡◌, ◌+◌, ◌^◌, ◌≤◌, pos, ◌+ℤ◌, ◌-ℤ◌, ◌≤ℤ◌, ◌<ℤ◌, ◌++◌, length, unsigned_abs, vec_len, vec_capacity, ℕ, List};
+ghost use Rattle.std.specs.Prelude.{◌≡◌, ◌+◌, ◌^◌, ◌≤◌, pos, ◌+ℤ◌, ◌-ℤ◌, ◌≤ℤ◌, ◌<ℤ◌, ◌++◌, length, unsigned_abs};
+ghost use Rattle.std.specs.Prelude.{vec_len, vec_capacity, ℕ, List};
 ghost use Rattle.ts_spec.specs.Sample.{MAX_TIME, Point};
 ghost use Rattle.ts_spec.specs.Value.{bound};
 ghost use Rattle.ts_chunk_packed.specs.Packed.{coded, gap, number_of, sample_of, zigzag, unzigzag, packed, decoded};

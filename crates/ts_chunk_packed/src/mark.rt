@@ -27,7 +27,11 @@ impl Model for Mark {
 
     ghost Value = { Marked };
 
-    ghost view = { λ m. record { state = record { before = m.last; step = pos m.step; begun = true }; at = m.place.at; count = m.place.count } };
+    ghost view = { λ m. record {
+      state = record { before = m.last; step = pos m.step; begun = true };
+      at = m.place.at;
+      count = m.place.count;
+    } };
 
     ghost invariant = { λ m. m.step ≤ MAX_TIME };
 }

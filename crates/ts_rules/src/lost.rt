@@ -29,7 +29,12 @@ impl Model for Lost {
 
     ghost Value = { Losing };
 
-    ghost view = { λ l. record { grid = l.grid; last = l.last; starts = l.starts.items; room = vec_capacity l.starts - vec_len l.starts } };
+    ghost view = { λ l. record {
+      grid = l.grid;
+      last = l.last;
+      starts = l.starts.items;
+      room = vec_capacity l.starts - vec_len l.starts;
+    } };
 }
 
 impl Lost {

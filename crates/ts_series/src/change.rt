@@ -3,7 +3,8 @@ ghost use Rattle.std.specs.Prelude.{◌≡◌, ℕ, ◌≤◌, ◌+◌, true, fa
 ghost use Rattle.std.specs.VecDeque.{deque_capacity};
 ghost use Rattle.ts_spec.specs.Sample.{IsAscending, at_times};
 ghost use Rattle.ts_sample.specs.Chunk.{joined};
-ghost use Rattle.ts_series.specs.Stored.{points, pieces_after, limits_after, no_change, replaced, with_last, AreAmong, AreChunks, AreKept, HasRoomFor, IsChangeOf, IsTrimmed};
+ghost use Rattle.ts_series.specs.Stored.{points, pieces_after, limits_after, no_change, replaced, with_last};
+ghost use Rattle.ts_series.specs.Stored.{AreAmong, AreChunks, AreKept, HasRoomFor, IsChangeOf, IsTrimmed};
 
 use crate::chunks::{Chunks, count_in};
 use crate::ring::replace_between;
@@ -27,7 +28,13 @@ impl<C: Chunk> Model for Change<C> {
 
     ghost Value = { Change };
 
-    ghost view = { λ c. record { start = c.start; end = c.end; pieces = map C.list c.chunks.items; limits = map C.most c.chunks.items; appended = c.appended } };
+    ghost view = { λ c. record {
+      start = c.start;
+      end = c.end;
+      pieces = map C.list c.chunks.items;
+      limits = map C.most c.chunks.items;
+      appended = c.appended;
+    } };
 
     ghost invariant = { λ c. AreChunks C.format (map C.list c.chunks.items) (map C.most c.chunks.items) };
 }

@@ -1,5 +1,6 @@
 // The chunks of a series in order of time, their counts, and the capacity for more of them.
-ghost use Rattle.std.specs.Prelude.{◌≡◌, ◌≤◌, nat_le, [], length, take, drop, ◌<◌, ◌+◌, ◌*◌, ◌^◌, map, slice_range, option_map, IfOk, IfSome};
+ghost use Rattle.std.specs.Prelude.{◌≡◌, ◌≤◌, nat_le, [], length, take, drop, ◌<◌, ◌+◌, ◌*◌, ◌^◌, map, slice_range};
+ghost use Rattle.std.specs.Prelude.{option_map, IfOk, IfSome};
 ghost use Rattle.ts_spec.specs.Sample.{IsAscending, last_of, at_times, between};
 ghost use Rattle.ts_sample.specs.Chunk.{joined, IsLimit};
 ghost use Rattle.ts_series.specs.Stored.{points, IsMeeting, AllMeet, IsTrimmed, HaveBegun, longest};
@@ -30,7 +31,11 @@ impl<C: Chunk> Model for Chunks<C> {
 
     ghost Value = { Stored };
 
-    ghost view = { λ s. record { pieces = map C.list s.chunks.items; limits = map C.most s.chunks.items; room = deque_capacity s.chunks - deque_len s.chunks } };
+    ghost view = { λ s. record {
+      pieces = map C.list s.chunks.items;
+      limits = map C.most s.chunks.items;
+      room = deque_capacity s.chunks - deque_len s.chunks;
+    } };
 
     ghost invariant = { λ s. AreKept C.format (map C.list s.chunks.items) (map C.most s.chunks.items) s.count };
 }

@@ -76,7 +76,15 @@ impl<C: Chunk> Model for LinePlan<C> {
 
     ghost Value = { Plan };
 
-    ghost view = { λ p. record { cut = p.cut; removed = p.removed; encoding = p.encoding; wrote = listed p.wrote; options = p.options; change = p.change; room = option_map (λ q. deque_capacity q) p.larger } };
+    ghost view = { λ p. record {
+      cut = p.cut;
+      removed = p.removed;
+      encoding = p.encoding;
+      wrote = listed p.wrote;
+      options = p.options;
+      change = p.change;
+      room = option_map (λ q. deque_capacity q) p.larger;
+    } };
 
     ghost invariant = { λ p. IfSome p.larger (λ q. q.items ≡ []) × IsAscending (listed p.wrote) };
 }

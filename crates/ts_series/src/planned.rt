@@ -3,7 +3,8 @@ ghost use Rattle.std.specs.Prelude.{◌≡◌, ℕ, ◌≤◌, ◌<◌, ◌*◌,
 ghost use Rattle.ts_spec.specs.Sample.{between, last_of, outside, put};
 ghost use Rattle.ts_sample.specs.Chunk.{IsLimit, IsChunk, IsPast, joined};
 ghost use Rattle.ts_sample.specs.Steps.{Takes};
-ghost use Rattle.ts_series.specs.Stored.{points, longest, pieces_after, IsMeeting, IsReady, AreChunks, AreAmong, HasLimits, IsUpTo};
+ghost use Rattle.ts_series.specs.Stored.{points, longest, pieces_after, IsMeeting, IsReady, AreChunks, AreAmong};
+ghost use Rattle.ts_series.specs.Stored.{HasLimits, IsUpTo};
 
 use crate::change::Change;
 use crate::chunks::{Chunks, count_in};

@@ -95,7 +95,7 @@ fn take_out<T: Drop>(ring: &mut VecDeque<T>, start: usize, end: usize)
     ring.rotate_right(start);
 }
 
-// Overwrites as many items from index `start` on. No other item moves.
+// Overwrites the items from index `start` on with `items`. No other item moves.
 fn put_in_place<T: Drop>(ring: &mut VecDeque<T>, start: usize, mut items: Vec<T>)
     requires within { start + length items.items ≤ length ring.old.items }
     ensures items { ring.new.items ≡ replaced start (start + length items.items) items.items ring.old.items }

@@ -1,5 +1,6 @@
 // Helpers of `PackedChunk`: the samples before and after a time or a mark, and the list of its fields.
-ghost use Rattle.std.specs.Prelude.{◌≡◌, ◌+◌, ◌<◌, nat_lt, nat_le, if◌then◌else◌, ◌==◌, ◌++◌, length, None, IfOk, IfSome, IfNone, ◌≤◌, ◌*◌};
+ghost use Rattle.std.specs.Prelude.{◌≡◌, ◌+◌, ◌<◌, nat_lt, nat_le, if◌then◌else◌, ◌==◌, ◌++◌, length, None, IfOk};
+ghost use Rattle.std.specs.Prelude.{IfSome, IfNone, ◌≤◌, ◌*◌};
 ghost use Rattle.ts_spec.specs.Sample.{IsAscending, at_times};
 ghost use Rattle.ts_chunk_packed.specs.Marks.{AreMarks, IsMark, IsPlace, EndsAt, passed};
 ghost use Rattle.ts_chunk_packed.specs.Packed.{begin, state_from, packed};
