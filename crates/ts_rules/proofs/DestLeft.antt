@@ -1,5 +1,5 @@
--- The mending of a destination after a deletion on its source: over the interval from the start of the first bucket to that of the
--- last, with the two rows told anew and the samples that stay.
+-- Updating a destination after a deletion on its source: over the interval from the start of the first bucket to that
+-- of the last, the rows replace the samples that are lost.
 use Rattle.std.proofs.Common.{◌≡◌, ◌≢◌, ◌⊎◌, inl, inr, ℕ, ◌<◌, ◌≤◌, Bool, true, false, not, ◌==◌, cond, if◌then◌else◌, List, [], ◌∷◌, ◌++◌, filter, length, Option, None, Some, refl, sym, ap, ◌∙◌, subst, arith, eq-eqb, lt-ltb, ltb-true}
 use Rattle.std.specs.Prelude.{Result}
 use Rattle.std.proofs.lemmas.Bool.{false≢true, and_parts}

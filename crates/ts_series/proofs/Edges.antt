@@ -1,4 +1,4 @@
--- The samples of a series from its edge on, once a change is made and the edge rises.
+-- A series' samples within retention, after a change that raises the retention edge.
 use Rattle.std.proofs.Common.{◌≡◌, ℕ, ◌≤◌, Bool, true, false, not, List, refl, sym, ◌∙◌, ap, arith}
 use Rattle.std.specs.Prelude.{nat_le, if◌then◌else◌, Option, None, Some}
 use Rattle.std.specs.Option.{option_or}

@@ -1,4 +1,4 @@
--- What is found in one chunk, and the ends of what a visitor takes.
+-- Queries on a single chunk: its first, last and counted samples.
 use Rattle.std.proofs.Common.{◌≡◌, ◌≢◌, ◌⊎◌, inl, inr, ℕ, ◌+◌, ◌-◌, ◌*◌, ◌<◌, ◌≤◌, true, false, cond, List, [], ◌∷◌, length, refl, sym, ◌∙◌, ap, subst, arith, le-leb, le-ltb, eq-eqb, ne_eqb}
 use Rattle.std.specs.Prelude.{nat_lt, nat_le, if◌then◌else◌, Option, None, Some}
 use Rattle.std.specs.Option.{option_or}
