@@ -1,4 +1,4 @@
--- One list after another, and the bytes of both.
+-- Concatenated lists, and their bytes.
 use Rattle.std.proofs.Common.{◌≡◌, ℕ, ◌<◌, ◌==◌, if◌then◌else◌, List, [], ◌∷◌, ◌++◌, length, refl, sym, ap, ◌∙◌, append_assoc, arith, eq-eqb, ne_eqb}
 use Rattle.std.specs.Prelude.{Option, None}
 use Rattle.ts_spec.specs.Sample.{Point, first_of}

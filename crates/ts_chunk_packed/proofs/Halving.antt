@@ -1,4 +1,4 @@
--- A list that is cut at a time, and a sample that is put into one part.
+-- Splitting a list at a time, and inserting a sample into one part.
 use Rattle.std.proofs.Common.{◌≡◌, ℕ, false, ◌/◌, ◌+◌, ◌<◌, ◌≤◌, List, [], ◌∷◌, ◌++◌, length, take, drop, sym, ap, ◌∙◌, subst, append_assoc, append-nil, arith, length-append}
 use Rattle.std.specs.Prelude.{Some, ◌&&◌, nat_lt, nat_le}
 use Rattle.std.proofs.lemmas.Bool.Decides.{nat_tests}

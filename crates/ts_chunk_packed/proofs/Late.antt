@@ -1,4 +1,4 @@
--- Samples that are passed on the way to a late one, and the marks that are set past them.
+-- Samples skipped on the way to a late one, and the marks set after them.
 use Rattle.std.proofs.Common.{◌≡◌, ℕ, ◌<◌, ◌≤◌, List, [], ◌∷◌, ◌++◌, length, take, sym, ap, ◌∙◌, subst, append_assoc, arith, length-append}
 use Rattle.std.specs.Prelude.{nat_lt, nat_le, IfOk, Result, Ok, Err}
 use Rattle.std.proofs.lemmas.List.{take_at, append_cancel_right}

@@ -1,4 +1,4 @@
--- Places in a chunk, and what is left from them on.
+-- Positions in a chunk, and the samples after them.
 use Rattle.std.proofs.Common.{Bor, ◌≡◌, ℕ, ◌+◌, false, List, [], ◌∷◌, ◌++◌, length, take, drop, refl, sym, ap, ◌∙◌, subst, arith, length-append}
 use Rattle.std.specs.Prelude.{Option, None, Some, IfSome, IfNone}
 use Rattle.std.specs.Option.{option_copied}

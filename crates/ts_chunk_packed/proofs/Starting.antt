@@ -1,4 +1,4 @@
--- Samples from a mark on, and what is asked of them.
+-- The samples after a mark, and queries on them.
 use Rattle.std.proofs.Common.{◌≡◌, ℕ, ◌-◌, ◌<◌, ◌≤◌, true, false, List, [], ◌∷◌, ◌++◌, length, take, drop, refl, sym, ap, ◌∙◌, subst, append_assoc, arith, length-append}
 use Rattle.std.specs.Prelude.{Option, None, Some, IfSome, IfNone, not, nat_lt, nat_le}
 use Rattle.std.proofs.lemmas.Bool.Decides.{nat_tests}

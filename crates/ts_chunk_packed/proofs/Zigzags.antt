@@ -1,4 +1,4 @@
--- Differences as natural numbers, and back.
+-- Zigzag coding and decoding.
 use Rattle.std.proofs.Common.{◌≡◌, ℕ, suc, ◌-◌, ◌*◌, ◌/◌, ◌%◌, refl, ℤ, pos, negsuc, true, false, nat_eq, ap, ◌∙◌, arith}
 use Rattle.std.specs.Prelude.{◌≤ℤ◌, ◌<ℤ◌, unsigned_abs}
 use Rattle.std.proofs.lemmas.Bool.Decides.{nat_tests}

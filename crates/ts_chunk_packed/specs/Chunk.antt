@@ -1,19 +1,19 @@
--- What a chunk in the packed format is.
+-- The samples of a packed chunk, and what its fields satisfy.
 use Rattle.std.specs.Prelude.{◌≡◌, ℕ, ◌≤◌, pos, List, length, Option}
 use Rattle.ts_spec.specs.Sample.{Point, first_of, last_of}
 use Rattle.ts_sample.specs.Chunk.{IsChunk}
 use Rattle.ts_chunk_packed.specs.Marks.{Marked, AreMarks}
 use Rattle.ts_chunk_packed.specs.Packed.{begin, packed, state_from, samples_of}
 
--- the samples of a packed chunk, and the bytes that it has at most
+-- a packed chunk: its samples and its size limit
 pub record Samples : Type 0 where
-  -- how many bytes it has at most
+  -- the limit, in bytes
   pub limit : ℕ
-  -- its samples
+  -- the samples, in ascending time
   pub list : List Point
 
--- What holds of the fields of a chunk that has written these bytes for so many samples: it has room for as many as it may have, they are
--- those of its samples, and it knows the first and the last of these, and how far the last stands from the one before it.
+-- What the fields of a packed chunk satisfy: the buffer has capacity for the limit and holds exactly the coded
+-- samples, the count is right, and the first sample, the last one and the step to the last one are cached correctly.
 pub record IsPacked (limit capacity : ℕ) (written : List ℕ) (many far : ℕ) (begins ends : Option Point) : Type 0 where
   pub chunk : IsChunk packed limit (samples_of many written)
   pub room : limit ≤ capacity
@@ -23,7 +23,7 @@ pub record IsPacked (limit capacity : ℕ) (written : List ℕ) (many far : ℕ)
   pub first : begins ≡ first_of (samples_of many written)
   pub last : ends ≡ last_of (samples_of many written)
 
--- and its marks stand past some of its samples
+-- the same, and every mark comes after some of the samples
 pub record IsMarked (limit capacity : ℕ) (written : List ℕ) (many far : ℕ) (begins ends : Option Point) (places : List Marked) : Type 0 where
   pub packed : IsPacked limit capacity written many far begins ends
   pub marks : AreMarks (samples_of many written) places

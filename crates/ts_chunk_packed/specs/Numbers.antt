@@ -1,4 +1,4 @@
--- How many bytes a number takes, and that it is read back.
+-- The size of a variable-length number, and that it reads back.
 use Rattle.std.specs.Prelude.{◌≡◌, ℕ, zero, suc, ◌+◌, ◌*◌, ◌/◌, ◌%◌, ◌^◌, ◌<◌, ◌≤◌, true, false, nat_lt, List, [], ◌∷◌, length}
 use Rattle.std.proofs.Common.{inl, inr, refl, sym, ap, ◌∙◌, arith}
 use Rattle.std.proofs.Math.Nat.{pow-suc}
@@ -19,7 +19,7 @@ groups_small (suc turns) n small = rw (is_small n small)
 groups_large : (turns n : ℕ) → 128 ≤ n → groups (suc turns) n ≡ (128 + n % 128) ∷ groups turns (n / 128)
 groups_large turns n large = rw (is_large n large)
 
--- enough turns are as good as any others
+-- the result does not depend on `turns` if there are enough of them
 groups_alike : (some more n : ℕ) → n ≤ some → n ≤ more → groups some n ≡ groups more n
 groups_alike zero more n enough also = sym (groups_small more n (omega arith))
 groups_alike (suc some) zero n enough also = groups_small (suc some) n (omega arith)
@@ -30,26 +30,26 @@ groups_alike (suc some) (suc more) n enough also = elim (cases_lt n 128) [
       ∙ sym (groups_large more n large)
 ]
 
--- a number below 128 is its one group
+-- a number below 128 is a single byte
 pub number-small : (n : ℕ) → n < 128 → number n ≡ n ∷ []
 unfolding number
 number-small n small = groups_small n n small
 
--- any other number is its lowest group, and then the groups of the rest
+-- a larger number is its lowest seven bits, then the rest
 pub number-large : (n : ℕ) → 128 ≤ n → number n ≡ (128 + n % 128) ∷ number (n / 128)
 unfolding number
 number-large zero large = absurd (omega arith)
 number-large (suc n) large =
     groups_large n (suc n) large ∙ ap (λ (l : List ℕ). (128 + suc n % 128) ∷ l) (groups_alike n (suc n / 128) (suc n / 128) (omega arith) (omega arith))
 
--- a number takes a byte or more
+-- a number takes at least one byte
 pub some_bytes : (n : ℕ) → 1 ≤ length (number n)
 some_bytes n = elim (cases_lt n 128) [
   | inl small ↦ omega (arith, ap length (number-small n small))
   | inr large ↦ omega (arith, ap length (number-large n large))
 ]
 
--- and no more than its size asks for
+-- a number below 128 ^ k takes at most k bytes
 pub most_bytes : (k n : ℕ) → n < 128 ^ suc k → length (number n) ≤ suc k
 most_bytes zero n below = omega (arith, ap length (number-small n (omega arith)))
 most_bytes (suc k) n below = elim (cases_lt n 128) [

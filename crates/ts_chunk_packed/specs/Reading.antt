@@ -1,17 +1,17 @@
--- What bytes begin with.
+-- What bytes start with.
 use Rattle.std.specs.Prelude.{◌≡◌, ℕ, ◌<◌, ◌≤◌, ⊤, List, [], ◌∷◌, ◌++◌}
 use Rattle.ts_spec.specs.Sample.{Point}
 use Rattle.ts_sample.specs.Sample.{IsFine}
 use Rattle.ts_chunk_packed.specs.Packed.{State, number, coded}
 
--- the bytes begin with a number below a limit
+-- the bytes start with a number below a limit
 pub record Begins (limit : ℕ) (bytes : List ℕ) : Type 0 where
   pub value : ℕ
   pub rest : List ℕ
   pub is : bytes ≡ number value ++ rest
   pub below : value < limit
 
--- the bytes begin with a sample that is within its bounds, and no earlier than the last one
+-- the bytes start with a sample that is within its bounds and no earlier than the last one
 pub record Follows (s : State) (bytes : List ℕ) : Type 0 where
   pub sample : Point
   pub rest : List ℕ
@@ -19,7 +19,7 @@ pub record Follows (s : State) (bytes : List ℕ) : Type 0 where
   pub fine : IsFine sample
   pub later : s.before.time ≤ sample.time
 
--- the first of the samples is no earlier than this time
+-- the first of the samples is no earlier than t
 abbrev pub StartsFrom : ℕ → List Point → Type 0
 StartsFrom t [] = ⊤
 StartsFrom t (p ∷ ps) = t ≤ p.time

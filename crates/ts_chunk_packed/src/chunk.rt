@@ -1,13 +1,11 @@
-// A chunk in the packed format.
+// The packed chunk format.
 ghost use Rattle.std.specs.Prelude.{◌≡◌, Some};
 ghost use Rattle.std.specs.Option.{unwrap_or};
 
-mod fields;
-mod halves;
 mod parts;
 mod splice;
 
-use crate::chunk::halves::are_halves;
+use crate::chunk::splice::are_halves;
 use crate::coding::{WIDEST, encode, width_of};
 use crate::late_marks::LateMarks;
 use crate::mark::{Mark, Offset};
@@ -17,7 +15,8 @@ use std::marker::Model;
 use std::sync::ledger::Ledger;
 use ts_sample::{Chunk, Sample, Steps, Visit};
 
-/// Samples in 3 to 27 bytes each, by their differences from the ones before them.
+/// A chunk that stores each sample in 3 to 27 bytes, as differences from the samples before it. It allocates only
+/// when it is created.
 #[derive(Drop)]
 pub struct PackedChunk {
     limit: u32,
@@ -38,7 +37,8 @@ impl Model for PackedChunk {
 
     ghost view = { λ c. record { limit = c.limit; list = samples_of c.count c.bytes.items } };
 
-    ghost invariant = { λ c. IsMarked c.limit (vec_capacity c.bytes) c.bytes.items c.count c.step c.first c.last c.marks };
+    ghost invariant = { λ c. IsMarked c.limit (vec_capacity c.bytes) c.bytes.items c.count c.step c.first c.last
+        c.marks };
 }
 
 impl Chunk for PackedChunk {
@@ -52,7 +52,7 @@ impl Chunk for PackedChunk {
 
     ghost format = { packed };
 
-    // A mark past the samples before it: none before the first sample.
+    // A mark after the samples already read, or `None` at the front.
     type Place = Option<Mark>;
 
     ghost passed = { passed };
@@ -189,7 +189,7 @@ impl Chunk for PackedChunk {
     ghost one_fits = { one_within };
 }
 
-// Keeps the first sample, and this one where there was none.
+// Sets `first` if it is not set yet.
 fn keep_first(first: &mut Option<Sample>, sample: &Sample)
     ensures { first.new ≡ Some (unwrap_or first.old sample.now) }
 {

@@ -1,8 +1,9 @@
-// A sample as bytes, by what is known of those before it.
-ghost use Rattle.std.specs.Prelude.{◌≡◌, ◌+◌, ◌^◌, ◌≤◌, pos, ◌+ℤ◌, ◌-ℤ◌, ◌≤ℤ◌, ◌<ℤ◌, ◌++◌, length, unsigned_abs, vec_len, vec_capacity};
-ghost use Rattle.ts_spec.specs.Sample.{MAX_TIME};
+// Codes a sample as its differences from the sample before it.
+ghost use Rattle.std.specs.Prelude.{◌≡◌, ◌+◌, ◌^◌, ◌≤◌, pos, ◌+ℤ◌, ◌-ℤ◌, ◌≤ℤ◌, ◌<ℤ◌, ◌++◌, length, unsigned_abs};
+ghost use Rattle.std.specs.Prelude.{vec_len, vec_capacity, ℕ, List};
+ghost use Rattle.ts_spec.specs.Sample.{MAX_TIME, Point};
 ghost use Rattle.ts_spec.specs.Value.{bound};
-ghost use Rattle.ts_chunk_packed.specs.Packed.{coded, gap, number_of, sample_of, zigzag, unzigzag};
+ghost use Rattle.ts_chunk_packed.specs.Packed.{coded, gap, number_of, sample_of, zigzag, unzigzag, packed, decoded};
 ghost use Rattle.ts_chunk_packed.specs.Reading.{Begins, Follows};
 
 use crate::context::Context;
@@ -10,10 +11,10 @@ use crate::number::{put, put_wide, read, width, width_wide};
 use crate::zigzag::{ahead, ahead_near, ahead_wide, apart, apart_wide};
 use ts_sample::{Sample, Units};
 
-/// The most bytes that a sample takes.
+/// The largest coded sample, in bytes.
 pub const WIDEST: usize = 27;
 
-/// How many bytes a sample takes.
+/// The size of the coded sample, in bytes.
 pub fn width_of(context: &Context, sample: &Sample) -> usize
     requires { context.now.before.time ≤ sample.now.time }
     ensures { result ≡ length (coded context.now sample.now) }
@@ -22,7 +23,7 @@ pub fn width_of(context: &Context, sample: &Sample) -> usize
     width(numbers.time) + width_wide(numbers.value) + width(numbers.made)
 }
 
-/// Puts a sample at the end. It takes no memory.
+/// Appends the coded sample. Allocates nothing.
 pub fn encode(bytes: &mut Vec<u8>, context: &Context, sample: &Sample)
     requires later { context.now.before.time ≤ sample.now.time }
     requires room { vec_len bytes.old + length (coded context.now sample.now) ≤ vec_capacity bytes.old }
@@ -35,7 +36,7 @@ pub fn encode(bytes: &mut Vec<u8>, context: &Context, sample: &Sample)
     put(bytes, numbers.made);
 }
 
-/// The sample that the bytes begin with, and the bytes after it.
+/// Decodes the first sample of `bytes`. Returns it and the remaining bytes.
 #[inline(always)]
 pub fn decode<'a>(context: &Context, bytes: &'a [u8]) -> (Sample, &'a [u8])
     requires { Follows context.now bytes.now }
@@ -51,7 +52,7 @@ pub fn decode<'a>(context: &Context, bytes: &'a [u8]) -> (Sample, &'a [u8])
     (Sample { value, time, made }, bytes)
 }
 
-// The three numbers of a sample.
+// The three numbers that code a sample.
 #[derive(Clone, Copy)]
 struct Numbers {
     time: u64,
@@ -75,7 +76,7 @@ fn numbers_of(context: &Context, sample: &Sample) -> Numbers
     }
 }
 
-// The time by the number that the bytes begin with, and the bytes after it.
+// Decodes a time from the first number of `bytes`. Returns it and the remaining bytes.
 #[inline(always)]
 fn time_after<'a>(context: &Context, bytes: &'a [u8]) -> (u64, &'a [u8])
     requires begins { Begins (2 ^ 64) bytes.now }
@@ -89,8 +90,8 @@ fn time_after<'a>(context: &Context, bytes: &'a [u8]) -> (u64, &'a [u8])
     (context.before().time + gap, rest)
 }
 
-// The value by the number that the bytes begin with, and the bytes after it. One of up to six bytes is read without a
-// loop.
+// Decodes a value from the first number of `bytes`. Returns it and the remaining bytes. A number of up to six bytes
+// needs no loop.
 #[inline(always)]
 fn value_after(from: i128, bytes: &[u8]) -> (i128, &[u8])
     requires from { unsigned_abs from ≤ bound }
@@ -130,7 +131,7 @@ fn value_after(from: i128, bytes: &[u8]) -> (i128, &[u8])
     value_after_long(from, bytes)
 }
 
-// The same, byte by byte. One of up to nine bytes is read in 64 bits.
+// Decodes a value byte by byte. A number of up to nine bytes is computed in 64 bits.
 #[inline(always)]
 fn value_after_long(from: i128, bytes: &[u8]) -> (i128, &[u8])
     requires from { unsigned_abs from ≤ bound }
@@ -156,7 +157,8 @@ fn value_after_long(from: i128, bytes: &[u8]) -> (i128, &[u8])
     (ahead_wide(from, far), rest)
 }
 
-// The number of rules by the number that the bytes begin with, and the bytes after it. It is mostly the same.
+// Decodes a rule count from the first number of `bytes`. Returns it and the remaining bytes. It mostly equals the
+// count before it.
 #[inline(always)]
 fn made_after(from: u32, bytes: &[u8]) -> (u32, &[u8])
     requires begins { Begins (2 ^ 64) bytes.now }
@@ -171,3 +173,8 @@ fn made_after(from: u32, bytes: &[u8]) -> (u32, &[u8])
     let (number, rest) = read(bytes);
     (ahead(from as u64, number) as u32, rest)
 }
+
+/// Decoding the coded samples gives them back, in whatever order their times are, and leaves the bytes that follow.
+pub fn packed_samples_read_back()
+    ensures { (ps : List Point) (rest : List ℕ) → decoded (length ps) (packed ps ++ rest) ≡ (ps, rest) }
+{}

@@ -1,4 +1,4 @@
-// What the code of a sample depends on: the sample before it, and the step to that one.
+// The coding context of a sample: the sample before it, and the step from the one before that.
 ghost use Rattle.std.specs.Prelude.{◌≡◌, ◌≤◌, ◌-◌, pos, unwrap_or, is_some, if◌then◌else◌, None, Some};
 ghost use Rattle.ts_spec.specs.Sample.{MAX_TIME};
 ghost use Rattle.ts_chunk_packed.specs.Laws.{IsKnown};
@@ -7,7 +7,7 @@ ghost use Rattle.ts_chunk_packed.specs.Packed.{begin, gap, next};
 use std::marker::Model;
 use ts_sample::{Sample, Units};
 
-/// What is known of the samples before the next one.
+/// The state that codes the next sample.
 #[derive(Drop)]
 pub struct Context {
     before: Sample,
@@ -28,7 +28,7 @@ impl Model for Context {
 }
 
 impl Context {
-    /// After samples of which this is the last, so far after the one before it.
+    /// The context after sample `last`, which came `step` milliseconds after the one before it.
     #[inline(always)]
     pub fn new(last: Option<Sample>, step: u64) -> Context
         requires { step ≤ MAX_TIME }
@@ -41,7 +41,7 @@ impl Context {
         }
     }
 
-    /// Does nothing: it tells a caller the bounds that a reference hides.
+    /// Does nothing at run time. Its contract gives the caller the bounds of a borrowed context.
     #[inline(always)]
     pub fn known(&self)
         ensures { IsKnown self.now }
@@ -50,7 +50,7 @@ impl Context {
         self.before.known();
     }
 
-    /// The last sample, or zeros.
+    /// The last sample, or zeros if there is none.
     #[inline(always)]
     pub fn before(&self) -> &Sample
         ensures { result.now ≡ self.now.before }
@@ -58,14 +58,14 @@ impl Context {
         &self.before
     }
 
-    /// The last sample, if there was one.
+    /// The last sample, if there is one.
     pub fn last(&self) -> Option<Sample>
         ensures { result ≡ (if self.now.begun then Some self.now.before else None) }
     {
         if self.begun { Some(self.before) } else { None }
     }
 
-    /// How far the last sample stands from the one before it.
+    /// The milliseconds from the sample before the last one to the last one.
     #[inline(always)]
     pub fn step(&self) -> u64
         ensures { pos result ≡ self.now.step }
@@ -73,7 +73,7 @@ impl Context {
         self.step
     }
 
-    /// After one more sample.
+    /// The context after one more sample.
     #[inline(always)]
     pub fn after(&self, sample: &Sample) -> Context
         requires { self.now.before.time ≤ sample.now.time }
@@ -86,7 +86,7 @@ impl Context {
         }
     }
 
-    /// How far this next sample stands from the last one: 0 for the first.
+    /// The milliseconds from the last sample to `sample`, or 0 for the first sample.
     #[inline(always)]
     pub fn step_to(&self, sample: &Sample) -> u64
         requires { self.now.before.time ≤ sample.now.time }
@@ -101,7 +101,7 @@ impl Context {
     }
 }
 
-/// What stands for a sample where there is none.
+/// The sample of zeros that the first sample is coded against.
 #[inline(always)]
 pub fn no_sample() -> Sample
     ensures { result ≡ begin.before }

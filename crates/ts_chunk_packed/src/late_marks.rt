@@ -1,4 +1,4 @@
-// The marks of a chunk that late samples come to. A chunk that only grows at its end has none, and no room for any.
+// The marks of a chunk that received late samples. A chunk that only grows at its end has none and no memory for any.
 ghost use Rattle.std.specs.Prelude.{◌≡◌, ◌<◌, ◌≤◌, ◌*◌, List, ◌++◌, take, length, IfOk, IfSome};
 ghost use Rattle.ts_spec.specs.Sample.{Point};
 ghost use Rattle.ts_chunk_packed.specs.Marks.{IsMark, AreMarks, EndsAt};
@@ -10,7 +10,7 @@ use crate::marks::Marks;
 use std::alloc::{AllocError, Global};
 use std::marker::Model;
 
-/// The marks of a chunk, if there is room for any. Without room they take 16 bytes.
+/// A chunk's marks, if memory for them was allocated. Without it they take 16 bytes.
 #[derive(Drop)]
 pub struct LateMarks {
     marks: Option<Box<Marks>>,
@@ -26,14 +26,14 @@ impl Model for LateMarks {
 }
 
 impl LateMarks {
-    /// None, and no room for any.
+    /// No marks, and no capacity for any.
     pub fn new() -> LateMarks
         ensures { (ps : List Point) → AreMarks ps result }
     {
         LateMarks { marks: None }
     }
 
-    /// None yet, and room for those of a chunk of so many bytes.
+    /// No marks yet, with capacity for all marks of a chunk of `limit` bytes.
     pub fn with_room(alloc: Global, limit: u32) -> Result<LateMarks, AllocError>
         ensures { IfOk result (λ ms. (ps : List Point) → AreMarks ps ms) }
     {
@@ -41,7 +41,7 @@ impl LateMarks {
         Ok(LateMarks { marks: Some(marks) })
     }
 
-    /// Sets a mark past all samples of a chunk, if there is room and one is due. It takes no memory.
+    /// Sets a mark after all samples of the chunk, if there is capacity and one is due. Allocates nothing.
     #[inline(always)]
     pub fn set(&mut self, context: &Context, place: Offset)
         ensures { (ps : List Point) → context.now ≡ state_from begin ps → EndsAt ps place.at place.count → AreMarks ps self.old → AreMarks ps self.new }
@@ -52,7 +52,7 @@ impl LateMarks {
         marks.set(context, place);
     }
 
-    /// How many there are: at most one for each 256 bytes of the samples.
+    /// The number of marks: at most one per 256 bytes of samples.
     pub fn len(&self) -> usize
         ensures { (ps : List Point) → AreMarks ps self.now → 256 * result ≤ length (packed ps) }
     {
@@ -62,7 +62,8 @@ impl LateMarks {
         }
     }
 
-    /// The last mark past which no sample before this time is left out, if there is one.
+    /// The last mark with only earlier samples in front of it, so that reading from it misses no sample from `time`
+    /// on.
     pub fn before(&self, time: u64) -> Option<&Mark>
         ensures mark { (ps : List Point) → AreMarks ps self.now → IfSome result (λ m. IsMark ps m.now) }
         ensures early { IfSome result (λ m. m.now.state.before.time < time) }
@@ -73,7 +74,7 @@ impl LateMarks {
         }
     }
 
-    /// Keeps those of other marks that stand past no more than so many samples.
+    /// Copies the marks of `others` that come after at most `count` samples.
     pub fn keep_first(&mut self, others: &LateMarks, count: u32)
         ensures { (ps : List Point) → AreMarks ps others.now → count ≤ length ps → AreMarks (take count ps) self.old → AreMarks (take count ps) self.new }
     {
@@ -86,8 +87,7 @@ impl LateMarks {
         marks.keep_first(others, count);
     }
 
-    /// Keeps those of other marks that stand past the first samples of a list, moved to where others come to stand
-    /// before the rest of it.
+    /// Copies the marks of `others` after position `from`, moved to position `to`, where the same samples now start.
     pub fn keep_moved(&mut self, others: &LateMarks, from: Offset, to: Offset)
         ensures { (ps qs rest : List Point) → EndsAt ps from.at from.count → EndsAt qs to.at to.count → state_from begin ps ≡ state_from begin qs → AreMarks (ps ++ rest) others.now → AreMarks (qs ++ rest) self.old → AreMarks (qs ++ rest) self.new }
     {

@@ -1,12 +1,12 @@
-//! A chunk of samples in the packed format: each sample by its differences from the one before it, as numbers of as
-//! few bytes as possible. What is asked of a chunk needs no decoding, but for a walk over an interval.
+//! The packed chunk format: each sample as its differences from the sample before it, in variable-length integers.
+//! Lookups of the first, the last and the number of samples need no decoding. A scan decodes from the last mark
+//! before the interval.
 #![tactic(auto)]
 
 mod chunk;
 mod coding;
 mod context;
 mod late_marks;
-mod laws;
 mod mark;
 mod marks;
 mod number;
@@ -16,4 +16,4 @@ mod walk;
 mod zigzag;
 
 pub use chunk::PackedChunk;
-pub use laws::packed_samples_read_back;
+pub use coding::packed_samples_read_back;

@@ -1,18 +1,18 @@
-// A place in a chunk where decoding may begin.
+// A position in a chunk where decoding may start.
 ghost use Rattle.std.specs.Prelude.{◌≡◌, ◌+◌, ◌≤◌, false, IfNone, IfSome};
 
 use crate::context::Context;
 use std::marker::Model;
 use ts_sample::Sample;
 
-/// How many bytes and how many samples stand before a place in a chunk.
+/// A position in a chunk: how many bytes and samples are in front of it.
 #[derive(Clone, Copy)]
 pub struct Offset {
     pub at: u32,
     pub count: u32,
 }
 
-/// A place past some samples, and what is known of these. It takes 48 bytes.
+/// A position and the coding context there. It takes 48 bytes.
 #[derive(Drop)]
 pub struct Mark {
     last: Sample,
@@ -27,13 +27,17 @@ impl Model for Mark {
 
     ghost Value = { Marked };
 
-    ghost view = { λ m. record { state = record { before = m.last; step = pos m.step; begun = true }; at = m.place.at; count = m.place.count } };
+    ghost view = { λ m. record {
+      state = record { before = m.last; step = pos m.step; begun = true };
+      at = m.place.at;
+      count = m.place.count;
+    } };
 
     ghost invariant = { λ m. m.step ≤ MAX_TIME };
 }
 
 impl Mark {
-    /// At this place, past samples of which so much is known: none where there are no samples.
+    /// A mark at `place`, after samples with this context. `None` if there are no samples.
     pub fn after(context: &Context, place: Offset) -> Option<Mark>
         ensures state { IfSome result (λ m. m.state ≡ context.now) }
         ensures at { IfSome result (λ m. m.at ≡ place.at) }
@@ -46,35 +50,34 @@ impl Mark {
         Some(Mark { last, step, place })
     }
 
-    /// What is known of the samples before.
+    /// The coding context at the mark.
     pub fn context(&self) -> Context
         ensures { result ≡ self.now.state }
     {
         Context::new(Some(self.last), self.step)
     }
 
-    /// The time of the last sample before.
+    /// The time of the last sample in front of the mark, in milliseconds.
     pub fn time(&self) -> u64
         ensures { result ≡ self.now.state.before.time }
     {
         self.last.time
     }
 
-    /// How many bytes stand before.
+    /// The number of bytes in front of the mark.
     pub fn at(&self) -> u32
         ensures { result ≡ self.now.at }
     {
         self.place.at
     }
 
-    /// How many samples stand before.
+    /// The number of samples in front of the mark.
     pub fn count(&self) -> u32
         ensures { result ≡ self.now.count }
     {
         self.place.count
     }
 
-    /// The same mark.
     pub fn copy(&self) -> Mark
         ensures { result ≡ self.now }
     {
@@ -85,7 +88,7 @@ impl Mark {
         }
     }
 
-    /// The mark as far past one place as this one is past another: none where it isn't past that.
+    /// The mark as far after `to` as this one is after `from`. `None` if it is not after `from`.
     pub fn moved(&self, from: Offset, to: Offset) -> Option<Mark>
         ensures state { IfSome result (λ m. m.state ≡ self.now.state) }
         ensures past { IfSome result (λ _. from.count ≤ self.now.count) }

@@ -1,5 +1,5 @@
-// The marks of a chunk: a few places past some of its samples, so that decoding needn't begin at the front. Nothing
-// but speed depends on which there are.
+// The marks of a chunk: positions where decoding may start, so that it need not start at the front. Which marks there
+// are affects only speed.
 ghost use Rattle.std.specs.Prelude.{◌≡◌, ◌<◌, ◌≤◌, ◌*◌, List, ◌++◌, take, length, IfOk, IfSome};
 ghost use Rattle.ts_spec.specs.Sample.{Point};
 ghost use Rattle.ts_chunk_packed.specs.Marks.{Marked, IsMark, AreMarks, EndsAt};
@@ -10,14 +10,14 @@ use crate::mark::{Mark, Offset};
 use std::alloc::{AllocError, Global};
 use std::marker::Model;
 
-/// How many bytes there are between two marks at least. The marks of a chunk of 4,096 bytes are sixteen, and take 768.
+/// The least number of bytes between two marks. A chunk of 4,096 bytes has at most 16 marks, of 768 bytes in all.
 const SPACING: u32 = 256;
 
-/// The marks of a chunk, in the order of their places, all with room reserved.
+/// A chunk's marks, in order, with their memory allocated in advance.
 #[derive(Drop)]
 pub struct Marks {
     list: Vec<Mark>,
-    // So many bytes make the next mark due.
+    // The byte offset from which the next mark is due.
     due: u32,
 }
 
@@ -35,7 +35,7 @@ impl Model for Marks {
 }
 
 impl Marks {
-    /// None yet, and room for those of a chunk of so many bytes.
+    /// No marks yet, with capacity for all marks of a chunk of `limit` bytes.
     pub fn new(alloc: Global, limit: u32) -> Result<Marks, AllocError>
         ensures { IfOk result (λ ms. (ps : List Point) → AreMarks ps ms) }
     {
@@ -45,14 +45,14 @@ impl Marks {
         })
     }
 
-    /// How many there are: at most one for each 256 bytes of the samples.
+    /// The number of marks: at most one per 256 bytes of samples.
     pub fn len(&self) -> usize
         ensures { (ps : List Point) → AreMarks ps self.now → 256 * result ≤ length (packed ps) }
     {
         self.list.len()
     }
 
-    // Keeps one more mark, if it is due and there is room.
+    // Appends a mark, if it is due and there is capacity.
     fn keep(&mut self, mark: Mark)
         ensures { (ps : List Point) → AreMarks ps self.old → IsMark ps mark → AreMarks ps self.new }
     {
@@ -67,7 +67,7 @@ impl Marks {
         self.due = due;
     }
 
-    /// Sets a mark past all samples of a chunk, if one is due. It takes no memory.
+    /// Sets a mark after all samples of the chunk, if one is due. Allocates nothing.
     #[inline(always)]
     pub fn set(&mut self, context: &Context, place: Offset)
         ensures { (ps : List Point) → context.now ≡ state_from begin ps → EndsAt ps place.at place.count → AreMarks ps self.old → AreMarks ps self.new }
@@ -79,7 +79,8 @@ impl Marks {
         }
     }
 
-    /// The last mark past which no sample before this time is left out, if there is one.
+    /// The last mark with only earlier samples in front of it, so that reading from it misses no sample from `time`
+    /// on.
     pub fn before(&self, time: u64) -> Option<&Mark>
         ensures mark { (ps : List Point) → AreMarks ps self.now → IfSome result (λ m. IsMark ps m.now) }
         ensures early { IfSome result (λ m. m.now.state.before.time < time) }
@@ -92,7 +93,7 @@ impl Marks {
         if mark.time() < time { Some(mark) } else { None }
     }
 
-    /// Keeps those of other marks that stand past no more than so many samples.
+    /// Copies the marks of `others` that come after at most `count` samples.
     pub fn keep_first(&mut self, others: &Marks, count: u32)
         ensures { (ps : List Point) → AreMarks ps others.now → count ≤ length ps → AreMarks (take count ps) self.old → AreMarks (take count ps) self.new }
     {
@@ -101,7 +102,7 @@ impl Marks {
         }
     }
 
-    // Keeps a mark like this one, if it stands past no more than so many samples.
+    // Copies `mark` if it comes after at most `count` samples.
     fn keep_within(&mut self, mark: &Mark, count: u32)
         ensures { (ps : List Point) → IsMark ps mark.now → count ≤ length ps → AreMarks (take count ps) self.old → AreMarks (take count ps) self.new }
     {
@@ -110,8 +111,7 @@ impl Marks {
         }
     }
 
-    /// Keeps those of other marks that stand past the first samples of a list, moved to where others come to stand
-    /// before the rest of it.
+    /// Copies the marks of `others` after position `from`, moved to position `to`, where the same samples now start.
     pub fn keep_moved(&mut self, others: &Marks, from: Offset, to: Offset)
         ensures { (ps qs rest : List Point) → EndsAt ps from.at from.count → EndsAt qs to.at to.count → state_from begin ps ≡ state_from begin qs → AreMarks (ps ++ rest) others.now → AreMarks (qs ++ rest) self.old → AreMarks (qs ++ rest) self.new }
     {
@@ -120,7 +120,7 @@ impl Marks {
         }
     }
 
-    // Keeps a mark like this one, if it is past the one place, as far past the other.
+    // Copies `mark`, moved from `from` to `to`, if it is after `from`.
     fn keep_past(&mut self, mark: &Mark, from: Offset, to: Offset)
         ensures { (ps qs rest : List Point) → EndsAt ps from.at from.count → EndsAt qs to.at to.count → state_from begin ps ≡ state_from begin qs → IsMark (ps ++ rest) mark.now → AreMarks (qs ++ rest) self.old → AreMarks (qs ++ rest) self.new }
     {

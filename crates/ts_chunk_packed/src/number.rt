@@ -1,11 +1,11 @@
-// Numbers in groups of seven bits, the lowest first.
+// Variable-length integers: seven bits a byte, the lowest first, as in LEB128.
 #![tactic(auto, using(crate::proofs::Grouping::group_written, crate::proofs::Grouping::length_large, crate::proofs::Grouping::length_small, crate::specs::Numbers::some_bytes))]
 
 ghost use Rattle.std.specs.Prelude.{◌≡◌, ◌+◌, ◌*◌, ◌^◌, ◌<◌, ◌≤◌, ◌++◌, drop, length, vec_len, vec_capacity};
 ghost use Rattle.ts_chunk_packed.specs.Packed.{number, number_of};
 ghost use Rattle.ts_chunk_packed.specs.Reading.{Begins};
 
-/// How many bytes a number takes.
+/// The size of a 64-bit number, in bytes.
 pub fn width(natural: u64) -> usize
     ensures { result ≡ length (number natural) }
 {
@@ -18,7 +18,7 @@ pub fn width(natural: u64) -> usize
     width
 }
 
-/// How many bytes a number of any size takes.
+/// The size of a 128-bit number, in bytes.
 pub fn width_wide(natural: u128) -> usize
     ensures { result ≡ length (number natural) }
 {
@@ -31,7 +31,7 @@ pub fn width_wide(natural: u128) -> usize
     width + self::width(rest as u64)
 }
 
-/// Puts a number at the end. It takes no memory.
+/// Appends a 64-bit number. Allocates nothing.
 pub fn put(bytes: &mut Vec<u8>, natural: u64)
     requires room { vec_len bytes.old + length (number natural) ≤ vec_capacity bytes.old }
     ensures items { bytes.new.items ≡ bytes.old.items ++ number natural }
@@ -46,7 +46,7 @@ pub fn put(bytes: &mut Vec<u8>, natural: u64)
     bytes.push_reserved(rest as u8);
 }
 
-/// Puts a number of any size at the end. It takes no memory.
+/// Appends a 128-bit number. Allocates nothing.
 pub fn put_wide(bytes: &mut Vec<u8>, natural: u128)
     requires room { vec_len bytes.old + length (number natural) ≤ vec_capacity bytes.old }
     ensures items { bytes.new.items ≡ bytes.old.items ++ number natural }
@@ -61,7 +61,7 @@ pub fn put_wide(bytes: &mut Vec<u8>, natural: u128)
     put(bytes, rest as u64);
 }
 
-/// The number that the bytes begin with, and the bytes after it. One of one byte is read without a loop.
+/// Reads the first number of `bytes`. Returns it and the remaining bytes. A number of one byte needs no loop.
 #[inline(always)]
 pub fn read(bytes: &[u8]) -> (u64, &[u8])
     requires { Begins (2 ^ 64) bytes.now }
@@ -75,7 +75,7 @@ pub fn read(bytes: &[u8]) -> (u64, &[u8])
     read_long(bytes)
 }
 
-// The same, byte by byte.
+// Reads a number byte by byte.
 #[inline(always)]
 fn read_long(bytes: &[u8]) -> (u64, &[u8])
     requires { Begins (2 ^ 64) bytes.now }

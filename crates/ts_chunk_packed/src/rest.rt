@@ -1,4 +1,4 @@
-// Samples that are still to be decoded.
+// A decoder: the samples of a chunk that are not decoded yet.
 ghost use Rattle.std.specs.Prelude.{◌≡◌, ◌<◌, nat_lt, nat_le, true, false, [], ◌∷◌, take, drop, length, IfSome, IfNone};
 ghost use Rattle.ts_sample.specs.Chunk.{AreFine};
 ghost use Rattle.ts_spec.specs.Sample.{IsAscending, at_times, first_of};
@@ -10,7 +10,7 @@ use crate::context::Context;
 use std::marker::Model;
 use ts_sample::Sample;
 
-/// The samples that are left of a chunk, and what is known of those before them.
+/// The coded samples that remain, and the coding context in front of them.
 #[derive(Drop)]
 pub struct Rest<'a> {
     context: Context,
@@ -29,7 +29,7 @@ impl<'a> Model for Rest<'a> {
 }
 
 impl<'a> Rest<'a> {
-    /// The samples of these bytes, which are so many, where so much is known of those before.
+    /// A decoder of `count` samples in `bytes`, after samples with this context.
     pub fn new(context: Context, bytes: &'a [u8], count: u32) -> Rest<'a>
         requires { IsLeft context count bytes.now }
         ensures state { result.state ≡ context }
@@ -42,7 +42,7 @@ impl<'a> Rest<'a> {
         }
     }
 
-    /// What it was made of.
+    /// Takes the decoder apart: context, bytes and count.
     #[inline(always)]
     pub fn into_parts(self) -> (Context, &'a [u8], u32)
         ensures left { IsLeft result.0 result.2 result.1.now }
@@ -56,35 +56,35 @@ impl<'a> Rest<'a> {
         (context, bytes, count)
     }
 
-    /// Does nothing: it tells a caller the bounds that a reference hides.
+    /// Does nothing at run time. Its contract gives the caller the bounds of a borrowed decoder.
     pub fn known(&self)
         ensures { AreFine self.now.list }
     {
         let _count = self.count;
     }
 
-    /// What is known of the samples before.
+    /// The coding context in front of the remaining samples.
     pub fn context(&self) -> &Context
         ensures { result.now ≡ self.now.state }
     {
         &self.context
     }
 
-    /// The bytes of the samples.
+    /// The bytes of the remaining samples.
     pub fn bytes(&self) -> &'a [u8]
         ensures { result.now ≡ packed_from self.now.state self.now.list }
     {
         self.bytes
     }
 
-    /// How many samples there are.
+    /// The number of remaining samples.
     pub fn len(&self) -> u32
         ensures { result ≡ length self.now.list }
     {
         self.count
     }
 
-    /// The next sample, and what is left after it.
+    /// Decodes the next sample. Returns it and the decoder after it.
     #[inline(always)]
     pub fn split_first(&self) -> Option<(Sample, Rest<'a>)>
         ensures list { IfSome result (λ r. self.now.list ≡ r.0 ∷ r.1.list) }
@@ -108,7 +108,7 @@ impl<'a> Rest<'a> {
         ))
     }
 
-    /// Takes the next sample.
+    /// Decodes the next sample and moves past it.
     pub fn next(&mut self) -> Option<Sample>
         ensures sample { result ≡ first_of self.old.list }
         ensures list { self.new.list ≡ drop 1 self.old.list }
@@ -121,7 +121,7 @@ impl<'a> Rest<'a> {
         Some(sample)
     }
 
-    /// Passes the next sample, if it is before this time, and says whether it did.
+    /// Skips the next sample if it is before `time`. Returns whether it did.
     #[inline(always)]
     pub fn pass(&mut self, time: u64) -> bool
         ensures one { result ≡ true → HasPassed time self.old self.new }
@@ -145,7 +145,7 @@ impl<'a> Rest<'a> {
         true
     }
 
-    /// Passes the samples before this time.
+    /// Skips the samples before `time`.
     pub fn pass_before(&mut self, time: u64)
         ensures list { self.new.list ≡ at_times (nat_le time) self.old.list }
         ensures state { self.new.state ≡ state_from self.old.state (at_times (λ t. nat_lt t time) self.old.list) }

@@ -1,4 +1,4 @@
-// Samples that are taken over from one chunk into another.
+// Appends the remaining samples of one chunk to another.
 ghost use Rattle.std.specs.Prelude.{◌≡◌, ◌<◌, ◌≤◌, nat_le, true, ◌++◌, take, drop, length};
 ghost use Rattle.ts_spec.specs.Sample.{IsAscending};
 ghost use Rattle.ts_chunk_packed.specs.Packed.{packed, state_from};
@@ -8,12 +8,12 @@ use crate::chunk::PackedChunk;
 use crate::rest::Rest;
 use ts_sample::Chunk;
 
-/// How many samples are coded anew where others come to stand before them. What is known after two samples doesn't
-/// depend on those before.
+/// The number of samples to code again when other samples come in front of them. After two samples the context no
+/// longer depends on what came before.
 const ANEW: u32 = 2;
 
-/// Puts the samples that are left of another chunk past those of this one, where they fit, and says whether they
-/// did. The bytes of all but the first few stay as they are.
+/// Appends the remaining samples of `other` to `chunk`, if they fit. Returns whether they did. Copies the bytes of
+/// all but the first few samples.
 pub fn take_over(chunk: &mut PackedChunk, rest: &mut Rest<'_>, other: &PackedChunk) -> bool
     requires some { 0 < length chunk.old.list }
     requires ascending { IsAscending (chunk.old.list ++ rest.old.list) }
@@ -31,7 +31,7 @@ pub fn take_over(chunk: &mut PackedChunk, rest: &mut Rest<'_>, other: &PackedChu
     chunk.try_append_rest(rest, other)
 }
 
-// Puts the next sample past those of the chunk, coded anew, where it fits, and says whether it did.
+// Codes the next sample again and appends it, if it fits. Returns whether it did.
 fn take_next(chunk: &mut PackedChunk, rest: &mut Rest<'_>) -> bool
     requires ascending { IsAscending (chunk.old.list ++ rest.old.list) }
     ensures fits { result ≡ nat_le (length (packed (chunk.old.list ++ take 1 rest.old.list))) chunk.old.limit }

@@ -1,4 +1,4 @@
-// A walk of a visitor over samples.
+// Scans an interval and passes its samples to a visitor.
 ghost use Rattle.std.specs.Prelude.{◌≡◌, ◌+◌, ◌≤◌, nat_le, true, if◌then◌else◌, ◌∷◌, length};
 ghost use Rattle.ts_sample.specs.Visit.{visited};
 ghost use Rattle.ts_spec.specs.Sample.{IsAscending, between};
@@ -8,7 +8,7 @@ use crate::rest::Rest;
 use std::sync::ledger::Ledger;
 use ts_sample::{Sample, Steps, Visit};
 
-/// Takes a visitor over the samples of an interval among those that are left of a chunk.
+/// Passes the remaining samples from `from` to `to` to `visit`, oldest first. Each decoded sample is one step.
 #[inline(always)]
 pub fn walk<V: Visit, L: Ledger>(
     rest: Rest<'_>,
@@ -27,7 +27,7 @@ pub fn walk<V: Visit, L: Ledger>(
     }
 }
 
-// The same over a first sample and the others. Past the first one it is known that there was one.
+// Scans a first sample and the ones after it.
 #[inline(always)]
 fn walk_from<V: Visit, L: Ledger>(
     first: &Sample,
@@ -51,7 +51,7 @@ fn walk_from<V: Visit, L: Ledger>(
     walk_on(others, from, to, visit, steps);
 }
 
-// The same over samples that follow others.
+// Scans samples that follow a decoded one.
 #[inline(always)]
 fn walk_on<V: Visit, L: Ledger>(
     rest: Rest<'_>,
@@ -78,7 +78,7 @@ fn walk_on<V: Visit, L: Ledger>(
     }
 }
 
-// Gives a visitor a sample that is not before this time.
+// Passes a sample to the visitor, unless it is before `from`.
 #[inline(always)]
 fn offer<V: Visit>(sample: &Sample, from: u64, visit: &mut V)
     requires { nat_le from sample.now.time ≡ true → 1 ≤ V.room visit.old }

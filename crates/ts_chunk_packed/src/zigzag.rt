@@ -1,10 +1,10 @@
-// Differences as natural numbers.
+// Zigzag coding: signed differences as unsigned numbers, as in Protocol Buffers.
 #![tactic(auto, using(std::proofs::lemmas::Int::ints, crate::proofs::Zigzags::zigzag_up, crate::proofs::Zigzags::unzigzag_even, crate::proofs::Zigzags::unzigzag_odd))]
 
 ghost use Rattle.std.specs.Prelude.{◌≡◌, ◌+◌, ◌*◌, ◌^◌, ◌<◌, ◌≤◌, pos, ◌+ℤ◌, ◌-ℤ◌, ◌≤ℤ◌, ◌<ℤ◌, unsigned_abs};
 ghost use Rattle.ts_chunk_packed.specs.Packed.{zigzag, unzigzag};
 
-/// The number that stands for a difference.
+/// The zigzag code of `to - from`.
 pub fn apart(from: u64, to: u64) -> u64
     requires from { from < 2 ^ 63 }
     requires to { to < 2 ^ 63 }
@@ -18,7 +18,7 @@ pub fn apart(from: u64, to: u64) -> u64
     }
 }
 
-/// The number that stands for a difference of values.
+/// The zigzag code of a difference of values.
 pub fn apart_wide(from: i128, to: i128) -> u128
     requires from { unsigned_abs from ≤ 10 ^ 24 }
     requires to { unsigned_abs to ≤ 10 ^ 24 }
@@ -32,7 +32,7 @@ pub fn apart_wide(from: i128, to: i128) -> u128
     }
 }
 
-/// What stands at this difference, where that is a time or a number of rules.
+/// `from` plus a zigzag-coded difference, for times and rule counts.
 #[inline(always)]
 pub fn ahead(from: u64, difference: u64) -> u64
     requires least { pos 0 ≤ℤ (pos from +ℤ unzigzag difference) }
@@ -47,7 +47,7 @@ pub fn ahead(from: u64, difference: u64) -> u64
     }
 }
 
-/// The value that stands at this difference, of up to 64 bits.
+/// `from` plus a zigzag-coded difference of at most 64 bits.
 #[inline(always)]
 pub fn ahead_near(from: i128, difference: u64) -> i128
     requires { unsigned_abs from ≤ 10 ^ 24 }
@@ -56,7 +56,7 @@ pub fn ahead_near(from: i128, difference: u64) -> i128
     from + signed(difference) as i128
 }
 
-// The difference that a number stands for.
+// Decodes a zigzag-coded difference.
 #[inline(always)]
 fn signed(number: u64) -> i64
     ensures { result ≡ unzigzag number }
@@ -65,7 +65,7 @@ fn signed(number: u64) -> i64
     if number % 2 == 0 { half } else { -half - 1 }
 }
 
-/// The value that stands at this difference.
+/// `from` plus a zigzag-coded difference, for values.
 #[inline(always)]
 pub fn ahead_wide(from: i128, difference: u128) -> i128
     requires from { unsigned_abs from ≤ 10 ^ 24 }

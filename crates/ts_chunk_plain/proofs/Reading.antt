@@ -1,4 +1,4 @@
--- The sample at a place among the pieces.
+-- The sample at an index.
 use Rattle.std.proofs.Common.{◌≡◌, ℕ, zero, suc, ◌<◌, List, [], ◌∷◌, length, map, drop, get_or, sym, ap, ◌∙◌, subst, arith}
 use Rattle.std.specs.Prelude.{nat_le, Some}
 use Rattle.std.proofs.lemmas.List.{drop-map, drop_more}

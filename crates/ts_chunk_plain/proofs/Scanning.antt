@@ -1,4 +1,4 @@
--- The pieces that a scan walks over.
+-- The pieces that a scan visits.
 use Rattle.std.proofs.Common.{◌≡◌, ℕ, ◌-◌, ◌/◌, ◌≤◌, List, length, map, take, drop, sym, ap, ◌∙◌, subst, take_all, arith}
 use Rattle.std.specs.Prelude.{nat_le}
 use Rattle.std.specs.Simd.{first_chunks}

@@ -1,4 +1,4 @@
--- A sample among the others of a chunk.
+-- Inserting a sample among those of a chunk.
 use Rattle.std.proofs.Common.{◌≡◌, ℕ, zero, suc, ◌+◌, ◌-◌, ◌*◌, ◌^◌, ◌<◌, ◌≤◌, Bool, List, [], ◌∷◌, ◌++◌, length, map, take, drop, refl, sym, ap, ◌∙◌, subst, arith, length-append}
 use Rattle.std.specs.Prelude.{Option, Some, nat_lt}
 use Rattle.std.proofs.lemmas.List.{length-take, length-drop, length-map, take-map, drop-map, take_at, drop_at, take-append-drop}

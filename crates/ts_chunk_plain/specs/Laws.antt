@@ -1,4 +1,4 @@
--- What is owed of a format of chunks.
+-- What every chunk format must satisfy, proved for the plain one.
 use Rattle.std.specs.Prelude.{◌≡◌, ◌*◌, ◌≤◌, List, [], ◌∷◌, ◌++◌, length}
 use Rattle.std.proofs.Common.{refl, arith, length-append}
 use Rattle.ts_spec.specs.Sample.{Point}
@@ -11,19 +11,19 @@ pub length-bytes_of : (p : Point) → length (bytes_of p) ≡ 28
 unfolding bytes_of
 length-bytes_of p = refl
 
--- each sample takes 28 bytes
+-- n samples take 28 * n bytes
 pub length-plain : (ps : List Point) → length (plain ps) ≡ 28 * length ps
 length-plain [] = refl
 length-plain (p ∷ ps) = omega (arith, length-append (bytes_of p) (plain ps), length-bytes_of p, length-plain ps)
 
--- each sample takes three bytes or more
+-- each sample takes at least three bytes
 pub three_or_more : (ps : List Point) → 3 * length ps ≤ length (plain ps)
 three_or_more ps = omega (arith, length-plain ps)
 
--- with one more sample at the end the bytes are no fewer
+-- appending a sample never shortens the bytes
 pub no_fewer : (ps : List Point) (p : Point) → length (plain ps) ≤ length (plain (ps ++ p ∷ []))
 no_fewer ps p = omega (arith, length-plain ps, length-plain (ps ++ p ∷ []), length-append ps (p ∷ []))
 
--- one sample alone fits a chunk of any limit
+-- a single sample fits in a chunk of any allowed limit
 pub one_within : (p : Point) → IsFine p → length (plain (p ∷ [])) ≤ least_limit
 one_within p fine = omega (arith, length-plain (p ∷ []))

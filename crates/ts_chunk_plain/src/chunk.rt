@@ -1,19 +1,16 @@
-// A chunk that keeps each sample in 28 bytes, so that none has to be decoded to find another.
-ghost use Rattle.std.specs.Prelude.{◌≡◌, ◌≤◌, ⊤, [], ◌∷◌, ◌++◌, map, take, drop, length};
-ghost use Rattle.ts_chunk_plain.specs.Plain.{plain, sample_of};
-ghost use Rattle.ts_sample.specs.Chunk.{AreFine};
-ghost use Rattle.ts_spec.specs.Sample.{IsAscending, first_of, last_of};
+// The plain chunk format: 28 bytes per sample, so any sample can be found without decoding the others.
+ghost use Rattle.std.specs.Prelude.{⊤};
+ghost use Rattle.ts_chunk_plain.specs.Plain.{plain};
 
-mod fields;
+mod parts;
 
-use crate::piece::{WIDTH, decode, encode};
-use crate::pieces::{joined, place_of, place_past, walk};
+use crate::pieces::{WIDTH, decode, encode, joined, place_of, place_past, walk};
 use std::alloc::{AllocError, Global};
 use std::marker::Model;
 use std::sync::ledger::Ledger;
 use ts_sample::{Chunk, Sample, Steps, Visit};
 
-/// Samples in 28 bytes each.
+/// A chunk that stores each sample in 28 bytes. It allocates only when it is created.
 #[derive(Drop)]
 pub struct PlainChunk {
     limit: u32,
@@ -43,7 +40,7 @@ impl Chunk for PlainChunk {
 
     ghost format = { plain };
 
-    // How many samples are before it.
+    // The index of the next sample.
     type Place = usize;
 
     ghost passed = { λ place. place };
@@ -145,7 +142,7 @@ impl Chunk for PlainChunk {
         }))
     }
 
-    // Samples of 28 bytes are made anew about as fast as they are moved.
+    // A plain chunk never splits: rebuilding 28-byte samples costs about as much as moving them.
     fn halved<L: Ledger>(
         &self,
         _alloc: Global,
@@ -162,54 +159,12 @@ impl Chunk for PlainChunk {
     ghost one_fits = { one_within };
 }
 
-impl PlainChunk {
-    // The bytes of each sample.
-    fn pieces(&self) -> &[[u8; WIDTH]]
-        ensures list { map sample_of result.now ≡ self.now.list }
-        ensures ascending { IsAscending (map sample_of result.now) }
-        ensures fine { AreFine (map sample_of result.now) }
-    {
-        let (pieces, _) = self.bytes.as_slice().as_chunks::<WIDTH>();
-        pieces
-    }
-
-    // The bytes of the first so many of its samples.
-    fn before(&self, count: usize) -> &[u8]
-        requires { count ≤ length self.now.list }
-        ensures { result.now ≡ plain (take count self.now.list) }
-    {
-        self.bytes.split_at(count * WIDTH).0
-    }
-
-    // The bytes of its samples but for the first so many.
-    fn past(&self, count: usize) -> &[u8]
-        requires { count ≤ length self.now.list }
-        ensures { result.now ≡ plain (drop count self.now.list) }
-    {
-        self.bytes.split_at(count * WIDTH).1
-    }
-
-    // The first of the first so many of its samples and this one.
-    fn first_with(&self, count: usize, sample: &Sample) -> Option<Sample>
-        requires { count ≤ length self.now.list }
-        ensures { result ≡ first_of (take count self.now.list ++ sample.now ∷ []) }
-    {
-        if count == 0 {
-            Some(*sample)
-        } else {
-            self.first
-        }
-    }
-
-    // The last of this sample and its own but for the first so many.
-    fn last_with(&self, count: usize, sample: &Sample) -> Option<Sample>
-        requires { count ≤ length self.now.list }
-        ensures { result ≡ last_of (sample.now ∷ drop count self.now.list) }
-    {
-        if count == self.len() {
-            Some(*sample)
-        } else {
-            self.last
-        }
-    }
+// Fails to compile if a field is added, such as a second copy of the samples.
+fn fields(it: &PlainChunk) {
+    let PlainChunk {
+        limit: _,
+        bytes: _,
+        first: _,
+        last: _,
+    } = it;
 }

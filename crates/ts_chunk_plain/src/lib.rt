@@ -1,9 +1,8 @@
-//! A chunk of samples in the plain format: 28 bytes for each, numbers with the lowest byte first. What it is asked
-//! for needs no decoding, but for a walk over an interval, which goes over the bytes as they lie.
+//! The plain chunk format: 28 bytes per sample, little-endian. Lookups need no decoding. Only a scan decodes, and
+//! only the samples it visits.
 #![tactic(auto)]
 
 mod chunk;
-mod piece;
 mod pieces;
 
 pub use chunk::PlainChunk;

@@ -1,16 +1,64 @@
-// Samples as they lie in a chunk, the bytes of one after those of another.
-ghost use Rattle.std.specs.Prelude.{◌≡◌, ◌+◌, ◌≤◌, nat_lt, nat_le, ◌++◌, map, take, drop, length, IfOk, vec_capacity};
+// Encoded samples: 28 bytes each, one after another.
+ghost use Rattle.std.specs.Prelude.{◌≡◌, ◌+◌, ◌≤◌, take, drop, nat_lt, nat_le, ◌++◌, map, length, IfOk, vec_capacity};
 ghost use Rattle.ts_chunk_plain.specs.Plain.{bytes_of, sample_of};
+ghost use Rattle.ts_sample.specs.Sample.{IsFine};
 ghost use Rattle.ts_sample.specs.Chunk.{AreFine};
 ghost use Rattle.ts_sample.specs.Visit.{visited};
 ghost use Rattle.ts_spec.specs.Sample.{IsAscending, at_times};
 
-use crate::piece::{WIDTH, decode, encode, time_of};
 use std::alloc::{AllocError, Global};
 use std::sync::ledger::Ledger;
-use ts_sample::{Sample, Steps, Visit};
+use ts_sample::{Sample, Steps, Units, Visit};
 
-/// How many of the samples are before this time. It reads times alone.
+/// The size of an encoded sample, in bytes.
+pub const WIDTH: usize = 28;
+
+/// Encodes a sample: 8 bytes of time, 16 of value and 4 of rule count, little-endian.
+pub fn encode(sample: &Sample) -> [u8; WIDTH]
+    ensures { result ≡ bytes_of sample.now }
+{
+    // Writes each half of the value as one 64-bit word. Writing all 16 bytes at once compiles to single-byte stores.
+    let value = sample.value.get().cast_unsigned();
+    let low = (value % (1 << 64)) as u64;
+    let high = (value >> 64) as u64;
+    let mut piece = [0; WIDTH];
+    piece[..8].copy_from_slice(&sample.time.to_le_bytes());
+    piece[8..16].copy_from_slice(&low.to_le_bytes());
+    piece[16..24].copy_from_slice(&high.to_le_bytes());
+    piece[24..].copy_from_slice(&sample.made.to_le_bytes());
+    piece
+}
+
+/// The time of an encoded sample, in milliseconds.
+pub fn time_of(piece: &[u8; WIDTH]) -> u64
+    ensures { result ≡ (sample_of piece.now).time }
+{
+    u64::from_le_bytes(part(piece, 0))
+}
+
+/// Decodes a sample.
+pub fn decode(piece: &[u8; WIDTH]) -> Sample
+    requires { IsFine (sample_of piece.now) }
+    ensures { result ≡ sample_of piece.now }
+{
+    Sample {
+        value: Units::new(i128::from_le_bytes(part(piece, 8))).unwrap(),
+        time: time_of(piece),
+        made: u32::from_le_bytes(part(piece, 24)),
+    }
+}
+
+// `N` bytes starting at offset `at`.
+fn part<const N: usize>(piece: &[u8; WIDTH], at: usize) -> [u8; N]
+    requires { at + N ≤ 28 }
+    ensures { result ≡ take N (drop at piece.now) }
+{
+    let mut part = [0; N];
+    part.copy_from_slice(&piece[at..at + N]);
+    part
+}
+
+/// The number of samples before `time`. Reads only their times.
 pub fn place_of(pieces: &[[u8; WIDTH]], time: u64) -> usize
     requires { IsAscending (map sample_of pieces.now) }
     ensures within { result ≤ length pieces.now }
@@ -20,7 +68,7 @@ pub fn place_of(pieces: &[[u8; WIDTH]], time: u64) -> usize
     pieces.partition_point(|piece| time_of(piece) < time)
 }
 
-/// How many of the samples are up to this time. It reads times alone.
+/// The number of samples at or before `time`. Reads only their times.
 pub fn place_past(pieces: &[[u8; WIDTH]], time: u64) -> usize
     requires { IsAscending (map sample_of pieces.now) }
     ensures within { result ≤ length pieces.now }
@@ -29,7 +77,7 @@ pub fn place_past(pieces: &[[u8; WIDTH]], time: u64) -> usize
     pieces.partition_point(|piece| time_of(piece) <= time)
 }
 
-/// Takes a visitor over the samples up to a time.
+/// Passes the samples at or before `to` to `visit`, oldest first. Each sample read is one step.
 pub fn walk<V: Visit, L: Ledger>(
     pieces: &[[u8; WIDTH]],
     to: u64,
@@ -52,7 +100,7 @@ pub fn walk<V: Visit, L: Ledger>(
     }
 }
 
-/// The bytes of a sample between other bytes, with room for a limit.
+/// The bytes `before`, the encoded sample and the bytes `after`, in a buffer with capacity for `limit` bytes.
 pub fn joined(
     alloc: Global,
     limit: u32,

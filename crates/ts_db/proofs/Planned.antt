@@ -9,8 +9,8 @@ use Rattle.ts_spec.specs.Mending.{bucket_row, counted_anew, rows_of, loses}
 use Rattle.ts_series.specs.History.{History, list_of}
 use Rattle.ts_rules.specs.declared.rule.Rule.{Rule}
 use Rattle.ts_rules.specs.declared.plan.RulePlan.{RulePlan}
-use Rattle.ts_rules.specs.declared.fault.RuleFault.{RuleFault}
-use Rattle.ts_rules.specs.declared.fault.RuleFault.TheVariants.{Full, Memory}
+use Rattle.ts_rules.specs.declared.plan.RuleFault.{RuleFault}
+use Rattle.ts_rules.specs.declared.plan.RuleFault.TheVariants.{Full, Memory}
 use Rattle.ts_rules.specs.Rules.{kept_with_dest, IsChanged}
 use Rattle.ts_rules.specs.SharedBucket.{TheSharedBucket, IsShared}
 use Rattle.ts_rules.specs.Plans.{IsPlanned}

@@ -9,9 +9,9 @@ use Rattle.ts_sample.specs.declared.id.Id.{Id}
 use Rattle.ts_series.specs.History.{History, list_of}
 use Rattle.ts_rules.specs.declared.rule.Rule.{Rule}
 use Rattle.ts_rules.specs.declared.plan.RulePlan.{RulePlan}
-use Rattle.ts_rules.specs.declared.fault.RuleFault.{RuleFault}
-use Rattle.ts_rules.specs.declared.fault.RuleFault.TheVariants as rule_fault
-use Rattle.ts_rules.specs.declared.fault.RuleFault.TheVariants.{Full}
+use Rattle.ts_rules.specs.declared.plan.RuleFault.{RuleFault}
+use Rattle.ts_rules.specs.declared.plan.RuleFault.TheVariants as rule_fault
+use Rattle.ts_rules.specs.declared.plan.RuleFault.TheVariants.{Full}
 use Rattle.ts_rules.specs.Rules.{kept_with_dest, IsChanged, TakesAppended}
 use Rattle.ts_rules.specs.Writes.{rule_after}
 use Rattle.ts_rules.specs.SharedBucket.{TheSharedBucket, IsShared}

@@ -1,4 +1,4 @@
--- The value of a text of few bytes: digits, or digits with a point among them.
+-- The value of a short text: digits, with or without a point.
 use Rattle.std.proofs.Common.{◌≡◌, ℕ, ◌+◌, ◌-◌, ◌*◌, ◌^◌, ◌<◌, ◌≤◌, Bool, false, List, [], ◌∷◌, length, take, drop, get_or, suc, refl, sym, ap, ◌∙◌, inl, add-zero, arith}
 use Rattle.std.proofs.Math.Seq.{take-length}
 use Rattle.std.proofs.Math.Nat.{mul-le-mul_right, mul_right_comm, le-mul_of_pos_right}

@@ -1,4 +1,4 @@
--- One more digit of a number of which the first digits are kept.
+-- Adding a digit to a number of which only the leading digits are stored.
 use Rattle.std.proofs.Common.{◌≡◌, ℕ, zero, suc, ◌+◌, ◌*◌, ◌^◌, ◌<◌, ◌≤◌, ap, sym, ◌∙◌, inr, add-one, arith}
 use Rattle.std.proofs.Math.Nat.{pow-suc, mul_assoc}
 use Rattle.ts_decimal.specs.Leading.{Leads}

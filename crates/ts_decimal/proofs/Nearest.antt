@@ -1,4 +1,4 @@
--- What rounding to the nearest whole number comes to, and a decimal's millionths by its first digits.
+-- Rounding to the nearest whole number, and a decimal's millionths from its leading digits.
 use Rattle.std.proofs.Common.{◌≡◌, ℕ, zero, suc, ◌+◌, ◌*◌, ◌/◌, ◌^◌, ◌<◌, ◌≤◌, inl, inr, ap, sym, ◌∙◌, lit<, arith}
 use Rattle.std.specs.Prelude.{MatchOption, IfSome}
 use Rattle.std.specs.declared.option.Option.{Option}

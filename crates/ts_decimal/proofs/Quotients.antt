@@ -1,4 +1,5 @@
--- What the two roundings of whole numbers come to, from the quotient toward zero and its rest, also as the code's numbers of 128 bits show them.
+-- Both roundings of whole numbers, from the quotient toward zero and its remainder, also in 128 bits as the code
+-- computes them.
 use Rattle.std.proofs.Common.{◌≡◌, ℕ, zero, suc, ◌+◌, ◌*◌, ◌/◌, ◌%◌, ◌^◌, ◌<◌, ◌≤◌, true, false, min, refl, sym, ◌∙◌, ap, add-one, arith, rules}
 use Rattle.std.specs.Prelude.{ℤ, pos, negsuc, neg_ℤ, ◌+ℤ◌, ◌-ℤ◌, unsigned_abs, int_lt, int_div, int_rem}
 use Rattle.std.proofs.Math.Nat.{div-mul-le_self, lt-div-mul-add, mod-eq-sub-div-mul, le-mul_of_pos_right, div-lt_iff_lt-mul, lt_of_not-le}

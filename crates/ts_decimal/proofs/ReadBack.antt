@@ -1,4 +1,4 @@
--- A printed value reads back as itself.
+-- Parsing a printed value gives it back.
 use Rattle.std.proofs.Common.{◌≡◌, ℕ, zero, suc, ◌+◌, ◌-◌, ◌*◌, ◌/◌, ◌%◌, ◌^◌, ◌<◌, ◌≤◌, Bool, true, false, List, [], ◌∷◌, ◌++◌, map, length, refl, sym, ◌∙◌, ap, add-zero, length-append, append-nil, lit≤, arith}
 use Rattle.std.specs.Prelude.{ℤ, pos, negsuc, unsigned_abs, ◌==◌, nat_le}
 use Rattle.std.specs.declared.option.Option.TheVariants.{Some}

@@ -1,4 +1,4 @@
--- The text that stands in a room, from its parts.
+-- The text in a buffer, from its parts.
 use Rattle.std.proofs.Common.{◌≡◌, ℕ, ◌+◌, ◌-◌, ◌/◌, ◌%◌, ◌^◌, ◌≤◌, false, List, ◌++◌, length, take, drop, refl, sym, ◌∙◌, ap, arith}
 use Rattle.std.specs.Prelude.{ℤ, pos, negsuc, unsigned_abs, int_lt}
 use Rattle.std.proofs.Math.Seq.{take-append-add, drop-append_seam}

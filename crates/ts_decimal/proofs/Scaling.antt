@@ -1,4 +1,4 @@
--- The first digits of a number, scaled by a power of ten, against the bound of values.
+-- The leading digits of a number, scaled by a power of ten, against the bound of values.
 use Rattle.std.proofs.Common.{◌≡◌, ℕ, ◌+◌, ◌-◌, ◌*◌, ◌/◌, ◌^◌, ◌<◌, ◌≤◌, ap, sym, ◌∙◌, arith}
 use Rattle.std.proofs.Math.Nat.{mul-le-mul_right, mul-lt-mul_of_pos_right, le-mul_of_pos_right, div-eq_of_lt}
 use Rattle.std.proofs.lemmas.Nat.{pow-add}

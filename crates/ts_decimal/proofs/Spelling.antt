@@ -1,4 +1,4 @@
--- A text that is read as a decimal is put together by the grammar, and from that decimal's pieces.
+-- A text that parses as a decimal is accepted by the grammar, with the parts of that decimal.
 use Rattle.std.proofs.Common.{◌≡◌, ℕ, ◌+◌, ◌≤◌, ◌⊎◌, inl, inr, Bool, true, false, cond, ◌&&◌, ◌||◌, List, [], ◌∷◌, ◌++◌, length, refl, sym, ◌∙◌, ap, subst, arith}
 use Rattle.std.specs.Prelude.{◌==◌, nat_le}
 use Rattle.std.specs.List.{list_all}

@@ -1,23 +1,23 @@
--- The grammar of decimal texts, as the pieces that a text is put together from.
+-- The grammar of decimal texts.
 use Rattle.std.specs.Prelude.{◌≡◌, ℕ, ◌+◌, ◌≤◌, ◌⊎◌, ◌↔◌, Bool, true, false, List, [], ◌∷◌, ◌++◌, length}
 use Rattle.std.specs.declared.option.Option.TheVariants.{Some}
 use Rattle.ts_spec.specs.Wire.{MINUS, is_digit}
 use Rattle.ts_spec.specs.Value.{Decimal, Scale, PLUS, POINT, number_after, scale, decimal}
 
--- nothing, `+` or `-`
+-- an optional sign: nothing, `+` or `-`
 abbrev pub IsSign : Bool → List ℕ → Type 0
 IsSign negative sign = ((negative ≡ false) × (sign ≡ [])) ⊎ (((negative ≡ false) × (sign ≡ PLUS ∷ [])) ⊎ ((negative ≡ true) × (sign ≡ MINUS ∷ [])))
 
--- each byte is a digit
+-- every byte is a digit
 abbrev pub AreDigits : List ℕ → Type 0
 AreDigits [] = Unit {0}
 AreDigits (byte ∷ bytes) = (is_digit byte ≡ true) × AreDigits bytes
 
--- nothing, or a point and digits
+-- an optional fraction: nothing, or a point and digits
 abbrev pub IsFraction : List ℕ → List ℕ → Type 0
 IsFraction digits text = ((digits ≡ []) × (text ≡ [])) ⊎ (AreDigits digits × (text ≡ POINT ∷ digits))
 
--- `e` or `E`, a sign if there is one, and one to three digits
+-- `e` or `E`, an optional sign and one to three digits
 pub record HasExponent (by : Scale) (text : List ℕ) : Type 0 where
   pub letter : ℕ
   pub negative : Bool
@@ -31,11 +31,12 @@ pub record HasExponent (by : Scale) (text : List ℕ) : Type 0 where
   pub scales : by ≡ scale negative (number_after 0 digits)
   pub is : text ≡ letter ∷ (sign ++ digits)
 
--- nothing, or an exponent
+-- an optional exponent
 abbrev pub IsExponent : Scale → List ℕ → Type 0
 IsExponent by text = ((by ≡ scale false 0) × (text ≡ [])) ⊎ HasExponent by text
 
--- The text is a sign, digits, a fraction and an exponent, with at least one digit before or after the point, and d is the decimal that they give.
+-- The text is an optional sign, digits, an optional fraction and an optional exponent, with at least one digit before
+-- or after the point, and d is the decimal that it denotes.
 pub record Spells (text : List ℕ) (d : Decimal) : Type 0 where
   pub sign : List ℕ
   pub whole : List ℕ
@@ -53,6 +54,6 @@ pub record Spells (text : List ℕ) (d : Decimal) : Type 0 where
   pub up : d.up ≡ by.up
   pub down : d.down ≡ length part + by.down
 
--- a text stands for a decimal exactly where it has 1 to 64 bytes and is put together so
+-- a text parses as a decimal exactly if it has 1 to 64 bytes and the grammar accepts it
 abbrev pub DecimalIsSpelled : Type 0
 DecimalIsSpelled = (text : List ℕ) (d : Decimal) → (decimal text ≡ Some d) ↔ (Spells text d × (1 ≤ length text) × (length text ≤ 64))

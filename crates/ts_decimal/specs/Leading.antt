@@ -1,7 +1,7 @@
--- A whole number by its first digits.
+-- A whole number by its leading digits.
 use Rattle.std.specs.Prelude.{◌≡◌, ℕ, ◌+◌, ◌*◌, ◌^◌, ◌<◌, ◌≤◌, ◌⊎◌}
 
--- n is written by the digits of first and so many digits more, of which there are none until first has thirty
+-- n consists of the digits of `first` and `dropped` more digits. No digit is dropped until `first` has 30.
 pub record Leads (first dropped n : ℕ) : Type 0 where
   pub low : first * 10 ^ dropped ≤ n
   pub high : n < (first + 1) * 10 ^ dropped

@@ -1,4 +1,4 @@
--- A decimal as the code keeps it: by the first digits of its number.
+-- A decimal as the parser stores it: by its leading digits.
 use Rattle.std.specs.Prelude.{◌≡◌, ℕ, ℤ, Bool, nat_le, unsigned_abs, if◌then◌else◌}
 use Rattle.std.specs.declared.option.Option.{Option}
 use Rattle.std.specs.declared.option.Option.TheVariants.{Some}
@@ -9,19 +9,19 @@ use Rattle.ts_spec.specs.declared.value.ValueFault.{ValueFault}
 use Rattle.ts_spec.specs.declared.value.ValueFault.TheVariants.{OutOfRange}
 use Rattle.ts_decimal.specs.Leading.{Leads}
 
--- the decimal that a text spells has this sign and these powers, and its digits begin so
+-- the text's decimal has this sign, these powers of ten and these leading digits
 pub record IsSpelled (negative : Bool) (first dropped up down : ℕ) (spelled : Option Decimal) : Type 0 where
   pub digits : ℕ
   pub begin : Leads first dropped digits
   pub is : spelled ≡ Some (record { negative = negative; digits = digits; up = up; down = down })
 
--- the decimal that a text spells has this sign, and its magnitude is rounded to so many millionths
+-- the text's decimal has this sign, and its magnitude rounds to m millionths
 pub record IsRounded (negative : Bool) (m : ℕ) (spelled : Option Decimal) : Type 0 where
   pub decimal : Decimal
   pub is : spelled ≡ Some decimal
   pub sign : negative ≡ decimal.negative
   pub nearest : millionths decimal ≡ m
 
--- so many millionths as a value
+-- a number of millionths as a value, or `OutOfRange`
 abbrev pub in_range_of : ℤ → Result ℤ ValueFault
 in_range_of z = if nat_le (unsigned_abs z) bound then Ok z else Err OutOfRange

@@ -1,14 +1,14 @@
-// The first digits of a number of any length, of which no more are needed to round it.
+// The leading digits of a number of any length: enough of them to round it.
 ghost use Rattle.std.specs.Prelude.{◌≡◌, ℕ, ◌+◌, ◌*◌, ◌^◌, ◌<◌, ◌≤◌, length};
 ghost use Rattle.ts_spec.specs.Value.{digits, after_digits, fraction, after_fraction, number_after};
 ghost use Rattle.ts_decimal.specs.Leading.{Leads};
 
-use crate::digit::split_digit;
+use crate::lexer::split_digit;
 
-/// A digit is kept only below this number, so thirty digits are kept at most: more than a value's bound has.
+/// Digits are stored while the number is below this. That is at most 30 digits, more than the largest value has.
 const KEPT: u128 = 100_000_000_000_000_000_000_000_000_000;
 
-/// A whole number by its first digits. So many more digits came after them.
+/// A whole number: its leading digits, and how many digits were dropped after them.
 #[derive(Clone, Copy)]
 pub struct Leading {
     pub first: u128,
@@ -27,7 +27,7 @@ impl Leading {
         }
     }
 
-    /// The number with one more digit.
+    /// Appends one digit.
     fn with(self, digit: u8) -> Leading
         requires digit { digit < 10 }
         requires room { self.dropped < 1000 }
@@ -47,7 +47,7 @@ impl Leading {
         }
     }
 
-    /// Adds the digits that the text begins with, and gives the text after them.
+    /// Reads the leading digits of `text` and returns the rest of it.
     pub fn take_digits<'a>(&mut self, text: &'a [u8]) -> &'a [u8]
         requires room { self.old.dropped + length text.now ≤ 1000 }
         ensures rest { result.now ≡ after_digits text.now }
@@ -65,7 +65,8 @@ impl Leading {
         rest
     }
 
-    /// Adds the digits after a point, if the text begins with one. Gives their number, and the text after them.
+    /// Reads a point and the digits after it, if `text` starts with a point. Returns the number of digits and the
+    /// rest of the text.
     pub fn take_fraction<'a>(&mut self, text: &'a [u8]) -> (usize, &'a [u8])
         requires room { self.old.dropped + length text.now ≤ 1000 }
         ensures places { result.0 ≡ length (fraction text.now) }

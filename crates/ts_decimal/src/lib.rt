@@ -1,17 +1,14 @@
-//! Values as decimal text, and the two ways in which arithmetic on them is brought back to a value.
-//! Nothing here takes memory.
+//! Values as decimal text, and the rounding and clamping that arithmetic on values needs. Nothing here allocates.
 #![tactic(auto)]
 
-mod digit;
-mod exponent;
 mod laws;
 mod leading;
+mod lexer;
 mod powers;
 mod printing;
 mod reading;
 mod rounding;
 mod short;
-mod sign;
 
 pub use laws::{decimal_is_spelled, printed_reads_back, value_is_nearest};
 pub use printing::{print, put_value};

@@ -1,7 +1,7 @@
-// The powers of ten that are looked up.
+// A table of powers of ten.
 ghost use Rattle.std.specs.Prelude.{◌≡◌, ◌^◌, ◌<◌, ◌≤◌};
 
-/// The powers of ten that a value can be scaled by.
+/// 10^0 to 10^30.
 const POWERS: [u128; 31] = [
     1,
     10,
@@ -36,7 +36,7 @@ const POWERS: [u128; 31] = [
     1_000_000_000_000_000_000_000_000_000_000,
 ];
 
-/// Ten to the power `k`.
+/// 10^k.
 pub fn power_of_ten(k: usize) -> u128
     requires { k ≤ 30 }
     ensures value { result ≡ 10 ^ k }

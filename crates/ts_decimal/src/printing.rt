@@ -1,4 +1,4 @@
-// The text of a value, put together around the place of its point.
+// Formats a value around a fixed position for its decimal point.
 ghost use Rattle.std.specs.Prelude.{◌≡◌, ◌+◌, ◌/◌, ◌%◌, ◌^◌, ◌<◌, ◌≤◌, ◌++◌, ◌∷◌, [], length, drop, take, slice_range};
 ghost use Rattle.ts_spec.specs.Value.{places, shown_value, shown_fraction};
 ghost use Rattle.ts_decimal.specs.Printing.{sign_text};
@@ -7,10 +7,10 @@ use itoa::write_digits;
 use std::ops::Range;
 use ts_sample::Units;
 
-/// The place in the room where the whole part of a printed value ends.
+/// The offset in the buffer where the whole part ends.
 const POINT: usize = 20;
 
-/// The whole part of a magnitude in millionths, and the millionths after it.
+/// Splits a magnitude in millionths into its whole part and the remaining millionths.
 #[inline]
 fn split_magnitude(magnitude: u128) -> (u64, u32)
     requires { magnitude ≤ 10 ^ 24 }
@@ -28,7 +28,7 @@ fn split_magnitude(magnitude: u128) -> (u64, u32)
     )
 }
 
-/// Writes a minus before the place, if the value is negative, and gives the place where the text then begins.
+/// Writes `-` before offset `place` if `negative`. Returns the offset where the text starts.
 #[inline]
 fn put_sign(negative: bool, place: usize, room: &mut [u8]) -> usize
     requires from { 1 ≤ place }
@@ -45,7 +45,7 @@ fn put_sign(negative: bool, place: usize, room: &mut [u8]) -> usize
     }
 }
 
-/// Writes two digits at the place.
+/// Writes two digits at offset `place`.
 #[inline]
 fn put_two(number: u32, room: &mut [u8], place: usize)
     requires small { number < 100 }
@@ -56,7 +56,7 @@ fn put_two(number: u32, room: &mut [u8], place: usize)
     room[place + 1] = b'0' + (number % 10) as u8;
 }
 
-/// Writes the last two of the places at the place, without zeros at their end, and gives the place after them.
+/// Writes up to two decimal places at offset `place`, without trailing zeros. Returns the offset after them.
 #[inline]
 fn put_last_two(number: u32, room: &mut [u8], place: usize) -> usize
     requires small { number < 100 }
@@ -72,7 +72,7 @@ fn put_last_two(number: u32, room: &mut [u8], place: usize) -> usize
     if number != 0 { place + 1 } else { place }
 }
 
-/// Writes the last four of the places at the place, without zeros at their end, and gives the place after them.
+/// Writes up to four decimal places at offset `place`, without trailing zeros. Returns the offset after them.
 #[inline]
 fn put_last_four(number: u32, room: &mut [u8], place: usize) -> usize
     requires small { number < 10000 }
@@ -89,7 +89,7 @@ fn put_last_four(number: u32, room: &mut [u8], place: usize) -> usize
     put_last_two(rest, room, place + 2)
 }
 
-/// Writes the fraction from the point on, if it is not 0, and gives the place after its last digit.
+/// Writes the point and the fraction, unless the fraction is 0. Returns the offset after the last digit.
 #[inline]
 fn put_fraction(millionths: u32, room: &mut [u8], point: usize) -> usize
     requires small { millionths < 10 ^ 6 }
@@ -110,7 +110,7 @@ fn put_fraction(millionths: u32, room: &mut [u8], point: usize) -> usize
     put_last_four(rest, room, point + 3)
 }
 
-/// Writes the text of a value into the room, so that its whole part ends at the point, and gives where it stands.
+/// Writes the value's text so that its whole part ends at offset `point`. Returns the range of the text.
 #[inline]
 pub fn put_value(value: Units, room: &mut [u8], point: usize) -> Range<usize>
     requires before { 20 ≤ point }
@@ -129,8 +129,8 @@ pub fn put_value(value: Units, room: &mut [u8], point: usize) -> Range<usize>
     start..end
 }
 
-/// The text of a value, in the room: a `-` if it is negative, the whole part without zeros in front, and where
-/// the fraction is not zero a point and the fraction without zeros at its end.
+/// The text of a value, written into `room`: `-` if it is negative, the whole part without leading zeros, and, unless
+/// the fraction is zero, a point and the fraction without trailing zeros. At most 27 bytes.
 pub fn print(value: Units, room: &mut [u8; 32]) -> &[u8]
     ensures text { result.now ≡ shown_value value }
     ensures short { length result.now ≤ 27 }

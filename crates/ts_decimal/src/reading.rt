@@ -1,30 +1,29 @@
-// The value of a text: its digits, its point and its exponent.
+// Parses a decimal text into a value.
 ghost use Rattle.std.specs.Prelude.{◌≡◌, ℕ, ◌+◌, ◌*◌, ◌/◌, ◌^◌, ◌≤◌, ◌<◌, Bool, length, MatchOption, IfSome};
 ghost use Rattle.ts_spec.specs.Value.{bound, value, nearest, signed, decimal_of};
 ghost use Rattle.ts_decimal.specs.Leading.{Leads};
 ghost use Rattle.ts_decimal.specs.Reading.{IsSpelled, in_range_of};
 
-use crate::exponent::read_exponent;
 use crate::leading::Leading;
+use crate::lexer::{read_exponent, split_sign};
 use crate::powers::power_of_ten;
 use crate::short::short_magnitude;
-use crate::sign::split_sign;
 use ts_sample::Units;
 use ts_spec::ValueFault;
 
-/// The longest text of a value, in bytes.
+/// The length limit of a value's text, in bytes.
 const MOST_BYTES: usize = 64;
 
 /// The decimal places of a value.
 pub(crate) const PLACES: usize = 6;
 
-/// The places by which one digit passes the bound of values.
+/// Raising even the digit 1 by more places than this exceeds the largest value.
 const MOST_RAISED: usize = 24;
 
-/// The places by which the digits that are kept fall below a half.
+/// Lowering the stored digits by more places than this gives less than a half.
 const MOST_LOWERED: usize = 30;
 
-/// A decimal: its digits without the point, times ten to the power `up`, over ten to the power `down`.
+/// A decimal without its sign: digits * 10^up / 10^down.
 #[derive(Clone, Copy)]
 struct Decimal {
     digits: Leading,
@@ -33,7 +32,7 @@ struct Decimal {
 }
 
 impl Decimal {
-    /// The decimal of a text after its sign.
+    /// Parses a decimal without its sign.
     fn read(text: &[u8]) -> Option<Decimal>
         requires { length text.now ≤ 64 }
         ensures value { (negative : Bool) → MatchOption result
@@ -57,7 +56,7 @@ impl Decimal {
         })
     }
 
-    /// The rounded magnitude in millionths, if it can be within the bound of values.
+    /// The magnitude in millionths, rounded. `None` if it certainly exceeds the largest value.
     fn millionths(&self) -> Option<u128>
         requires kept { self.now.digits.first < 10 ^ 30 }
         requires dropped { self.now.digits.dropped ≤ 64 }
@@ -76,7 +75,7 @@ impl Decimal {
     }
 }
 
-/// `first` times ten to the power `k`, if that is within the bound.
+/// first * 10^k, or `None` if that exceeds the largest value.
 fn raise(first: u128, k: usize) -> Option<u128>
     ensures value { MatchOption result (bound < first * 10 ^ k) (λ m. m ≡ first * 10 ^ k) }
     ensures within { IfSome result (λ m. m ≤ bound) }
@@ -90,7 +89,7 @@ fn raise(first: u128, k: usize) -> Option<u128>
     Some(first * power_of_ten(k))
 }
 
-/// `first` over ten to the power `k`, rounded, a half up.
+/// first / 10^k, rounded to the nearest whole number, and a tie upwards.
 fn lower(first: u128, k: usize) -> u128
     requires kept { first < 10 ^ 30 }
     requires some { 0 < k }
@@ -112,7 +111,7 @@ fn with_sign(negative: bool, magnitude: u128) -> i128
     if negative { -number } else { number }
 }
 
-/// The value of so many millionths.
+/// A number of millionths as a value, or `OutOfRange`.
 fn in_range(millionths: i128) -> Result<Units, ValueFault>
     ensures { result ≡ in_range_of millionths }
 {
@@ -122,10 +121,9 @@ fn in_range(millionths: i128) -> Result<Units, ValueFault>
     }
 }
 
-/// The value that a text stands for: 1 to 64 bytes of an optional `+` or `-`, digits with at most one point
-/// and at least one digit, and an optional `e` or `E` with an optional sign and one to three digits. It is
-/// rounded to a millionth, a half away from zero. Any other text is `NotANumber`, and a value that is
-/// above 10^24 millionths or below their negative is `OutOfRange`.
+/// Parses a value: 1 to 64 bytes of an optional `+` or `-`, digits with at most one point and at least one digit, and
+/// optionally `e` or `E`, a sign and one to three digits. Rounds to the nearest millionth, and a tie away from zero.
+/// A value beyond 10^24 millionths, or below their negative, is `OutOfRange`. Any other text is `NotANumber`.
 pub fn parse(text: &[u8]) -> Result<Units, ValueFault>
     ensures { result ≡ value text.now }
 {

@@ -1,15 +1,15 @@
-// Division that rounds a half away from zero, and the bound of values.
+// Division that rounds half away from zero, and clamping to the range of values.
 ghost use Rattle.std.specs.Prelude.{◌≡◌, ℕ, ◌*◌, ◌<◌, ◌≤◌, unsigned_abs};
 ghost use Rattle.ts_spec.specs.Value.{clamp, div_round};
 
 use ts_sample::Units;
 
-/// The sum divided by the count, rounded to a whole number, a half away from zero.
+/// sum / count, rounded to the nearest whole number, and a tie away from zero.
 pub fn div_round(sum: i128, count: u64) -> i128
     requires { 0 < count }
     ensures value { result ≡ div_round sum count }
 
-    // The mean of so many numbers is no larger than they are.
+    // A mean is never larger in magnitude than the numbers it is taken of.
     ensures mean { (most : ℕ) → unsigned_abs sum ≤ most * count → unsigned_abs result ≤ most }
 {
     let count = i128::from(count);
@@ -24,7 +24,7 @@ pub fn div_round(sum: i128, count: u64) -> i128
     }
 }
 
-/// The number as a value in millionths, or the nearer bound of values.
+/// A number of millionths as a value, clamped to the range of values.
 pub fn clamp(n: i128) -> Units
     ensures { result ≡ clamp n }
 {

@@ -1,16 +1,16 @@
-// Short texts, which most values have, by one pass in 64 bits.
+// A fast path for short texts, which most values have: one pass in 64 bits.
 ghost use Rattle.std.specs.Prelude.{◌≡◌, ℕ, ◌+◌, ◌*◌, ◌^◌, ◌≤◌, Bool, length, IfSome};
 ghost use Rattle.ts_spec.specs.Value.{digits, after_digits, number_after, decimal_of};
 ghost use Rattle.ts_decimal.specs.Reading.{IsRounded};
 
-use crate::digit::split_digit;
+use crate::lexer::split_digit;
 use crate::powers::power_of_ten;
 use crate::reading::PLACES;
 
-/// The most bytes whose digits, in millionths, are counted in 64 bits.
+/// The longest text that is parsed in 64 bits.
 const FEW: usize = 12;
 
-/// The number that the digits at the beginning of the text spell after `number`, and the text after them.
+/// Appends the leading digits of `text` to `number`. Returns the result and the rest of the text.
 #[inline]
 fn spelled_after(number: u64, text: &[u8]) -> (u64, &[u8])
     requires { (number + 1) * 10 ^ length text.now ≤ 10 ^ 12 }
@@ -28,8 +28,8 @@ fn spelled_after(number: u64, text: &[u8]) -> (u64, &[u8])
     (number, rest)
 }
 
-/// The magnitude in millionths of a text after its sign, if it is few bytes, all of them digits but for a point with at
-/// most six digits after it. None: it is read with care for more digits, and for an exponent.
+/// Parses a short decimal without sign: at most 12 bytes, digits only, with an optional point and at most six digits
+/// after it. Returns the magnitude in millionths. `None` means that the general parser has to read the text.
 #[inline]
 pub fn short_magnitude(text: &[u8]) -> Option<u64>
     ensures value { IfSome result (λ m. (negative : Bool) → IsRounded negative m (decimal_of negative text.now)) }

@@ -1,4 +1,4 @@
--- The samples of a bucket after a deletion: those before it, and those after it.
+-- The samples of a bucket after a deletion: those before the interval and those after it.
 use Rattle.std.proofs.Common.{◌≡◌, ℕ, ◌+◌, ◌<◌, ◌≤◌, Bool, true, false, not, ◌&&◌, max, min, nat_lt, nat_le, if◌then◌else◌, None, List, ◌++◌, ◌⊎◌, Some, inl, inr, sym, ap, ◌∙◌, subst, arith, ltb-true, lt-ltb, leb-true, le-leb}
 use Rattle.std.proofs.lemmas.Bool.{cases_lt, false≢true, and_parts, and_from}
 use Rattle.std.proofs.lemmas.List.Elements.{filter-append}

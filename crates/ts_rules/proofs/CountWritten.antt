@@ -1,4 +1,4 @@
--- A bucket counted anew with a written sample: its samples, and that one at its time.
+-- Recounting a bucket with a written sample.
 use Rattle.std.proofs.Common.{◌≡◌, ℕ, ◌-◌, ◌^◌, ◌≤◌, ◌==◌, true, nat_le, List, length, Some, refl, sym, ap, ◌∙◌, subst, arith, eq-eqb}
 use Rattle.std.specs.Prelude.{filter}
 use Rattle.ts_spec.specs.Sample.{Point, MAX_TIME, IsAscending, between, is_within, put}

@@ -1,4 +1,4 @@
--- What a visitor counts of one list after another, and its room.
+-- Counting one list after another with the same visitor, and the capacity it uses.
 use Rattle.std.proofs.Common.{◌≡◌, ℕ, ◌+◌, ◌-◌, ◌^◌, ◌≤◌, Bool, true, false, nat_le, if◌then◌else◌, List, [], ◌∷◌, ◌++◌, length, sym, ap, arith}
 use Rattle.std.proofs.lemmas.List.Sums.{fold-append}
 use Rattle.ts_spec.specs.Sample.{Point}

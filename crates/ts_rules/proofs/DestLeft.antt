@@ -1,5 +1,5 @@
--- The mending of a destination after a deletion on its source: over the interval from the start of the first bucket to that of the
--- last, with the two rows told anew and the samples that stay.
+-- Updating a destination after a deletion on its source: over the interval from the start of the first bucket to that
+-- of the last, the rows replace the samples that are lost.
 use Rattle.std.proofs.Common.{◌≡◌, ◌≢◌, ◌⊎◌, inl, inr, ℕ, ◌<◌, ◌≤◌, Bool, true, false, not, ◌==◌, cond, if◌then◌else◌, List, [], ◌∷◌, ◌++◌, filter, length, Option, None, Some, refl, sym, ap, ◌∙◌, subst, arith, eq-eqb, lt-ltb, ltb-true}
 use Rattle.std.specs.Prelude.{Result}
 use Rattle.std.proofs.lemmas.Bool.{false≢true, and_parts}
@@ -17,7 +17,7 @@ use Rattle.ts_spec.proofs.Spans.{span_rows, high-span, mended-deletion}
 use Rattle.ts_series.specs.History.{History, IsKept, list_of}
 use Rattle.ts_series.specs.Plan.{Plan, AreWithin, AreMade}
 use Rattle.ts_rules.specs.declared.rule.Rule.{Rule}
-use Rattle.ts_rules.specs.declared.fault.RuleFault.{RuleFault}
+use Rattle.ts_rules.specs.declared.plan.RuleFault.{RuleFault}
 use Rattle.ts_rules.specs.Rules.{kept_with_dest, one_of}
 use Rattle.ts_rules.specs.Plans.{mended_list, IsMendedBy, IsMending}
 use Rattle.ts_rules.specs.Deletions.{gone_of, left_of, is_lost, rows_left, row_left, span_left}

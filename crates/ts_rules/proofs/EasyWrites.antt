@@ -1,4 +1,4 @@
--- The row that a destination is told by an easy write is past all that it shows.
+-- The row of an easy write comes after all samples of the destination.
 use Rattle.std.proofs.Common.{◌≡◌, ℕ, ◌<◌, ◌≤◌, Bool, true, false, ◌==◌, if◌then◌else◌, List, [], ◌∷◌, ◌⊎◌, inl, inr, Option, None, Some, refl, sym, ap, ◌∙◌, subst, arith}
 use Rattle.std.proofs.lemmas.Bool.{cases_lt}
 use Rattle.ts_spec.specs.Sample.{Point, put}

@@ -1,4 +1,4 @@
--- What is left in the first and in the last bucket of a deletion, counted anew: the samples before the interval that goes, and those past it.
+-- Recounting the first and the last bucket of a deletion: the samples before the deleted interval and those after it.
 use Rattle.std.proofs.Common.{◌≡◌, ◌≢◌, ℕ, ◌+◌, ◌-◌, ◌^◌, ◌<◌, ◌≤◌, ◌⊎◌, inl, inr, Bool, true, false, not, ◌&&◌, ◌==◌, max, min, nat_lt, nat_le, if◌then◌else◌, List, [], ◌++◌, length, length-append, None, Some, refl, sym, ap, ◌∙◌, subst, arith, eqb-true, eq-eqb}
 use Rattle.std.specs.Prelude.{filter}
 use Rattle.std.proofs.lemmas.Bool.{cases_lt, false≢true, and_parts, and_from}

@@ -1,4 +1,5 @@
--- How many samples a destination shows after a deletion on its source: those from the edge on, without the lost ones, and the rows.
+-- The number of a destination's samples after a deletion on its source: those within retention without the lost ones,
+-- and the rows.
 use Rattle.std.proofs.Common.{◌≡◌, ℕ, ◌+◌, ◌-◌, ◌/◌, ◌≤◌, Bool, true, false, not, ◌&&◌, ◌==◌, max, nat_lt, nat_le, cond, if◌then◌else◌, List, [], ◌∷◌, ◌++◌, filter, length, Option, None, refl, sym, ap, ◌∙◌, subst, arith, le-leb, leb-true}
 use Rattle.std.specs.Option.{option_or}
 use Rattle.std.proofs.lemmas.Bool.{and_parts, and_from}

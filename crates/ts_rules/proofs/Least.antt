@@ -1,4 +1,4 @@
--- The least number of rules that the samples of a list were made at.
+-- The smallest rule count at which samples of a list were written.
 use Rattle.std.proofs.Common.{◌≡◌, ℕ, ◌≤◌, Bool, true, false, min, nat_lt, nat_le, cond, List, [], ◌∷◌, ◌++◌, Some, refl, ap, ◌∙◌, arith, le-leb}
 use Rattle.std.specs.Prelude.{⊤, filter}
 use Rattle.ts_spec.specs.Sample.{Point, at_times, put}

@@ -1,4 +1,4 @@
--- What a deletion comes to for a rule whose open bucket it touches.
+-- A deletion that affects a rule's open bucket.
 use Rattle.std.proofs.Common.{◌≡◌, ℕ, Bool, true, if◌then◌else◌, List, [], Some, sym, ap, ◌∙◌}
 use Rattle.ts_spec.specs.Sample.{Point}
 use Rattle.ts_spec.specs.Aggregate.{Summary}

@@ -1,4 +1,4 @@
--- The starts of buckets that a visitor keeps: their order, and which buckets they are.
+-- The bucket starts that a visitor collects: their order, and which buckets they are.
 use Rattle.std.proofs.Common.{◌≡◌, ℕ, zero, suc, ◌<◌, ◌≤◌, Bool, true, false, ◌||◌, ◌==◌, if◌then◌else◌, List, [], ◌∷◌, ◌++◌, length, get_or, append-nil, append_assoc, Option, None, Some, refl, sym, ap, ◌∙◌, subst, arith, eqb-true}
 use Rattle.std.specs.List.Sorted.{IsNonDecreasing}
 use Rattle.ts_spec.specs.Sample.{Point, IsAfter, IsAscending}

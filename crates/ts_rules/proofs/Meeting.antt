@@ -1,4 +1,4 @@
--- How many samples stand at the starts of the buckets of others, counted by a walk over both lists.
+-- The number of samples at the starts of the buckets of others, counted by merging the two lists.
 use Rattle.std.proofs.Common.{◌≡◌, ◌≢◌, ℕ, suc, ◌+◌, ◌<◌, ◌≤◌, Bool, true, false, ◌&&◌, ◌||◌, ◌==◌, cond, if◌then◌else◌, List, [], ◌∷◌, drop, length, None, Some, refl, sym, ap, ◌∙◌, subst, arith, eq-eqb, ne_eqb, eqb-true}
 use Rattle.std.proofs.lemmas.Bool.{false≢true}
 use Rattle.ts_spec.specs.Sample.{Point, IsAfter, IsAscending, at_times, first_of}

@@ -1,4 +1,4 @@
--- The room that the plan of a deletion has for its destination, where the first bucket is closed.
+-- The buffers that planning a deletion has for its destination, if the first bucket is closed.
 use Rattle.std.proofs.Common.{◌≡◌, ℕ, Bool, true, if◌then◌else◌, length, sym, ap, ◌∙◌}
 use Rattle.ts_spec.specs.Sample.{between}
 use Rattle.ts_spec.specs.Bucket.{start}

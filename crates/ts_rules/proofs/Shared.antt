@@ -1,4 +1,4 @@
--- What one rule counts in a bucket is told to the next one, which counts the same samples.
+-- A bucket that one rule counted holds for the next rule that counts the same samples.
 use Rattle.std.proofs.Common.{◌≡◌, nat_le, List, sym, ap, ◌∙◌}
 use Rattle.std.specs.Prelude.{filter}
 use Rattle.std.proofs.lemmas.Bool.{cases_lt}

@@ -1,4 +1,4 @@
--- How many samples pass tests of which no two pass at once.
+-- The number of samples that pass one of several exclusive tests.
 use Rattle.std.proofs.Common.{◌≡◌, ℕ, ◌+◌, ◌<◌, ◌≤◌, Bool, true, false, ◌&&◌, nat_lt, nat_le, List, [], ◌∷◌, length, refl, ap, ◌∙◌, arith}
 use Rattle.ts_spec.specs.Sample.{Point, at_times, between, is_within}
 use Rattle.ts_spec.specs.Bucket.{Grid, start}

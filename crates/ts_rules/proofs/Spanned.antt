@@ -1,4 +1,4 @@
--- What a deletion leaves of a destination from one start to another, put together by its parts.
+-- A destination between two bucket starts after a deletion, assembled from its parts.
 use Rattle.std.proofs.Common.{◌≡◌, ◌≢◌, ℕ, Bool, not, if◌then◌else◌, List, [], ◌++◌, sym, ap, ◌∙◌, eq-eqb, ne_eqb, append-nil}
 use Rattle.ts_spec.specs.Sample.{Point, at_times, between}
 use Rattle.ts_series.specs.History.{History}

@@ -1,4 +1,4 @@
--- What is planned for a rule is what is kept after the command, in each state that stands behind it.
+-- The planned rule and destination are the stored data after the command, in each state that it represents.
 use Rattle.std.proofs.Common.{◌≡◌, ℕ, ℤ, ◌<◌, ◌≤◌, Bool, true, false, cond, if◌then◌else◌, List, [], ◌∷◌, map, length, Option, None, Some, option_map, refl, sym, ap, ◌∙◌, subst}
 use Rattle.ts_spec.specs.declared.limits.Limits.{Limits}
 use Rattle.ts_spec.specs.Sample.{Point, between, outside, put}

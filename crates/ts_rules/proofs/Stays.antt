@@ -1,4 +1,5 @@
--- What a destination shows in an interval after a mending: the row of its first bucket, the samples that stay, and that of its last.
+-- A destination's samples in an interval after an update: the first bucket's row, the samples that stay, and the last
+-- bucket's row.
 use Rattle.std.proofs.Common.{◌≡◌, ◌≢◌, ◌⊎◌, inl, inr, ℕ, ◌<◌, ◌≤◌, Bool, true, false, not, nat_lt, cond, if◌then◌else◌, List, [], ◌∷◌, ◌++◌, Option, None, Some, refl, sym, ap, ◌∙◌, subst, arith, append-nil, lt-ltb, le-ltb, eq-eqb, ne_eqb}
 use Rattle.std.proofs.lemmas.Bool.{cases_lt, false≢true}
 use Rattle.ts_spec.specs.Sample.{Point, IsAfter, IsAscending, at, at_times, between, is_within, put, put_all}

@@ -1,4 +1,4 @@
--- Whether the first bucket of a deletion and the last one hold a sample that goes, and the rows of both.
+-- Whether the first and the last bucket of a deletion lose a sample, and the rows of both.
 use Rattle.std.proofs.Common.{◌≡◌, ℕ, suc, ◌<◌, ◌≤◌, Bool, true, false, ◌&&◌, ◌||◌, ◌==◌, max, nat_lt, cond, if◌then◌else◌, List, [], ◌∷◌, ◌++◌, length, refl, sym, ap, ◌∙◌, arith, eqb-true, eq-eqb, lt-ltb}
 use Rattle.std.proofs.lemmas.Bool.{false≢true}
 use Rattle.ts_spec.specs.Sample.{Point, IsAfter, IsAscending, at_times, between, is_within}

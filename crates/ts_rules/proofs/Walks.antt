@@ -1,4 +1,4 @@
--- The samples of a list up to a time, one after another, and those that are left.
+-- The samples of a list up to a time, one after another, and the remaining ones.
 use Rattle.std.proofs.Common.{◌≡◌, ℕ, suc, ◌≤◌, Bool, true, false, nat_le, cond, if◌then◌else◌, List, [], ◌∷◌, drop, length, Option, None, Some, refl, sym, ap, ◌∙◌, arith, leb-true, le-leb, not, is_some}
 use Rattle.std.proofs.lemmas.Bool.{false≢true}
 use Rattle.ts_spec.specs.Sample.{Point, IsAscending, at_times, between, first_of}

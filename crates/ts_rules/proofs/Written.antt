@@ -1,4 +1,4 @@
--- What a write comes to for a rule, by where the bucket of its sample lies.
+-- The effect of a write on a rule, by which bucket the sample is in.
 use Rattle.std.proofs.Common.{◌≡◌, ℕ, ◌<◌, ◌≤◌, Bool, if◌then◌else◌, List, [], Option, Some, None, sym, ap, ◌∙◌, arith}
 use Rattle.ts_spec.specs.Sample.{Point}
 use Rattle.ts_spec.specs.Bucket.{start}

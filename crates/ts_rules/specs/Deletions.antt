@@ -1,4 +1,4 @@
--- What a deletion on a source, from one time to another, comes to for a rule of it. The source is as it was before the deletion.
+-- The effect of a deletion on a rule of the source, from the source as it was before the deletion.
 use Rattle.std.specs.Prelude.{ℕ, Bool, not, ◌==◌, if◌then◌else◌, List, [], ◌++◌}
 use Rattle.ts_spec.specs.Sample.{Point, at_times, between, outside}
 use Rattle.ts_spec.specs.Kept.{KeptRule}
@@ -7,22 +7,22 @@ use Rattle.ts_series.specs.History.{History, list_of}
 use Rattle.ts_rules.specs.declared.rule.Rule.{Rule}
 use Rattle.ts_rules.specs.Rules.{kept_with_dest}
 
--- the samples that go, and those that are left
+-- the deleted samples, and the remaining ones
 abbrev pub gone_of : (source : History) → (from to : ℕ) → List Point
 gone_of source from to = between from to (list_of source)
 
 abbrev pub left_of : (source : History) → (from to : ℕ) → List Point
 left_of source from to = outside from to (list_of source)
 
--- the rule after it
+-- the rule after the deletion
 abbrev pub rule_left : (source : History) → (from to : ℕ) → KeptRule → KeptRule
 rule_left source from to q = deleted_rule (gone_of source from to) (left_of source from to) q
 
--- whether the bucket that starts there is closed, and loses a sample
+-- whether the bucket that starts at b is closed and loses a sample
 abbrev pub is_lost : Rule → (source : History) → (from to : ℕ) → ℕ → Bool
 is_lost r source from to b = loses (gone_of source from to) (kept_with_dest [] r) b
 
--- the rows that the destination is told, which has this many rules ever made
+-- the rows that the destination gets; `born` is its rule count
 abbrev pub rows_left : Rule → (source : History) → (from to : ℕ) → (born : ℕ) → List Point
 rows_left r source from to born = deleted_rows (gone_of source from to) (left_of source from to) born (kept_with_dest [] r)
 
@@ -31,7 +31,8 @@ abbrev pub row_left : Rule → (source : History) → (from to : ℕ) → (born 
 row_left r source from to born b =
     if is_lost r source from to b then bucket_row r.agg born b (counted_anew (kept_with_dest [] r) b (left_of source from to)) else []
 
--- what a list has from one start to another after it: the row of the first bucket, the samples that stay, and the row of the last
+-- the destination's samples between two bucket starts after the deletion: the first bucket's row, the samples that
+-- stay, the last bucket's row
 abbrev pub span_left : Rule → (source : History) → (from to : ℕ) → (born first last : ℕ) → List Point → List Point
 span_left r source from to born first last ps =
     (row_left r source from to born first ++ at_times (λ t. not (is_lost r source from to t)) (between first last ps))

@@ -1,4 +1,4 @@
--- What a plan over a rule comes to.
+-- The result of a plan for a rule.
 use Rattle.std.specs.Prelude.{◌≡◌, ℕ, ◌<◌, ◌≤◌, ⊤, Bool, List, length, Option, None, Some, Result, Ok, Err}
 use Rattle.ts_spec.specs.Sample.{Point}
 use Rattle.ts_spec.specs.Kept.{KeptRule}
@@ -7,25 +7,25 @@ use Rattle.ts_series.specs.History.{History, list_of}
 use Rattle.ts_series.specs.Plan.{Plan, after, IsFor}
 use Rattle.ts_rules.specs.declared.rule.Rule.{Rule}
 use Rattle.ts_rules.specs.declared.plan.RulePlan.{RulePlan}
-use Rattle.ts_rules.specs.declared.fault.RuleFault.{RuleFault}
-use Rattle.ts_rules.specs.declared.fault.RuleFault.TheVariants.{Full, Memory}
+use Rattle.ts_rules.specs.declared.plan.RuleFault.{RuleFault}
+use Rattle.ts_rules.specs.declared.plan.RuleFault.TheVariants.{Full, Memory}
 use Rattle.ts_rules.specs.Rules.{IsChanged}
 
--- a destination after a plan, or as it is where there is none
+-- the destination after the plan, or unchanged without one
 abbrev pub after_plan : Option Plan → History → History
 after_plan None h = h
 after_plan (Some plan) h = after plan h
 
--- the plan, if there is one, was made for this destination
+-- the plan, if there is one, fits this destination
 abbrev pub IsForDest : Option Plan → History → Type 0
 IsForDest None h = ⊤
 IsForDest (Some plan) h = IsFor plan h
 
--- the list of a destination whose samples at times that pass the test give way to the rows
+-- the destination's samples after `rows` replace those whose times pass the test
 abbrev pub mended_list : (gone : ℕ → Bool) → (rows : List Point) → History → List Point
 mended_list gone rows h = mended h.options.retention h.high gone rows (list_of h)
 
--- the destination is mended so, and shows no more than the limit
+-- the plan updates the destination like this, within the limit
 pub record IsMendedBy (limit : ℕ) (gone : ℕ → Bool) (rows : List Point) (h : History) (plan : Option Plan) : Type 0 where
   pub made_for : IsForDest plan h
   pub list : list_of (after_plan plan h) ≡ mended_list gone rows h
@@ -33,17 +33,17 @@ pub record IsMendedBy (limit : ℕ) (gone : ℕ → Bool) (rows : List Point) (h
   pub options : (after_plan plan h).options ≡ h.options
   pub fits : length (mended_list gone rows h) ≤ limit
 
--- the destination would show more than the limit; or it would not, and there is no memory
+-- `Full` means that the destination would exceed the limit, `Memory` that it would not
 abbrev pub IsUnplanned : (limit : ℕ) → (gone : ℕ → Bool) → (rows : List Point) → History → RuleFault → Type 0
 IsUnplanned limit gone rows h Full = limit < length (mended_list gone rows h)
 IsUnplanned limit gone rows h (Memory e) = length (mended_list gone rows h) ≤ limit
 
--- the answer to a mending of a destination
+-- the result of planning an update of the destination
 abbrev pub IsMending : (limit : ℕ) → (gone : ℕ → Bool) → (rows : List Point) → History → Result (Option Plan) RuleFault → Type 0
 IsMending limit gone rows h (Ok plan) = IsMendedBy limit gone rows h plan
 IsMending limit gone rows h (Err fault) = IsUnplanned limit gone rows h fault
 
--- what a rule and its destination come to: the rule changed so, and the destination mended so
+-- the result of planning a change for a rule: the changed rule and the updated destination
 abbrev pub IsPlanned : (limit : ℕ) → (change : KeptRule → KeptRule) → (gone : ℕ → Bool) → (rows : List Point) → Rule → (dest : History) → Result RulePlan RuleFault → Type 0
 IsPlanned limit change gone rows r dest (Ok plan) = IsChanged change r plan.rule × IsMendedBy limit gone rows dest plan.dest
 IsPlanned limit change gone rows r dest (Err fault) = IsUnplanned limit gone rows dest fault

@@ -1,4 +1,4 @@
--- What contracts see of a rule, and of its open bucket.
+-- A rule and its open bucket, as contracts see them.
 use Rattle.std.specs.Prelude.{◌≡◌, ℕ, ◌^◌, ◌<◌, true, List, [], ◌∷◌, Option, None, Some}
 use Rattle.ts_spec.specs.Sample.{Point}
 use Rattle.ts_spec.specs.Bucket.{start}
@@ -10,28 +10,28 @@ use Rattle.ts_spec.specs.Mending.{closing_row}
 use Rattle.ts_series.specs.History.{History}
 use Rattle.ts_rules.specs.declared.rule.Rule.{Rule}
 
--- what is kept of a rule whose destination has this key
+-- the stored form of a rule whose destination has this key
 abbrev pub kept_with_dest : Key → Rule → KeptRule
 kept_with_dest k r = record { dest = k; agg = r.agg; grid = r.grid; made = r.made; current = r.current; running = r.running }
 
--- a change of what is kept of a rule: its destination stays
+-- the new rule is the old one with its stored form changed by `change`, and the same destination
 pub record IsChanged (change : KeptRule → KeptRule) (old new : Rule) : Type 0 where
   pub dest : new.dest ≡ old.dest
   pub kept : (k : Key) → kept_with_dest k new ≡ change (kept_with_dest k old)
 
--- the rule with this open bucket
+-- the new rule has this open bucket
 abbrev pub IsOpenAt : (current : Option ℕ) → (running : Summary) → (old new : Rule) → Type 0
 IsOpenAt current running old new = IsChanged (λ q. record q { current = current; running = running }) old new
 
--- a sample, if there is one, as a list
+-- an optional sample as a list
 abbrev pub one_of : Option Point → List Point
 one_of None = []
 one_of (Some p) = p ∷ []
 
--- the row of the open bucket, for a destination with this many rules ever made; none where nothing is counted there
+-- the row of the open bucket, none if it is empty; `born` is the destination's rule count
 abbrev pub open_row : (born : ℕ) → Rule → List Point
 open_row born r = closing_row born (kept_with_dest [] r) r.current
 
--- the open bucket takes one more sample where that is appended to it
+-- the open bucket can count one more sample if the write appends to it
 abbrev pub TakesAppended : Rule → History → Point → Type 0
 TakesAppended r source p = is_append p.time source.high ≡ true → r.current ≡ Some (start r.grid p.time) → r.running.count < 10 ^ 14

@@ -1,4 +1,4 @@
--- The plans over a rule, and the states that what is kept stands for.
+-- The plans for a rule, and the states that the stored data represents.
 use Rattle.std.specs.Prelude.{◌≡◌, ℕ, ◌<◌, ◌≤◌, length, Some, Ok, Err, ℤ}
 use Rattle.ts_spec.specs.declared.limits.Limits.{Limits}
 use Rattle.ts_spec.specs.Key.{Key}
@@ -12,13 +12,13 @@ use Rattle.ts_spec.specs.Mending.{kept_rule_to, kept_sample}
 use Rattle.ts_series.specs.History.{History, list_of}
 use Rattle.ts_rules.specs.declared.rule.Rule.{Rule}
 use Rattle.ts_rules.specs.declared.plan.RulePlan.{RulePlan}
-use Rattle.ts_rules.specs.declared.fault.RuleFault.TheVariants.{Full}
+use Rattle.ts_rules.specs.declared.plan.RuleFault.TheVariants.{Full}
 use Rattle.ts_rules.specs.Rules.{kept_with_dest}
 use Rattle.ts_rules.specs.Plans.{after_plan}
 use Rattle.ts_rules.specs.PlansOfWrites.{IsPlanOfWrite}
 use Rattle.ts_rules.specs.PlansOfDeletions.{IsPlanOfDeletion}
 
--- The state has these two keys, of which this is kept; the rule leads from the first to the second.
+-- The state has these two keys with this data, and the rule leads from the first to the second.
 pub record IsOfState (limits : Limits) (m : State) (key to : Key) (r : Rule) (source dest : History) (s d : Kept) : Type 0 where
   pub valid : IsValid limits m
   pub source_there : get key (kept m) ≡ Some s
@@ -31,18 +31,18 @@ pub record IsOfState (limits : Limits) (m : State) (key to : Key) (r : Rule) (so
   pub dest_high : d.high ≡ dest.high
   pub dest_born : d.born ≡ dest.born
 
--- what is kept of the rule and of the destination in this state is what was planned, and the destination shows no more than the limit
+-- after the plan the stored rule and destination are those of this state, within the limit
 pub record IsAfterPlan (limit : ℕ) (m : State) (key to : Key) (dest : History) (d : Kept) (plan : RulePlan) : Type 0 where
   pub rule : kept_rule_to to (kept_rules_at (get key (kept m))) ≡ Some (kept_with_dest to plan.rule)
   pub destination : get to (kept m) ≡ Some (record d { list = list_of (after_plan plan.dest dest); high = (after_plan plan.dest dest).high })
   pub fits : length (shown m to) ≤ limit
 
--- a plan of a write is what is kept after it; where none is made for want of room, the destination shows more than the limit then
+-- a plan of a write gives the stored data after it, and `Full` means that the destination would exceed the limit
 pub record IsLawOfWrites (limits : Limits) (m : State) (key to : Key) (r : Rule) (source dest : History) (s d : Kept) (limit t : ℕ) (v : ℤ) : Type 0 where
   pub planned : (plan : RulePlan) → IsPlanOfWrite limit r source (kept_sample t v s) dest (Ok plan) → IsAfterPlan limit (written key t v m) key to dest d plan
   pub full : IsPlanOfWrite limit r source (kept_sample t v s) dest (Err Full) → limit < length (shown (written key t v m) to)
 
--- the same of a deletion
+-- the same for a deletion
 pub record IsLawOfDeletions (limits : Limits) (m : State) (key to : Key) (r : Rule) (source dest : History) (d : Kept) (limit first last : ℕ) : Type 0 where
   pub planned : (plan : RulePlan) → IsPlanOfDeletion limit r source first last dest (Ok plan) → IsAfterPlan limit (deleted key first last m) key to dest d plan
   pub full : IsPlanOfDeletion limit r source first last dest (Err Full) → limit < length (shown (deleted key first last m) to)

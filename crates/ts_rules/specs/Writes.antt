@@ -1,4 +1,4 @@
--- What a write of a sample to a source comes to for a rule of it. The source is as it was before the write.
+-- The effect of a write on a rule of the source, from the source as it was before the write.
 use Rattle.std.specs.Prelude.{ℕ, List, []}
 use Rattle.ts_spec.specs.Sample.{Point, put}
 use Rattle.ts_spec.specs.Rules.{is_append}
@@ -8,10 +8,10 @@ use Rattle.ts_series.specs.History.{History, list_of}
 use Rattle.ts_rules.specs.declared.rule.Rule.{Rule}
 use Rattle.ts_rules.specs.Rules.{kept_with_dest}
 
--- the rule after it
+-- the rule after the write
 abbrev pub rule_after : (source : History) → Point → KeptRule → KeptRule
 rule_after source p q = written_rule (is_append p.time source.high) p (put p (list_of source)) q
 
--- the row that the destination is told, which has this many rules ever made
+-- the row that the destination gets; `born` is its rule count
 abbrev pub row_for_dest : (source : History) → Point → (born : ℕ) → Rule → List Point
 row_for_dest source p born r = written_row p (put p (list_of source)) born (kept_with_dest [] r)

@@ -1,4 +1,4 @@
-// A bucket of a source told anew: what a rule counts in it after a write or a deletion.
+// Recounts a bucket of a source for a rule, after a write or a deletion.
 ghost use Rattle.std.specs.Prelude.{◌≡◌, ◌≤◌, ◌+◌, ◌*◌, [], length};
 ghost use Rattle.ts_spec.specs.Sample.{MAX_TIME, between, outside, put};
 ghost use Rattle.ts_spec.specs.Bucket.{start as start_of};
@@ -19,8 +19,8 @@ use ts_agg::{Counted, Running};
 use ts_sample::{Sample, Steps, Visit};
 use ts_series::Series;
 
-// The bucket of a sample that is written, with that sample in its place: what an earlier rule of the same write was told
-// of it, if that is known, and else it is walked.
+// The bucket of a written sample, counted with that sample. Takes the count of an earlier rule of the same write if
+// it applies, and otherwise scans the bucket.
 pub(crate) fn count_written<L: Ledger>(
     rule: &Rule,
     source: &Series,
@@ -49,8 +49,7 @@ pub(crate) fn count_written<L: Ledger>(
     running
 }
 
-// What is left in the bucket of one time, and in that of a later one, once the samples from the one to the other are
-// gone.
+// What remains in the buckets of `from` and of `to` after the samples between them are deleted.
 pub(crate) fn ends_left<L: Ledger>(
     rule: &Rule,
     source: &Series,
@@ -81,7 +80,7 @@ pub(crate) fn ends_left<L: Ledger>(
     (early.running(), late.running())
 }
 
-// Takes a visitor over the samples from one time on that are before another.
+// Passes the samples from `from` to just before `end` to `visit`.
 fn scan_until<V: Visit, L: Ledger>(
     source: &Series,
     from: u64,

@@ -1,4 +1,4 @@
-// A bucket of a source counted while a written sample is put at its time.
+// Counts a bucket as if a written sample were already in the source.
 ghost use Rattle.std.specs.Prelude.{◌≡◌, ℕ, ◌≤◌, ◌-◌, ◌^◌, List, nat_le, filter, length, Some};
 ghost use Rattle.ts_spec.specs.Sample.{Point, IsAscending, put};
 ghost use Rattle.ts_spec.specs.Aggregate.{nothing, summary};
@@ -10,15 +10,15 @@ use std::marker::Model;
 use ts_agg::{Counted, Running};
 use ts_sample::{Sample, Visit};
 
-// A visitor that counts samples which come in the order of their times, and a written one at its time among them: as
-// one more, or in the place of one there.
+// A visitor that counts samples in ascending time together with a written one, which is added or replaces the one at
+// its time.
 #[derive(Drop)]
 pub(crate) struct CountedWith {
     counted: Counted,
-    // The written sample, until its place is reached. From there on each sample waits for the next one, so that no step
-    // counts two; and none waits once the written one took the place of another.
+    // The sample to count next. At first this is the written one; once its time is reached, each sample waits here
+    // for the next, so that one step never counts two. It is empty after the written sample replaced another.
     held: Option<Sample>,
-    // No sample so far, nor the written one, was made at fewer rules.
+    // The smallest rule count at which any of the samples, including the written one, was written.
     least: u32,
 }
 
@@ -31,7 +31,7 @@ impl Model for CountedWith {
 }
 
 impl CountedWith {
-    // Of no samples but the written one.
+    // Only the written sample so far.
     pub(crate) fn new(made: u32, wrote: &Sample) -> CountedWith
         ensures empty { result ≡ record { counting = record { made = made; running = nothing }; held = Some wrote.now; least = wrote.now.made } }
         ensures told { (ps : List Point) → IsAscending ps → whole (visited with_next result ps)
@@ -46,14 +46,14 @@ impl CountedWith {
         }
     }
 
-    // No sample so far, nor the written one, was made at fewer rules.
+    // The smallest rule count at which any of the samples, including the written one, was written.
     pub(crate) fn least(&self) -> u32
         ensures { result ≡ self.now.least }
     {
         self.least
     }
 
-    // What it has counted, with the sample that waits.
+    // The count so far, with the waiting sample.
     pub(crate) fn running(mut self) -> Running
         requires room { length (one_of self.held) ≤ 10 ^ 14 - self.counting.running.count }
         ensures { result ≡ whole self }

@@ -1,4 +1,4 @@
-// The rows that a destination is told of the first bucket and of the last one of a deletion, told without memory.
+// The destination's rows for the first and the last bucket of a deletion. Allocates nothing.
 ghost use Rattle.std.specs.Prelude.{◌≡◌, ◌≤◌, ◌+◌, ◌*◌, ◌&&◌, ◌==◌, nat_le, [], length, if◌then◌else◌};
 ghost use Rattle.ts_spec.specs.Sample.{MAX_TIME, IsAscending, at_times, between};
 ghost use Rattle.ts_spec.specs.State.{edge_of};
@@ -12,14 +12,13 @@ ghost use Rattle.ts_rules.specs.Ends.{rows_at, is_first_in};
 
 use crate::count::ends_left;
 use crate::interval_cursor::IntervalCursor;
-use crate::open_bucket::row;
-use crate::rule::Rule;
+use crate::rule::{Rule, row};
 use std::sync::ledger::Ledger;
 use ts_agg::Running;
 use ts_sample::{Sample, Steps};
 use ts_series::Series;
 
-// The two rows, where there are such, the second of a later bucket.
+// The two rows, where they exist. The second belongs to a later bucket.
 #[derive(Clone, Copy)]
 pub(crate) struct Ends {
     pub(crate) first: Option<Sample>,
@@ -27,8 +26,8 @@ pub(crate) struct Ends {
 }
 
 impl Ends {
-    // Those of a deletion from one time to another, both included. The samples that go are at hand. `born` is the
-    // destination's.
+    // The rows after a deletion from `from` to `to`, both inclusive. `gone` are the deleted samples, and `born` is
+    // the destination's rule count.
     pub(crate) fn new<L: Ledger>(
         rule: &Rule,
         source: &Series,
@@ -59,7 +58,7 @@ impl Ends {
         }
     }
 
-    // The edge of a destination once they are written.
+    // The destination's retention edge after the rows are written.
     pub(crate) fn edge(&self, dest: &Series) -> u64
         requires { IsAscending (rows_at self.now) }
         ensures { result ≡ edge_of dest.now.options.retention (high_with (rows_at self.now) dest.now.high) }
@@ -72,7 +71,7 @@ impl Ends {
         }
     }
 
-    // How many of them are from a time on.
+    // The number of rows at or after `time`.
     pub(crate) fn count_from(&self, time: u64) -> usize
         ensures count { result ≡ length (at_times (nat_le time) (rows_at self.now)) }
         ensures few { result ≤ 2 }
@@ -81,7 +80,7 @@ impl Ends {
     }
 }
 
-// The row of a bucket that has this left, if it is closed and lost a sample.
+// The row of a bucket with `left` remaining, if it is closed and lost a sample.
 fn row_if(rule: &Rule, start: u64, lost: bool, left: &Running, born: u32) -> Option<Sample>
     requires { start ≤ MAX_TIME }
     ensures { one_of result ≡ (if lost && is_past rule.now.current start then bucket_row rule.now.agg born start left.now else []) }
@@ -93,7 +92,7 @@ fn row_if(rule: &Rule, start: u64, lost: bool, left: &Running, born: u32) -> Opt
     }
 }
 
-// The same of the last bucket, if it is another than the first.
+// The row of the last bucket, unless it is the first one.
 fn last_row(
     rule: &Rule,
     first: u64,
@@ -111,7 +110,7 @@ fn last_row(
     row_if(rule, last, lost, left, born)
 }
 
-// Whether the first sample of a walk is in the bucket that starts there.
+// Whether the next sample of the cursor is in the bucket that starts at `start`.
 fn is_head_in(rule: &Rule, walk: &IntervalCursor<'_>, start: u64) -> bool
     ensures { result ≡ is_first_in rule.now.grid start walk.now }
 {
@@ -121,7 +120,7 @@ fn is_head_in(rule: &Rule, walk: &IntervalCursor<'_>, start: u64) -> bool
     }
 }
 
-// One, where there is a row and it is from a time on.
+// 1 if there is a row at or after `time`, otherwise 0.
 fn count_if(row: Option<Sample>, time: u64) -> usize
     ensures count { result ≡ length (at_times (nat_le time) (one_of row)) }
     ensures few { result ≤ 1 }

@@ -1,13 +1,14 @@
-// Whether a destination would show too many samples after a deletion on its source, told without memory.
-ghost use Rattle.std.specs.Prelude.{◌≡◌, ◌≤◌, nat_lt, length};
-ghost use Rattle.ts_spec.specs.Sample.{MAX_TIME};
+// Whether a destination would hold too many samples after a deletion on its source. Allocates nothing.
+ghost use Rattle.std.specs.Prelude.{◌≡◌, ◌<◌, ◌+◌, ◌^◌, ◌&&◌, ◌==◌, if◌then◌else◌, length, ◌≤◌, nat_lt};
+ghost use Rattle.ts_spec.specs.Sample.{IsAscending, at_times, MAX_TIME};
+ghost use Rattle.ts_spec.specs.Rules.{is_past};
+ghost use Rattle.ts_spec.specs.Mending.{lies_in};
 ghost use Rattle.ts_sample.specs.Steps.{Takes};
 ghost use Rattle.ts_series.specs.History.{list_of};
 ghost use Rattle.ts_rules.specs.Plans.{mended_list};
 ghost use Rattle.ts_rules.specs.Deletions.{is_lost, rows_left};
 ghost use Rattle.ts_rules.specs.Shares.{deletion_share};
 
-use crate::count_lost::count_lost;
 use crate::end_rows::Ends;
 use crate::interval_cursor::IntervalCursor;
 use crate::rule::Rule;
@@ -15,7 +16,45 @@ use std::sync::ledger::Ledger;
 use ts_sample::Steps;
 use ts_series::Series;
 
-// Whether it would show more than the limit after a deletion of the samples from one time to another, both included.
+// The number of destination samples whose buckets are closed and lose a sample. Both cursors are in ascending time,
+// so this merges them and advances the earlier one.
+pub(crate) fn count_lost<L: Ledger>(
+    rule: &Rule,
+    mut gone: IntervalCursor<'_>,
+    mut shown: IntervalCursor<'_>,
+    steps: &mut Steps<L>,
+) -> usize
+    requires gone { IsAscending gone }
+    requires shown { IsAscending shown }
+    requires few { length shown < 2 ^ 32 }
+    ensures count { result ≡ length (at_times (λ t. is_past rule.now.current t && lies_in rule.now.grid gone.entry t) shown.entry) }
+    ensures steps { Takes steps.old steps.new (length gone.entry + length shown.entry) }
+{
+    let mut count = 0;
+    while let Some(lost) = gone.head() {
+        let Some(sample) = shown.head() else {
+            return count;
+        };
+        let start = rule.grid.start_of(lost.time);
+        if start < sample.time {
+            gone.advance(steps);
+        } else {
+            count += count_at(rule, start, sample.time);
+            shown.advance(steps);
+        }
+    }
+    count
+}
+
+// 1 if a closed bucket starts at `time`, otherwise 0.
+fn count_at(rule: &Rule, start: u64, time: u64) -> usize
+    ensures { result ≡ (if (start == time) && is_past rule.now.current start then 1 else 0) }
+{
+    usize::from(start == time && rule.is_closed(start))
+}
+
+// Whether the destination would have more than `limit` samples after the deletion of the samples from `from` to `to`,
+// both inclusive.
 pub(crate) fn is_full<L: Ledger>(
     rule: &Rule,
     source: &Series,

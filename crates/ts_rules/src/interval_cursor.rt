@@ -1,4 +1,4 @@
-// The samples of a series from one time to another, one after another.
+// A cursor over the samples of a series in an interval.
 ghost use Rattle.std.specs.Prelude.{◌≡◌, ◌+◌, drop};
 ghost use Rattle.ts_spec.specs.Sample.{IsAscending, between, first_of};
 ghost use Rattle.ts_sample.specs.Steps.{Takes};
@@ -10,11 +10,11 @@ use std::sync::ledger::Ledger;
 use ts_sample::{Sample, Steps};
 use ts_series::{Cursor, Series};
 
-// The samples that are left.
+// The remaining samples.
 #[derive(Drop)]
 pub(crate) struct IntervalCursor<'a> {
     head: Option<Sample>,
-    // Those past the head, also those past the last time.
+    // The samples after the head, including those after the interval.
     rest: Cursor<'a>,
     to: u64,
 }
@@ -32,7 +32,7 @@ impl<'a> Model for IntervalCursor<'a> {
 }
 
 impl<'a> IntervalCursor<'a> {
-    // Those of a series from one time to another, both included.
+    // The samples from `from` to `to`, both inclusive.
     pub(crate) fn new<L: Ledger>(
         series: &'a Series,
         from: u64,
@@ -48,14 +48,14 @@ impl<'a> IntervalCursor<'a> {
         IntervalCursor { head, rest, to }
     }
 
-    // The first of them.
+    // The next sample.
     pub(crate) fn head(&self) -> Option<Sample>
         ensures { result ≡ first_of self.now }
     {
         self.head
     }
 
-    // Leaves the first of them behind.
+    // Moves to the next sample.
     pub(crate) fn advance<L: Ledger>(&mut self, steps: &mut Steps<L>)
         ensures left { self.new ≡ drop 1 self.old }
         ensures steps { Takes steps.old steps.new 1 }
@@ -67,7 +67,7 @@ impl<'a> IntervalCursor<'a> {
     }
 }
 
-// The next sample, unless it is past a time.
+// The next sample, unless it is after `to`.
 fn next_upto<L: Ledger>(rest: &mut Cursor<'_>, to: u64, steps: &mut Steps<L>) -> Option<Sample>
     ensures next { result ≡ first_upto to rest.old }
     ensures left { rest.new ≡ drop 1 rest.old }

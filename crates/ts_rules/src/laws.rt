@@ -1,4 +1,4 @@
-//! A law of the plans, on a function that does nothing.
+//! A law of the plans. The function does nothing.
 
 ghost use Rattle.std.specs.Prelude.{ℕ, ℤ};
 ghost use Rattle.ts_spec.specs.declared.limits.Limits.{Limits};
@@ -9,9 +9,9 @@ ghost use Rattle.ts_series.specs.History.{History};
 ghost use Rattle.ts_rules.specs.declared.rule.Rule.{Rule};
 ghost use Rattle.ts_rules.specs.States.{IsOfState, IsLawOfWrites, IsLawOfDeletions};
 
-/// What is planned for a rule and its destination is what is kept of them after the write, or the deletion, in each
-/// state in which theirs and the source's is kept before it; and where no plan is made for want of room, the
-/// destination shows more than the limit there.
+/// A plan is correct: if the stored data represents a state before a write or a deletion, the planned rule and
+/// destination represent the state after it. If planning fails with `Full`, the destination would exceed the limit in
+/// that state.
 pub fn plans_are_what_is_kept()
     ensures written { (limits : Limits) (m : State) (key to : Key) (r : Rule) (source dest : History) (s d : Kept) (limit t : ℕ) (v : ℤ)
         → IsOfState limits m key to r source dest s d → IsLawOfWrites limits m key to r source dest s d limit t v }

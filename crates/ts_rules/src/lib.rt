@@ -1,32 +1,26 @@
-//! Rules over linked series: what a write and a deletion on a source come to for a rule of it and for the rule's
-//! destination, which shows what the rule tells. A change is planned here; the series commit it.
+//! Compaction rules: what a write to a source or a deletion on it means for the rule and for its destination, which
+//! stores one row per closed bucket. This crate plans the change, and ts_series commits it.
 #![tactic(auto)]
 
 mod count;
-mod count_lost;
 mod counted_with;
 mod deletion;
 mod end_rows;
-mod fault;
 mod fullness;
 mod interval_cursor;
 mod laws;
 mod lost;
 mod mending;
-mod open_bucket;
 mod plan;
 mod planned;
 mod room;
 mod rule;
 mod shared_bucket;
 mod span;
-mod touched;
 mod write;
 
-pub use fault::RuleFault;
 pub use laws::plans_are_what_is_kept;
-pub use open_bucket::latest;
-pub use plan::RulePlan;
+pub use plan::{RuleFault, RulePlan};
 pub use planned::{plan_delete, plan_put, plan_put_shared};
-pub use rule::Rule;
+pub use rule::{Rule, latest};
 pub use shared_bucket::SharedBucket;

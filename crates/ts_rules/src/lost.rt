@@ -1,4 +1,4 @@
-// The starts of the buckets that hold one of some samples, which go.
+// The starts of the buckets that lose a sample.
 ghost use Rattle.std.specs.Prelude.{◌≡◌, ℕ, ◌+◌, ◌*◌, length, IfOk};
 ghost use Rattle.std.specs.List.Sorted.{IsNonDecreasing};
 ghost use Rattle.ts_spec.specs.Sample.{between};
@@ -15,7 +15,7 @@ use ts_bucket::Grid;
 use ts_sample::{Sample, Steps, Visit};
 use ts_series::Series;
 
-// A visitor that keeps the starts of the buckets of the samples that it takes, where each is another than the one before.
+// A visitor that collects the starts of the buckets of the samples it visits, each once.
 #[derive(Drop)]
 pub(crate) struct Lost {
     grid: Grid,
@@ -29,11 +29,16 @@ impl Model for Lost {
 
     ghost Value = { Losing };
 
-    ghost view = { λ l. record { grid = l.grid; last = l.last; starts = l.starts.items; room = vec_capacity l.starts - vec_len l.starts } };
+    ghost view = { λ l. record {
+      grid = l.grid;
+      last = l.last;
+      starts = l.starts.items;
+      room = vec_capacity l.starts - vec_len l.starts;
+    } };
 }
 
 impl Lost {
-    // Of no samples yet, and with room for so many.
+    // No starts yet, with capacity for `count` of them.
     pub(crate) fn with_room(alloc: Global, grid: Grid, count: usize) -> Result<Lost, AllocError>
         ensures { IfOk result (HasStartRoom grid count) }
     {
@@ -44,7 +49,7 @@ impl Lost {
         })
     }
 
-    // The starts of the buckets that have a sample from one time to another, both included, in their order.
+    // The starts of the buckets with a sample from `from` to `to`, both inclusive, in ascending order.
     pub(crate) fn starts<L: Ledger>(
         mut self,
         source: &Series,
@@ -70,7 +75,7 @@ impl Visit for Lost {
 
     ghost room = { λ l. l.room };
 
-    // It takes no memory.
+    // Allocates nothing.
     fn sample(&mut self, sample: &Sample) {
         sample.known();
         let start = self.grid.start_of(sample.time);
@@ -84,7 +89,7 @@ impl Visit for Lost {
     ghost lowers = { lowered };
 }
 
-// Whether there is a start, and it is this one.
+// Whether there is a last start and it equals `start`.
 fn is_at(last: Option<u64>, start: u64) -> bool
     ensures { result ≡ is_last last start }
 {

@@ -1,4 +1,4 @@
-// A destination mended: rows take the place of what it shows.
+// Updates a destination: rows replace its samples.
 ghost use Rattle.std.specs.Prelude.{◌≡◌, ◌≤◌, ◌*◌, false, length};
 ghost use Rattle.std.specs.Option.{ForSome};
 ghost use Rattle.ts_spec.specs.Sample.{MAX_TIME, IsAscending, is_within};
@@ -10,13 +10,13 @@ ghost use Rattle.ts_rules.specs.Rules.{one_of};
 ghost use Rattle.ts_rules.specs.Plans.{IsMending};
 ghost use Rattle.ts_rules.specs.Shares.{IsPastAll};
 
-use crate::fault::RuleFault;
+use crate::plan::RuleFault;
 use std::sync::ledger::Ledger;
 use ts_sample::{Sample, Steps};
 use ts_series::{PutFault, Series, SeriesPlan};
 
-// With these rows in the place of what it shows from one time to another. Want of memory does not hide that the samples
-// would be too many.
+// Replaces the destination's samples from `from` to `to` with `rows`. Fails with `Full` if it then exceeds the limit,
+// even if memory runs out too.
 pub(crate) fn mended<L: Ledger>(
     dest: &Series,
     from: u64,
@@ -40,7 +40,7 @@ pub(crate) fn mended<L: Ledger>(
     }
 }
 
-// With this row at its time, if there is one.
+// Writes this row to the destination, if there is one.
 pub(crate) fn with_row<L: Ledger>(
     dest: &Series,
     row: Option<Sample>,

@@ -1,4 +1,4 @@
-// The public calls that plan a change of a source for a rule.
+// The public functions that plan a change of a source for a rule.
 ghost use Rattle.std.specs.Prelude.{◌≡◌, ◌≤◌, ◌+◌, None, length};
 ghost use Rattle.ts_spec.specs.Sample.{MAX_TIME, between};
 ghost use Rattle.ts_sample.specs.Steps.{Takes};
@@ -13,10 +13,9 @@ ghost use Rattle.ts_rules.specs.Shares.{write_share, deletion_share, IsEasyWrite
 
 use crate::count::ends_left;
 use crate::deletion::Deletion;
-use crate::fault::RuleFault;
 use crate::fullness::is_full;
 use crate::mending::with_row;
-use crate::plan::RulePlan;
+use crate::plan::{RuleFault, RulePlan};
 use crate::room::Room;
 use crate::rule::Rule;
 use crate::shared_bucket::SharedBucket;
@@ -26,9 +25,9 @@ use std::sync::ledger::Ledger;
 use ts_sample::{MAX_TIME, Sample, Steps};
 use ts_series::Series;
 
-/// Plans what a write to the source of a rule comes to for the rule and for its destination. The source is as it is
-/// before the write, and the destination shows at most `limit` samples, and after the plan too. Want of memory does not
-/// hide that these would be too many.
+/// Plans the effect of a write to the rule's source on the rule and its destination. `source` is still as it was
+/// before the write. The destination has at most `limit` samples, before and after. Fails with `Full` if it would
+/// have more, even if memory runs out too.
 pub fn plan_put<L: Ledger>(
     rule: &Rule,
     source: &Series,
@@ -47,8 +46,7 @@ pub fn plan_put<L: Ledger>(
     plan_put_shared(rule, source, wrote, dest, limit, &mut shared, steps)
 }
 
-/// Plans the same for one rule of the source after another: what those before counted of the source goes into it, and
-/// what this one counts goes on to the next.
+/// The same for several rules of one source in turn. `shared` passes the bucket that one rule counted on to the next.
 pub fn plan_put_shared<L: Ledger>(
     rule: &Rule,
     source: &Series,
@@ -71,9 +69,9 @@ pub fn plan_put_shared<L: Ledger>(
     Ok(RulePlan { rule, dest })
 }
 
-/// Plans what a deletion of the samples from one time to another, both included, on the source of a rule comes to
-/// for the rule and for its destination. The source is as it is before the deletion, and the destination shows at
-/// most `limit` samples, and after the plan too. Want of memory does not hide that these would be too many.
+/// Plans the effect of deleting the samples from `from` to `to`, both inclusive, on the rule and its destination.
+/// `source` is still as it was before the deletion. The destination has at most `limit` samples, before and after.
+/// Fails with `Full` if it would have more, even if memory runs out too.
 pub fn plan_delete<L: Ledger>(
     alloc: Global,
     rule: &Rule,
@@ -105,7 +103,7 @@ pub fn plan_delete<L: Ledger>(
     }
 }
 
-// The same, in the room that was taken for it.
+// The same with buffers that are already allocated.
 fn planned_in<L: Ledger>(
     room: Room,
     rule: &Rule,
@@ -145,7 +143,7 @@ fn planned_in<L: Ledger>(
     Ok(RulePlan { rule, dest })
 }
 
-// The plan that leaves a rule and its destination as they are.
+// The plan that changes neither the rule nor its destination.
 fn unchanged(rule: &Rule) -> RulePlan
     ensures rule { result.rule ≡ rule.now }
     ensures dest { result.dest ≡ None }

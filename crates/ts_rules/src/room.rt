@@ -1,4 +1,4 @@
-// The room that the plan of a deletion needs.
+// The buffers that planning a deletion needs.
 ghost use Rattle.std.specs.Prelude.{◌≡◌, ◌<◌, ◌≤◌, ◌+◌, ◌^◌, length, IfOk};
 ghost use Rattle.ts_spec.specs.Sample.{MAX_TIME, between};
 ghost use Rattle.ts_series.specs.History.{list_of};
@@ -11,20 +11,21 @@ use std::alloc::{AllocError, Global};
 use ts_sample::Gathered;
 use ts_series::Series;
 
-// All of it is taken before anything is decoded: past that, the plan of the destination alone may want memory.
+// All buffers, allocated before anything is decoded. After that only the plan of the destination can run out of
+// memory.
 #[derive(Drop)]
 pub(crate) struct Room {
-    // For the starts of the buckets that lose a sample.
+    // The starts of the buckets that lose a sample.
     pub(crate) lost: Lost,
-    // For what the destination shows from the first bucket to the last one.
+    // The destination's samples from the first bucket to the last one.
     pub(crate) shown: Gathered,
-    // For what stays of that, and a row at each end.
+    // The samples of these that stay, and a row at each end.
     pub(crate) rows: Gathered,
 }
 
 impl Room {
-    // For a deletion of the samples from one time to another, both included. Where the first bucket is not closed, the
-    // destination stays as it is, and no room is taken for what it shows.
+    // Buffers for a deletion from `from` to `to`, both inclusive. If the first bucket is not closed, the destination
+    // does not change and needs no buffer.
     pub(crate) fn new(
         alloc: Global,
         rule: &Rule,
@@ -49,7 +50,8 @@ impl Room {
     }
 }
 
-// At least as many samples as the destination shows from the first bucket to the last one, if the first is closed.
+// An upper bound of the number of the destination's samples from the first bucket to the last one, if the first is
+// closed.
 fn most_touched(rule: &Rule, from: u64, to: u64, dest: &Series) -> usize
     requires from { from ≤ MAX_TIME }
     requires to { to ≤ MAX_TIME }

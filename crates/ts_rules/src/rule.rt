@@ -1,33 +1,35 @@
-// What is kept of a rule.
+// A compaction rule, its open bucket, and the rows of its buckets.
 ghost use Rattle.std.specs.Prelude.{◌≡◌, ◌≤◌};
 ghost use Rattle.std.specs.Option.{ForSome};
-ghost use Rattle.ts_spec.specs.Sample.{MAX_TIME};
+ghost use Rattle.ts_spec.specs.Sample.{MAX_TIME, first_of};
 ghost use Rattle.ts_spec.specs.Rules.{is_past};
+ghost use Rattle.ts_spec.specs.Mending.{bucket_row};
+ghost use Rattle.ts_rules.specs.Rules.{IsOpenAt, open_row, one_of};
 
 use ts_agg::Running;
 use ts_bucket::Grid;
-use ts_sample::Id;
+use ts_sample::{Id, Sample};
 use ts_spec::Aggregator;
 
-/// A rule of a series, its source: each bucket of the source's samples gives one sample to another series, its
-/// destination, once the bucket is closed.
+/// A compaction rule of a source series. Once a bucket of the source's samples is closed, the rule writes its
+/// aggregate to the destination series as one sample.
 #[derive(Clone, Copy, Debug, PartialEq, Eq)]
 pub struct Rule {
     /// The destination.
     pub dest: Id,
     pub agg: Aggregator,
     pub grid: Grid,
-    /// How many rules the source had ever had once this one was made: it counts the samples written since.
+    /// The source's rule count once this rule was created. The rule counts the samples written since then.
     pub made: u32,
-    /// The start of its open bucket, in milliseconds. The buckets before that are closed.
+    /// The start of the open bucket, in milliseconds. All buckets before it are closed.
     pub current: Option<u64>,
-    /// What it counts in its open bucket.
+    /// The running aggregate of the open bucket.
     pub running: Running,
     pub ghost in_time: { ForSome current (λ t. t ≤ MAX_TIME) },
 }
 
 impl Rule {
-    // Whether the bucket that starts there is before the open one.
+    // Whether the bucket that starts at `start` is before the open one.
     pub(crate) fn is_closed(&self, start: u64) -> bool
         ensures { result ≡ is_past self.now.current start }
     {
@@ -38,7 +40,7 @@ impl Rule {
     }
 }
 
-// A rule is these fields and no others: a further one, such as a copy of its samples, does not compile here.
+// Fails to compile if a field is added, such as a second copy of the samples.
 fn fields(it: &Rule) {
     let Rule {
         dest: _,
@@ -48,4 +50,40 @@ fn fields(it: &Rule) {
         current: _,
         running: _,
     } = it;
+}
+
+/// The row that the destination would get for the open bucket, or `None` if the bucket is empty. `born` is the
+/// destination's rule count. Allocates nothing.
+pub fn latest(rule: &Rule, born: u32) -> Option<Sample>
+    ensures { result ≡ first_of (open_row born rule.now) }
+{
+    row(rule.agg, born, rule.current?, &rule.running)
+}
+
+// The row of the bucket that starts at `start`, or `None` if the bucket is empty.
+pub(crate) fn row(agg: Aggregator, born: u32, start: u64, running: &Running) -> Option<Sample>
+    requires { start ≤ MAX_TIME }
+    ensures { one_of result ≡ bucket_row agg born start running.now }
+{
+    let value = running.result(agg)?;
+    Some(Sample {
+        time: start,
+        value,
+        made: born,
+    })
+}
+
+// The rule with another open bucket.
+pub(crate) fn opened(rule: &Rule, current: Option<u64>, running: Running) -> Rule
+    requires { ForSome current (λ t. t ≤ MAX_TIME) }
+    ensures { IsOpenAt current running rule.now result }
+{
+    Rule {
+        dest: rule.dest,
+        agg: rule.agg,
+        grid: rule.grid,
+        made: rule.made,
+        current,
+        running,
+    }
 }

@@ -1,4 +1,4 @@
-// What the rules of a source share while one write to it is planned.
+// What the rules of a source share while one write is planned.
 ghost use Rattle.std.specs.Prelude.{◌≡◌, ◌≤◌, List};
 ghost use Rattle.std.specs.Option.{ForSome};
 ghost use Rattle.ts_spec.specs.Sample.{Point, put};
@@ -7,14 +7,14 @@ ghost use Rattle.ts_rules.specs.SharedBucket.{counted_between, IsShared};
 use std::marker::Model;
 use ts_agg::Running;
 
-/// The bucket of a written sample that was counted last. Another rule with the same bucket, which counts all that is in it,
-/// takes what it counts from here.
+/// The bucket of a written sample as the last rule counted it. A later rule with the same bucket that counts all its
+/// samples reuses the count.
 #[derive(Clone, Copy, Debug)]
 pub struct SharedBucket {
     first: u64,
     last: u64,
     running: Running,
-    // No sample of it was made at fewer rules.
+    // The smallest rule count at which any of its samples was written.
     least: u32,
 }
 
@@ -29,7 +29,7 @@ impl Model for SharedBucket {
 }
 
 impl SharedBucket {
-    /// Of no bucket yet: none ends before it begins.
+    /// No bucket yet: an interval that contains no time.
     pub fn new() -> SharedBucket
         ensures { (ps : List Point) (p : Point) → IsShared ps p result }
     {
@@ -41,7 +41,8 @@ impl SharedBucket {
         }
     }
 
-    // What a rule counts from one time to another, if that is known here. It was made at this number of rules.
+    // The count of the samples from `first` to `last`, if it is known here and holds for a rule created at rule count
+    // `made`.
     pub(crate) fn find(&self, first: u64, last: u64, made: u32) -> Option<Running>
         ensures { (ps : List Point) (p : Point) → IsShared ps p self.now
             → ForSome result (λ s. s ≡ counted_between made first last (put p ps)) }
@@ -58,8 +59,8 @@ impl SharedBucket {
         Some(self.running)
     }
 
-    // Takes in what a rule counted from one time to another, if it counts all that is there: it was made at this number of
-    // rules, and none of the samples at a smaller number than the least.
+    // Stores what a rule counted from `first` to `last`, if it counted all samples there: the rule was created at
+    // rule count `made`, and no sample was written before rule count `least`.
     pub(crate) fn keep(&mut self, first: u64, last: u64, running: Running, least: u32, made: u32)
         ensures { (ps : List Point) (p : Point) → IsShared ps p self.old
             → (made ≤ least → IsShared ps p (record { first = first; last = last; running = running; least = least }))

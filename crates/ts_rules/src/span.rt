@@ -1,4 +1,4 @@
-// What a deletion on a source leaves of its rule's destination, from the first bucket that it may touch to the last.
+// The destination after a deletion on the source, from the first affected bucket to the last.
 ghost use Rattle.std.specs.Prelude.{◌≡◌, ◌≤◌, ◌+◌, ◌*◌, ◌++◌, not, length};
 ghost use Rattle.ts_spec.specs.Sample.{MAX_TIME, at_times, between};
 ghost use Rattle.ts_spec.specs.Bucket.{start as start_of};
@@ -10,14 +10,14 @@ ghost use Rattle.ts_rules.specs.Deletions.{is_lost, rows_left, span_left};
 ghost use Rattle.ts_rules.specs.Room.{HasRoom, count_touched};
 
 use crate::deletion::Deletion;
-use crate::fault::RuleFault;
 use crate::mending::mended;
+use crate::plan::RuleFault;
 use std::sync::ledger::Ledger;
 use ts_sample::{Gathered, Sample, Steps, Visit};
 use ts_series::{Series, SeriesPlan};
 
 impl Deletion<'_> {
-    // The destination after it: the buckets that lost a sample are told anew, where some is left, and else gone.
+    // Plans the destination after the deletion. Buckets that lost a sample get a new row, or none if they are empty.
     pub(crate) fn dest_left<L: Ledger>(
         &self,
         shown: Gathered,
@@ -45,8 +45,8 @@ impl Deletion<'_> {
         mended(dest, first, last, &rows, limit, steps)
     }
 
-    // What the destination shows after it from one start to another: the rows of these two buckets, where they lost
-    // a sample, and between them what stays.
+    // The destination's samples from `first` to `last` after the deletion: the rows of these two buckets if they lost
+    // a sample, and between them the samples that stay.
     fn span_left<L: Ledger>(
         &self,
         mut shown: Gathered,
@@ -73,7 +73,7 @@ impl Deletion<'_> {
         rows.into_samples()
     }
 
-    // Adds the samples that do not stand for a bucket that loses one.
+    // Appends the samples whose buckets lose nothing.
     fn push_stays(&self, rows: &mut Gathered, shown: &[Sample])
         requires { length shown.now ≤ rows.old.room }
         ensures list { rows.new.list ≡ rows.old.list
@@ -88,7 +88,7 @@ impl Deletion<'_> {
     }
 }
 
-// Adds a row, if there is one.
+// Appends a row, if there is one.
 fn push_row(rows: &mut Gathered, row: Option<Sample>)
     requires { 1 ≤ rows.old.room }
     ensures list { rows.new.list ≡ rows.old.list ++ one_of row }

@@ -1,4 +1,4 @@
-// What a write to a source comes to for a rule of it.
+// The effect of a write to a source on one of its rules.
 ghost use Rattle.std.specs.Prelude.{◌≡◌, ◌^◌, ◌<◌, true, [], if◌then◌else◌};
 ghost use Rattle.ts_spec.specs.Sample.{put};
 ghost use Rattle.ts_spec.specs.Bucket.{start as start_of};
@@ -13,16 +13,15 @@ ghost use Rattle.ts_rules.specs.SharedBucket.{IsShared};
 ghost use Rattle.ts_rules.specs.Writes.{rule_after, row_for_dest};
 
 use crate::count::count_written;
-use crate::open_bucket::{latest, opened, row};
-use crate::rule::Rule;
+use crate::rule::{Rule, latest, opened, row};
 use crate::shared_bucket::SharedBucket;
 use std::sync::ledger::Ledger;
 use ts_agg::Running;
 use ts_sample::{Sample, Steps};
 use ts_series::Series;
 
-// The rule after a write, and the row that its destination is told of a closed bucket, if it is told one: that of
-// the sample's own bucket, or that of the open one where the sample is past it. `born` is the destination's.
+// The rule after a write, and the row that its destination gets: that of the sample's own bucket if it is closed, or
+// that of the open bucket if the sample closes it. `born` is the destination's rule count.
 pub(crate) fn written<L: Ledger>(
     rule: &Rule,
     source: &Series,
@@ -55,7 +54,7 @@ pub(crate) fn written<L: Ledger>(
     (opened(rule, Some(open), running), None)
 }
 
-// The open bucket after a write to it: an appended sample is pushed, and after another one the bucket is told anew.
+// The open bucket after a write to it. An appended sample is added; any other write recounts the bucket.
 fn grown<L: Ledger>(
     rule: &Rule,
     source: &Series,
@@ -78,7 +77,7 @@ fn grown<L: Ledger>(
     }
 }
 
-// Whether a time is past the highest so far.
+// Whether a time is after the highest one so far.
 fn is_past(time: u64, high: Option<u64>) -> bool
     ensures { result ≡ is_append time high }
 {
@@ -88,14 +87,14 @@ fn is_past(time: u64, high: Option<u64>) -> bool
     }
 }
 
-// A bucket of this sample alone.
+// A bucket with only this sample.
 fn of_one(sample: &Sample) -> Running
     ensures { result ≡ push nothing sample.now }
 {
     pushed(Running::new(), sample)
 }
 
-// A bucket with one sample more.
+// A bucket with one more sample.
 fn pushed(mut running: Running, sample: &Sample) -> Running
     requires { running.count < 10 ^ 14 }
     ensures { result ≡ push running sample.now }

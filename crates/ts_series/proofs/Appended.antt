@@ -1,4 +1,4 @@
--- Chunks whose last one takes a sample.
+-- Chunks after a sample is appended to the last one.
 use Rattle.std.proofs.Common.{◌≡◌, ◌≢◌, ℕ, zero, suc, ◌+◌, if◌then◌else◌, Bool, true, false, List, [], ◌∷◌, ◌++◌, length, get_or, map, refl, sym, ◌∙◌, ap, subst, arith, append_assoc, append-nil, length-append}
 use Rattle.std.specs.Prelude.{nat_le, slice_set, Option, None, Some}
 use Rattle.std.proofs.lemmas.Bool.Decides.{nat_tests}

@@ -1,4 +1,4 @@
--- A write that goes into the room of the last chunk, and its plan.
+-- A write that appends to the last chunk, and its plan.
 use Rattle.std.proofs.Common.{◌≡◌, ℕ, ◌<◌, ◌≤◌, List, length, refl, sym, ◌∙◌, subst, arith, ltb-false}
 use Rattle.std.specs.Prelude.{None, Some, Ok}
 use Rattle.ts_spec.specs.declared.series.Encoding.{Encoding}

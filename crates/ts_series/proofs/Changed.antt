@@ -1,4 +1,4 @@
--- What becomes of chunks when new ones take the place of others, and how many samples they can have.
+-- The chunks after a replacement, and how many samples they can hold.
 use Rattle.std.proofs.Common.{◌≡◌, ℕ, ◌+◌, ◌-◌, ◌^◌, ◌≤◌, List, [], ◌∷◌, ◌++◌, length, take, drop, map, sym, ◌∙◌, ap, subst, arith, append_assoc, length-append}
 use Rattle.std.specs.Prelude.{slice_range}
 use Rattle.std.proofs.lemmas.List.{map-append, take-map, drop-map, take_at, drop_at}

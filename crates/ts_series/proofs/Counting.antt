@@ -1,4 +1,4 @@
--- How many samples a list has once one is put in.
+-- The number of samples in a list after an insertion.
 use Rattle.std.proofs.Common.{◌≡◌, ℕ, suc, ◌+◌, ◌<◌, ◌≤◌, Bool, true, false, cond, List, [], ◌∷◌, ◌++◌, length, refl, sym, ◌∙◌, ap, subst, arith, length-append}
 use Rattle.std.specs.Prelude.{nat_lt, nat_le, if◌then◌else◌, Option, None, Some, not}
 use Rattle.std.proofs.lemmas.Bool.{cases_order}

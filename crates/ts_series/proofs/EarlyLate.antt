@@ -1,4 +1,4 @@
--- Lists of samples before a time, and past it.
+-- The samples of a list before a time and after it.
 use Rattle.std.proofs.Common.{◌≡◌, ◌≢◌, ℕ, zero, suc, drop, ◌<◌, ◌≤◌, Bool, true, false, cond, List, [], ◌∷◌, ◌++◌, refl, sym, ◌∙◌, ap, arith, ltb-false, ltb-true, lt-ltb, leb-false, leb-true, le-leb}
 use Rattle.std.specs.Prelude.{nat_lt, nat_le, Option, None, Some}
 use Rattle.std.proofs.lemmas.Bool.{false≢true}

@@ -1,4 +1,4 @@
--- Questions on the samples from an edge on, answered from all samples.
+-- Queries on the samples within retention, answered from all samples.
 use Rattle.std.proofs.Common.{◌≡◌, ℕ, ◌+◌, ◌<◌, ◌≤◌, false, ◌&&◌, List, length, sym, ◌∙◌, ap, arith, le-leb}
 use Rattle.std.specs.Prelude.{nat_lt, nat_le, max, not, if◌then◌else◌, Option, None, Some}
 use Rattle.std.proofs.lemmas.Bool.Decides.{nat_tests}

@@ -1,4 +1,4 @@
--- The samples of a series from its edge on, once a change is made and the edge rises.
+-- A series' samples within retention, after a change that raises the retention edge.
 use Rattle.std.proofs.Common.{◌≡◌, ℕ, ◌≤◌, Bool, true, false, not, List, refl, sym, ◌∙◌, ap, arith}
 use Rattle.std.specs.Prelude.{nat_le, if◌then◌else◌, Option, None, Some}
 use Rattle.std.specs.Option.{option_or}
@@ -6,7 +6,7 @@ use Rattle.std.proofs.lemmas.Bool.Decides.{nat_tests}
 use Rattle.ts_spec.specs.Sample.{Point, IsAscending, is_within, at, at_times, put_all}
 use Rattle.ts_spec.proofs.Samples.{at-times, at-put_all, ascending-times, ascending-put_all, ascending-same}
 use Rattle.ts_spec.proofs.Sound.{IsPart}
-use Rattle.ts_series.specs.declared.edit.Interval.{Interval}
+use Rattle.ts_series.specs.declared.line_plan.Interval.{Interval}
 use Rattle.ts_series.specs.Plan.{without_cut}
 use Rattle.ts_series.proofs.Cutting.{part-cut}
 

@@ -1,4 +1,4 @@
--- What a plan of a deletion, or of new options, is.
+-- The plans of a deletion and of new options.
 use Rattle.std.proofs.Common.{◌≡◌, ℕ}
 use Rattle.ts_spec.specs.declared.series.Options.{Options}
 use Rattle.ts_series.specs.Plan.{Plan, Cuts, Alters, cuts, alters, with_change}

@@ -1,4 +1,4 @@
--- Chunks whose samples are all before an edge.
+-- Chunks whose samples are all before the retention edge.
 use Rattle.std.proofs.Common.{◌≡◌, ◌≢◌, ℕ, ◌-◌, ◌<◌, ◌≤◌, Bool, true, false, cond, List, [], ◌∷◌, ◌++◌, length, get_or, drop, map, refl, sym, ◌∙◌, ap, subst, arith, length-append}
 use Rattle.std.specs.Prelude.{nat_le, None, Some}
 use Rattle.std.proofs.lemmas.Bool.Decides.{nat_tests}

@@ -1,4 +1,4 @@
--- Whether a series has a sample in an interval, by its first sample from a time on.
+-- Whether a series has a sample in an interval, from the first sample at or after a time.
 use Rattle.std.proofs.Common.{◌≡◌, ℕ, ◌<◌, ◌≤◌, Bool, true, false, cond, ◌&&◌, List, [], ◌∷◌, length, refl, sym, ◌∙◌, ap, arith, lt-ltb}
 use Rattle.std.specs.Prelude.{nat_lt, nat_le, max, Option, None, Some}
 use Rattle.std.proofs.lemmas.Bool.Decides.{nat_tests}

@@ -1,4 +1,4 @@
--- Items in the place of others in a list, where only those past the last common place move.
+-- Replacing items of a list so that only those after the last common index move.
 use Rattle.std.proofs.Common.{◌≡◌, ℕ, ◌+◌, ◌-◌, ◌≤◌, List, ◌++◌, length, take, drop, sym, ◌∙◌, ap, arith, append_assoc}
 use Rattle.std.specs.Prelude.{Option, None, Some, IsSome, OnSome}
 use Rattle.std.proofs.lemmas.List.{take_at, drop_at, take-append-le, take-append-drop, drop-append-le, length-take}

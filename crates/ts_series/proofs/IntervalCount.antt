@@ -1,4 +1,4 @@
--- How many samples an interval has, by how many are before its first time, and up to its last one.
+-- The number of samples in an interval, from the numbers before its start and up to its end.
 use Rattle.std.proofs.Common.{◌≡◌, ◌⊎◌, inl, inr, ℕ, ◌+◌, ◌-◌, ◌<◌, ◌≤◌, List, [], ◌∷◌, length, arith}
 use Rattle.std.specs.Prelude.{nat_lt, min}
 use Rattle.std.proofs.lemmas.Bool.Decides.{nat_tests}

@@ -1,4 +1,4 @@
--- Lists that are joined, and the one at a place among them.
+-- Concatenated lists, and the list at an index among them.
 use Rattle.std.proofs.Common.{◌≡◌, ◌≢◌, ℕ, zero, suc, ◌<◌, ◌≤◌, List, [], ◌∷◌, ◌++◌, length, get_or, take, drop, map, refl, sym, ◌∙◌, ap, subst, arith, append_assoc}
 use Rattle.ts_spec.specs.Sample.{Point, IsAfter, IsAscending}
 use Rattle.ts_sample.specs.Chunk.{IsChunk, joined}

@@ -1,4 +1,4 @@
--- That a series stays in order.
+-- A series stays in order.
 use Rattle.std.proofs.Common.{◌≡◌, ℕ, ◌+◌, ◌≤◌, Bool, true, false, cond, ◌==◌, length, List, [], ◌∷◌, refl, sym, ◌∙◌, ap, subst, arith}
 use Rattle.std.specs.Prelude.{nat_le, Option, None, Some}
 use Rattle.std.specs.Option.{option_or}

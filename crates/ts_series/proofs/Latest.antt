@@ -1,4 +1,4 @@
--- No sample of an ascending list is later than its last one.
+-- No sample of an ascending list is later than the last one.
 use Rattle.std.proofs.Common.{◌≡◌, ℕ, ◌≤◌, ◌<◌, Bool, true, false, ◌==◌, if◌then◌else◌, List, [], ◌∷◌, None, Some, refl, subst, arith}
 use Rattle.ts_spec.specs.Sample.{Point, IsAscending, at, last_of, later_or}
 use Rattle.ts_spec.specs.Valid.{Every}

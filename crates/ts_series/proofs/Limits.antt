@@ -1,4 +1,4 @@
--- The limits of the chunks after a change, and the samples that such chunks can have.
+-- The limits of the chunks after a change, and how many samples such chunks can hold.
 use Rattle.std.proofs.Common.{◌≡◌, inl, inr, ℕ, zero, suc, ◌-◌, ◌≤◌, List, [], ◌∷◌, ◌++◌, take, drop, refl, sym, ap, subst, arith}
 use Rattle.std.specs.Prelude.{max, slice_range}
 use Rattle.ts_series.specs.Stored.{Change, IsAmong, AreAmong, HasLimits, greatest, limits_after}

@@ -1,4 +1,4 @@
--- Where the times of an interval stand among chunks.
+-- Where the times of an interval are among the chunks.
 use Rattle.std.proofs.Common.{◌≡◌, ◌≢◌, ◌⊎◌, inl, inr, ℕ, zero, suc, ◌<◌, ◌≤◌, Bool, true, false, List, [], ◌∷◌, ◌++◌, length, get_or, take, drop, map, refl, sym, ◌∙◌, ap, subst, arith, append-nil}
 use Rattle.std.specs.Prelude.{nat_le, not, max, Option, Some}
 use Rattle.std.specs.List.Sorted.{IsPartitionPoint, IsPartitionedBy}

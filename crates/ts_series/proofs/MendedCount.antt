@@ -1,4 +1,4 @@
--- How many samples a series has once rows stand in the place of those of an interval.
+-- The number of samples after rows replace those of an interval.
 use Rattle.std.proofs.Common.{◌≡◌, ℕ, ◌+◌, ◌-◌, ◌^◌, ◌<◌, ◌≤◌, Bool, not, ◌&&◌, List, [], ◌∷◌, length, drop, refl, sym, ◌∙◌, ap, subst, arith, length-drop}
 use Rattle.std.specs.Prelude.{nat_lt, nat_le, min, Option, None, Some}
 use Rattle.std.proofs.lemmas.Bool.Decides.{nat_tests}

@@ -1,4 +1,4 @@
--- The rows of an interval in the place of its samples, among chunks.
+-- Replacing an interval's samples with rows, in chunks.
 use Rattle.std.proofs.Common.{◌≡◌, ℕ, ◌+◌, ◌-◌, ◌<◌, ◌≤◌, Bool, true, false, not, ◌&&◌, cond, List, [], ◌∷◌, ◌++◌, length, get_or, take, drop, refl, sym, ◌∙◌, ap, subst, arith, append_assoc, append-nil}
 use Rattle.std.specs.Prelude.{nat_lt, nat_le, min, slice_range}
 use Rattle.std.proofs.Math.Seq.{drop-length}

@@ -1,4 +1,4 @@
--- Rows that take the place of the samples of an interval.
+-- Rows that replace the samples of an interval.
 use Rattle.std.proofs.Common.{◌≡◌, ℕ, ◌+◌, ◌<◌, ◌≤◌, Bool, false, List, [], ◌∷◌, length, sym, ◌∙◌, ap, subst, arith}
 use Rattle.std.specs.Prelude.{max, not, if◌then◌else◌, Option, None, Some}
 use Rattle.std.specs.Option.{option_or}

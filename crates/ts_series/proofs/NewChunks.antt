@@ -1,4 +1,4 @@
--- Chunks made anew of what a chunk is cut into.
+-- The new chunks that a chunk is split into.
 use Rattle.std.proofs.Common.{◌≡◌, ◌≢◌, inl, inr, ℕ, zero, suc, ◌+◌, ◌-◌, ◌<◌, ◌≤◌, List, [], ◌∷◌, ◌++◌, length, get_or, take, drop, map, refl, sym, ap, subst, arith, length-append}
 use Rattle.std.specs.Prelude.{max, slice_range}
 use Rattle.std.specs.List.{All}

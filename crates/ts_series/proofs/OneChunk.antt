@@ -1,4 +1,4 @@
--- What is found in one chunk, and the ends of what a visitor takes.
+-- Queries on a single chunk: its first, last and counted samples.
 use Rattle.std.proofs.Common.{◌≡◌, ◌≢◌, ◌⊎◌, inl, inr, ℕ, ◌+◌, ◌-◌, ◌*◌, ◌<◌, ◌≤◌, true, false, cond, List, [], ◌∷◌, length, refl, sym, ◌∙◌, ap, subst, arith, le-leb, le-ltb, eq-eqb, ne_eqb}
 use Rattle.std.specs.Prelude.{nat_lt, nat_le, if◌then◌else◌, Option, None, Some}
 use Rattle.std.specs.Option.{option_or}
@@ -9,7 +9,7 @@ use Rattle.ts_sample.specs.Chunk.{IsChunk, AreFine}
 use Rattle.ts_sample.specs.Visit.{visited}
 use Rattle.ts_sample.proofs.Parted.{filter_alike}
 use Rattle.ts_sample.proofs.Replacing.{none-before}
-use Rattle.ts_series.specs.declared.ends.Ends.{Ends}
+use Rattle.ts_series.specs.declared.chunk_questions.Ends.{Ends}
 use Rattle.ts_series.proofs.Counting.{times-length}
 use Rattle.ts_series.proofs.EarlyLate.{after-less}
 

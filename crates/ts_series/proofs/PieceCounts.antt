@@ -1,4 +1,4 @@
--- Pieces at a place and between places, and how many samples they have.
+-- The pieces at an index and between two indexes, and how many samples they have.
 use Rattle.std.proofs.Common.{◌≡◌, ℕ, refl, append-nil, zero, suc, ◌+◌, ◌-◌, ◌<◌, ◌≤◌, List, [], ◌∷◌, ◌++◌, length, get_or, take, drop, map, sym, ◌∙◌, ap, arith, append_assoc, length-append}
 use Rattle.std.specs.Prelude.{slice_range}
 use Rattle.std.proofs.lemmas.List.{take-take, drop-take, length-map}

@@ -1,4 +1,4 @@
--- Changes of chunks that are planned.
+-- Planned changes of chunks.
 use Rattle.std.proofs.Common.{◌≡◌, ℕ, zero, suc, ◌-◌, ◌<◌, ◌≤◌, true, List, [], ◌∷◌, ◌++◌, length, get_or, take, drop, map, sym, ◌∙◌, ap, subst, arith, append_assoc, append-nil, leb-true}
 use Rattle.std.specs.Prelude.{nat_le, not, slice_range, Option, None, Some}
 use Rattle.std.proofs.Math.Seq.{drop-length}

@@ -1,4 +1,4 @@
--- A sample that is put between earlier and later ones, into the piece that has its time.
+-- Inserting a sample between earlier and later ones, in the piece that covers its time.
 use Rattle.std.proofs.Common.{◌≡◌, ◌≢◌, ◌⊎◌, inl, inr, ℕ, suc, ◌<◌, ◌≤◌, Bool, true, false, cond, List, [], ◌∷◌, ◌++◌, length, get_or, take, drop, refl, sym, ◌∙◌, ap, arith, append_assoc, append-nil, leb-false}
 use Rattle.std.specs.Prelude.{nat_lt, nat_le}
 use Rattle.std.proofs.Math.Seq.{take-length}

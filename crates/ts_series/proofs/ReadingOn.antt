@@ -1,4 +1,4 @@
--- Reading on over pieces, from one sample to the next.
+-- Reading pieces sample by sample.
 use Rattle.std.proofs.Common.{◌≡◌, ◌⊎◌, inl, inr, ℕ, zero, suc, ◌+◌, ◌<◌, ◌≤◌, true, false, cond, List, [], ◌∷◌, ◌++◌, length, get_or, take, drop, refl, sym, ◌∙◌, ap, arith}
 use Rattle.std.specs.Prelude.{◌≢◌, nat_le, is_some}
 use Rattle.std.proofs.Math.ListN.{drop_of_length-le}

@@ -1,4 +1,4 @@
--- Changes that are ready, and the plans that they make.
+-- Changes that are ready to be carried out, and their plans.
 use Rattle.std.proofs.Common.{◌≡◌, ℕ, ◌+◌, ◌≤◌, List, [], ◌∷◌, ◌++◌, length, take, drop, sym, ◌∙◌, ap, subst, arith, length-append, length-take, length-drop}
 use Rattle.std.specs.Prelude.{nat_le, Option, None}
 use Rattle.std.specs.Option.{unwrap_or}

@@ -1,4 +1,5 @@
--- A time past the last sample that a series shows is past that of its chunks, and where it shows few, these have few.
+-- A time after the last visible sample is after that of the chunks, and a series with few visible samples has few in
+-- its chunks.
 use Rattle.std.proofs.Common.{List, ℕ, ◌+◌, ◌≤◌, ◌<◌, length, sym, ◌∙◌, ap, subst, arith}
 use Rattle.std.specs.Prelude.{Option}
 use Rattle.ts_spec.specs.Sample.{Point, last_of}

@@ -1,4 +1,4 @@
--- Where pieces are parted at a time.
+-- Splitting pieces at a time.
 use Rattle.std.proofs.Common.{◌≡◌, ◌⊎◌, inl, inr, ℕ, zero, suc, ◌+◌, ◌≤◌, Bool, false, List, [], ◌∷◌, ◌++◌, length, get_or, take, drop, refl, sym, ◌∙◌, ap, subst, arith, append-nil, length-append, le-ltb}
 use Rattle.std.specs.Prelude.{nat_lt, nat_le, Some}
 use Rattle.std.proofs.lemmas.Bool.Decides.{nat_tests}

@@ -1,4 +1,4 @@
--- Near each interval there are seams.
+-- There are seams near each interval.
 use Rattle.std.proofs.Common.{◌≡◌, ◌≢◌, ◌⊎◌, inl, inr, ℕ, zero, suc, ◌+◌, ◌*◌, ◌<◌, ◌≤◌, List, [], ◌∷◌, length, take, drop, refl, ap, subst, arith}
 use Rattle.std.specs.Prelude.{nat_le, max, Option}
 use Rattle.std.proofs.lemmas.Bool.Decides.{nat_tests}

@@ -1,4 +1,4 @@
--- What is left of a series from an edge on, once samples are taken out of its chunks.
+-- The samples within retention after samples are deleted from the chunks.
 use Rattle.std.proofs.Common.{◌≡◌, ℕ, ◌-◌, ◌<◌, ◌≤◌, not, ◌&&◌, List, sym, ◌∙◌, arith}
 use Rattle.std.specs.Prelude.{nat_le, max}
 use Rattle.std.proofs.lemmas.Bool.Decides.{nat_tests}

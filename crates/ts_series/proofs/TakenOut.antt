@@ -1,4 +1,4 @@
--- An interval that is taken out of pieces.
+-- Deleting an interval from pieces.
 use Rattle.std.proofs.Common.{◌*◌, ◌⊎◌, inl, inr, length-append, ◌≡◌, ℕ, zero, suc, ◌+◌, ◌-◌, ◌<◌, ◌≤◌, Bool, true, false, cond, List, [], ◌∷◌, ◌++◌, length, get_or, take, drop, refl, sym, ◌∙◌, ap, arith, append-nil}
 use Rattle.std.specs.Prelude.{not, slice_range}
 use Rattle.std.proofs.Math.Seq.{drop-cons}

@@ -1,4 +1,4 @@
--- The samples of pieces from a time up to the last one of a piece.
+-- The samples of pieces from a time to the last one of a piece.
 use Rattle.std.proofs.Common.{◌≡◌, ◌⊎◌, inl, inr, ℕ, zero, suc, ◌-◌, ◌+◌, ◌<◌, ◌≤◌, Bool, false, List, [], ◌∷◌, ◌++◌, length, get_or, take, drop, refl, sym, ◌∙◌, ap, arith, length-append, ltb-false, lt-ltb}
 use Rattle.std.specs.Prelude.{nat_lt, nat_le, min, Some}
 use Rattle.std.proofs.lemmas.Bool.Decides.{nat_tests}

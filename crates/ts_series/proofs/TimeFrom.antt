@@ -1,4 +1,4 @@
--- The samples of pieces from the first one of a piece up to a time.
+-- The samples of pieces from the first one of a piece to a time.
 use Rattle.std.proofs.Common.{◌≡◌, ◌⊎◌, inl, inr, ℕ, zero, suc, ◌+◌, ◌<◌, ◌≤◌, subst, Bool, true, false, cond, List, [], ◌∷◌, ◌++◌, length, get_or, take, drop, refl, sym, ◌∙◌, ap, arith, length-append, ltb-false}
 use Rattle.std.specs.Prelude.{nat_lt, nat_le, max, Some}
 use Rattle.std.proofs.lemmas.Bool.Decides.{nat_tests}

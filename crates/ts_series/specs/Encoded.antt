@@ -1,4 +1,4 @@
--- A series, and a plan, of either encoding.
+-- A series and a plan of either encoding.
 use Rattle.std.specs.Prelude.{◌≡◌}
 use Rattle.ts_spec.specs.declared.series.Encoding.TheVariants.{Compressed, Uncompressed}
 use Rattle.ts_series.specs.declared.series.Lines.{Lines}
@@ -8,22 +8,22 @@ use Rattle.ts_series.specs.declared.plan.Plans.TheVariants as plans
 use Rattle.ts_series.specs.History.{History}
 use Rattle.ts_series.specs.Plan.{Plan}
 
--- what a caller sees of the series
+-- the series as callers see it
 abbrev pub history_in : Lines → History
 history_in (Plain h) = h
 history_in (Packed h) = h
 
--- its encoding is that of its chunks
+-- the encoding option matches the kind of chunk
 abbrev pub HasEncoding : Lines → Type 0
 HasEncoding (Plain h) = h.options.encoding ≡ Uncompressed
 HasEncoding (Packed h) = h.options.encoding ≡ Compressed
 
--- what a caller sees of the plan
+-- the plan as callers see it
 abbrev pub plan_in : Plans → Plan
 plan_in (plans.Plain p) = p
 plan_in (plans.Packed p) = p
 
--- the encoding that it is for is that of its chunks
+-- the plan's encoding matches the kind of chunk
 abbrev pub PlanHasEncoding : Plans → Type 0
 PlanHasEncoding (plans.Plain p) = p.encoding ≡ Uncompressed
 PlanHasEncoding (plans.Packed p) = p.encoding ≡ Compressed

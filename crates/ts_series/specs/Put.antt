@@ -1,4 +1,4 @@
--- What a write to a series comes to.
+-- The result of a write to a series.
 use Rattle.std.specs.Prelude.{◌≡◌, ℕ, ℤ, ◌<◌, ◌≤◌, nat_lt, if◌then◌else◌, List, [], ◌∷◌, length, Option, None, Some, Result, Ok, Err}
 use Rattle.ts_spec.specs.declared.series.Encoding.{Encoding}
 use Rattle.ts_spec.specs.declared.series.Merge.{Merge}
@@ -13,11 +13,11 @@ use Rattle.ts_series.specs.History.{History, list_of, low}
 use Rattle.ts_series.specs.Stored.{no_change}
 use Rattle.ts_series.specs.Plan.{Plan, after, writes_one}
 
--- whether a write is refused, keeps what is there, or writes a value
+-- whether a write is refused, leaves the old value or writes one
 abbrev pub met : Merge → (time : ℕ) → (value : ℤ) → History → Merged
 met how t v h = if nat_lt t (low h) then Refuse refusal.TooOld else merge how (value_at t (list_of h)) v
 
--- the refusal that a fault stands for
+-- the refusal that a fault reports
 abbrev pub refusal_of : PutFault → Option Refusal
 refusal_of TooOld = Some refusal.TooOld
 refusal_of Duplicate = Some refusal.Duplicate
@@ -26,42 +26,42 @@ refusal_of Full = Some refusal.SamplesFull
 refusal_of (Unwritten p) = None
 refusal_of (Memory e) = None
 
--- the sample for which there was no memory, if that is why
+-- the sample that failed for lack of memory, if that is the fault
 abbrev pub unwritten_of : PutFault → Option Point
 unwritten_of (Unwritten p) = Some p
 unwritten_of fault = None
 
--- the sample of a write to a series
+-- the sample that a write adds
 abbrev pub sample_of : (time : ℕ) → (value : ℤ) → History → Point
 sample_of t v h = record { time = t; value = v; made = h.born }
 
--- a plan that changes nothing of a series with this encoding
+-- a plan that changes nothing
 abbrev pub nothing_in : Encoding → Plan
 nothing_in encoding = record { cut = None; removed = 0; encoding = encoding; wrote = []; options = None; change = no_change; room = None }
 
--- a plan that writes this sample, and changes nothing else
+-- the plan only writes this sample
 pub record Writes (p : Point) (plan : Plan) : Type 0 where
   pub cut : plan.cut ≡ None
   pub removed : plan.removed ≡ 0
   pub wrote : plan.wrote ≡ p ∷ []
   pub options : plan.options ≡ None
 
--- the list of a series after this write
+-- the samples after this write
 abbrev pub list_after : Point → History → List Point
 list_after p h = list_of (after (writes_one p) h)
 
--- a write at a time without a sample would make the list longer than the limit
+-- a new sample would exceed the limit
 pub record IsFull (limit : ℕ) (p : Point) (h : History) : Type 0 where
   pub absent : at p.time (list_of h) ≡ None
   pub longer : limit < length (list_after p h)
 
--- at a time without a sample the list stays within the limit
+-- the write does not exceed the limit, or replaces a sample
 abbrev pub Fits : ℕ → Point → History → Type 0
 Fits limit p h = at p.time (list_of h) ≡ None → length (list_after p h) ≤ limit
 
 -- ---- the answers to a write, by what it comes to
 
--- the write is refused so
+-- the write is refused for this reason
 abbrev pub IsRefused : Refusal → Result Plan PutFault → Type 0
 IsRefused r (Ok plan) = ⊥
 IsRefused r (Err fault) = refusal_of fault ≡ Some r
@@ -71,19 +71,19 @@ abbrev pub IsNothing : Result Plan PutFault → Type 0
 IsNothing (Ok plan) = plan ≡ nothing_in plan.encoding
 IsNothing (Err fault) = ⊥
 
--- the series is full, or there is no memory for a write that fits, and its sample is told
+-- `Full` means that the series is full, `Unwritten` that this sample fits but memory ran out
 abbrev pub IsFullFault : ℕ → Point → History → PutFault → Type 0
 IsFullFault limit p h Full = IsFull limit p h
 IsFullFault limit p h (Unwritten q) = Fits limit p h × (q ≡ p)
 IsFullFault limit p h fault = ⊥
 
--- the sample is to be written and fits, or there is no place or no memory for it
+-- the sample is written and fits, or the series is full, or memory ran out
 abbrev pub IsWrite : ℕ → Point → History → Result Plan PutFault → Type 0
 IsWrite limit p h (Ok plan) = Writes p plan × Fits limit p h
 IsWrite limit p h (Err fault) = IsFullFault limit p h fault
 
--- A write that is refused answers so, one that keeps what is there plans nothing, and another plans the sample, unless the series
--- is full or there is no memory.
+-- The result of a write: it is refused, changes nothing, or writes the sample unless the series is full or memory
+-- runs out.
 abbrev pub PutAnswers : Merged → (limit : ℕ) → (time : ℕ) → History → Result Plan PutFault → Type 0
 PutAnswers (Refuse r) limit t h result = IsRefused r result
 PutAnswers Keep limit t h result = IsNothing result
@@ -91,7 +91,7 @@ PutAnswers (To v) limit t h result = IsWrite limit (sample_of t v h) h result
 
 -- ---- how a value meets the one that is there
 
--- the value that stays is told so: a refusal, the value that is there, or this one
+-- the result of merging: a refusal, no change, or the value to write
 abbrev pub IsMerged : Merged → Result (Option ℤ) PutFault → Type 0
 IsMerged (Refuse r) (Ok value) = ⊥
 IsMerged (Refuse r) (Err fault) = refusal_of fault ≡ Some r

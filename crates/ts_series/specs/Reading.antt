@@ -1,13 +1,14 @@
--- What is left of pieces that are read one after another.
+-- The samples that remain when pieces are read one after another.
 use Rattle.std.specs.Prelude.{ℕ, ◌≤◌, List, [], drop, get_or, length}
 use Rattle.ts_spec.specs.Sample.{Point}
 use Rattle.ts_sample.specs.Chunk.{joined}
 
--- what is left once all before a piece, and so many of its own samples, have been read
+-- the samples left after all pieces before index `at` and `read` samples of that piece
 abbrev pub left_at : (at read : ℕ) → List (List Point) → List Point
 left_at at read pieces = drop read (joined (drop at pieces))
 
--- the piece at hand is one of these or past them, no more of its samples are read than it has, and the place is one in it
+-- the current piece is one of these or past them, no more of its samples are read than it has, and the position is
+-- valid in it
 pub record IsReading (IsPlace : List Point → Type 0) (pieces : List (List Point)) (at read : ℕ) : Type 0 where
   pub within : at ≤ length pieces
   pub few : read ≤ length (get_or pieces at [])

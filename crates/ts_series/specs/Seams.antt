@@ -1,19 +1,19 @@
--- Times that cut no chunk, and what lies between them.
+-- Seams: times that split no chunk, and the number of samples between them.
 use Rattle.std.specs.Prelude.{◌≡◌, ◌⊎◌, ℕ, suc, ◌+◌, ◌≤◌, nat_lt, nat_le, ⊤, List, [], ◌∷◌, length}
 use Rattle.ts_spec.specs.Sample.{Point, at_times, between}
 use Rattle.ts_sample.specs.Chunk.{joined}
 
--- no piece has samples both before a time and from it on
+-- no piece has samples both before this time and at or after it
 abbrev pub IsSeam : (time : ℕ) → List (List Point) → Type 0
 IsSeam t [] = ⊤
 IsSeam t (ps ∷ pss) = ((at_times (nat_le t) ps ≡ []) ⊎ (at_times (λ u. nat_lt u t) ps ≡ [])) × IsSeam t pss
 
--- between two counts of steps there are no more than the pieces have samples, from any seam before an interval to any seam past it
+-- the steps are at most the number of samples between any seam before the interval and any seam after it
 abbrev pub IsSeamed : (pieces : List (List Point)) → (from to old new : ℕ) → Type 0
 IsSeamed pieces from to old new =
     (s e : ℕ) → IsSeam s pieces → IsSeam (suc e) pieces → s ≤ from → to ≤ e → new ≤ old + length (between s e (joined pieces))
 
--- There is a seam before an interval and one past it, between which the pieces have at most n samples.
+-- there are seams before and after the interval with at most n samples between them
 pub record Around (from to n : ℕ) (pieces : List (List Point)) : Type 0 where
   pub first : ℕ
   pub last : ℕ

@@ -1,4 +1,4 @@
-// New options of a series, and the samples that a new retention drops.
+// Changes a series' options and drops the samples that a new retention expires.
 ghost use Rattle.std.specs.Prelude.{◌≡◌, ℕ, ◌*◌, nat_le, IfOk};
 ghost use Rattle.ts_spec.specs.Sample.{at_times};
 ghost use Rattle.ts_sample.specs.Chunk.{joined};
@@ -9,18 +9,17 @@ ghost use Rattle.ts_series.specs.Plan.{IsForIn, Alters, options_with};
 
 use crate::change::Change;
 use crate::edge::edge_at;
-use crate::edit::Rows;
 use crate::line::Line;
-use crate::line_plan::LinePlan;
+use crate::line_plan::{LinePlan, Rows};
 use std::alloc::AllocError;
 use std::sync::ledger::Ledger;
 use ts_sample::{Chunk, Steps};
 use ts_spec::{Ignore, Options, Policy};
 
 impl<C: Chunk> Line<C> {
-    // Plans new options, where they are given: a retention in milliseconds (0 keeps samples for ever), the
-    // bytes of a chunk, a policy, and what is ignored. Samples before the old or the new edge are dropped. The size of chunks
-    // is that of the chunks begun afterwards.
+    // Plans new options; `None` leaves an option as it is. `retention` is in milliseconds, and 0 keeps samples
+    // forever. `chunk_size` is in bytes and applies to chunks created later. Drops samples before the old or the new
+    // retention edge.
     pub(crate) fn alter<L: Ledger>(
         &self,
         retention: Option<u64>,
@@ -54,7 +53,7 @@ impl<C: Chunk> Line<C> {
         })
     }
 
-    // The chunks without the samples before the edge, where the edge is to fall.
+    // The chunks without the samples before `edge`, for when the new options lower the edge.
     fn without_expired<L: Ledger>(
         &self,
         edge: u64,

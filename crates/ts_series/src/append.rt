@@ -1,4 +1,4 @@
-// A sample that goes into the room of the last chunk: the short way of most writes.
+// The fast path of most writes: a sample appended to the last chunk.
 ghost use Rattle.std.specs.Prelude.{◌≡◌, ◌≤◌, true, IfSome, Some, Ok};
 ghost use Rattle.ts_spec.specs.Sample.{MAX_TIME, last_of};
 ghost use Rattle.ts_spec.specs.declared.series.Merge.{Merge as TheMerge};
@@ -15,11 +15,11 @@ use std::marker::Model;
 use ts_sample::{Chunk, Sample, Units};
 use ts_spec::Encoding;
 
-/// A write of one sample past the last one, for which the last chunk has room. It takes no memory.
+/// A planned append of one sample to the last chunk. It allocates nothing.
 #[derive(Drop)]
 pub struct Append {
     pub(crate) sample: Sample,
-    // How the series is kept that it was made from.
+    // The encoding of the series that the plan was made for.
     pub(crate) encoding: Encoding,
 }
 
@@ -32,7 +32,7 @@ impl Model for Append {
 }
 
 impl Append {
-    /// The sample that is written.
+    /// The sample to write.
     pub fn sample(&self) -> Sample
         ensures { self.now ≡ appends self.now.encoding result }
     {
@@ -41,8 +41,8 @@ impl Append {
 }
 
 impl<C: Chunk> Line<C> {
-    // Plans a write past the last sample that goes into the room of the last chunk, if it is such a write and the
-    // series can't be full. `None` tells nothing of another write.
+    // Plans a write after the last sample, if the last chunk can hold it and the series cannot be full. `None` says
+    // nothing about whether the write is valid otherwise.
     pub(crate) fn plan_append(&self, time: u64, value: Units, limit: u32) -> Option<Append>
         requires { time ≤ MAX_TIME }
         ensures planned { IfSome result (λ plan. IsForIn C.format plan self.now) }
@@ -66,7 +66,7 @@ impl<C: Chunk> Line<C> {
         Some(Append { sample, encoding })
     }
 
-    // Does what was planned.
+    // Carries out the plan.
     pub(crate) fn commit_append(&mut self, plan: Append)
         requires { IsForIn C.format plan self.old }
         ensures done { self.new ≡ record (after plan self.old) { held = self.new.held } }
@@ -83,7 +83,7 @@ impl<C: Chunk> Line<C> {
 }
 
 impl<C: Chunk> Chunks<C> {
-    // Whether the last chunk, if there is one, has room for a sample past its last one.
+    // Whether there is a last chunk that can hold a sample after its last one.
     fn has_room_for(&self, sample: &Sample) -> bool
         requires past { IsPast (last_of (points self.now)) sample.now.time }
         ensures room { result ≡ true → HasRoomFor C.format (Some sample.now) self.now.pieces self.now.limits }

@@ -1,20 +1,19 @@
-// A planned change of the chunks of a series, and what carries it out. That takes no memory.
+// A planned change of the chunks of a series, and its execution, which allocates nothing.
 ghost use Rattle.std.specs.Prelude.{◌≡◌, ℕ, ◌≤◌, ◌+◌, true, false, nat_le, length, [], IfSome, MatchOption, Some, map};
 ghost use Rattle.std.specs.VecDeque.{deque_capacity};
 ghost use Rattle.ts_spec.specs.Sample.{IsAscending, at_times};
 ghost use Rattle.ts_sample.specs.Chunk.{joined};
-ghost use Rattle.ts_series.specs.Stored.{points, pieces_after, limits_after, no_change, replaced, with_last, AreAmong, AreChunks, AreKept, HasRoomFor, IsChangeOf, IsTrimmed};
+ghost use Rattle.ts_series.specs.Stored.{points, pieces_after, limits_after, no_change, replaced, with_last};
+ghost use Rattle.ts_series.specs.Stored.{AreAmong, AreChunks, AreKept, HasRoomFor, IsChangeOf, IsTrimmed};
 
-use crate::chunks::Chunks;
-use crate::counts::count_in;
+use crate::chunks::{Chunks, count_in};
 use crate::ring::replace_between;
 use std::alloc::Global;
 use std::collections::VecDeque;
 use std::marker::Model;
 use ts_sample::{Chunk, Sample};
 
-// New chunks take the place of those from one place up to another, and then a sample goes into the room of the
-// last chunk.
+// Replaces the chunks `start..end` with new ones, and then appends a sample to the last chunk.
 #[derive(Drop)]
 pub(crate) struct Change<C: Chunk> {
     pub(crate) start: usize,
@@ -29,7 +28,13 @@ impl<C: Chunk> Model for Change<C> {
 
     ghost Value = { Change };
 
-    ghost view = { λ c. record { start = c.start; end = c.end; pieces = map C.list c.chunks.items; limits = map C.most c.chunks.items; appended = c.appended } };
+    ghost view = { λ c. record {
+      start = c.start;
+      end = c.end;
+      pieces = map C.list c.chunks.items;
+      limits = map C.most c.chunks.items;
+      appended = c.appended;
+    } };
 
     ghost invariant = { λ c. AreChunks C.format (map C.list c.chunks.items) (map C.most c.chunks.items) };
 }
@@ -49,7 +54,7 @@ impl<C: Chunk> Change<C> {
 }
 
 impl<C: Chunk> Chunks<C> {
-    // Does what was planned.
+    // Carries out the change.
     pub(crate) fn apply(&mut self, change: Change<C>)
         requires { IsChangeOf C.format (length self.old.pieces + self.old.room) self.old.pieces self.old.limits change }
         ensures pieces { self.new.pieces ≡ pieces_after change self.old.pieces }
@@ -68,7 +73,7 @@ impl<C: Chunk> Chunks<C> {
         }
     }
 
-    // Puts a sample into the room of the last chunk.
+    // Appends a sample to the last chunk, which can hold it.
     pub(crate) fn append(&mut self, sample: &Sample)
         requires room { HasRoomFor C.format (Some sample.now) self.old.pieces self.old.limits }
         requires ascending { IsAscending (joined (with_last (Some sample.now) self.old.pieces)) }
@@ -83,8 +88,7 @@ impl<C: Chunk> Chunks<C> {
         }
     }
 
-    // Puts new chunks in the place of those from one place up to another. Where they are as many, no other chunk
-    // moves.
+    // Replaces the chunks `start..end`. If there are as many new ones, no other chunk moves.
     fn replace(&mut self, start: usize, end: usize, chunks: Vec<C>)
         requires chunks { AreChunks C.format (map C.list chunks.items) (map C.most chunks.items) }
         requires ordered { start ≤ end }
@@ -100,7 +104,7 @@ impl<C: Chunk> Chunks<C> {
         replace_between(&mut self.chunks, start, end, chunks);
     }
 
-    // Lets go of the chunks in front whose samples are all before the edge.
+    // Drops the leading chunks whose samples are all before `edge`.
     pub(crate) fn expire(&mut self, edge: u64)
         ensures kept { at_times (nat_le edge) (points self.new) ≡ at_times (nat_le edge) (points self.old) }
         ensures trimmed { IsTrimmed edge self.new.pieces }
@@ -115,7 +119,7 @@ impl<C: Chunk> Chunks<C> {
         }
     }
 
-    // Whether all samples of the first chunk are before the edge.
+    // Whether all samples of the first chunk are before `edge`.
     fn has_expired(&self, edge: u64) -> bool
         ensures trimmed { result ≡ false → IsTrimmed edge self.now.pieces }
         ensures expired { result ≡ true → ¬ IsTrimmed edge self.now.pieces }
@@ -129,7 +133,7 @@ impl<C: Chunk> Chunks<C> {
         }
     }
 
-    // Moves the chunks into a larger place, where there is one.
+    // Moves the chunks into the larger buffer, if there is one.
     pub(crate) fn grow(&mut self, larger: Option<VecDeque<C>>)
         requires empty { IfSome larger (λ q. q.items ≡ []) }
         requires enough { IfSome larger (λ q. length self.old.pieces ≤ deque_capacity q) }

@@ -1,4 +1,4 @@
-// The public plans of changes of a series, for either encoding.
+// The public functions that plan changes, for series of either encoding.
 ghost use Rattle.std.specs.Prelude.{◌≡◌, ◌≤◌, ◌<◌, ◌+◌, ◌*◌, length, IfOk, IfSome, Ok};
 ghost use Rattle.ts_spec.specs.Sample.{MAX_TIME, IsAscending, between, last_of};
 ghost use Rattle.ts_spec.specs.declared.series.Merge.{Merge as TheMerge};
@@ -18,8 +18,8 @@ use ts_sample::{Sample, Steps, Units};
 use ts_spec::{Ignore, Merge, Policy};
 
 impl Series {
-    /// Plans a write: at a time that has a sample as `how` says, and else as a new sample, if the series
-    /// then has at most `limit` samples.
+    /// Plans a write. If the series has a sample at `time`, merges the two by `how`. Otherwise adds a sample, which
+    /// fails with `Full` if the series then has more than `limit` samples.
     pub fn put<L: Ledger>(
         &self,
         time: u64,
@@ -46,9 +46,9 @@ impl Series {
         }
     }
 
-    /// Plans a write past the last sample that goes into the room of the last chunk, if it is such a write and the
-    /// series then has no more than `limit` samples: the plan of `put`, without its memory and its steps. `None` tells
-    /// nothing of another write.
+    /// Plans a write after the last sample, if the last chunk can hold it and the series then has at most `limit`
+    /// samples. The plan equals that of `put` but takes no allocation and no steps. `None` says nothing about whether
+    /// the write is valid otherwise.
     pub fn plan_append(&self, time: u64, value: Units, limit: u32) -> Option<Append>
         requires { time ≤ MAX_TIME }
         ensures planned { IfSome result (λ plan. IsFor plan self.now) }
@@ -60,7 +60,7 @@ impl Series {
         }
     }
 
-    /// Does what was planned.
+    /// Carries out the plan.
     pub fn commit_append(&mut self, plan: Append)
         requires { IsFor plan self.old }
         ensures done { self.new ≡ record (after plan self.old) { held = self.new.held } }
@@ -74,8 +74,8 @@ impl Series {
         }
     }
 
-    /// Plans a deletion of the samples from one time to another, in milliseconds, both included. Where `from`
-    /// is above `to` there are none. The edge stays where it is.
+    /// Plans the deletion of the samples from `from` to `to`, in milliseconds, both inclusive. The interval is empty
+    /// if `from` is above `to`. The retention edge does not move.
     pub fn cut<L: Ledger>(
         &self,
         from: u64,
@@ -98,9 +98,9 @@ impl Series {
         }
     }
 
-    /// Plans new options, where they are given: a retention in milliseconds (0 keeps samples for ever), the
-    /// bytes of a chunk, a policy, and what is ignored. Samples before the old or the new edge are dropped. The size of chunks
-    /// is that of the chunks begun afterwards.
+    /// Plans new options; `None` leaves an option as it is. `retention` is in milliseconds, and 0 keeps samples
+    /// forever. `chunk_size` is in bytes and applies to chunks created later. Drops samples before the old or the new
+    /// retention edge.
     pub fn alter<L: Ledger>(
         &self,
         retention: Option<u64>,
@@ -125,8 +125,9 @@ impl Series {
         }
     }
 
-    /// Plans that rows take the place of the samples from one time to another, in milliseconds, both included,
-    /// if the series then has at most `limit` samples. Each row lies between these times.
+    /// Plans to replace the samples from `from` to `to`, in milliseconds, both inclusive, with `rows`, whose times
+    /// are in the interval. Fails with `Full` if the series then has more than `limit` samples, even if memory runs
+    /// out too.
     pub fn mend<L: Ledger>(
         &self,
         from: u64,

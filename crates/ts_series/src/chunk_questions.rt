@@ -1,5 +1,5 @@
-// Questions on the chunks of a series. Each decodes one chunk at most, but a scan.
-ghost use Rattle.std.specs.Prelude.{◌≡◌, ◌+◌, ◌*◌, ◌≤◌, nat_lt, nat_le, [], length, take, slice_index_or};
+// Queries over the chunks of a series. Each decodes at most one chunk, except a scan.
+ghost use Rattle.std.specs.Prelude.{◌≡◌, None, ◌+◌, ◌*◌, ◌≤◌, nat_lt, nat_le, [], length, take, slice_index_or};
 ghost use Rattle.ts_spec.specs.Sample.{at, at_times, between, first_of, last_of};
 ghost use Rattle.ts_sample.specs.Chunk.{joined};
 ghost use Rattle.ts_sample.specs.Visit.{visited};
@@ -8,13 +8,55 @@ ghost use Rattle.ts_series.specs.Stored.{points, longest};
 ghost use Rattle.ts_series.specs.Seams.{IsSeamed};
 
 use crate::chunks::Chunks;
-use crate::ends::Ends;
+use std::marker::Model;
 use std::ops::Range;
 use std::sync::ledger::Ledger;
 use ts_sample::{Chunk, Sample, Steps, Visit};
 
+#[derive(Drop)]
+pub(crate) struct Ends {
+    pub(crate) first: Option<Sample>,
+    pub(crate) last: Option<Sample>,
+    pub(crate) count: usize,
+}
+
+impl Ends {
+    // No samples yet.
+    pub(crate) fn new() -> Ends
+        ensures first { result.first ≡ None }
+        ensures last { result.last ≡ None }
+        ensures count { result.count ≡ 0 }
+    {
+        Ends {
+            first: None,
+            last: None,
+            count: 0,
+        }
+    }
+}
+
+impl Visit for Ends {
+    ghost use Rattle.std.specs.Prelude.{◌+◌, ◌-◌, ◌^◌, Option, Some};
+    ghost use Rattle.std.specs.Option.{option_or};
+    ghost use Rattle.std.proofs.Common.{arith};
+
+    ghost step = { λ e p. record { first = option_or e.first (Some p); last = Some p; count = e.count + 1 } };
+
+    ghost room = { λ e. 2 ^ 64 - 1 - e.count };
+
+    fn sample(&mut self, sample: &Sample) {
+        if self.first.is_none() {
+            self.first = Some(*sample);
+        }
+        self.last = Some(*sample);
+        self.count += 1;
+    }
+
+    ghost lowers = { λ e p. Prim.omega arith };
+}
+
 impl<C: Chunk> Chunks<C> {
-    // Takes a visitor over the samples from one time to another, both included, in their order.
+    // Passes the samples from `from` to `to`, both inclusive, to `visit`, oldest first.
     pub(crate) fn scan<V: Visit, L: Ledger>(
         &self,
         from: u64,
@@ -34,7 +76,7 @@ impl<C: Chunk> Chunks<C> {
         }
     }
 
-    // The sample at this time.
+    // The sample at `time`.
     pub(crate) fn at<L: Ledger>(&self, time: u64, steps: &mut Steps<L>) -> Option<Sample>
         ensures at { result ≡ at time (points self.now) }
         ensures steps { Takes steps.old steps.new (longest self.now.pieces) }
@@ -45,12 +87,12 @@ impl<C: Chunk> Chunks<C> {
         ends.last
     }
 
-    // The last sample before this time.
+    // The last sample before `time`.
     pub(crate) fn last_before<L: Ledger>(&self, time: u64, steps: &mut Steps<L>) -> Option<Sample>
         ensures before { result ≡ last_of (at_times (λ t. nat_lt t time) (points self.now)) }
         ensures steps { Takes steps.old steps.new (longest self.now.pieces) }
     {
-        // Does nothing: where a field is read, the order of the chunks is known.
+        // Does nothing at run time: reading the field tells the proof that the chunks are in order.
         let _ = &self.chunks;
         let place = self.before(time);
         match self.earlier_at(place, time, steps).last {
@@ -59,7 +101,7 @@ impl<C: Chunk> Chunks<C> {
         }
     }
 
-    // The first sample from this time on.
+    // The first sample at or after `time`.
     pub(crate) fn first_from<L: Ledger>(&self, time: u64, steps: &mut Steps<L>) -> Option<Sample>
         ensures first { result ≡ first_of (at_times (nat_le time) (points self.now)) }
         ensures steps { Takes steps.old steps.new (longest self.now.pieces) }
@@ -74,7 +116,7 @@ impl<C: Chunk> Chunks<C> {
         ends.first
     }
 
-    // How many samples are before this time. Where the first is not, that costs nothing.
+    // The number of samples before `time`. Decodes nothing if the first sample is not before it.
     pub(crate) fn count_before<L: Ledger>(&self, time: u64, steps: &mut Steps<L>) -> usize
         ensures count { result ≡ length (at_times (λ t. nat_lt t time) (points self.now)) }
         ensures steps { Takes steps.old steps.new (longest self.now.pieces) }
@@ -91,7 +133,7 @@ impl<C: Chunk> Chunks<C> {
         count + self.earlier_at(place, time, steps).count
     }
 
-    // The samples before a time in the chunk at a place, if there is one.
+    // The first, the last and the number of the samples before `time` in chunk `place`, if there is such a chunk.
     fn earlier_at<L: Ledger>(&self, place: usize, time: u64, steps: &mut Steps<L>) -> Ends
         ensures last { result.last ≡ last_of (at_times (λ t. nat_lt t time) (slice_index_or self.now.pieces place [])) }
         ensures count { result.count ≡ length (at_times (λ t. nat_lt t time) (slice_index_or self.now.pieces place [])) }
@@ -103,7 +145,7 @@ impl<C: Chunk> Chunks<C> {
         }
     }
 
-    // The last sample of so many chunks, the first ones.
+    // The last sample of the first `count` chunks.
     fn last_of_first(&self, count: usize) -> Option<Sample>
         requires within { count ≤ length self.now.pieces }
         ensures last { result ≡ last_of (joined (take count self.now.pieces)) }
@@ -115,7 +157,8 @@ impl<C: Chunk> Chunks<C> {
     }
 }
 
-// The samples of a chunk before a time. Where the first is not, nothing is decoded.
+// The first, the last and the number of a chunk's samples before `time`. Decodes nothing if its first sample is not
+// before it.
 fn earlier_in<C: Chunk, L: Ledger>(chunk: &C, time: u64, steps: &mut Steps<L>) -> Ends
     ensures last { result.last ≡ last_of (at_times (λ t. nat_lt t time) (C.list chunk.now)) }
     ensures count { result.count ≡ length (at_times (λ t. nat_lt t time) (C.list chunk.now)) }

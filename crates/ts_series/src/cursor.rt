@@ -1,4 +1,4 @@
-// Reading on over the samples of a series, of either encoding.
+// A cursor over the samples of a series of either encoding.
 ghost use Rattle.std.specs.Prelude.{◌≡◌, nat_le, length, drop};
 ghost use Rattle.ts_spec.specs.Sample.{at_times, first_of};
 ghost use Rattle.ts_sample.specs.Steps.{Takes};
@@ -12,13 +12,13 @@ use ts_chunk_packed::PackedChunk;
 use ts_chunk_plain::PlainChunk;
 use ts_sample::{Sample, Steps};
 
-/// The samples of a series from a time on that were not read yet, in their order.
+/// A cursor over a series' samples, oldest first.
 #[derive(Drop)]
 pub struct Cursor<'a> {
     cursors: Cursors<'a>,
 }
 
-// Of either encoding.
+// A cursor for either encoding.
 #[derive(Drop)]
 enum Cursors<'a> {
     Plain(LineCursor<'a, PlainChunk>),
@@ -36,7 +36,7 @@ impl<'a> Model for Cursor<'a> {
 }
 
 impl<'a> Cursor<'a> {
-    /// Takes the next sample, which is a step.
+    /// The next sample. Each call is one step.
     pub fn next<L: Ledger>(&mut self, steps: &mut Steps<L>) -> Option<Sample>
         ensures next { result ≡ first_of self.old }
         ensures left { self.new ≡ drop 1 self.old }
@@ -50,7 +50,7 @@ impl<'a> Cursor<'a> {
 }
 
 impl Series {
-    /// Begins to read its samples from a time on, in milliseconds. It takes no memory.
+    /// A cursor over the samples at or after `from`, in milliseconds. Allocates nothing.
     pub fn read_from<L: Ledger>(&self, from: u64, steps: &mut Steps<L>) -> Cursor<'_>
         ensures left { result ≡ at_times (nat_le from) (list_of self.now) }
         ensures steps { Takes steps.old steps.new (reach self.now) }
@@ -62,7 +62,7 @@ impl Series {
         Cursor { cursors }
     }
 
-    /// How many samples it has from a time on, in milliseconds.
+    /// The number of samples at or after `time`, in milliseconds.
     pub fn count_from<L: Ledger>(&self, time: u64, steps: &mut Steps<L>) -> usize
         ensures count { result ≡ length (at_times (nat_le time) (list_of self.now)) }
         ensures steps { Takes steps.old steps.new (reach self.now) }

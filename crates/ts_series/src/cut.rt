@@ -1,20 +1,19 @@
-// A deletion of an interval.
+// Deletes an interval.
 ghost use Rattle.std.specs.Prelude.{◌*◌, IfOk, length};
 ghost use Rattle.ts_spec.specs.Sample.{between};
 ghost use Rattle.ts_sample.specs.Steps.{Takes};
 ghost use Rattle.ts_series.specs.History.{list_of, reach};
 ghost use Rattle.ts_series.specs.Plan.{IsForIn, Cuts};
 
-use crate::edit::{Interval, Rows};
 use crate::line::Line;
-use crate::line_plan::LinePlan;
+use crate::line_plan::{Interval, LinePlan, Rows};
 use std::alloc::AllocError;
 use std::sync::ledger::Ledger;
 use ts_sample::{Chunk, Steps};
 
 impl<C: Chunk> Line<C> {
-    // Plans a deletion of the samples from one time to another, in milliseconds, both included. Where `from`
-    // is above `to` there are none. The edge stays where it is.
+    // Plans the deletion of the samples from `from` to `to`, in milliseconds, both inclusive. The interval is empty
+    // if `from` is above `to`. The retention edge does not move.
     pub(crate) fn cut<L: Ledger>(
         &self,
         from: u64,

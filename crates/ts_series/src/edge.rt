@@ -1,4 +1,4 @@
-// From when on a series keeps samples, and its highest time.
+// The retention edge of a series and its highest time.
 ghost use Rattle.std.specs.Prelude.{◌≡◌};
 ghost use Rattle.ts_spec.specs.Sample.{IsAscending};
 ghost use Rattle.ts_spec.specs.State.{edge_of};
@@ -7,7 +7,8 @@ ghost use Rattle.ts_spec.specs.Mending.{high_with};
 
 use ts_sample::Sample;
 
-// The earliest time that a series with this retention and this highest time keeps.
+// The retention edge: the earliest time, in milliseconds, that a series with this retention and this highest time
+// keeps.
 pub(crate) fn edge_at(retention: u64, high: Option<u64>) -> u64
     ensures { result ≡ edge_of retention high }
 {
@@ -23,7 +24,7 @@ pub(crate) fn edge_at(retention: u64, high: Option<u64>) -> u64
     }
 }
 
-// The greater of a time and the highest so far.
+// The later of a time and the highest time so far.
 pub(crate) fn raise(time: u64, high: Option<u64>) -> Option<u64>
     ensures { result ≡ raised time high }
 {
@@ -33,7 +34,7 @@ pub(crate) fn raise(time: u64, high: Option<u64>) -> Option<u64>
     }
 }
 
-// The highest time once these samples are written.
+// The highest time after these samples are written.
 pub(crate) fn high_after(rows: &[Sample], high: Option<u64>) -> Option<u64>
     requires { IsAscending rows.now }
     ensures { result ≡ high_with rows.now high }

@@ -1,4 +1,4 @@
-// Chunks made of samples in ascending time. It decodes nothing.
+// Builds chunks from samples in ascending time. Decodes nothing.
 ghost use Rattle.std.specs.Prelude.{◌≡◌, ◌-◌, ◌∷◌, length, map, take, IfOk};
 ghost use Rattle.ts_spec.specs.Sample.{IsAscending};
 ghost use Rattle.ts_sample.specs.Chunk.{IsLimit, HaveLimit, joined};
@@ -8,7 +8,8 @@ use crate::planned::begun;
 use std::alloc::{AllocError, Global};
 use ts_sample::{Chunk, Sample};
 
-// Chunks of this limit with these samples. Where two are enough, each has half of them, so that both have room.
+// Chunks of size `limit` with these samples. If two chunks are enough, each gets half of the samples, so that both
+// can grow.
 pub(crate) fn chunks_of<C: Chunk>(
     alloc: Global,
     limit: u32,
@@ -31,7 +32,7 @@ pub(crate) fn chunks_of<C: Chunk>(
     Ok(firsts)
 }
 
-// Chunks of this limit with these samples, each as full as they make it.
+// Chunks of size `limit` with these samples, each filled as far as possible.
 fn filled<C: Chunk>(alloc: Global, limit: u32, samples: &[Sample]) -> Result<Vec<C>, AllocError>
     requires limit { IsLimit limit }
     requires ascending { IsAscending samples.now }
@@ -50,7 +51,7 @@ fn filled<C: Chunk>(alloc: Global, limit: u32, samples: &[Sample]) -> Result<Vec
     Ok(chunks)
 }
 
-// A chunk of this limit with a sample, and with as many of the rest as it has room for.
+// A chunk of size `limit` with `first` and as many of the other samples as fit.
 fn front_of<C: Chunk>(
     alloc: Global,
     limit: u32,

@@ -1,4 +1,4 @@
-// Which samples a series ignores: those that are close to its last one.
+// The IGNORE option: which samples a series ignores because they are close to its last one.
 ghost use Rattle.std.specs.Prelude.{◌≡◌};
 ghost use Rattle.ts_spec.specs.Ignoring.{is_near, is_close, ignored_after};
 ghost use Rattle.ts_spec.specs.Sample.{last_of};
@@ -10,8 +10,9 @@ use ts_sample::{Chunk, Sample, Units};
 use ts_spec::{Ignore, Policy};
 
 impl Series {
-    /// The time of its last sample, where a sample at this time with this value is ignored for being close to that
-    /// one: the policy is `Last`, and no rule leads to the series, as the caller knows. It decodes nothing.
+    /// The time of the last sample, in milliseconds, if the series ignores a sample with this time and value as too
+    /// close to it. This applies only with the policy `Last` and if no rule writes to the series, which the caller
+    /// has checked. Decodes nothing.
     pub fn ignored(&self, time: u64, value: Units) -> Option<u64>
         ensures { result ≡ ignored_after self.now.options (last_of (list_of self.now)) time value }
     {
@@ -23,7 +24,7 @@ impl Series {
 }
 
 impl<C: Chunk> Line<C> {
-    // The time of its last sample, where this one is ignored.
+    // The time of the last sample, if the series ignores a sample with this time and value.
     fn ignored(&self, time: u64, value: Units) -> Option<u64>
         ensures { result ≡ ignored_after self.now.options (last_of (list_of self.now)) time value }
     {
@@ -41,8 +42,8 @@ impl<C: Chunk> Line<C> {
     }
 }
 
-// Whether a sample is close to the last one: at its time or at most so much later, with a value that differs by at
-// most so much.
+// Whether a sample is close to the last one: not before it, not too much later, and with a value that differs too
+// little.
 fn is_close(most: &Ignore, last: &Sample, time: u64, value: Units) -> bool
     ensures { result ≡ is_close most.now last.now time value }
 {
@@ -55,7 +56,7 @@ fn is_close(most: &Ignore, last: &Sample, time: u64, value: Units) -> bool
     is_near(most.value, last.value, value)
 }
 
-// Whether a value differs from another one by at most so much.
+// Whether two values differ by at most `most`.
 fn is_near(most: Units, old: Units, new: Units) -> bool
     ensures { result ≡ is_near most old new }
 {

@@ -1,4 +1,4 @@
-// The samples that chunks keep when those of an interval go, and rows that take the place of these.
+// The samples that remain in the chunks when an interval is deleted, and the rows that replace the interval.
 ghost use Rattle.std.specs.Prelude.{◌≡◌, ◌+◌, ◌*◌, ◌++◌, nat_le, length, IfOk, IfErr, slice_range};
 ghost use Rattle.ts_spec.specs.Sample.{IsAfter, IsAscending, at_times, outside, put_all};
 ghost use Rattle.ts_sample.specs.Chunk.{joined};
@@ -12,8 +12,8 @@ use std::sync::ledger::Ledger;
 use ts_sample::{Chunk, Gathered, MAX_TIME, Sample, Steps, place_of, places_between};
 
 impl<C: Chunk> Chunks<C> {
-    // The samples of the chunks that meet an interval, without its own. Only the first and the last chunk have any.
-    // Where there is no memory, none is decoded.
+    // The samples of the chunks that overlap an interval, without those in the interval. Only the first and the last
+    // of these chunks can have any. Allocates before it decodes.
     pub(crate) fn samples_left<L: Ledger>(
         &self,
         alloc: Global,
@@ -39,7 +39,7 @@ impl<C: Chunk> Chunks<C> {
     }
 }
 
-// The samples of a chunk without those of an interval.
+// A chunk's samples without those of an interval.
 fn left_of<C: Chunk, L: Ledger>(
     chunk: &C,
     alloc: Global,
@@ -59,7 +59,7 @@ fn left_of<C: Chunk, L: Ledger>(
     Ok(samples)
 }
 
-// The same of two chunks, one after the other. Room for both is taken before one is decoded.
+// The samples of two consecutive chunks without those of an interval. Allocates before it decodes.
 fn left_of_both<C: Chunk, L: Ledger>(
     first: &C,
     last: &C,
@@ -83,7 +83,7 @@ fn left_of_both<C: Chunk, L: Ledger>(
     Ok(samples)
 }
 
-// Takes the samples of an interval out of an ascending list.
+// Removes an interval's samples from an ascending list.
 fn take_out(samples: &mut Vec<Sample>, from: u64, to: u64)
     requires { IsAscending samples.old.items }
     ensures { samples.new.items ≡ outside from to samples.old.items }
@@ -92,7 +92,7 @@ fn take_out(samples: &mut Vec<Sample>, from: u64, to: u64)
     samples.drain(places);
 }
 
-// Puts rows of an interval among samples of which none is in it.
+// Inserts an interval's rows into a list with no samples in that interval.
 pub(crate) fn put_rows(
     samples: &mut Vec<Sample>,
     from: u64,

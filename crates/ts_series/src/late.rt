@@ -1,21 +1,20 @@
-// Plans of a write at a time that is not past the last sample.
-ghost use Rattle.std.specs.Prelude.{◌≡◌, ◌≢◌, ℕ, ◌≤◌, ◌*◌, None, Some, IfOk};
+// Plans of a late write: one whose time is not after the last sample.
+ghost use Rattle.std.specs.Prelude.{◌≡◌, ◌≢◌, ℕ, ◌≤◌, ◌*◌, None, Some, IfOk, ℤ, true, Option, ◌+ℤ◌};
 ghost use Rattle.ts_spec.specs.Sample.{at};
-ghost use Rattle.ts_spec.specs.Rules.{merge};
+ghost use Rattle.ts_spec.specs.Rules.{merge, To, merge_by, within_bound};
 ghost use Rattle.ts_spec.specs.Step.{value_at};
 ghost use Rattle.ts_sample.specs.Steps.{Takes};
 ghost use Rattle.ts_series.specs.Stored.{longest};
 ghost use Rattle.ts_series.specs.History.{list_of, low};
 ghost use Rattle.ts_series.specs.Plan.{IsForIn};
-ghost use Rattle.ts_series.specs.Put.{PutAnswers};
+ghost use Rattle.ts_series.specs.Put.{PutAnswers, IsMerged};
 
 use crate::line::Line;
 use crate::line_plan::LinePlan;
-use crate::merged::{always_writes, merged};
 use crate::plan::PutFault;
 use std::sync::ledger::Ledger;
 use ts_sample::{Chunk, Sample, Steps, Units};
-use ts_spec::Merge;
+use ts_spec::{Merge, Policy};
 
 impl<C: Chunk> Line<C> {
     // Plans a write at a time that may have a sample.
@@ -41,7 +40,7 @@ impl<C: Chunk> Line<C> {
         }
     }
 
-    // Plans a write at a time that has this value.
+    // Plans a write at a time that has a sample with value `old`.
     fn put_over<L: Ledger>(
         &self,
         old: Units,
@@ -60,5 +59,48 @@ impl<C: Chunk> Line<C> {
             None => Ok(LinePlan::nothing(self.alloc, self.options.encoding)),
             Some(value) => self.written(Sample { time, value, made }, steps),
         }
+    }
+}
+
+// Whether a write sets its own value, whether or not its time has a sample.
+pub(crate) fn always_writes(how: Merge) -> bool
+    ensures { result ≡ true → (old : Option ℤ) (new : ℤ) → merge how old new ≡ To new }
+{
+    match how {
+        Merge::Set | Merge::By(Policy::Last) => true,
+        _ => false,
+    }
+}
+
+// The value to write at a time that has the value `old`, or `None` to leave it.
+pub(crate) fn merged(how: Merge, old: Units, new: Units) -> Result<Option<Units>, PutFault>
+    ensures { IsMerged (merge how (Some old) new) result }
+{
+    match how {
+        Merge::Set => Ok(Some(new)),
+        Merge::By(policy) => merged_by(policy, old, new),
+    }
+}
+
+fn merged_by(policy: Policy, old: Units, new: Units) -> Result<Option<Units>, PutFault>
+    ensures { IsMerged (merge_by policy old new) result }
+{
+    match policy {
+        Policy::Block => Err(PutFault::Duplicate),
+        Policy::First => Ok(None),
+        Policy::Last => Ok(Some(new)),
+        Policy::Min => { if new < old { Ok(Some(new)) } else { Ok(None) } }
+        Policy::Max => { if old < new { Ok(Some(new)) } else { Ok(None) } }
+        Policy::Sum => total(old, new),
+    }
+}
+
+// The sum of two values, or `OutOfRange`.
+fn total(old: Units, new: Units) -> Result<Option<Units>, PutFault>
+    ensures { IsMerged (within_bound (old +ℤ new)) result }
+{
+    match Units::new(old.get() + new.get()) {
+        Some(value) => Ok(Some(value)),
+        None => Err(PutFault::OutOfRange),
     }
 }

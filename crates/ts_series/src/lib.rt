@@ -1,5 +1,5 @@
-//! One series: its samples in order of time, how it is kept, what is asked of it, and how it is written. A
-//! change is planned first, which may fail, and then committed, which can't.
+//! One time series: its samples in order of time, its options, the queries it answers and the changes it takes. A
+//! change is planned first, which can fail, and then committed, which cannot.
 #![tactic(auto)]
 
 mod alter;
@@ -8,12 +8,9 @@ mod change;
 mod changes;
 mod chunk_questions;
 mod chunks;
-mod counts;
 mod cursor;
 mod cut;
 mod edge;
-mod edit;
-mod ends;
 mod filled;
 mod ignored;
 mod kept_samples;
@@ -24,18 +21,14 @@ mod line_plan;
 mod line_questions;
 mod mend;
 mod mended;
-mod merged;
 mod plan;
 mod planned;
-mod presence;
 mod put;
 mod ring;
-mod room;
 mod row;
 mod series;
 mod series_questions;
-mod time_for;
-mod time_from;
+mod time_bounds;
 
 pub use append::Append;
 pub use cursor::Cursor;

@@ -14,7 +14,7 @@ use std::marker::Model;
 use ts_sample::{Chunk, Sample};
 use ts_spec::{Options, Policy};
 
-// A list of samples in order of time, and how it is kept.
+// A series' samples in chunks of type `C`, with its options.
 #[derive(Drop)]
 pub(crate) struct Line<C: Chunk> {
     pub(crate) alloc: Global,
@@ -35,7 +35,7 @@ impl<C: Chunk> Model for Line<C> {
 }
 
 impl<C: Chunk> Line<C> {
-    // A series without samples.
+    // An empty series.
     pub(crate) fn new(alloc: Global, options: Options) -> Line<C>
         ensures options { result.options ≡ options }
         ensures empty { list_of result ≡ [] }
@@ -52,42 +52,42 @@ impl<C: Chunk> Line<C> {
         }
     }
 
-    // How it is kept.
+    // The series' options.
     pub(crate) fn options(&self) -> Options
         ensures { result ≡ self.now.options }
     {
         self.options
     }
 
-    // What a write does where its time already has a sample.
+    // The duplicate policy: what a write does at a time that has a sample.
     pub(crate) fn policy(&self) -> Policy
         ensures { result ≡ self.now.options.policy }
     {
         self.options.policy
     }
 
-    // The highest time that it ever had a sample at.
+    // The highest time, in milliseconds, that the series ever had a sample at.
     pub(crate) fn high(&self) -> Option<u64>
         ensures { result ≡ self.now.high }
     {
         self.high
     }
 
-    // How many rules were ever made on it.
+    // The number of rules ever created on the series.
     pub(crate) fn born(&self) -> u32
         ensures { result ≡ self.now.born }
     {
         self.born
     }
 
-    // The earliest time that it keeps, in milliseconds.
+    // The retention edge: the earliest time that the series keeps, in milliseconds.
     pub(crate) fn edge(&self) -> u64
         ensures { result ≡ low self.now }
     {
         edge_at(self.options.retention, self.high)
     }
 
-    // The earliest time that it would keep with these rows too, in milliseconds.
+    // The retention edge after writing `rows`, in milliseconds.
     pub(crate) fn edge_with(&self, rows: &[Sample]) -> u64
         requires { IsAscending rows.now }
         ensures { result ≡ edge_of self.now.options.retention (high_with rows.now self.now.high) }
@@ -95,14 +95,14 @@ impl<C: Chunk> Line<C> {
         edge_at(self.options.retention, high_after(rows, self.high))
     }
 
-    // Its last sample.
+    // The last sample.
     pub(crate) fn last(&self) -> Option<Sample>
         ensures { result ≡ last_of (list_of self.now) }
     {
         self.chunks.last()
     }
 
-    // Does what was planned.
+    // Carries out the plan.
     pub(crate) fn commit(&mut self, plan: LinePlan<C>)
         requires { IsForIn C.format plan self.old }
         ensures done { self.new ≡ record (after plan self.old) { held = self.new.held } }
@@ -128,7 +128,7 @@ impl<C: Chunk> Line<C> {
         self.high = high;
     }
 
-    // Counts one more rule that was made on it.
+    // Counts one more rule created on the series.
     pub(crate) fn raise_born(&mut self)
         requires { self.old.born < 2 ^ 32 - 1 }
         ensures raised { self.new ≡ record self.old { born = self.old.born + 1 } }
@@ -138,7 +138,7 @@ impl<C: Chunk> Line<C> {
     }
 }
 
-// A series is these fields and no others: a further one, such as a copy of its samples, does not compile here.
+// Fails to compile if a field is added, such as a second copy of the samples.
 fn fields<C: Chunk>(it: &Line<C>) {
     let Line {
         alloc: _,

@@ -1,4 +1,4 @@
-// Reading on over the samples of chunks. Each sample that is read is decoded once for it.
+// A cursor over the samples of chunks. It decodes each sample it reads once.
 ghost use Rattle.std.specs.Prelude.{◌≡◌, ◌≢◌, ◌+◌, ◌<◌, ◌≤◌, nat_le, [], length, take, drop, slice_index_or};
 ghost use Rattle.ts_spec.specs.Sample.{at_times, first_of};
 ghost use Rattle.ts_sample.specs.Steps.{Takes};
@@ -9,13 +9,13 @@ use std::marker::Model;
 use std::sync::ledger::Ledger;
 use ts_sample::{Chunk, Sample, Steps};
 
-// The samples of chunks that were not read yet.
+// The samples of the chunks that are not read yet.
 #[derive(Drop)]
 pub(crate) struct LineCursor<'a, C: Chunk> {
     chunks: &'a Chunks<C>,
-    // Which chunk is at hand.
+    // The index of the current chunk.
     at: usize,
-    // How far it is read.
+    // The position in the current chunk.
     place: C::Place,
 }
 
@@ -32,7 +32,7 @@ impl<'a, C: Chunk> Model for LineCursor<'a, C> {
 }
 
 impl<'a, C: Chunk> LineCursor<'a, C> {
-    // Takes the next sample, which is a step.
+    // The next sample. Each call is one step.
     pub(crate) fn next<L: Ledger>(&mut self, steps: &mut Steps<L>) -> Option<Sample>
         ensures next { result ≡ first_of self.old }
         ensures left { self.new ≡ drop 1 self.old }
@@ -52,12 +52,12 @@ impl<'a, C: Chunk> LineCursor<'a, C> {
 }
 
 impl<C: Chunk> Chunks<C> {
-    // Begins to read the samples from a time on.
+    // A cursor over the samples at or after `time`.
     pub(crate) fn read_from<L: Ledger>(&self, time: u64, steps: &mut Steps<L>) -> LineCursor<'_, C>
         ensures left { result ≡ at_times (nat_le time) (points self.now) }
         ensures steps { Takes steps.old steps.new (longest self.now.pieces) }
     {
-        // Does nothing: where a field is read, the order of the chunks is known.
+        // Does nothing at run time: reading the field tells the proof that the chunks are in order.
         let _ = &self.chunks;
         let at = self.before(time);
         let place = self.place_from(at, time, steps);
@@ -68,7 +68,7 @@ impl<C: Chunk> Chunks<C> {
         }
     }
 
-    // The place before the first sample from a time on in the chunk that stands there, if there is one.
+    // The position in front of the first sample at or after `time` in chunk `at`, if there is such a chunk.
     fn place_from<L: Ledger>(&self, at: usize, time: u64, steps: &mut Steps<L>) -> C::Place
         ensures place { C.is_place (slice_index_or self.now.pieces at []) result }
         ensures left { drop (C.passed result) (slice_index_or self.now.pieces at []) ≡ at_times (nat_le time) (slice_index_or self.now.pieces at []) }
@@ -81,7 +81,7 @@ impl<C: Chunk> Chunks<C> {
         }
     }
 
-    // Reads the sample at a place in the chunk that stands there, and moves the place past it.
+    // Reads the sample at `place` in chunk `at`, and moves the position past it.
     fn read_at<L: Ledger>(
         &self,
         at: usize,
@@ -99,7 +99,7 @@ impl<C: Chunk> Chunks<C> {
         chunk.read(place, steps)
     }
 
-    // How many chunks there are.
+    // The number of chunks.
     fn chunk_count(&self) -> usize
         ensures { result ≡ length self.now.pieces }
     {

@@ -1,4 +1,4 @@
-// Questions about a series of one kind of chunk.
+// Queries over a series of one kind of chunk.
 ghost use Rattle.std.specs.Prelude.{◌≡◌, ◌≤◌, ◌+◌, ◌*◌, ℕ, suc, nat_lt, nat_le, length};
 ghost use Rattle.ts_spec.specs.Sample.{MAX_TIME, at, at_times, between, first_of, last_of};
 ghost use Rattle.ts_sample.specs.Visit.{visited};
@@ -7,15 +7,15 @@ ghost use Rattle.ts_sample.specs.Steps.{Takes};
 ghost use Rattle.ts_series.specs.History.{list_of, reach, IsKeptIn};
 ghost use Rattle.ts_series.specs.Seams.{IsSeamed, Around};
 
+use crate::chunks::new_limit;
 use crate::line::Line;
 use crate::line_cursor::LineCursor;
-use crate::room::new_limit;
 use std::sync::ledger::Ledger;
 use ts_sample::{Chunk, Sample, Steps, Visit};
 
 #[tactic(auto, using(crate::proofs::Reach::within_reach))]
 impl<C: Chunk> Line<C> {
-    // Does nothing: it tells a caller what holds of every series, which a reference hides.
+    // Does nothing at run time. Its contract states what holds for every series, which a borrow hides.
     pub(crate) fn known(&self)
         ensures kept { IsKeptIn C.format self.now }
         ensures times { Every (λ p. p.time ≤ MAX_TIME) (list_of self.now) }
@@ -25,28 +25,29 @@ impl<C: Chunk> Line<C> {
         }
     }
 
-    // Does nothing: it tells a caller that there are seams near each interval.
+    // Does nothing at run time. Its contract states that there are seams near each interval: times that split no
+    // chunk.
     pub(crate) fn seams(&self)
         ensures { (from to : ℕ) → Around from to (length (between from to (list_of self.now)) + 2 * reach self.now) self.now.held.pieces }
     {
         let _chunks = &self.chunks;
     }
 
-    // Does nothing: it tells a caller that between one time and the next at most one chunk is cut.
+    // Does nothing at run time. Its contract states that any one time splits at most one chunk.
     pub(crate) fn cuts(&self)
         ensures { (t : ℕ) → Around (suc t) t (reach self.now) self.now.held.pieces }
     {
         let _chunks = &self.chunks;
     }
 
-    // How many samples a new chunk has room for at most.
+    // The largest number of samples a new chunk can hold.
     pub(crate) fn chunk_reach(&self) -> u64
         ensures { result ≤ reach self.now }
     {
         u64::from(new_limit(self.options.chunk_size) / 3)
     }
 
-    // Its first sample.
+    // The first sample.
     pub(crate) fn first<L: Ledger>(&self, steps: &mut Steps<L>) -> Option<Sample>
         ensures first { result ≡ first_of (list_of self.now) }
         ensures steps { Takes steps.old steps.new (reach self.now) }
@@ -54,7 +55,7 @@ impl<C: Chunk> Line<C> {
         self.chunks.first_from(self.edge(), steps)
     }
 
-    // How many samples it has.
+    // The number of samples.
     pub(crate) fn len<L: Ledger>(&self, steps: &mut Steps<L>) -> usize
         ensures len { result ≡ length (list_of self.now) }
         ensures steps { Takes steps.old steps.new (reach self.now) }
@@ -62,7 +63,7 @@ impl<C: Chunk> Line<C> {
         self.chunks.len() - self.chunks.count_before(self.edge(), steps)
     }
 
-    // How many samples it has from a time on, in milliseconds.
+    // The number of samples at or after `time`, in milliseconds.
     pub(crate) fn count_from<L: Ledger>(&self, time: u64, steps: &mut Steps<L>) -> usize
         ensures count { result ≡ length (at_times (nat_le time) (list_of self.now)) }
         ensures steps { Takes steps.old steps.new (reach self.now) }
@@ -70,7 +71,7 @@ impl<C: Chunk> Line<C> {
         self.chunks.len() - self.chunks.count_before(time.max(self.edge()), steps)
     }
 
-    // Begins to read its samples from a time on, in milliseconds.
+    // A cursor over the samples at or after `from`, in milliseconds.
     pub(crate) fn read_from<L: Ledger>(&self, from: u64, steps: &mut Steps<L>) -> LineCursor<'_, C>
         ensures left { result ≡ at_times (nat_le from) (list_of self.now) }
         ensures steps { Takes steps.old steps.new (reach self.now) }
@@ -78,7 +79,7 @@ impl<C: Chunk> Line<C> {
         self.chunks.read_from(from.max(self.edge()), steps)
     }
 
-    // Its sample at this time, in milliseconds.
+    // The sample at time `t`, in milliseconds.
     pub(crate) fn at<L: Ledger>(&self, t: u64, steps: &mut Steps<L>) -> Option<Sample>
         ensures at { result ≡ at t (list_of self.now) }
         ensures steps { Takes steps.old steps.new (reach self.now) }
@@ -90,7 +91,7 @@ impl<C: Chunk> Line<C> {
         }
     }
 
-    // Its last sample before this time, in milliseconds.
+    // The last sample before time `t`, in milliseconds.
     pub(crate) fn before<L: Ledger>(&self, t: u64, steps: &mut Steps<L>) -> Option<Sample>
         ensures before { result ≡ last_of (at_times (λ u. nat_lt u t) (list_of self.now)) }
         ensures steps { Takes steps.old steps.new (reach self.now) }
@@ -103,8 +104,8 @@ impl<C: Chunk> Line<C> {
         }
     }
 
-    // Room for the samples from one time to another, in milliseconds, both included: at least as many as they
-    // are, and no more than two chunks hold above that. Nothing is decoded.
+    // A buffer capacity for the samples from `from` to `to`, in milliseconds, both inclusive. It is at least their
+    // number and exceeds it by at most two chunks. Decodes nothing.
     pub(crate) fn room_for(&self, from: u64, to: u64) -> usize
         ensures least { length (between from to (list_of self.now)) ≤ result }
         ensures most { result ≤ length (between from to (list_of self.now)) + 2 * reach self.now }
@@ -112,8 +113,7 @@ impl<C: Chunk> Line<C> {
         self.chunks.count_near(from.max(self.edge()), to)
     }
 
-    // Takes a visitor over the samples from one time to another, in milliseconds, both included, in their
-    // order.
+    // Passes the samples from `from` to `to`, in milliseconds, both inclusive, to `visit`, oldest first.
     pub(crate) fn scan<V: Visit, L: Ledger>(
         &self,
         from: u64,
@@ -128,5 +128,16 @@ impl<C: Chunk> Line<C> {
         ensures seams { IsSeamed self.now.held.pieces from to steps.old steps.new }
     {
         self.chunks.scan(from.max(self.edge()), to, visit, steps);
+    }
+
+    // Whether there is a sample from `from` to `to`, in milliseconds, both inclusive.
+    pub(crate) fn has_between<L: Ledger>(&self, from: u64, to: u64, steps: &mut Steps<L>) -> bool
+        ensures has { result ≡ nat_lt 0 (length (between from to (list_of self.now))) }
+        ensures steps { Takes steps.old steps.new (reach self.now) }
+    {
+        match self.chunks.first_from(from.max(self.edge()), steps) {
+            None => false,
+            Some(first) => first.time <= to,
+        }
     }
 }

@@ -1,4 +1,4 @@
-// Rows in the place of the samples of an interval, by which rules mend their destinations.
+// Replaces an interval's samples with rows. Rules update their destinations this way.
 ghost use Rattle.std.specs.Prelude.{◌≡◌, ◌*◌, nat_lt, nat_le, length, IfOk};
 ghost use Rattle.ts_spec.specs.Sample.{IsAscending, at_times, between, outside, put_all};
 ghost use Rattle.ts_spec.specs.Mending.{high_with};
@@ -10,21 +10,20 @@ ghost use Rattle.ts_series.specs.Plan.{AreWithin, AreMade, IsForIn, after};
 ghost use Rattle.ts_series.specs.Mend.{IsMend, IsRowPast, mended_list};
 
 use crate::change::Change;
+use crate::chunks::new_limit;
 use crate::edge::{edge_at, high_after};
-use crate::edit::{Interval, Rows};
 use crate::line::Line;
-use crate::line_plan::LinePlan;
+use crate::line_plan::{Interval, LinePlan, Rows};
 use crate::plan::PutFault;
-use crate::room::new_limit;
 use std::alloc::AllocError;
 use std::sync::ledger::Ledger;
 use ts_sample::{Chunk, Sample, Steps, place_of};
 
 #[tactic(auto, using(crate::proofs::Reach::within_reach))]
 impl<C: Chunk> Line<C> {
-    // Plans that rows take the place of the samples from one time to another, in milliseconds, both included,
-    // if the series then has at most `limit` samples. Each row lies between these times. Want of memory does not hide
-    // that the samples would be too many.
+    // Plans to replace the samples from `from` to `to`, in milliseconds, both inclusive, with `rows`, whose times are
+    // in the interval. Fails with `Full` if the series then has more than `limit` samples, even if memory runs out
+    // too.
     pub(crate) fn mend<L: Ledger>(
         &self,
         from: u64,
@@ -56,7 +55,7 @@ impl<C: Chunk> Line<C> {
         }
     }
 
-    // The plan of a mending that changes the chunks so.
+    // The plan that updates the interval by this change of the chunks.
     fn with_change(
         &self,
         from: u64,
@@ -87,8 +86,8 @@ impl<C: Chunk> Line<C> {
         })
     }
 
-    // Whether the series would have more samples than the limit with the rows in the place of the interval's, so many.
-    // Those before the edge that the rows raise don't count.
+    // Whether the series would have more than `limit` samples after `rows` replace the `removed` samples of the
+    // interval. Samples that expire because the rows raise the retention edge do not count.
     fn exceeds<L: Ledger>(
         &self,
         limit: u32,
@@ -114,8 +113,7 @@ impl<C: Chunk> Line<C> {
         (limit as usize) < left.saturating_add(written)
     }
 
-    // How many samples are from an edge on, but for those from one time to another, both included, of which there
-    // are so many.
+    // The number of samples at or after `edge` without the `removed` samples from `from` to `to`.
     fn count_left<L: Ledger>(
         &self,
         edge: u64,

@@ -1,4 +1,4 @@
-// Rows that take the place of the samples of an interval, in chunks.
+// Replaces an interval's samples with rows, in chunks.
 ghost use Rattle.std.specs.Prelude.{◌≡◌, ◌≤◌, ◌*◌, ◌∷◌, [], length, IfOk};
 ghost use Rattle.ts_spec.specs.Sample.{IsAscending, between, last_of, outside, put_all};
 ghost use Rattle.ts_sample.specs.Chunk.{IsLimit, IsPast, joined};
@@ -16,8 +16,8 @@ use std::sync::ledger::Ledger;
 use ts_sample::{Chunk, Sample, Steps};
 
 impl<C: Chunk> Chunks<C> {
-    // The rows in the place of the samples of an interval, in which they lie, if there is memory, and how many samples
-    // these are.
+    // The change that replaces an interval's samples with rows, or the failed allocation, and the number of samples
+    // replaced.
     pub(crate) fn mended<L: Ledger>(
         &self,
         alloc: Global,
@@ -45,7 +45,7 @@ impl<C: Chunk> Chunks<C> {
         self.mended_between(alloc, from, to, rows, chunk_size, steps)
     }
 
-    // The same, whatever the interval: the chunks that meet it are decoded and made anew.
+    // The same for any interval: decodes and rebuilds the chunks that overlap it.
     fn mended_between<L: Ledger>(
         &self,
         alloc: Global,
@@ -64,7 +64,7 @@ impl<C: Chunk> Chunks<C> {
         ensures removed { result.1 ≡ length (between from to (points self.now)) }
         ensures steps { Takes steps.old steps.new (2 * longest self.now.pieces) }
     {
-        // Does nothing: where a field is read, the order of the chunks is known.
+        // Does nothing at run time: reading the field tells the proof that the chunks are in order.
         let _ = &self.chunks;
         let Range { start, end } = self.meeting_or_next(from, to);
         let mut samples = match self.samples_left(alloc, start, end, from, to, steps) {
@@ -81,7 +81,7 @@ impl<C: Chunk> Chunks<C> {
         }
     }
 
-    // Where the chunks stand that may have samples of an interval, or else the first chunk past it.
+    // The range of chunks that may have samples from `from` to `to`, or else of the first chunk after them.
     fn meeting_or_next(&self, from: u64, to: u64) -> Range<usize>
         ensures { IsMeeting from to self.now.pieces result.start result.end }
     {
@@ -92,8 +92,8 @@ impl<C: Chunk> Chunks<C> {
         start..end
     }
 
-    // These samples in the place of the chunks from one place up to another. One past all others goes into the
-    // room of the chunk before it, if it fits.
+    // The change that replaces the chunks `start..end` with these samples. A single sample after all others goes into
+    // the chunk before them, if it fits.
     fn rebuilt(
         &self,
         alloc: Global,

@@ -1,4 +1,4 @@
-// A planned change of a series, and why there is none.
+// A planned change of a series, and why planning can fail.
 ghost use Rattle.std.specs.Prelude.{◌≡◌, Some};
 ghost use Rattle.ts_spec.specs.Sample.{first_of};
 ghost use Rattle.ts_spec.specs.declared.series.Encoding.TheVariants.{Compressed, Uncompressed};
@@ -13,13 +13,13 @@ use ts_chunk_packed::PackedChunk;
 use ts_chunk_plain::PlainChunk;
 use ts_sample::Sample;
 
-/// Why a write is not planned.
+/// Why a write fails.
 #[derive(Drop, Error)]
 pub enum PutFault {
-    /// The time is before the edge of the series.
+    /// The time is before the retention edge.
     #[error("the time is before the retention")]
     TooOld,
-    /// The time has a sample, and the policy refuses another one.
+    /// The time has a sample, and the policy is `Block`.
     #[error("duplicate sample")]
     Duplicate,
     /// The sum is out of range.
@@ -28,10 +28,10 @@ pub enum PutFault {
     /// The series would have too many samples.
     #[error("too many samples")]
     Full,
-    /// There was no memory to write this sample, for which the series has room.
+    /// Out of memory for this sample, which the series could otherwise take.
     #[error("no memory for a sample")]
     Unwritten(Sample),
-    /// There was no memory.
+    /// Out of memory.
     #[error(transparent)]
     Memory(AllocError),
 }
@@ -54,7 +54,7 @@ impl fmt::Debug for PutFault {
 impl PutFault {
     ghost use Rattle.ts_series.specs.Put.{unwritten_of};
 
-    /// The sample for which there was no memory, if that is why.
+    /// The sample that failed for lack of memory, if that is the fault.
     pub fn sample(&self) -> Option<Sample>
         ensures { result ≡ unwritten_of self.now }
     {
@@ -65,13 +65,13 @@ impl PutFault {
     }
 }
 
-/// A change of a series that can be committed: it has the memory that it takes.
+/// A planned change of a series. It owns the memory that it needs, so a commit cannot fail.
 #[derive(Drop)]
 pub struct SeriesPlan {
     pub(crate) plans: Plans,
 }
 
-// A plan for a series of either encoding.
+// A plan for either encoding.
 #[derive(Drop)]
 pub(crate) enum Plans {
     Plain(LinePlan<PlainChunk>),
@@ -108,7 +108,7 @@ impl SeriesPlan {
         }
     }
 
-    /// The first of the samples that are written, or `None` where none is.
+    /// The first sample to write, or `None`.
     pub fn wrote(&self) -> Option<Sample>
         ensures { result ≡ first_of self.now.wrote }
     {
@@ -118,7 +118,7 @@ impl SeriesPlan {
         }
     }
 
-    /// How many samples a deletion takes out.
+    /// The number of samples to delete.
     pub fn removed(&self) -> u64
         ensures { result ≡ self.now.removed }
     {

@@ -1,19 +1,19 @@
-// Changes of the chunks of a series, planned with the memory that they take.
+// Plans changes of the chunks, and allocates what they need.
 ghost use Rattle.std.specs.Prelude.{◌≡◌, ℕ, ◌≤◌, ◌<◌, ◌*◌, [], ◌∷◌, length, IfOk, map, take, slice_range, None};
 ghost use Rattle.ts_spec.specs.Sample.{between, last_of, outside, put};
 ghost use Rattle.ts_sample.specs.Chunk.{IsLimit, IsChunk, IsPast, joined};
 ghost use Rattle.ts_sample.specs.Steps.{Takes};
-ghost use Rattle.ts_series.specs.Stored.{points, longest, pieces_after, IsMeeting, IsReady, AreChunks, AreAmong, HasLimits, IsUpTo};
+ghost use Rattle.ts_series.specs.Stored.{points, longest, pieces_after, IsMeeting, IsReady, AreChunks, AreAmong};
+ghost use Rattle.ts_series.specs.Stored.{HasLimits, IsUpTo};
 
 use crate::change::Change;
-use crate::chunks::Chunks;
-use crate::counts::count_in;
+use crate::chunks::{Chunks, count_in};
 use std::alloc::{AllocError, Global};
 use std::sync::ledger::Ledger;
 use ts_sample::{Chunk, Sample, Steps};
 
 impl<C: Chunk> Chunks<C> {
-    // A sample past the last one: into the room of the last chunk, or into a new chunk of this size.
+    // Adds a sample after the last one: to the last chunk, or in a new chunk of this size.
     pub(crate) fn appended(
         &self,
         alloc: Global,
@@ -29,8 +29,8 @@ impl<C: Chunk> Chunks<C> {
         self.past(alloc, self.chunks.len(), sample, chunk_size)
     }
 
-    // The chunks before a place, and no others, with a sample past theirs: it goes into the room of the last of
-    // them, or into a new chunk of this size.
+    // Keeps only the chunks before index `place`, and adds a sample after theirs: to the last of them, or in a new
+    // chunk of this size.
     pub(crate) fn past(
         &self,
         alloc: Global,
@@ -64,7 +64,7 @@ impl<C: Chunk> Chunks<C> {
         })
     }
 
-    // A sample at a time that is not past the last one.
+    // Writes a sample at a time that is not after the last one.
     pub(crate) fn inserted<L: Ledger>(
         &self,
         alloc: Global,
@@ -89,7 +89,7 @@ impl<C: Chunk> Chunks<C> {
         })
     }
 
-    // The list without the samples of an interval, and how many these are.
+    // Deletes an interval's samples, and counts them.
     pub(crate) fn without<L: Ledger>(
         &self,
         alloc: Global,
@@ -106,7 +106,7 @@ impl<C: Chunk> Chunks<C> {
         ensures lengths { IfOk result (λ r. longest r.0.pieces ≤ longest self.now.pieces) }
         ensures steps { Takes steps.old steps.new (2 * longest self.now.pieces) }
     {
-        // Does nothing: where a field is read, the order of the chunks is known.
+        // Does nothing at run time: reading the field tells the proof that the chunks are in order.
         let _ = &self.chunks;
         let places = self.meeting(from, to);
         let (start, end) = (places.start, places.end);
@@ -123,7 +123,8 @@ impl<C: Chunk> Chunks<C> {
         ))
     }
 
-    // What the chunks that meet an interval are without its samples. Only the first and the last of them have others.
+    // New chunks for those that overlap an interval, without its samples. Only the first and the last of them have
+    // other samples.
     fn left_between<L: Ledger>(
         &self,
         alloc: Global,
@@ -153,7 +154,7 @@ impl<C: Chunk> Chunks<C> {
     }
 }
 
-// A chunk of this limit with one sample.
+// A chunk of size `limit` with one sample.
 pub(crate) fn begun<C: Chunk>(alloc: Global, sample: &Sample, limit: u32) -> Result<C, AllocError>
     requires { IsLimit limit }
     ensures list { IfOk result (λ c. C.list c ≡ sample.now ∷ []) }

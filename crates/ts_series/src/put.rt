@@ -1,4 +1,4 @@
-// The plan of a write.
+// Plans a write.
 ghost use Rattle.std.specs.Prelude.{◌≡◌, ℕ, ◌≤◌, ◌<◌, ◌+◌, ◌*◌, true, false, nat_lt, None, Some, IfOk, length};
 ghost use Rattle.ts_spec.specs.Sample.{MAX_TIME, at, last_of, put};
 ghost use Rattle.ts_sample.specs.Chunk.{IsPast, joined};
@@ -9,12 +9,11 @@ ghost use Rattle.ts_series.specs.Plan.{IsForIn};
 ghost use Rattle.ts_series.specs.Put.{met, PutAnswers, IsWrite, Writes, Fits, list_after};
 
 use crate::change::Change;
+use crate::chunks::new_limit;
 use crate::edge::{edge_at, raise};
-use crate::edit::Rows;
 use crate::line::Line;
-use crate::line_plan::LinePlan;
+use crate::line_plan::{LinePlan, Rows};
 use crate::plan::PutFault;
-use crate::room::new_limit;
 use std::alloc::AllocError;
 use std::sync::ledger::Ledger;
 use ts_sample::{Chunk, Sample, Steps, Units};
@@ -22,8 +21,8 @@ use ts_spec::Merge;
 
 #[tactic(auto, using(crate::proofs::Reach::within_reach))]
 impl<C: Chunk> Line<C> {
-    // Plans a write: at a time that has a sample as `how` says, and else as a new sample, if the series
-    // then has at most `limit` samples.
+    // Plans a write. If the series has a sample at `time`, merges the two by `how`. Otherwise adds a sample, which
+    // fails with `Full` if the series then has more than `limit` samples.
     pub(crate) fn put<L: Ledger>(
         &self,
         time: u64,
@@ -49,7 +48,7 @@ impl<C: Chunk> Line<C> {
         self.added(sample, limit, steps)
     }
 
-    // Whether a time is not past the last sample.
+    // Whether `time` is not after the last sample.
     pub(crate) fn is_late(&self, time: u64) -> bool
         ensures late { result ≡ true → IsUpTo time (last_of (points self.now.held)) }
         ensures past { result ≡ false → IsPast (last_of (points self.now.held)) time }
@@ -78,8 +77,8 @@ impl<C: Chunk> Line<C> {
         self.written(sample, steps)
     }
 
-    // Whether the series would have more samples than the limit with a new one, which stays, without those
-    // before the edge after it.
+    // Whether the series would have more than `limit` samples with this new one. Samples that expire because of it do
+    // not count.
     fn is_full<L: Ledger>(&self, sample: Sample, limit: u32, steps: &mut Steps<L>) -> bool
         requires absent { at sample.time (list_of self.now) ≡ None }
         requires kept { low self.now ≤ sample.time }
@@ -94,7 +93,7 @@ impl<C: Chunk> Line<C> {
         limit as usize <= self.chunks.len() - self.chunks.count_before(edge, steps)
     }
 
-    // Plans a sample at its time, in the place of one there or as a new one.
+    // Plans a sample at its time, whether or not it replaces one.
     pub(crate) fn written<L: Ledger>(
         &self,
         sample: Sample,
@@ -136,7 +135,7 @@ impl<C: Chunk> Line<C> {
         })
     }
 
-    // The change of the chunks that puts a sample into them.
+    // The change of the chunks that writes a sample.
     fn put_change<L: Ledger>(
         &self,
         sample: &Sample,

@@ -1,12 +1,12 @@
-// Items in the place of others in a ring. It takes no memory. Where one more comes than goes, or one fewer, the shorter
-// side of the ring moves by one place; the ring is turned only where the difference is greater.
+// Replaces a range of items in a ring buffer without allocating. If the count changes by one, the shorter side of the
+// ring moves by one. The ring is rotated only if the count changes by more.
 ghost use Rattle.std.specs.Prelude.{◌≡◌, ◌<◌, ◌≤◌, ◌+◌, ◌-◌, [], length, take, drop};
 ghost use Rattle.std.specs.VecDeque.{deque_capacity};
 ghost use Rattle.ts_series.specs.Stored.{replaced};
 
 use std::collections::VecDeque;
 
-// Puts items in the place of those from one place up to another. Where they are as many, no other item moves.
+// Replaces the items `start..end`. If there are as many new ones, no other item moves.
 pub(crate) fn replace_between<T: Drop>(
     ring: &mut VecDeque<T>,
     start: usize,
@@ -23,8 +23,7 @@ pub(crate) fn replace_between<T: Drop>(
     put_in_place(ring, start, items);
 }
 
-// Makes the places from one up to another as many as there are items. Where they are fewer, the last items go
-// into the ring behind them.
+// Makes the gap `start..end` as long as `items`. If it is too short, moves the last items into the ring behind it.
 fn make_places<T: Drop>(ring: &mut VecDeque<T>, start: usize, end: usize, items: &mut Vec<T>)
     requires ordered { start ≤ end }
     requires within { end ≤ length ring.old.items }
@@ -42,7 +41,7 @@ fn make_places<T: Drop>(ring: &mut VecDeque<T>, start: usize, end: usize, items:
     }
 }
 
-// Puts the last of these items between those before a place and those from it on, so that so many are left.
+// Moves the last of `items` into the ring at index `place`, until `left` of them remain.
 fn put_between<T: Drop>(ring: &mut VecDeque<T>, place: usize, items: &mut Vec<T>, left: usize)
     requires within { place ≤ length ring.old.items }
     requires enough { left ≤ length items.old.items }
@@ -63,7 +62,7 @@ fn put_between<T: Drop>(ring: &mut VecDeque<T>, place: usize, items: &mut Vec<T>
     ring.rotate_right(place);
 }
 
-// Puts the last of these items between those before a place and those from it on.
+// Moves the last of `items` into the ring at index `place`.
 fn insert_last<T: Drop>(ring: &mut VecDeque<T>, place: usize, items: &mut Vec<T>)
     requires within { place ≤ length ring.old.items }
     requires some { 0 < length items.old.items }
@@ -73,12 +72,12 @@ fn insert_last<T: Drop>(ring: &mut VecDeque<T>, place: usize, items: &mut Vec<T>
     ensures capacity { deque_capacity ring.old ≤ deque_capacity ring.new }
 {
     if let Some(item) = items.pop() {
-        // There is room for it.
+        // The ring has capacity for it.
         ring.insert(place, item).unwrap();
     }
 }
 
-// Takes out the items from one place up to another.
+// Removes the items `start..end`.
 fn take_out<T: Drop>(ring: &mut VecDeque<T>, start: usize, end: usize)
     requires ordered { start ≤ end }
     requires within { end ≤ length ring.old.items }
@@ -96,7 +95,7 @@ fn take_out<T: Drop>(ring: &mut VecDeque<T>, start: usize, end: usize)
     ring.rotate_right(start);
 }
 
-// Puts items in the place of as many, from a place on. No other item moves.
+// Overwrites the items from index `start` on with `items`. No other item moves.
 fn put_in_place<T: Drop>(ring: &mut VecDeque<T>, start: usize, mut items: Vec<T>)
     requires within { start + length items.items ≤ length ring.old.items }
     ensures items { ring.new.items ≡ replaced start (start + length items.items) items.items ring.old.items }

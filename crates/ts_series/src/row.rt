@@ -1,4 +1,4 @@
-// One row at its time, among chunks.
+// Writes one sample into the chunks.
 ghost use Rattle.std.specs.Prelude.{◌≡◌, ◌*◌, true, false, None, length, IfOk};
 ghost use Rattle.ts_spec.specs.Sample.{between, last_of, put};
 ghost use Rattle.ts_sample.specs.Chunk.{IsLimit, IsPast, joined};
@@ -6,15 +6,13 @@ ghost use Rattle.ts_sample.specs.Steps.{Takes};
 ghost use Rattle.ts_series.specs.Stored.{points, longest, pieces_after, IsReady, HasLimits, IsUpTo};
 
 use crate::change::Change;
-use crate::chunks::Chunks;
-use crate::counts::count_in;
+use crate::chunks::{Chunks, count_in};
 use std::alloc::{AllocError, Global};
 use std::sync::ledger::Ledger;
 use ts_sample::{Chunk, Sample, Steps};
 
 impl<C: Chunk> Chunks<C> {
-    // A row in the place of a sample at its time, or as a new one, if there is memory, and how many samples there were
-    // at it.
+    // The change that writes a row at its time, or the failed allocation, and the number of samples it replaces.
     pub(crate) fn with_row<L: Ledger>(
         &self,
         alloc: Global,
@@ -30,7 +28,7 @@ impl<C: Chunk> Chunks<C> {
         ensures steps { Takes steps.old steps.new (2 * longest self.now.pieces) }
         ensures easy { IsPast (last_of (points self.now)) row.now.time → steps.new ≡ steps.old }
     {
-        // Does nothing: where a field is read, the order of the chunks is known.
+        // Does nothing at run time: reading the field tells the proof that the chunks are in order.
         let _ = &self.chunks;
         if !self.is_late(row.time) {
             return (self.appended(alloc, row, chunk_size), 0);
@@ -44,7 +42,7 @@ impl<C: Chunk> Chunks<C> {
         }
     }
 
-    // A sample at its time, in the place of one there or as a new one.
+    // The change that writes a sample at its time, whether or not it replaces one.
     pub(crate) fn with_sample<L: Ledger>(
         &self,
         alloc: Global,
@@ -65,7 +63,7 @@ impl<C: Chunk> Chunks<C> {
         self.appended(alloc, sample, chunk_size)
     }
 
-    // Whether a time is not past the last sample.
+    // Whether `time` is not after the last sample.
     pub(crate) fn is_late(&self, time: u64) -> bool
         ensures late { result ≡ true → IsUpTo time (last_of (points self.now)) }
         ensures past { result ≡ false → IsPast (last_of (points self.now)) time }
@@ -76,12 +74,12 @@ impl<C: Chunk> Chunks<C> {
         }
     }
 
-    // How many samples there are at a time: one or none.
+    // The number of samples at `time`: one or none.
     fn count_at<L: Ledger>(&self, time: u64, steps: &mut Steps<L>) -> usize
         ensures count { result ≡ length (between time time (points self.now)) }
         ensures steps { Takes steps.old steps.new (longest self.now.pieces) }
     {
-        // Does nothing: where a field is read, the order of the chunks is known.
+        // Does nothing at run time: reading the field tells the proof that the chunks are in order.
         let _ = &self.chunks;
         match self.at(time, steps) {
             None => 0,
@@ -89,15 +87,15 @@ impl<C: Chunk> Chunks<C> {
         }
     }
 
-    // How many samples a row takes the place of, by the change that puts it at its time: one where there are as many
-    // samples then. Nothing is decoded.
+    // The number of samples that a row replaces, from the change that writes it: one if the total stays the same.
+    // Decodes nothing.
     fn replaced_by(&self, row: &Sample, change: &Change<C>) -> usize
         requires ready { IsReady C.format self.now change.now }
         requires alone { change.now.appended ≡ None }
         requires put { joined (pieces_after change.now self.now.pieces) ≡ put row.now (points self.now) }
         ensures { result ≡ length (between row.now.time row.now.time (points self.now)) }
     {
-        // Does nothing: where a field is read, the order of the chunks is known.
+        // Does nothing at run time: reading the field tells the proof that the chunks are in order.
         let _ = &self.chunks;
         let gone = self.count_of(change.start, change.end);
         let come = count_in(&change.chunks);

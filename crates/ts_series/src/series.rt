@@ -1,4 +1,4 @@
-// A series as its callers see it.
+// The public type of a series.
 ghost use Rattle.std.specs.Prelude.{◌≡◌, ◌<◌, ◌+◌, ◌-◌, ◌^◌, [], None};
 ghost use Rattle.ts_spec.specs.Mending.{high_with};
 ghost use Rattle.ts_spec.specs.Sample.{IsAscending, last_of};
@@ -15,7 +15,7 @@ use ts_chunk_plain::PlainChunk;
 use ts_sample::Sample;
 use ts_spec::{Encoding, Options, Policy};
 
-/// A list of samples in order of time, and how it is kept.
+/// A time series: its samples in order of time, and its options.
 #[derive(Drop)]
 pub struct Series {
     pub(crate) lines: Lines,
@@ -40,7 +40,7 @@ impl Model for Series {
 }
 
 impl Series {
-    /// A series without samples.
+    /// An empty series.
     pub fn new(alloc: Global, options: Options) -> Series
         ensures options { result.options ≡ options }
         ensures empty { list_of result ≡ [] }
@@ -55,7 +55,7 @@ impl Series {
         Series { lines }
     }
 
-    /// How it is kept.
+    /// The series' options.
     pub fn options(&self) -> Options
         ensures { result ≡ self.now.options }
     {
@@ -65,7 +65,7 @@ impl Series {
         }
     }
 
-    /// What a write does where its time already has a sample.
+    /// The duplicate policy: what a write does at a time that has a sample.
     pub fn policy(&self) -> Policy
         ensures { result ≡ self.now.options.policy }
     {
@@ -75,7 +75,7 @@ impl Series {
         }
     }
 
-    /// The highest time that it ever had a sample at.
+    /// The highest time, in milliseconds, that the series ever had a sample at.
     pub fn high(&self) -> Option<u64>
         ensures { result ≡ self.now.high }
     {
@@ -85,7 +85,7 @@ impl Series {
         }
     }
 
-    /// How many rules were ever made on it.
+    /// The number of rules ever created on the series.
     pub fn born(&self) -> u32
         ensures { result ≡ self.now.born }
     {
@@ -95,7 +95,7 @@ impl Series {
         }
     }
 
-    /// The earliest time that it keeps, in milliseconds.
+    /// The retention edge: the earliest time that the series keeps, in milliseconds.
     pub fn edge(&self) -> u64
         ensures { result ≡ low self.now }
     {
@@ -105,7 +105,7 @@ impl Series {
         }
     }
 
-    /// The earliest time that it would keep with these rows too, in milliseconds. They are in ascending time.
+    /// The retention edge after writing `rows`, in milliseconds. The rows are in ascending time.
     pub fn edge_with(&self, rows: &[Sample]) -> u64
         requires { IsAscending rows.now }
         ensures { result ≡ edge_of self.now.options.retention (high_with rows.now self.now.high) }
@@ -116,7 +116,7 @@ impl Series {
         }
     }
 
-    /// Its last sample.
+    /// The last sample.
     pub fn last(&self) -> Option<Sample>
         ensures { result ≡ last_of (list_of self.now) }
     {
@@ -126,7 +126,7 @@ impl Series {
         }
     }
 
-    /// Does what was planned.
+    /// Carries out the plan.
     pub fn commit(&mut self, plan: SeriesPlan)
         requires { IsFor plan self.old }
         ensures done { self.new ≡ record (after plan self.old) { held = self.new.held } }
@@ -148,7 +148,7 @@ impl Series {
         }
     }
 
-    /// Counts one more rule that was made on it.
+    /// Counts one more rule created on the series.
     pub fn raise_born(&mut self)
         requires { self.old.born < 2 ^ 32 - 1 }
         ensures raised { self.new ≡ record self.old { born = self.old.born + 1 } }

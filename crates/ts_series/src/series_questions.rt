@@ -1,4 +1,4 @@
-// The public questions about a series, for either encoding.
+// The public queries of a series, for either encoding.
 ghost use Rattle.std.specs.Prelude.{◌≡◌, ◌≤◌, ◌+◌, ◌*◌, ◌⊎◌, ℕ, suc, nat_lt, length};
 ghost use Rattle.ts_spec.specs.Sample.{MAX_TIME, at, at_times, between, first_of, last_of};
 ghost use Rattle.ts_sample.specs.Visit.{visited};
@@ -12,7 +12,7 @@ use std::sync::ledger::Ledger;
 use ts_sample::{Sample, Steps, Visit};
 
 impl Series {
-    /// Does nothing: it tells a caller what holds of every series, which a reference hides.
+    /// Does nothing at run time. Its contract states what holds for every series, which a borrow hides.
     pub fn known(&self)
         ensures kept { IsKept self.now }
         ensures times { Every (λ p. p.time ≤ MAX_TIME) (list_of self.now) }
@@ -23,7 +23,8 @@ impl Series {
         }
     }
 
-    /// Does nothing: it tells a caller that there are times near each interval that cut no chunk.
+    /// Does nothing at run time. Its contract states that there are seams near each interval: times that split no
+    /// chunk.
     pub fn seams(&self)
         ensures { (from to : ℕ) → Around from to (length (between from to (list_of self.now)) + 2 * reach self.now) self.now.held.pieces }
     {
@@ -33,7 +34,7 @@ impl Series {
         }
     }
 
-    /// Does nothing: it tells a caller that between one time and the next at most one chunk is cut.
+    /// Does nothing at run time. Its contract states that any one time splits at most one chunk.
     pub fn cuts(&self)
         ensures { (t : ℕ) → Around (suc t) t (reach self.now) self.now.held.pieces }
     {
@@ -43,7 +44,7 @@ impl Series {
         }
     }
 
-    /// How many samples a new chunk has room for at most.
+    /// The largest number of samples a new chunk can hold.
     pub fn chunk_reach(&self) -> u64
         ensures { result ≤ reach self.now }
     {
@@ -53,7 +54,7 @@ impl Series {
         }
     }
 
-    /// Its first sample.
+    /// The first sample.
     pub fn first<L: Ledger>(&self, steps: &mut Steps<L>) -> Option<Sample>
         ensures first { result ≡ first_of (list_of self.now) }
         ensures steps { Takes steps.old steps.new (reach self.now) }
@@ -64,7 +65,7 @@ impl Series {
         }
     }
 
-    /// How many samples it has.
+    /// The number of samples.
     pub fn len<L: Ledger>(&self, steps: &mut Steps<L>) -> usize
         ensures len { result ≡ length (list_of self.now) }
         ensures steps { Takes steps.old steps.new (reach self.now) }
@@ -75,7 +76,7 @@ impl Series {
         }
     }
 
-    /// Its sample at this time, in milliseconds.
+    /// The sample at time `t`, in milliseconds.
     pub fn at<L: Ledger>(&self, t: u64, steps: &mut Steps<L>) -> Option<Sample>
         ensures at { result ≡ at t (list_of self.now) }
         ensures steps { Takes steps.old steps.new (reach self.now) }
@@ -86,7 +87,7 @@ impl Series {
         }
     }
 
-    /// Its last sample before this time, in milliseconds.
+    /// The last sample before time `t`, in milliseconds.
     pub fn before<L: Ledger>(&self, t: u64, steps: &mut Steps<L>) -> Option<Sample>
         ensures before { result ≡ last_of (at_times (λ u. nat_lt u t) (list_of self.now)) }
         ensures steps { Takes steps.old steps.new (reach self.now) }
@@ -97,8 +98,8 @@ impl Series {
         }
     }
 
-    /// Room for the samples from one time to another, in milliseconds, both included: at least as many as they
-    /// are, and no more than two chunks hold above that. Nothing is decoded.
+    /// A buffer capacity for the samples from `from` to `to`, in milliseconds, both inclusive. It is at least their
+    /// number and exceeds it by at most two chunks. Decodes nothing.
     pub fn room_for(&self, from: u64, to: u64) -> usize
         ensures least { length (between from to (list_of self.now)) ≤ result }
         ensures most { result ≤ length (between from to (list_of self.now)) + 2 * reach self.now }
@@ -109,9 +110,9 @@ impl Series {
         }
     }
 
-    /// A time from one to another, in milliseconds, up to which it has so many samples; the later one where it has
-    /// fewer, and also where it does not find one. It takes no memory and no steps, and decodes nothing: of each
-    /// chunk it looks at how many samples it has and at the last one.
+    /// An end time for a scan from `from` that yields at least `count` samples, or `to` if it finds none before. All
+    /// times are in milliseconds. Reads only the sample count and the last sample of each chunk: it allocates
+    /// nothing, decodes nothing and takes no steps.
     pub fn time_for(&self, from: u64, to: u64, count: u64) -> u64
         requires { from ≤ to }
         ensures within { (from ≤ result) × (result ≤ to) }
@@ -124,10 +125,9 @@ impl Series {
         }
     }
 
-    /// A time from one to another, in milliseconds, from which on, up to the later one, it has so many samples; the
-    /// earlier one where it has fewer, and also where it does not find one. It takes no memory and no steps, and
-    /// decodes nothing: of each chunk, from the end of the interval on, it looks at how many samples it has and at the
-    /// first one.
+    /// A start time for a scan up to `to` that yields at least `count` samples, or `from` if it finds none after it.
+    /// All times are in milliseconds. Reads only the sample count and the first sample of each chunk, from the end of
+    /// the interval: it allocates nothing, decodes nothing and takes no steps.
     pub fn time_from(&self, from: u64, to: u64, count: u64) -> u64
         requires { from ≤ to }
         ensures within { (from ≤ result) × (result ≤ to) }
@@ -140,8 +140,7 @@ impl Series {
         }
     }
 
-    /// Takes a visitor over the samples from one time to another, in milliseconds, both included, in their
-    /// order.
+    /// Passes the samples from `from` to `to`, in milliseconds, both inclusive, to `visit`, oldest first.
     pub fn scan<V: Visit, L: Ledger>(&self, from: u64, to: u64, visit: &mut V, steps: &mut Steps<L>)
         requires room { length (between from to (list_of self.now)) ≤ V.room visit.old }
         ensures visited { visit.new ≡ visited V.step visit.old (between from to (list_of self.now)) }
@@ -155,7 +154,7 @@ impl Series {
         }
     }
 
-    /// Whether it has a sample from one time to another, in milliseconds, both included.
+    /// Whether there is a sample from `from` to `to`, in milliseconds, both inclusive.
     pub fn has_between<L: Ledger>(&self, from: u64, to: u64, steps: &mut Steps<L>) -> bool
         ensures has { result ≡ nat_lt 0 (length (between from to (list_of self.now))) }
         ensures steps { Takes steps.old steps.new (reach self.now) }

@@ -1,5 +1,6 @@
-// Parts of a chunk: what is left of it from a time or a place on, what stands before, and the rest of another.
-ghost use Rattle.std.specs.Prelude.{◌≡◌, ◌+◌, ◌<◌, nat_lt, nat_le, if◌then◌else◌, ◌==◌, ◌++◌, length, None, IfOk, IfSome, IfNone};
+// Helpers of `PackedChunk`: the samples before and after a time or a mark, and the list of its fields.
+ghost use Rattle.std.specs.Prelude.{◌≡◌, ◌+◌, ◌<◌, nat_lt, nat_le, if◌then◌else◌, ◌==◌, ◌++◌, length, None, IfOk};
+ghost use Rattle.std.specs.Prelude.{IfSome, IfNone, ◌≤◌, ◌*◌};
 ghost use Rattle.ts_spec.specs.Sample.{IsAscending, at_times};
 ghost use Rattle.ts_chunk_packed.specs.Marks.{AreMarks, IsMark, IsPlace, EndsAt, passed};
 ghost use Rattle.ts_chunk_packed.specs.Packed.{begin, state_from, packed};
@@ -14,21 +15,21 @@ use std::alloc::{AllocError, Global};
 use ts_sample::{Chunk, Sample};
 
 impl PackedChunk {
-    // What is known of its samples.
+    // The coding context after its last sample.
     pub(super) fn context(&self) -> Context
         ensures { result ≡ state_from begin self.now.list }
     {
         Context::new(self.last, self.step)
     }
 
-    // The samples past the last mark before a time.
+    // The samples after the last mark before `time`.
     pub(super) fn rest_from(&self, time: u64) -> Rest<'_>
         ensures { IsRestFrom time self.now.list result }
     {
         self.rest_at(self.marks.before(time))
     }
 
-    // The samples past a mark, or all of them where there is none.
+    // The samples after `mark`, or all samples if there is no mark.
     pub(super) fn rest_at(&self, mark: Option<&Mark>) -> Rest<'_>
         requires { IfSome mark (λ m. IsMark self.now.list m.now) }
         ensures all { IfNone mark.entry (IsRestPast 0 self.now.list result) }
@@ -41,7 +42,7 @@ impl PackedChunk {
         Rest::new(mark.context(), bytes, self.count - mark.count())
     }
 
-    // The place before the samples that are left of it.
+    // The reading position in front of the remaining samples.
     pub(super) fn place_before(&self, rest: &Rest<'_>) -> Option<Mark>
         requires { IsRestOf self.now.list rest.now }
         ensures place { IsPlace self.now.list result }
@@ -50,7 +51,7 @@ impl PackedChunk {
         Mark::after(rest.context(), self.place_of(rest))
     }
 
-    // Passes the samples before a time, and gives all that are before it in a chunk of the same limit.
+    // Skips the samples before `time` and returns a chunk of the same limit with all samples before `time`.
     pub(super) fn front(
         &self,
         alloc: Global,
@@ -69,7 +70,7 @@ impl PackedChunk {
         self.all_before(alloc, rest, marks)
     }
 
-    // All samples before those that are left of it, with these marks, in a chunk of the same limit.
+    // A chunk of the same limit with all samples in front of `rest`, and with these marks.
     pub(super) fn all_before(
         &self,
         alloc: Global,
@@ -98,7 +99,7 @@ impl PackedChunk {
         })
     }
 
-    // Its marks before what is left of it, with room for more.
+    // The marks in front of `rest`, with capacity for more.
     fn marks_before(&self, alloc: Global, rest: &Rest<'_>) -> Result<LateMarks, AllocError>
         requires { IsRestOf self.now.list rest.now }
         ensures { IfOk result (λ ms. (of : IsRestOf self.now.list rest.now) → AreMarks of.front ms) }
@@ -109,7 +110,7 @@ impl PackedChunk {
         Ok(marks)
     }
 
-    // Passes the samples before a time, and sets the marks past them that are due.
+    // Skips the samples before `time`, and sets each mark that becomes due.
     fn pass_before(&self, time: u64, rest: &mut Rest<'_>, marks: &mut LateMarks)
         requires rest { IsRestFrom time self.now.list rest.old }
         requires marks { (from : IsRestFrom time self.now.list rest.old) → AreMarks from.rest.front marks.old }
@@ -123,7 +124,7 @@ impl PackedChunk {
         }
     }
 
-    // Where the samples begin that are left of it.
+    // The byte and sample offset where `rest` starts.
     pub(super) fn place_of(&self, rest: &Rest<'_>) -> Offset
         requires { IsRestOf self.now.list rest.now }
         ensures { (of : IsRestOf self.now.list rest.now) → EndsAt of.front result.at result.count }
@@ -134,8 +135,8 @@ impl PackedChunk {
         }
     }
 
-    /// Puts the samples that are left of another chunk past its own, as they are coded there, where they fit, and
-    /// says whether they did. It takes no memory.
+    /// Appends the remaining samples of `other` without coding them again, if they fit. Returns whether they did.
+    /// Allocates nothing.
     pub(crate) fn try_append_rest(&mut self, rest: &Rest<'_>, other: &PackedChunk) -> bool
         requires some { 0 < length self.old.list }
         requires ascending { IsAscending (self.old.list ++ rest.now.list) }
@@ -166,11 +167,31 @@ impl PackedChunk {
         self.marks.keep_moved(&other.marks, from, to);
         true
     }
+
+    /// The number of its marks, each of 48 bytes: at most one per 256 bytes of samples.
+    pub fn marks(&self) -> usize
+        ensures { 256 * result ≤ length (packed self.now.list) }
+    {
+        self.marks.len()
+    }
 }
 
-// The first of so many samples, where this is the first of those and others.
+// The first of `count` samples, or `None` if `count` is 0.
 fn kept_first(count: u32, first: Option<Sample>) -> Option<Sample>
     ensures { result ≡ (if count == 0 then None else first) }
 {
     if count == 0 { None } else { first }
+}
+
+// Fails to compile if a field is added, such as a second copy of the samples.
+fn fields(it: &PackedChunk) {
+    let PackedChunk {
+        limit: _,
+        bytes: _,
+        count: _,
+        step: _,
+        first: _,
+        last: _,
+        marks: _,
+    } = it;
 }

@@ -1,16 +1,20 @@
-// A chunk with one more sample, or with another one at its time.
-ghost use Rattle.std.specs.Prelude.{◌≡◌, ◌<◌, ◌≤◌, length, IfOk, IfSome, IfNone};
+// A late sample: inserted at its time, or the chunk split in two if it gets too long.
+ghost use Rattle.std.specs.Prelude.{◌≡◌, ◌<◌, ◌≤◌, length, IfOk, IfSome, IfNone, ◌+◌, ◌/◌, nat_eq, ◌++◌};
 ghost use Rattle.ts_spec.specs.Sample.{put};
 ghost use Rattle.ts_chunk_packed.specs.Packed.{packed};
+ghost use Rattle.ts_chunk_packed.specs.Marks.{AreMarks};
+ghost use Rattle.ts_chunk_packed.specs.Rest.{IsRestOf};
 
 use super::PackedChunk;
+use crate::late_marks::LateMarks;
+use crate::rest::Rest;
 use crate::splicing::take_over;
 use std::alloc::{AllocError, Global};
-use ts_sample::{Chunk, Sample};
+use ts_sample::{Chunk, MAX_TIME, Sample};
 
 impl PackedChunk {
-    // A chunk of the same limit with the sample at its time, and how many samples were decoded for it: none where it
-    // would not fit.
+    // A chunk of the same limit with `sample` at its time, and the number of samples decoded to build it. `None` if
+    // it does not fit.
     pub(super) fn with_sample(
         &self,
         alloc: Global,
@@ -34,5 +38,105 @@ impl PackedChunk {
             return Ok(None);
         }
         Ok(Some((chunk, count - rest.len())))
+    }
+
+    // Two chunks of the same limit with `sample` at its time, split in halves if there was no sample at that time.
+    // `None` if they do not fit.
+    pub(super) fn split_with(
+        &self,
+        alloc: Global,
+        sample: &Sample,
+    ) -> Result<Option<(PackedChunk, PackedChunk)>, AllocError>
+        ensures list { IfOk result (λ o. IfSome o (λ r. r.0.list ++ r.1.list ≡ put sample.now self.now.list)) }
+        ensures limits { IfOk result (λ o. IfSome o (λ r. (r.0.limit ≡ self.now.limit) × (r.1.limit ≡ self.now.limit))) }
+    {
+        self.known();
+        let mut rest = self.rest_at(None);
+        let mut marks = LateMarks::with_room(alloc, self.limit)?;
+        self.pass_half(sample, &mut rest, &mut marks);
+        let Some((first, second)) = self.split(alloc, rest, marks)? else {
+            return Ok(None);
+        };
+        let Some(begins) = second.first() else {
+            return Ok(None);
+        };
+        if sample.time < begins.time {
+            let Some((first, _)) = first.with_sample(alloc, sample)? else {
+                return Ok(None);
+            };
+            return Ok(Some((first, second)));
+        }
+        let Some((second, _)) = second.with_sample(alloc, sample)? else {
+            return Ok(None);
+        };
+        Ok(Some((first, second)))
+    }
+
+    // Skips the first half of the samples, or a sample less if `sample` belongs to that half, and sets each mark that
+    // becomes due. Where it stops affects only speed.
+    fn pass_half(&self, sample: &Sample, rest: &mut Rest<'_>, marks: &mut LateMarks)
+        requires rest { IsRestOf self.now.list rest.old }
+        requires marks { (of : IsRestOf self.now.list rest.old) → AreMarks of.front marks.old }
+        ensures rest { IsRestOf self.now.list rest.new }
+        ensures marks { (of : IsRestOf self.now.list rest.new) → AreMarks of.front marks.new }
+    {
+        for _ in 0..self.count.saturating_sub(1) / 2 {
+            self.pass_next(MAX_TIME, rest, marks);
+        }
+        sample.known();
+        self.pass_next(sample.time + 1, rest, marks);
+    }
+
+    // Skips the next sample if it is before `time`, and sets a mark after it if one is due.
+    fn pass_next(&self, time: u64, rest: &mut Rest<'_>, marks: &mut LateMarks)
+        requires rest { IsRestOf self.now.list rest.old }
+        requires marks { (of : IsRestOf self.now.list rest.old) → AreMarks of.front marks.old }
+        ensures rest { IsRestOf self.now.list rest.new }
+        ensures marks { (of : IsRestOf self.now.list rest.new) → AreMarks of.front marks.new }
+    {
+        if !rest.pass(time) {
+            return;
+        }
+        let place = self.place_of(rest);
+        marks.set(rest.context(), place);
+    }
+
+    // Splits the chunk in front of `rest` into two chunks of the same limit, with `marks` for the first. `None` if
+    // the second does not fit or would be empty. The second chunk copies all but its first few samples without coding
+    // them again.
+    fn split(
+        &self,
+        alloc: Global,
+        mut rest: Rest<'_>,
+        marks: LateMarks,
+    ) -> Result<Option<(PackedChunk, PackedChunk)>, AllocError>
+        requires rest { IsRestOf self.now.list rest }
+        requires marks { (of : IsRestOf self.now.list rest) → AreMarks of.front marks }
+        ensures whole { IfOk result (λ o. IfSome o (λ r. r.0.list ++ r.1.list ≡ self.now.list)) }
+        ensures limits { IfOk result (λ o. IfSome o (λ r. (r.0.limit ≡ self.now.limit) × (r.1.limit ≡ self.now.limit))) }
+    {
+        self.known();
+        let first = self.all_before(alloc, &rest, marks)?;
+        let mut second = PackedChunk::new(alloc, self.limit())?;
+        let Some(sample) = rest.next() else {
+            return Ok(None);
+        };
+        if !second.try_append(&sample) {
+            return Ok(None);
+        }
+        if !take_over(&mut second, &mut rest, self) {
+            return Ok(None);
+        }
+        Ok(Some((first, second)))
+    }
+}
+
+// Whether two lists of these lengths are the halves of one list, the first rounded down.
+pub(super) fn are_halves(first: usize, second: usize) -> bool
+    ensures { result ≡ nat_eq first ((first + second) / 2) }
+{
+    match second.checked_sub(first) {
+        Some(more) => more < 2,
+        None => false,
     }
 }

@@ -3,7 +3,7 @@ use Rattle.std.specs.Prelude.{Result, Ok, Err}
 use Rattle.ts_spec.specs.Bucket.{start}
 use Rattle.ts_series.specs.History.{list_of}
 use Rattle.ts_series.proofs.TimeFor.{between-longer}
-use Rattle.ts_rules.specs.declared.fault.RuleFault.TheVariants.{Full, Memory}
+use Rattle.ts_rules.specs.declared.plan.RuleFault.TheVariants.{Full, Memory}
 use Rattle.ts_rules.proofs.Clamped.{none-between, unchanged-planned, plan-clamped}
 use Rattle.ts_rules.proofs.Sizes.{in_buckets-fewer}
 use Rattle.ts_rules.proofs.Times.{not-past}
@@ -11,7 +11,7 @@ use Rattle.ts_rules.proofs.planned.plan_delete.Goals as goal
 use Rattle.ts_rules.proofs.planned.plan_delete.Goals.{After-min-to}
 use Rattle.ts_rules.specs.PlansOfDeletions.{IsPlanOfDeletion}
 use Rattle.ts_rules.specs.Shares.{deletion_share}
-use Rattle.ts_rules.specs.declared.fault.RuleFault.{RuleFault}
+use Rattle.ts_rules.specs.declared.plan.RuleFault.{RuleFault}
 use Rattle.ts_rules.specs.declared.plan.RulePlan.{RulePlan}
 
 -- what is planned up to the greatest time is planned up to the end of the interval

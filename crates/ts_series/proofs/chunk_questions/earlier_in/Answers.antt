@@ -1,6 +1,6 @@
 use Rattle.std.proofs.Common.{◌-◌, ◌≤◌, length, sym, ◌∙◌, ap, arith}
 use Rattle.ts_spec.specs.Sample.{Point, between, last_of}
-use Rattle.ts_series.specs.declared.ends.Ends.{Ends}
+use Rattle.ts_series.specs.declared.chunk_questions.Ends.{Ends}
 use Rattle.ts_series.proofs.OneChunk.{few, room-for, before-is, none-earlier, ends-last, ends-count}
 use Rattle.ts_series.proofs.chunk_questions.earlier_in.Goals as goal
 

@@ -1,6 +1,6 @@
 use Rattle.std.proofs.Common.{◌≡◌, ◌≤◌, [], length, get_or, refl, sym, ◌∙◌, ap, subst, arith}
 use Rattle.ts_spec.specs.Sample.{IsAscending, at, between}
-use Rattle.ts_series.specs.declared.ends.Ends.{Ends}
+use Rattle.ts_series.specs.declared.chunk_questions.Ends.{Ends}
 use Rattle.ts_series.specs.Stored.{Stored, points}
 use Rattle.ts_series.proofs.Joined.{longest-at}
 use Rattle.ts_series.proofs.Answering.{IsPiece, pieces-length, piece, at-piece, get-past, not-less}

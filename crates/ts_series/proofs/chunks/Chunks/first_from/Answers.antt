@@ -1,7 +1,7 @@
 use Rattle.std.proofs.Common.{◌≡◌, ◌≤◌, List, length, get_or, refl, sym, ◌∙◌, ap, subst, arith}
 use Rattle.std.specs.Prelude.{nat_le}
 use Rattle.ts_spec.specs.Sample.{Point, IsAscending, at_times, between, first_of}
-use Rattle.ts_series.specs.declared.ends.Ends.{Ends}
+use Rattle.ts_series.specs.declared.chunk_questions.Ends.{Ends}
 use Rattle.ts_series.specs.Stored.{Stored, points}
 use Rattle.ts_series.proofs.Joined.{longest-at}
 use Rattle.ts_series.proofs.Answering.{IsPiece, pieces-length, piece, first-late, none-late, not-less}

@@ -1,7 +1,7 @@
 use Rattle.std.proofs.Common.{◌+◌, ◌<◌, length, map, refl, arith}
 use Rattle.std.proofs.lemmas.List.{length-map}
 use Rattle.ts_series.proofs.PieceCounts.{counted-item, counted-part}
-use Rattle.ts_series.proofs.counts.count_in.Goals as goal
+use Rattle.ts_series.proofs.chunks.count_in.Goals as goal
 
 pub overflow_add-count : goal.overflow_add-count
 overflow_add-count g c =

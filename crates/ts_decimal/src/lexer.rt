@@ -1,12 +1,34 @@
-// The exponent of a value's text.
-ghost use Rattle.std.specs.Prelude.{◌≡◌, ◌≤◌, ◌<◌, ℕ, true, false, MatchOption, IfSome};
-ghost use Rattle.ts_spec.specs.Value.{is_short, number_after, exponent};
+// Splits a sign, a digit or an exponent off a decimal text.
+ghost use Rattle.std.specs.Prelude.{◌≡◌, ◌≤◌, length, MatchOption, ◌<◌, ℕ, true, false, IfSome};
+ghost use Rattle.ts_spec.specs.Value.{is_negative, unsigned, is_short, number_after, exponent};
+ghost use Rattle.ts_decimal.specs.Digits.{BeginsWith, HasNoDigit};
 
-use crate::digit::split_digit;
-use crate::sign::split_sign;
 use std::marker::Model;
 
-/// Ten to the power `up`, over ten to the power `down`.
+/// Returns whether `text` starts with a minus, and the text after the optional sign.
+pub fn split_sign(text: &[u8]) -> (bool, &[u8])
+    ensures negative { result.0 ≡ is_negative text.now }
+    ensures rest { result.1.now ≡ unsigned text.now }
+    ensures bound { length result.1.now ≤ length text.now }
+{
+    match text {
+        [b'-', rest @ ..] => (true, rest),
+        [b'+', rest @ ..] => (false, rest),
+        _ => (false, text),
+    }
+}
+
+/// The leading digit of `text` and the rest, or `None` if it does not start with a digit.
+pub fn split_digit(text: &[u8]) -> Option<(u8, &[u8])>
+    ensures { MatchOption result (HasNoDigit text.now) (λ p. BeginsWith text.now p.0 p.1.now) }
+{
+    match text {
+        [digit @ b'0'..=b'9', after @ ..] => Some((digit - b'0', after)),
+        _ => None,
+    }
+}
+
+/// The factor 10^up / 10^down.
 #[derive(Clone, Copy)]
 pub struct Scale {
     pub up: usize,
@@ -23,7 +45,7 @@ impl Model for Scale {
     ghost inverse = { λ s. record { up = s.up; down = s.down } };
 }
 
-/// The number of a text of one to three digits.
+/// Parses a text of one to three digits. Any other text is `None`.
 fn short_number(text: &[u8]) -> Option<usize>
     ensures value { MatchOption result (is_short text.now ≡ false) (λ n. (is_short text.now ≡ true) × (n ≡ number_after 0 text.now)) }
     ensures bound { IfSome result (λ n. n < 1000) }
@@ -40,7 +62,8 @@ fn short_number(text: &[u8]) -> Option<usize>
     if rest.is_empty() { Some(number) } else { None }
 }
 
-/// The exponent that ends a text after its digits.
+/// Parses the exponent at the end of a decimal: an empty text, or `e` or `E`, an optional sign and one to three
+/// digits. Any other text is `None`.
 pub fn read_exponent(text: &[u8]) -> Option<Scale>
     ensures value { result ≡ exponent text.now }
     ensures bound { IfSome result (λ s. (s.up < 1000) × (s.down < 1000)) }

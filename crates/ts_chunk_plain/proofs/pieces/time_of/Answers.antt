@@ -1,7 +1,7 @@
 use Rattle.std.proofs.Common.{◌∙◌, ap}
 use Rattle.std.specs.Int.{w64, from_le_bytes}
 use Rattle.ts_chunk_plain.specs.Plain.{sample_of}
-use Rattle.ts_chunk_plain.proofs.piece.time_of.Goals as goal
+use Rattle.ts_chunk_plain.proofs.pieces.time_of.Goals as goal
 
 pub returns : goal.returns
 unfolding sample_of

@@ -4,7 +4,7 @@ use Rattle.std.specs.Int.{w32, w128, from_le_bytes, cast_signed, cast_unsigned}
 use Rattle.std.proofs.lemmas.Int.{to_z-of_z}
 use Rattle.ts_spec.specs.Value.{bound}
 use Rattle.ts_chunk_plain.specs.Plain.{sample_of}
-use Rattle.ts_chunk_plain.proofs.piece.decode.Goals as goal
+use Rattle.ts_chunk_plain.proofs.pieces.decode.Goals as goal
 
 pub unwrap-requires : goal.unwrap-requires
 unfolding sample_of

@@ -1,7 +1,7 @@
 use Rattle.std.proofs.Common.{◌≡◌, ◌+◌, ◌*◌, ◌^◌, ◌≤◌, length, sym, ◌∙◌, arith, rules}
 use Rattle.ts_decimal.specs.Digits.{BeginsWith}
 use Rattle.ts_decimal.proofs.Scanning.{number_after-step, all_digits-step, length-step, room-step, small-number, not_short}
-use Rattle.ts_decimal.proofs.exponent.short_number.Goals as goal
+use Rattle.ts_decimal.proofs.lexer.short_number.Goals as goal
 
 pub overflow_mul-number : goal.overflow_mul-number
 overflow_mul-number c = search (arith, small-number _ _ c.loop-digit.invariant.small)

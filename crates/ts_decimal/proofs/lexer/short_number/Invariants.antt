@@ -2,7 +2,7 @@ use Rattle.std.proofs.Common.{◌≡◌, ◌+◌, ◌*◌, ◌^◌, ◌≤◌, l
 use Rattle.std.specs.List.{list_all}
 use Rattle.ts_spec.specs.Wire.{is_digit}
 use Rattle.ts_spec.specs.Value.{number_after}
-use Rattle.ts_decimal.proofs.exponent.short_number.Given as goal
+use Rattle.ts_decimal.proofs.lexer.short_number.Given as goal
 
 abbrev pub invariant-loop-digit : goal.invariant-loop-digit
 invariant-loop-digit l = record {

@@ -3,7 +3,7 @@ use Rattle.std.specs.Int.{w32, w64, w128, to_le_bytes, cast_unsigned}
 use Rattle.std.proofs.lemmas.Int.{to_z-of_z, fits_signed_from_abs}
 use Rattle.ts_spec.specs.Sample.{Point}
 use Rattle.ts_chunk_plain.proofs.Coding.{put_together}
-use Rattle.ts_chunk_plain.proofs.piece.encode.Goals as goal
+use Rattle.ts_chunk_plain.proofs.pieces.encode.Goals as goal
 
 pub returns : goal.returns
 returns c =

@@ -2,7 +2,7 @@ use Rattle.std.proofs.Common.{◌≡◌, ◌≤◌, ◌+◌, length}
 use Rattle.ts_spec.specs.Sample.{IsAscending}
 use Rattle.ts_spec.specs.Rules.{is_past}
 use Rattle.ts_rules.proofs.Meeting.{met}
-use Rattle.ts_rules.proofs.count_lost.count_lost.Given as goal
+use Rattle.ts_rules.proofs.fullness.count_lost.Given as goal
 
 abbrev pub invariant-loop-lost : goal.invariant-loop-lost
 invariant-loop-lost g l = record {
