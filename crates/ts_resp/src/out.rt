@@ -2,7 +2,7 @@
 ghost use Rattle.std.specs.Prelude.{◌≡◌, ◌+◌, ◌<◌, ◌≤◌, [], ◌++◌, length, min, take, drop, IfOk, OnOk, OnErr};
 ghost use Rattle.ts_spec.specs.Text.{line_text};
 
-use crate::gap::write_line;
+use crate::parts::write_line;
 use bytes::BytesMut;
 use std::alloc::{AllocError, Global};
 use std::marker::Model;

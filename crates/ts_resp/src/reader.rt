@@ -7,14 +7,13 @@ ghost use Rattle.ts_resp.specs.Next.{IfRequest, UnlessRequest, OnNotYet, IfBroke
 use crate::{Protocol, Word};
 use begin::first_begin;
 use bytes::BytesMut;
-use spare::{emptied, give_back_room};
 use std::alloc::{AllocError, Global};
 use std::marker::Model;
+use steps::{emptied, give_back_room};
 use ts_spec::WireLimits;
 
 mod begin;
 mod line_steps;
-mod spare;
 mod steps;
 
 /// What a reader answers.

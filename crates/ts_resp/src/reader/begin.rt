@@ -4,8 +4,7 @@ ghost use Rattle.ts_spec.specs.Wire.{Start};
 ghost use Rattle.ts_resp.specs.Reading.{begun_on};
 
 use crate::header::{Header, count_header};
-use crate::text::{Text, begins_line, found_text};
-use crate::words::is_blank_line;
+use crate::text::{Text, begins_line, found_text, is_blank_line};
 use ts_spec::WireLimits;
 
 // Where the first request that has words begins, among bytes of which the first stands at `place`.

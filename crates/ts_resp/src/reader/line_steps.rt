@@ -4,8 +4,7 @@ ghost use Rattle.ts_resp.specs.Steps.{GoesOn, Gives};
 ghost use Rattle.ts_resp.specs.Texts.{IsText, IsTextBegun};
 
 use super::{Next, Reader};
-use crate::text::{Text, found_text};
-use crate::words::push_words;
+use crate::text::{Text, found_text, push_words};
 use std::mem;
 use ts_spec::Kind;
 

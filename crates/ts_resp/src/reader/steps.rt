@@ -1,5 +1,5 @@
 // One header or one word of an array at a time.
-ghost use Rattle.std.specs.Prelude.{◌≡◌, ◌+◌, ◌-◌, ◌<◌, ◌≤◌, [], ◌∷◌, ◌++◌, length, drop, slice_index, slice_range, Some, None, OnOk, OnErr, IfOk, IfErr, MatchOption};
+ghost use Rattle.std.specs.Prelude.{◌≡◌, ◌+◌, ◌-◌, ◌<◌, ◌≤◌, [], ◌∷◌, ◌++◌, length, drop, slice_index, slice_range, Some, None, OnOk, OnErr, IfOk, IfErr, MatchOption, vec_capacity, IfSome};
 ghost use Rattle.ts_resp.specs.Headers.{IsCount, IsBegun, IsWord, IsWordWithin};
 ghost use Rattle.ts_resp.specs.Steps.{GoesOn, Gives};
 
@@ -7,6 +7,7 @@ use super::{Next, Reader, Unfinished};
 use crate::header::{FoundWord, Header, count_header, found_word};
 use crate::text::begins_line;
 use crate::{Protocol, Word};
+use bytes::BytesMut;
 use std::alloc::{AllocError, Global};
 use std::mem;
 use ts_spec::Kind;
@@ -159,4 +160,36 @@ fn room_after(room: u32, len: usize) -> u32
     ensures { result ≡ room - len }
 {
     room - len as u32
+}
+
+// The most words for which room is kept.
+const MOST_SPARE: usize = 1024;
+
+// The most bytes for which room is kept where none is unread.
+const MOST_ROOM: usize = 65_536;
+
+// The vector of a request without its words, unless it has room for very many.
+pub(super) fn emptied(words: Vec<Word>) -> Option<Vec<Word>>
+    ensures items { IfSome result (λ spare. spare.items ≡ []) }
+    ensures room { IfSome result (λ spare. vec_capacity spare ≤ 1024) }
+{
+    let mut words = words;
+    words.clear();
+    if words.capacity() <= MOST_SPARE {
+        Some(words)
+    } else {
+        None
+    }
+}
+
+// Gives back the room for very many bytes, where there are none.
+pub(super) fn give_back_room(bytes: &mut BytesMut)
+    requires { bytes.old.items ≡ [] }
+    ensures items { bytes.new.items ≡ [] }
+    ensures room { bytes.new.spare ≤ 65536 }
+{
+    bytes.clear();
+    if bytes.capacity() > MOST_ROOM {
+        *bytes = BytesMut::new(*bytes.allocator());
+    }
 }

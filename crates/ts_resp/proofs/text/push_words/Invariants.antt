@@ -1,6 +1,6 @@
 use Rattle.std.proofs.Common.{◌≡◌, ◌++◌, length}
 use Rattle.ts_spec.specs.Wire.{words_of, words_of_line}
-use Rattle.ts_resp.proofs.words.push_words.Given as goal
+use Rattle.ts_resp.proofs.text.push_words.Given as goal
 
 -- the words so far, and those of the rest, are all words
 abbrev pub invariant-loop-word : goal.invariant-loop-word
