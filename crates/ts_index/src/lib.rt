@@ -3,13 +3,11 @@
 
 mod candidates;
 mod index;
-mod list;
 mod listed;
 mod lists;
 mod narrowest;
 mod pairs;
 mod select;
-mod values;
 
 pub use candidates::Candidates;
 pub use index::Index;
