@@ -1,7 +1,7 @@
 -- Which labels are shown, as the definitions have it.
 use Rattle.ts_spec.specs.Command as spec
-use Rattle.ts_labels.specs.declared.show.Show.{Show}
-use Rattle.ts_labels.specs.declared.show.Show.TheVariants.{Nothing, All, Selected}
+use Rattle.ts_labels.specs.declared.labels.Show.{Show}
+use Rattle.ts_labels.specs.declared.labels.Show.TheVariants.{Nothing, All, Selected}
 
 -- none of them, all of them, or these
 abbrev pub show_of : Show → spec.Show

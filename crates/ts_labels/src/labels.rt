@@ -161,3 +161,14 @@ impl Labels {
         }
     }
 }
+
+/// Which labels an answer over many series shows.
+#[derive(Debug, Drop)]
+pub enum Show {
+    /// None of them.
+    Nothing,
+    /// All labels of each series.
+    All,
+    /// These labels, whether or not a series has them.
+    Selected(Vec<Word>),
+}

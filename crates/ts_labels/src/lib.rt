@@ -5,11 +5,9 @@ mod filter;
 mod filter_text;
 mod labels;
 mod pairs;
-mod show;
 mod spec;
 
 pub use filter::{Filter, has_positive};
 pub use filter_text::FilterFault;
-pub use labels::Labels;
-pub use show::Show;
+pub use labels::{Labels, Show};
 pub use spec::{Change, Spec};
