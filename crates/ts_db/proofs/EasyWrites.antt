@@ -25,7 +25,7 @@ use Rattle.ts_rules.specs.Shares as shares
 use Rattle.ts_rules.specs.Shares.{in_buckets}
 use Rattle.ts_db.specs.declared.node.Node.{Node}
 use Rattle.ts_db.specs.declared.store.Store.{Store}
-use Rattle.ts_db.specs.declared.work.Work.TheVariants.{Write, Delete}
+use Rattle.ts_db.specs.declared.planning.Work.TheVariants.{Write, Delete}
 use Rattle.ts_db.specs.Held.{reach_at}
 use Rattle.ts_db.specs.Bounds as bounds
 use Rattle.ts_db.specs.Bounds.{high_at, rule_steps, write_steps, AllClosePastAll, IsEasyAppend, rule_deletion_steps, deletion_steps}

@@ -15,7 +15,7 @@ use Rattle.ts_rules.specs.declared.rule.Rule.{Rule}
 use Rattle.ts_rules.specs.Rules.{kept_with_dest}
 use Rattle.ts_db.specs.declared.node.Node.{Node}
 use Rattle.ts_db.specs.declared.store.Store.{Store}
-use Rattle.ts_db.specs.declared.work.Work.TheVariants.{Write}
+use Rattle.ts_db.specs.declared.planning.Work.TheVariants.{Write}
 use Rattle.ts_db.specs.Links.{AreLinks, AreApart}
 use Rattle.ts_db.specs.Planning.{AllTake, NoneTo, AreDistinct}
 use Rattle.ts_db.specs.Store.{rules_by, key_at, key_in, kept_node, stock_of, HaveGrids, IsInOrder, IsDb, Holds}

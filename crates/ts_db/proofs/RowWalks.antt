@@ -5,7 +5,7 @@ use Rattle.std.proofs.lemmas.Bool.Decides.{nat_tests}
 use Rattle.ts_spec.specs.Sample.{Point, IsAfter, IsAscending, at_times, put}
 use Rattle.ts_sample.specs.Visit.{visited}
 use Rattle.ts_sample.proofs.Replacing.{none-before, all-past}
-use Rattle.ts_db.specs.declared.row_among.RowAmong.{RowAmong}
+use Rattle.ts_db.specs.declared.among.RowAmong.{RowAmong}
 use Rattle.ts_db.specs.RowAmong.{with_sample, finished, room_beside}
 use Rattle.ts_db.proofs.Rows.{later}
 

@@ -19,7 +19,7 @@ use Rattle.ts_rules.proofs.Mended.{unmended}
 use Rattle.ts_db.specs.declared.planning.DestinationPlan.{DestinationPlan}
 use Rattle.ts_db.specs.declared.node.Node.{Node}
 use Rattle.ts_db.specs.declared.store.Store.{Store}
-use Rattle.ts_db.specs.declared.work.Work.TheVariants.{Write}
+use Rattle.ts_db.specs.declared.planning.Work.TheVariants.{Write}
 use Rattle.ts_db.specs.Feeding.{Rows, Gone}
 use Rattle.ts_db.specs.Growing.{grown, AreOpenAt, StaysOpen, HaveRoom, kept_grown}
 use Rattle.ts_db.specs.Planning.{changed_by, gone_by, rows_by_work, AllTake, kept_rule_in, AreFedBy, AreChanged, first_full, AreDistinct, IsFed}

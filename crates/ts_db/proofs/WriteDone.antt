@@ -20,8 +20,8 @@ use Rattle.ts_rules.specs.declared.rule.Rule.{Rule}
 use Rattle.ts_db.specs.declared.planning.DestinationPlan.{DestinationPlan}
 use Rattle.ts_db.specs.declared.node.Node.{Node}
 use Rattle.ts_db.specs.declared.store.Store.{Store}
-use Rattle.ts_db.specs.declared.work.Work.{Work}
-use Rattle.ts_db.specs.declared.work.Work.TheVariants.{Write}
+use Rattle.ts_db.specs.declared.planning.Work.{Work}
+use Rattle.ts_db.specs.declared.planning.Work.TheVariants.{Write}
 use Rattle.ts_db.specs.Held.{Stock}
 use Rattle.ts_db.specs.Feeding.{Rows, Gone, keep_fed}
 use Rattle.ts_db.specs.Growing.{StaysOpen, HaveRoom, kept_grown}

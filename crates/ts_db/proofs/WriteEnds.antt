@@ -22,7 +22,7 @@ use Rattle.ts_rules.specs.declared.rule.Rule.{Rule}
 use Rattle.ts_db.specs.declared.fault.DbFault.{DbFault}
 use Rattle.ts_db.specs.declared.node.Node.{Node}
 use Rattle.ts_db.specs.declared.store.Store.{Store}
-use Rattle.ts_db.specs.declared.work.Work.TheVariants.{Write}
+use Rattle.ts_db.specs.declared.planning.Work.TheVariants.{Write}
 use Rattle.ts_db.specs.Faults.{refusal_of, IsFaultAt}
 use Rattle.ts_db.specs.Held.{Stock, IsOwn}
 use Rattle.ts_db.specs.Planning.{gone_by, rows_by_work, first_full, IsUnplanned, shares_of, AreEasyOf}

@@ -23,8 +23,8 @@ use Rattle.ts_db.specs.declared.node.Node.{Node}
 use Rattle.ts_db.specs.declared.planning.DestinationPlan.{DestinationPlan}
 use Rattle.ts_db.specs.declared.planning.Planned.{Planned}
 use Rattle.ts_db.specs.declared.store.Store.{Store}
-use Rattle.ts_db.specs.declared.work.Work.{Work}
-use Rattle.ts_db.specs.declared.work.Work.TheVariants.{Write, Delete}
+use Rattle.ts_db.specs.declared.planning.Work.{Work}
+use Rattle.ts_db.specs.declared.planning.Work.TheVariants.{Write, Delete}
 use Rattle.ts_db.specs.Feeding.{Rows, Gone, keep_fed}
 use Rattle.ts_rules.specs.Shares.{write_share, deletion_share, IsEasyWrite}
 use Rattle.ts_db.specs.Store.{rules_by, key_in, kept_numbered, stock_of, contents_of, Nodes}

@@ -2,7 +2,7 @@
 use Rattle.std.specs.Prelude.{ℕ, ◌+◌, ◌-◌, ◌≤◌, Bool, true, false, nat_lt, if◌then◌else◌, Option, None, Some}
 use Rattle.std.proofs.Common.{arith}
 use Rattle.ts_spec.specs.Sample.{Point}
-use Rattle.ts_db.specs.declared.row_among.RowAmong.{RowAmong}
+use Rattle.ts_db.specs.declared.among.RowAmong.{RowAmong}
 
 -- what a sample makes of the visitor behind, before which a row that waits comes unless the sample is before it
 abbrev pub taken : {V : Type 0} → (V → Point → V) → Option Point → V → Point → V

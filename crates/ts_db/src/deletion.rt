@@ -14,8 +14,8 @@ ghost use Rattle.ts_db.specs.Answering.{KeptNumber};
 ghost use Rattle.ts_db.specs.Bounds.{deletion_steps};
 
 use crate::fault::DbFault;
+use crate::planning::Work;
 use crate::store::Store;
-use crate::work::Work;
 use std::sync::ledger::Ledger;
 use ts_resp::Word;
 use ts_rules::Rule;

@@ -5,13 +5,16 @@ ghost use Rattle.ts_spec.specs.Keyed.{get};
 ghost use Rattle.ts_spec.specs.KeptQuestions.{kept_selection};
 ghost use Rattle.ts_spec.specs.Totals.{total_shown};
 ghost use Rattle.ts_sample.specs.Steps.{Takes};
-ghost use Rattle.ts_db.specs.Held.{Held, Stands, AreNumbersOf};
-ghost use Rattle.ts_db.specs.Bounds.{reach_of_all, selection_steps};
+ghost use Rattle.ts_db.specs.Held.{Held, Stands, AreNumbersOf, IsLive};
+ghost use Rattle.ts_db.specs.Bounds.{reach_of_all, selection_steps, fewest};
+ghost use Rattle.std.specs.List.{All};
+ghost use Rattle.ts_db.specs.Candidates.{Covers};
 
 use crate::db::Db;
 use crate::ordered::walked_if_many;
 use std::alloc::AllocError;
 use std::sync::ledger::Ledger;
+use ts_index::Candidates;
 use ts_labels::{Filter, Labels};
 use ts_resp::Word;
 use ts_sample::{Id, Steps};
@@ -58,6 +61,16 @@ impl Db {
             total += self.store.nodes.node(*id).series.len(steps) as u64;
         }
         total
+    }
+
+    /// Numbers of keys, those of all keys whose labels pass all filters among them: these keys are to be tried. Takes no
+    /// memory.
+    pub fn candidates<'a>(&'a self, filters: &'a [Filter]) -> Candidates<'a>
+        ensures live { All (IsLive self.now.ids) result }
+        ensures covers { Covers self.now filters.now result }
+        ensures few { length result ≤ fewest self.now filters.now }
+    {
+        self.store.index().candidates(filters)
     }
 }
 

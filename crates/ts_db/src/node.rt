@@ -1,13 +1,24 @@
 // What is kept under a key.
-ghost use Rattle.std.specs.Prelude.{◌≡◌};
+ghost use Rattle.std.specs.Prelude.{◌≡◌, ◌<◌, ◌-◌, ◌^◌, ◌==◌, not, filter, [], None, IfOk, IfErr};
 ghost use Rattle.std.specs.Option.{unwrap_or};
 ghost use Rattle.ts_spec.specs.Step.{is_longer};
+ghost use Rattle.ts_spec.specs.Aggregate.{nothing};
+ghost use Rattle.ts_spec.specs.Key.{Key};
+ghost use Rattle.ts_series.specs.History.{IsKept};
+ghost use Rattle.ts_rules.specs.Rules.{kept_with_dest};
+ghost use Rattle.ts_db.specs.Linking.{any_to, HasMore, HasRules, IsReason};
 
+use crate::fault::DbFault;
+use std::alloc::{AllocError, Global};
+use std::mem;
+use ts_agg::Running;
+use ts_bucket::Grid;
 use ts_labels::Labels;
 use ts_resp::Word;
 use ts_rules::Rule;
 use ts_sample::Id;
 use ts_series::Series;
+use ts_spec::{Aggregator, Limits};
 
 // A key, and what is kept under it: a series, its labels, its rules in the order of their making, and the number of
 // the series whose rule leads to it.
@@ -32,6 +43,47 @@ impl Node {
             self.rules = rules;
         }
     }
+
+    // Adds a rule, and counts it among those that were made.
+    pub(crate) fn add_rule(
+        &mut self,
+        dest: Id,
+        agg: Aggregator,
+        grid: Grid,
+    ) -> Result<(), AllocError>
+        requires { self.old.series.born < 2 ^ 32 - 1 }
+        ensures added { IfOk result (λ _. HasMore dest agg grid self.old self.new) }
+        ensures kept { IfOk result (λ _. IsKept self.new.series) }
+        ensures unchanged { IfErr result (λ _. HasRules self.old.rules.items self.old self.new) }
+    {
+        self.rules.reserve(1)?;
+        let made = self.series.born() + 1;
+        self.rules.push_reserved(begun(dest, agg, grid, made));
+        self.series.raise_born();
+        Ok(())
+    }
+
+    // Whether a rule leads to the series of this number.
+    pub(crate) fn has_rule(&self, dest: Id) -> bool
+        ensures { result ≡ any_to dest.0 self.now.rules.items }
+    {
+        self.rules.iter().any(|rule| rule.dest.0 == dest.0)
+    }
+
+    // Ends the rule to the series of this number.
+    pub(crate) fn remove_rule(&mut self, dest: Id)
+        ensures { HasRules (filter (λ r. not (r.dest.0 == dest.0)) self.old.rules.items) self.old self.new }
+    {
+        self.rules.retain(|rule| rule.dest.0 != dest.0);
+    }
+
+    // Takes its rules from it.
+    pub(crate) fn take_rules(&mut self, alloc: Global) -> Vec<Rule>
+        ensures rules { result.items ≡ self.old.rules.items }
+        ensures none { HasRules [] self.old self.new }
+    {
+        mem::replace(&mut self.rules, Vec::new(alloc))
+    }
 }
 
 // Whether labels are given that are more than the limit.
@@ -53,4 +105,38 @@ fn fields(it: &Node) {
         rules: _,
         source: _,
     } = it;
+}
+
+// A rule that counts nothing yet.
+fn begun(dest: Id, agg: Aggregator, grid: Grid, made: u32) -> Rule
+    ensures leads { result.dest ≡ dest }
+    ensures begun { (k : Key) → kept_with_dest k result ≡ record { dest = k; agg = agg; grid = grid; made = made; current = None; running = nothing } }
+{
+    Rule {
+        dest,
+        agg,
+        grid,
+        made,
+        current: None,
+        running: Running::new(),
+    }
+}
+
+// Why there can be no rule from one series to another, if there is a reason.
+pub(crate) fn barred(limits: &Limits, source: &Node, dest: &Node) -> Option<DbFault>
+    ensures { IsReason limits.now source.now dest.now result }
+{
+    if source.source.is_some() {
+        Some(DbFault::SourceIsDest)
+    } else if !dest.rules.is_empty() {
+        Some(DbFault::DestIsSource)
+    } else if dest.source.is_some() {
+        Some(DbFault::DestHasSource)
+    } else if limits.born <= source.series.born() {
+        Some(DbFault::RulesSpent)
+    } else if limits.rules as usize <= source.rules.len() {
+        Some(DbFault::RulesFull)
+    } else {
+        None
+    }
 }

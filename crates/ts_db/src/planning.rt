@@ -12,12 +12,19 @@ ghost use Rattle.ts_db.specs.Store.{IsInOrder, HasNode, AreLive};
 use crate::fault::DbFault;
 use crate::store::Store;
 use crate::unplanned::full_at;
-use crate::work::Work;
 use std::alloc::{AllocError, Global};
 use std::sync::ledger::Ledger;
 use ts_rules::{Rule, RuleFault, RulePlan, SharedBucket, plan_delete, plan_put_shared};
-use ts_sample::{Id, Steps};
+use ts_sample::{Id, Sample, Steps};
 use ts_series::{Series, SeriesPlan};
+
+// What is done to the samples of a series: one is written, or those from one time to another, both included, are
+// taken out.
+#[derive(Clone, Copy, PartialEq, Eq)]
+pub(crate) enum Work {
+    Write(Sample),
+    Delete(u64, u64),
+}
 
 // What work on a source comes to for the destination of a rule: this change, or none.
 #[derive(Drop)]

@@ -1,5 +1,5 @@
 // Where series and keys are kept, and how a plan for one of them is done.
-ghost use Rattle.std.specs.Prelude.{◌≡◌, nat_lt, nat_le, length, is_some, None, Some};
+ghost use Rattle.std.specs.Prelude.{◌≡◌, nat_lt, nat_le, length, is_some, None, Some, List};
 ghost use Rattle.std.specs.Cmp.Lexicographic.{slice_cmp};
 ghost use Rattle.std.specs.List.{All};
 ghost use Rattle.std.specs.List.Sorted.{IsStrictlySortedBy};
@@ -10,8 +10,12 @@ ghost use Rattle.ts_index.specs.Numbers.{AreInOrder};
 ghost use Rattle.ts_db.specs.Indexed.{IsIndexed};
 ghost use Rattle.ts_db.specs.Store.{stock_of, number_of, IsInOrder};
 ghost use Rattle.ts_db.specs.Answering.{IsReady, IsApplied, IsElsewhere};
+ghost use Rattle.ts_rules.specs.declared.rule.Rule.{Rule as TheRule};
+ghost use Rattle.ts_db.specs.Feeding.{Rows, Gone};
+ghost use Rattle.ts_db.specs.Planning.{AreFedBy, AreDistinct, AreDestinationPlans, IsFed};
 
 use crate::nodes::Nodes;
+use crate::planning::DestinationPlan;
 use std::alloc::Global;
 use std::collections::BTreeMap;
 use ts_index::Index;
@@ -78,6 +82,22 @@ impl Store {
         ensures { result ≡ nat_le self.now.limits.keys (count_keys (stock_of self.now).keys) }
     {
         self.limits.keys as usize <= self.keys.len()
+    }
+
+    // Does what was planned for the destinations of rules. It can't fail, and takes no memory.
+    pub(crate) fn feed(&mut self, plans: Vec<DestinationPlan>)
+        requires store { IsInOrder self.old }
+        requires planned { AreDestinationPlans self.old plans.items }
+        ensures store { IsInOrder self.new }
+        ensures fed { (rows : Rows) (gone : Gone) (rs : List TheRule) → AreFedBy self.old.limits.samples self.old.nodes rows gone rs plans.items → AreDistinct rs → IsFed self.old rows gone rs self.new }
+    {
+        for plan in plans {
+            let DestinationPlan { dest, change } = plan;
+            match change {
+                Some(series) => self.apply(dest, series, None),
+                None => {}
+            }
+        }
     }
 }
 

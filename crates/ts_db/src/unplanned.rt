@@ -7,8 +7,8 @@ ghost use Rattle.ts_db.specs.Planning.{gone_by, rows_by_work, TakesWork, AllTake
 ghost use Rattle.ts_db.specs.Store.{IsInOrder, HasNode, AreLive};
 
 use crate::fault::DbFault;
+use crate::planning::Work;
 use crate::store::Store;
-use crate::work::Work;
 use std::alloc::AllocError;
 use std::sync::ledger::Ledger;
 use ts_rules::{Rule, RuleFault};

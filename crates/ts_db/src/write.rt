@@ -13,12 +13,13 @@ ghost use Rattle.ts_db.specs.Store.{key_in, stock_of, number_of, IsInOrder, IsDb
 ghost use Rattle.ts_db.specs.Answering.{KeptNumber};
 ghost use Rattle.ts_db.specs.PutBy.{kept_merge};
 ghost use Rattle.ts_db.specs.Bounds.{write_steps, IsEasyAppend, IsIgnored};
+ghost use Rattle.ts_db.specs.Writes.{ignored_by};
 
 use crate::fault::{DbFault, fault_at};
 use crate::growing::stays_open;
-use crate::ignored::ignored;
+use crate::node::Node;
+use crate::planning::Work;
 use crate::store::Store;
-use crate::work::Work;
 use std::sync::ledger::Ledger;
 use ts_labels::Spec;
 use ts_resp::Word;
@@ -143,5 +144,20 @@ pub(crate) fn merge_by(on: Option<Policy>) -> Option<Merge>
     match on {
         Some(policy) => Some(Merge::By(policy)),
         None => None,
+    }
+}
+
+// The time of the last sample of a series, where it ignores a sample for being close to that one. A series to which
+// a rule leads ignores nothing.
+pub(crate) fn ignored(node: &Node, time: u64, value: Units) -> Option<u64>
+    ensures { result ≡ ignored_by node.now time value }
+{
+    let Some(last) = node.series.ignored(time, value) else {
+        return None;
+    };
+    if node.source.is_some() {
+        None
+    } else {
+        Some(last)
     }
 }

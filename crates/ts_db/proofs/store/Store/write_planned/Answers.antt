@@ -2,7 +2,7 @@ use Rattle.std.proofs.Common.{sym}
 use Rattle.std.specs.Prelude.{Ok, Err}
 use Rattle.ts_series.specs.Put.{met}
 use Rattle.ts_db.specs.declared.fault.DbFault.{DbFault}
-use Rattle.ts_db.specs.declared.work.Work.TheVariants.{Write}
+use Rattle.ts_db.specs.declared.planning.Work.TheVariants.{Write}
 use Rattle.ts_db.specs.Planning.{gone_by, rows_by_work, first_full, IsUnplanned}
 use Rattle.ts_db.specs.Store.{stock_of}
 use Rattle.ts_db.proofs.SamplesWritten.{IsWritten, IsUnwritten, written-sample, unwritten-sample, fits-written}
