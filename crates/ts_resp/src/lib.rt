@@ -1,4 +1,4 @@
-//! RESP2: the requests of a stream of bytes, and the text of a reply.
+//! RESP2: parses requests from a byte stream and encodes replies.
 #![tactic(auto)]
 
 mod header;
