@@ -1,4 +1,4 @@
-//! The labels of series by their numbers, and the numbers that filters select.
+//! An inverted index over labels: finds the series that match filters.
 #![tactic(auto)]
 
 mod candidates;

@@ -1,4 +1,4 @@
-// The numbers that have one of some values, one after another.
+// An iterator over the posting lists of several values.
 ghost use Rattle.std.specs.Prelude.{◌≡◌, ◌<◌, ◌≤◌, [], ◌∷◌, ◌++◌, Some, List, ℕ, length, take, drop, slice_get, if◌then◌else◌};
 ghost use Rattle.std.specs.Iterator.{YieldsFirst};
 ghost use Rattle.ts_spec.specs.Filter.{is_among};
@@ -12,15 +12,15 @@ use ts_labels::Filter;
 use ts_resp::Word;
 use ts_sample::Id;
 
-// The numbers whose label has one of some values.
+// The ids of the series whose label has one of these values.
 #[derive(Drop)]
 pub(crate) struct Listed<'a> {
     index: &'a Index,
     label: &'a Word,
     values: &'a [Word],
-    // How many values were passed.
+    // How many values have been visited.
     passed: usize,
-    // What is left of the list of the last of them.
+    // The rest of the posting list of the last visited value.
     list: &'a [Id],
 }
 
@@ -37,7 +37,7 @@ impl<'a> Model for Listed<'a> {
 }
 
 impl<'a> Listed<'a> {
-    // The numbers that have one of the values that a filter wants.
+    // The series that have one of the values that the filter requires.
     pub(crate) fn new(index: &'a Index, filter: &'a Filter) -> Listed<'a>
         ensures { result ≡ listed_by (label_of filter.now) [] (values_wanted filter.now) index.now }
     {
@@ -50,7 +50,7 @@ impl<'a> Listed<'a> {
         }
     }
 
-    // The next of them.
+    // The next id.
     pub(crate) fn next(&mut self) -> Option<Id>
         ensures { YieldsFirst (λ l. l) self.old result self.new }
     {
@@ -71,7 +71,7 @@ impl<'a> Listed<'a> {
     }
 }
 
-// A list, or where it has nothing left, the next one that has.
+// Returns `list` if it is not empty, or else the next posting list that is not empty.
 fn next_list<'a>(
     list: &'a [Id],
     index: &'a Index,
@@ -92,7 +92,7 @@ fn next_list<'a>(
     found
 }
 
-// The list of a value, unless that stood before.
+// The posting list of the value at index `at`, or an empty one if the value occurred before.
 fn fresh_list<'a>(index: &'a Index, label: &Word, values: &[Word], at: usize) -> &'a [Id]
     requires at { at < length values.now }
     ensures { (v : List ℕ) → slice_get values.now at ≡ Some v → result.now ≡ (if is_among (take at values.now) v then [] else numbers_where (has_pair label.now v) index.now) }
@@ -108,7 +108,7 @@ fn fresh_list<'a>(index: &'a Index, label: &Word, values: &[Word], at: usize) ->
     list
 }
 
-// Whether a value is among these.
+// Whether `values` contains `value`.
 fn stood(values: &[Word], value: &Word) -> bool
     ensures { result ≡ is_among values.now value.now }
 {

@@ -1,4 +1,4 @@
-// The numbers by label and value.
+// Posting lists by label and value.
 ghost use Rattle.std.specs.Prelude.{◌≡◌, [], ℕ, List, ◌&&◌, if◌then◌else◌, IsTrue, OnOk, OnErr};
 ghost use Rattle.ts_index.specs.Numbers.{AreAscending, with_number, without_number};
 ghost use Rattle.ts_index.specs.Postings.{alike, posting_in, by_value};
@@ -8,10 +8,10 @@ use std::collections::BTreeMap;
 use ts_resp::Word;
 use ts_sample::Id;
 
-// For each label the numbers that have it, by its value.
+// The posting lists by label, then by value.
 pub(crate) type Lists = BTreeMap<Word, Values>;
 
-// The numbers that have a label with a value.
+// The posting list of a label and value.
 pub(crate) fn listed<'a>(lists: &'a Lists, label: &Word, value: &Word) -> &'a [Id]
     ensures { result.now ≡ posting_in label.now value.now lists.now }
 {
@@ -24,7 +24,7 @@ pub(crate) fn listed<'a>(lists: &'a Lists, label: &Word, value: &Word) -> &'a [I
     }
 }
 
-// Puts a number into the list of a label and a value.
+// Adds an id to the posting list of a label and value.
 pub(crate) fn put_pair(
     alloc: Global,
     lists: &mut Lists,
@@ -47,7 +47,7 @@ pub(crate) fn put_pair(
     }
 }
 
-// Takes a number out of the list of a label and a value. The lists of a label go with the last of them.
+// Removes an id from the posting list of a label and value. Drops the label once it has no posting lists left.
 pub(crate) fn take_pair(lists: &mut Lists, label: &Word, value: &Word, id: Id)
     requires { AreAscending (posting_in label.now value.now lists.old) }
     ensures { (l v : List ℕ) → posting_in l v lists.new ≡ (if alike label.now l && alike value.now v then without_number id (posting_in l v lists.old) else posting_in l v lists.old) }
@@ -57,7 +57,7 @@ pub(crate) fn take_pair(lists: &mut Lists, label: &Word, value: &Word, id: Id)
     }
 }
 
-// Takes a number out of the list of a label and a value, and tells whether none is left under the label.
+// Removes an id from the posting list of a label and value. Returns `true` if the label has no posting lists left.
 fn take_labelled(lists: &mut Lists, label: &Word, value: &Word, id: Id) -> bool
     requires { AreAscending (posting_in label.now value.now lists.old) }
     ensures lists { (l v : List ℕ) → posting_in l v lists.new ≡ (if alike label.now l && alike value.now v then without_number id (posting_in l v lists.old) else posting_in l v lists.old) }
@@ -74,7 +74,7 @@ fn take_labelled(lists: &mut Lists, label: &Word, value: &Word, id: Id) -> bool
 
 pub(crate) type Values = BTreeMap<Word, Vec<Id>>;
 
-// Puts a number into the list of a value.
+// Adds an id to the posting list of a value.
 pub(crate) fn put_value(
     alloc: Global,
     values: &mut Values,
@@ -96,7 +96,7 @@ pub(crate) fn put_value(
     }
 }
 
-// Takes a number out of the list of a value. That list goes with its last number.
+// Removes an id from the posting list of a value. Drops the list once it is empty.
 pub(crate) fn take_value(values: &mut Values, value: &Word, id: Id)
     requires { AreAscending (by_value value.now values.old) }
     ensures { (v : List ℕ) → by_value v values.new ≡ (if alike value.now v then without_number id (by_value v values.old) else by_value v values.old) }
@@ -106,7 +106,7 @@ pub(crate) fn take_value(values: &mut Values, value: &Word, id: Id)
     }
 }
 
-// Takes a number out of the list of a value, and tells whether none is left in it.
+// Removes an id from the posting list of a value. Returns `true` if the list is empty now.
 fn take_listed(values: &mut Values, value: &Word, id: Id) -> bool
     requires { AreAscending (by_value value.now values.old) }
     ensures lists { (v : List ℕ) → by_value v values.new ≡ (if alike value.now v then without_number id (by_value v values.old) else by_value v values.old) }
@@ -121,7 +121,7 @@ fn take_listed(values: &mut Values, value: &Word, id: Id) -> bool
     }
 }
 
-// Puts a number in its place.
+// Inserts an id into a sorted list.
 #[tactic(auto, using(crate::proofs::PlaceLemmas::inserted, crate::proofs::PlaceLemmas::already))]
 pub(crate) fn put(list: &mut Vec<Id>, id: Id) -> Result<(), AllocError>
     requires { AreAscending list.old.items }
@@ -134,7 +134,7 @@ pub(crate) fn put(list: &mut Vec<Id>, id: Id) -> Result<(), AllocError>
     Ok(())
 }
 
-// Takes a number out.
+// Removes an id from a sorted list.
 #[tactic(auto, using(crate::proofs::PlaceLemmas::removed, crate::proofs::PlaceLemmas::not_there))]
 pub(crate) fn take(list: &mut Vec<Id>, id: Id)
     requires { AreAscending list.old.items }

@@ -1,4 +1,4 @@
-//! Labels of series and filters by them, and what a new series is made with and a series gets anew.
+//! Labels of series, label filters, and the options and labels in TS.CREATE and TS.ALTER.
 #![tactic(auto)]
 
 mod filter;
