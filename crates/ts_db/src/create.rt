@@ -1,4 +1,4 @@
-// New keys, without samples or with their first one.
+// Creates series, empty or with a first sample.
 ghost use Rattle.std.specs.Prelude.{◌≡◌, ◌≤◌, ◌<◌, [], ◌∷◌, length, None, Some, IfOk, IfErr};
 ghost use Rattle.ts_spec.specs.Sample.{MAX_TIME};
 ghost use Rattle.ts_spec.specs.Keyed.{get, with_key, count_keys};
@@ -23,7 +23,7 @@ use ts_series::{PutFault, Series};
 use ts_spec::{Merge, Options};
 
 impl Store {
-    // Makes a series without samples under a new key.
+    // Creates an empty series.
     pub(crate) fn create(&mut self, key: Word, spec: Spec) -> Result<(), DbFault>
         requires { IsInOrder self.old }
         ensures created { KeptDone (stock_of self.old) (kept_create self.old.limits (stock_of self.old).keys key (spec_of spec)) result (stock_of self.new) }
@@ -43,7 +43,7 @@ impl Store {
         self.insert(key, series, spec.labels)
     }
 
-    // Puts a series with labels under a new key.
+    // Stores a series with its labels under a new key.
     fn insert(&mut self, key: Word, series: Series, labels: Labels) -> Result<(), DbFault>
         requires store { IsInOrder self.old }
         requires absent { get key (stock_of self.old).keys ≡ None }
@@ -75,7 +75,7 @@ impl Store {
         }
     }
 
-    // Begins a series with one sample under a new key.
+    // Creates a series with one sample under a new key.
     pub(crate) fn begin<L: Ledger>(
         &mut self,
         key: Word,

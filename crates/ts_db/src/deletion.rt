@@ -1,4 +1,4 @@
-// TS.DEL on the store: samples are taken out, and the destinations of rules are mended.
+// TS.DEL: deletes samples and updates the destinations of rules.
 ghost use Rattle.std.specs.Prelude.{◌≡◌, ◌≤◌, [], length, Some, IfOk, IfErr};
 ghost use Rattle.ts_spec.specs.Key.{Key};
 ghost use Rattle.ts_spec.specs.Mending.{keep_deleted};
@@ -22,8 +22,7 @@ use ts_rules::Rule;
 use ts_sample::{Id, Steps};
 
 impl Store {
-    // Takes the samples between two times, in milliseconds, both included, out of the series of a key. Answers
-    // how many they were: none where `from` is above `to`.
+    // Deletes the samples of a key within `from..=to`. Returns how many it deleted; 0 if `from` is above `to`.
     pub(crate) fn delete_range<L: Ledger>(
         &mut self,
         key: &Word,
@@ -52,8 +51,8 @@ impl Store {
         self.delete(id, from, to, steps)
     }
 
-    // Takes an interval out of the series of a number, and has the destinations of its rules mended. Answers how many
-    // samples were in it.
+    // Deletes the samples of series `id` within `from..=to` and updates the destinations of its rules. Returns how
+    // many it deleted.
     fn delete<L: Ledger>(
         &mut self,
         id: Id,
@@ -88,7 +87,7 @@ impl Store {
     }
 }
 
-// Whether the bucket of a time, by one of these rules, begins before this edge of their source.
+// Whether the bucket of `from` starts before the retention edge, for any of these rules.
 fn meet_expired(rules: &[Rule], from: u64, edge: u64) -> bool
     requires { from ≤ MAX_TIME }
     ensures { result ≡ kept_meets_expired from edge (rules_by (λ id. []) rules.now) }

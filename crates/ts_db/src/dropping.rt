@@ -1,4 +1,4 @@
-// How keys go, and with them the rules from them and to them.
+// Deletes keys with their rules.
 ghost use Rattle.std.specs.Prelude.{◌≡◌, None, is_some, if◌then◌else◌, option_map};
 ghost use Rattle.ts_spec.specs.Key.{Key};
 ghost use Rattle.ts_spec.specs.Keyed.{get, without_key};
@@ -12,8 +12,7 @@ use ts_resp::Word;
 use ts_sample::Id;
 
 impl Store {
-    // Takes a key away, with its series, and ends the rules from it and to it, without memory. Answers whether it
-    // was there.
+    // Deletes a key with its series and all rules from and to it. Returns whether the key existed. Allocates nothing.
     pub(crate) fn drop_key(&mut self, key: &Word) -> bool
         requires { IsDb self.old }
         ensures there { result ≡ is_some (get key.now (stock_of self.old).keys) }
@@ -29,7 +28,7 @@ impl Store {
         true
     }
 
-    // Ends each rule from a series and the one to it.
+    // Deletes the rules from a series and the rule to it.
     fn end_rules(&mut self, id: Id)
         requires db { IsDb self.old }
         requires there { IsThere self.old id }
@@ -43,7 +42,7 @@ impl Store {
         self.free(rules);
     }
 
-    // Ends the rule to a series, from this source, if there is one.
+    // Deletes the rule from `source` to series `id`, if there is a source.
     fn end_source(&mut self, source: Option<Id>, id: Id)
         requires store { IsInOrder self.old }
         requires live { HasNode self.old.nodes id }
@@ -58,7 +57,7 @@ impl Store {
         }
     }
 
-    // Takes a key away, with its series, to which no other is linked.
+    // Deletes a key and its series, which must have no rules from or to it.
     fn remove_key(&mut self, key: &Word)
         requires store { IsInOrder self.old }
         requires there { number_of key.now self.old.keys.entries ≡ None → ⊥ }

@@ -1,4 +1,4 @@
-// An append that stays in the open bucket of each rule: it is counted there, and no destination changes.
+// The fast path of a write: an append inside the open buckets of all rules, which changes no destination.
 ghost use Rattle.std.specs.Prelude.{◌≡◌, IsTrue};
 ghost use Rattle.ts_spec.specs.Keyed.{with_key};
 ghost use Rattle.ts_spec.specs.Key.{Key};
@@ -14,8 +14,7 @@ use ts_sample::{Id, Sample};
 use ts_series::{Append, Series};
 
 impl Store {
-    // Appends a sample to a series, and counts the sample in the open bucket of
-    // each of its rules. It can't fail, and takes no memory.
+    // Appends a sample and counts it in the open bucket of each rule. Can't fail and allocates nothing.
     pub(crate) fn grow(&mut self, id: Id, plan: Append, wrote: &Sample)
         requires store { IsInOrder self.old }
         requires ready { IsReady self.old id plan None None }
@@ -28,7 +27,7 @@ impl Store {
     }
 }
 
-// Counts a sample in the open bucket of each of these rules.
+// Counts a sample in the open bucket of each rule.
 pub(crate) fn count_in_all(rules: &mut Vec<Rule>, wrote: &Sample)
     requires { HaveRoom rules.old.items }
     ensures { AreChanged (grown wrote.now) rules.old.items rules.new.items }
@@ -38,7 +37,7 @@ pub(crate) fn count_in_all(rules: &mut Vec<Rule>, wrote: &Sample)
     }
 }
 
-// Whether a sample that is written to the source of these rules is appended, and lies in the open bucket of each.
+// Whether the sample is an append and falls into the open bucket of each rule.
 pub(crate) fn stays_open(rules: &[Rule], source: &Series, wrote: &Sample) -> bool
     ensures { IsTrue result → StaysOpen source.now wrote.now rules.now }
 {
@@ -48,7 +47,7 @@ pub(crate) fn stays_open(rules: &[Rule], source: &Series, wrote: &Sample) -> boo
     }
 }
 
-// Whether a sample lies in the open bucket of each of these rules.
+// Whether the sample falls into the open bucket of each rule.
 fn are_open_at(rules: &[Rule], wrote: &Sample) -> bool
     ensures { IsTrue result → AreOpenAt wrote.now rules.now }
 {

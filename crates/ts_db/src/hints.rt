@@ -1,5 +1,4 @@
-// Where the number of a key stood when it was last written to. Nothing but speed depends on what is kept here: a number is
-// taken only where its node has the key.
+// Caches ids of recently written keys. An id is used only if its node has the key, so hints affect speed alone.
 ghost use Rattle.std.specs.Prelude.{◌≡◌, ◌≤◌, IfOk, IfErr};
 ghost use Rattle.ts_spec.specs.Sample.{MAX_TIME};
 ghost use Rattle.ts_spec.specs.Keyed.{get};
@@ -20,21 +19,21 @@ use ts_resp::Word;
 use ts_sample::{Id, Steps, Units};
 use ts_spec::Policy;
 
-// How many places there are.
+// The number of slots.
 const PLACES: usize = 4096;
 
-/// The numbers that keys had when they were last written to. Who writes to the same keys again and again keeps them, and
-/// hands them to each write: they make it sooner done, and change nothing that it does or answers.
+/// A cache of ids of recently written keys. A caller that writes the same keys repeatedly passes it to each write,
+/// which then skips the key lookup. Results do not depend on it.
 #[derive(Drop)]
 pub struct Hints {
-    // how many places there may be
+    // The number of slots to allocate on first use.
     places: usize,
-    // a number at each place, once there is one
+    // The id in each slot. Empty until first use.
     ids: Vec<Id>,
 }
 
 impl Hints {
-    /// None so far. Takes no memory.
+    /// An empty cache. Allocates nothing until first use.
     pub fn new(alloc: Global) -> Hints {
         Hints {
             places: PLACES,
@@ -42,7 +41,7 @@ impl Hints {
         }
     }
 
-    /// None at any time: nothing is kept in them. Takes no memory.
+    /// A cache that never stores anything. Never allocates.
     pub fn none(alloc: Global) -> Hints {
         Hints {
             places: 0,
@@ -50,12 +49,12 @@ impl Hints {
         }
     }
 
-    // The number at a place.
+    // The id in a slot.
     pub(crate) fn at(&self, place: usize) -> Option<Id> {
         self.ids.get(place).copied()
     }
 
-    // Keeps a number at a place, if there is memory for it.
+    // Stores an id in a slot. Does nothing if memory runs out.
     pub(crate) fn keep(&mut self, place: usize, id: Id) {
         if self.ids.is_empty() && self.ids.resize(self.places, id).is_err() {
             return;
@@ -66,7 +65,7 @@ impl Hints {
     }
 }
 
-// The place of a key.
+// The slot of a key.
 pub(crate) fn place_of(key: &Word) -> usize {
     let mut sum: usize = 0;
     for byte in key.bytes() {
@@ -76,8 +75,9 @@ pub(crate) fn place_of(key: &Word) -> usize {
 }
 
 impl Db {
-    /// Adds a sample to the series of a key, by this policy or else its own where the time has one, and looks for the
-    /// number of the key in hints first. Answers the time, or that of the last sample where this one is ignored.
+    /// Adds a sample to an existing series, looking its id up in the hints first. If the series already has a sample
+    /// at `time`, resolves the conflict by `on`, or by the series' duplicate policy if `on` is `None`. Returns the
+    /// sample's time, or the last sample's time if the write was ignored (IGNORE).
     pub fn put_near<L: Ledger>(
         &mut self,
         hints: &mut Hints,
@@ -101,7 +101,7 @@ impl Db {
 }
 
 impl Store {
-    // Adds a sample to the series of a key, where the number of the key is looked for in hints first.
+    // Adds a sample to an existing series, looking its id up in the hints first.
     pub(crate) fn put_near<L: Ledger>(
         &mut self,
         hints: &mut Hints,
@@ -130,7 +130,7 @@ impl Store {
         answer
     }
 
-    // The number of a key, if there is one: that at a place of hints, where its node has the key.
+    // The id of a key, if it exists: the hinted one if its node has the key.
     fn number_near(&self, hints: &Hints, key: &Word, place: usize) -> Option<Id>
         requires { IsInOrder self.now }
         ensures { result ≡ number_of key.now self.now.keys.entries }

@@ -1,4 +1,4 @@
-// The keys of a database: their numbers, those whose labels pass filters, and how many samples all show.
+// Finds series by key and by labels, and counts samples.
 ghost use Rattle.std.specs.Prelude.{◌≡◌, ◌≤◌, ◌+◌, length, is_some, IfOk, OnErr};
 ghost use Rattle.ts_spec.specs.Filter.{all_hold, selection};
 ghost use Rattle.ts_spec.specs.Keyed.{get};
@@ -20,7 +20,7 @@ use ts_resp::Word;
 use ts_sample::{Id, Steps};
 
 impl Db {
-    /// The number of a key, if the key is there. Takes no memory.
+    /// The id of a key's series, if the key exists. Allocates nothing.
     pub fn id_of(&self, key: &Word) -> Option<Id>
         ensures id { result ≡ get key.now self.now.ids }
         ensures there { is_some result ≡ is_some (get key.now self.now.keys) }
@@ -28,8 +28,7 @@ impl Db {
         self.store.keys.get(key).copied()
     }
 
-    /// The numbers of the keys whose labels pass all filters, in ascending order of the bytes of the keys. An Err comes
-    /// before a filter is tried.
+    /// The ids of the series that pass all filters, sorted by key. Fails only before it tests any filter.
     pub fn select<L: Ledger>(
         &self,
         filters: &[Filter],
@@ -49,7 +48,7 @@ impl Db {
         Ok(ids)
     }
 
-    /// How many samples all keys show together. Takes no memory.
+    /// The number of samples in all series. Allocates nothing.
     pub fn total<L: Ledger>(&self, steps: &mut Steps<L>) -> u64
         ensures each { (held : Held) → Stands self.now held → result ≡ total_shown held.state }
         ensures steps { Takes steps.old steps.new (reach_of_all self.now) }
@@ -63,8 +62,8 @@ impl Db {
         total
     }
 
-    /// Numbers of keys, those of all keys whose labels pass all filters among them: these keys are to be tried. Takes no
-    /// memory.
+    /// Candidate ids for a query: includes every series that passes all filters. The caller tests each one. Allocates
+    /// nothing.
     pub fn candidates<'a>(&'a self, filters: &'a [Filter]) -> Candidates<'a>
         ensures live { All (IsLive self.now.ids) result }
         ensures covers { Covers self.now filters.now result }
@@ -74,7 +73,7 @@ impl Db {
     }
 }
 
-// Whether labels pass all filters.
+// Whether the labels pass all filters.
 pub(crate) fn pass<L: Ledger>(labels: &Labels, filters: &[Filter], steps: &mut Steps<L>) -> bool
     ensures pass { result ≡ all_hold filters.now labels.now }
     ensures steps { steps.new ≤ steps.old + length filters.now }

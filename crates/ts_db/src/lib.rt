@@ -1,4 +1,4 @@
-//! The database: series under their keys, and what each command makes of them.
+//! The database: time series by key, and the effect of each command on them.
 #![tactic(auto)]
 
 mod alter;

@@ -1,4 +1,4 @@
-// What is kept under a key.
+// A key and its series.
 ghost use Rattle.std.specs.Prelude.{◌≡◌, ◌<◌, ◌-◌, ◌^◌, ◌==◌, not, filter, [], None, IfOk, IfErr};
 ghost use Rattle.std.specs.Option.{unwrap_or};
 ghost use Rattle.ts_spec.specs.Step.{is_longer};
@@ -20,8 +20,8 @@ use ts_sample::Id;
 use ts_series::Series;
 use ts_spec::{Aggregator, Limits};
 
-// A key, and what is kept under it: a series, its labels, its rules in the order of their making, and the number of
-// the series whose rule leads to it.
+// A key with its series, its labels, its rules in order of creation, and the id of its rule source, if it is a
+// destination.
 #[derive(Drop)]
 pub(crate) struct Node {
     pub(crate) key: Word,
@@ -32,7 +32,7 @@ pub(crate) struct Node {
 }
 
 impl Node {
-    // Puts these labels and these rules in place of its own, where they are given.
+    // Replaces the labels and the rules that are given.
     pub(crate) fn change(&mut self, labels: Option<Labels>, rules: Option<Vec<Rule>>)
         ensures { self.new ≡ record self.old { labels = unwrap_or labels self.old.labels; rules = unwrap_or rules self.old.rules } }
     {
@@ -44,7 +44,7 @@ impl Node {
         }
     }
 
-    // Adds a rule, and counts it among those that were made.
+    // Adds a rule and counts it among the rules made so far.
     pub(crate) fn add_rule(
         &mut self,
         dest: Id,
@@ -63,21 +63,21 @@ impl Node {
         Ok(())
     }
 
-    // Whether a rule leads to the series of this number.
+    // Whether there is a rule to series `dest`.
     pub(crate) fn has_rule(&self, dest: Id) -> bool
         ensures { result ≡ any_to dest.0 self.now.rules.items }
     {
         self.rules.iter().any(|rule| rule.dest.0 == dest.0)
     }
 
-    // Ends the rule to the series of this number.
+    // Deletes the rule to series `dest`.
     pub(crate) fn remove_rule(&mut self, dest: Id)
         ensures { HasRules (filter (λ r. not (r.dest.0 == dest.0)) self.old.rules.items) self.old self.new }
     {
         self.rules.retain(|rule| rule.dest.0 != dest.0);
     }
 
-    // Takes its rules from it.
+    // Moves all rules out.
     pub(crate) fn take_rules(&mut self, alloc: Global) -> Vec<Rule>
         ensures rules { result.items ≡ self.old.rules.items }
         ensures none { HasRules [] self.old self.new }
@@ -86,7 +86,7 @@ impl Node {
     }
 }
 
-// Whether labels are given that are more than the limit.
+// Whether the given labels, if any, exceed the limit.
 pub(crate) fn are_too_many(limit: u32, labels: &Option<Labels>) -> bool
     ensures { result ≡ is_longer limit labels.now }
 {
@@ -96,7 +96,7 @@ pub(crate) fn are_too_many(limit: u32, labels: &Option<Labels>) -> bool
     }
 }
 
-// A node is these fields and no others: a further one, such as a copy of its samples, does not compile here.
+// Lists all fields: adding one, such as a copy of the samples, does not compile.
 fn fields(it: &Node) {
     let Node {
         key: _,
@@ -107,7 +107,7 @@ fn fields(it: &Node) {
     } = it;
 }
 
-// A rule that counts nothing yet.
+// A rule that has counted no samples yet.
 fn begun(dest: Id, agg: Aggregator, grid: Grid, made: u32) -> Rule
     ensures leads { result.dest ≡ dest }
     ensures begun { (k : Key) → kept_with_dest k result ≡ record { dest = k; agg = agg; grid = grid; made = made; current = None; running = nothing } }
@@ -122,7 +122,7 @@ fn begun(dest: Id, agg: Aggregator, grid: Grid, made: u32) -> Rule
     }
 }
 
-// Why there can be no rule from one series to another, if there is a reason.
+// Why a rule from `source` to `dest` is not allowed, or `None` if it is.
 pub(crate) fn barred(limits: &Limits, source: &Node, dest: &Node) -> Option<DbFault>
     ensures { IsReason limits.now source.now dest.now result }
 {

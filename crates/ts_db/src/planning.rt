@@ -1,4 +1,4 @@
-// The plans for all rules of a source, which are made before anything is changed.
+// Plans the effects of a change on all rules of a source before anything is changed.
 ghost use Rattle.std.specs.Prelude.{◌≡◌, ◌≤◌, ◌+◌, ◌++◌, [], ◌∷◌, ℕ, suc, None, length, vec_len, IfOk, IfErr};
 ghost use Rattle.ts_sample.specs.Steps.{Takes};
 ghost use Rattle.slab.specs.Slab as slab;
@@ -18,22 +18,22 @@ use ts_rules::{Rule, RuleFault, RulePlan, SharedBucket, plan_delete, plan_put_sh
 use ts_sample::{Id, Sample, Steps};
 use ts_series::{Series, SeriesPlan};
 
-// What is done to the samples of a series: one is written, or those from one time to another, both included, are
-// taken out.
+// A change of a source's samples: one sample written, or all samples from one time to another deleted (both
+// inclusive).
 #[derive(Clone, Copy, PartialEq, Eq)]
 pub(crate) enum Work {
     Write(Sample),
     Delete(u64, u64),
 }
 
-// What work on a source comes to for the destination of a rule: this change, or none.
+// The planned change of one destination; `None` if it does not change.
 #[derive(Drop)]
 pub(crate) struct DestinationPlan {
     pub(crate) dest: Id,
     pub(crate) change: Option<SeriesPlan>,
 }
 
-// The rules of a source after work on it, and the plans for their destinations.
+// The rules of a source after the change, and the plans for their destinations.
 #[derive(Drop)]
 pub(crate) struct Planned {
     pub(crate) rules: Vec<Rule>,
@@ -41,7 +41,7 @@ pub(crate) struct Planned {
 }
 
 impl Planned {
-    // Nothing so far, with room for what so many rules come to.
+    // No plans yet, with capacity for `count` rules.
     fn with_room(alloc: Global, count: usize) -> Result<Planned, AllocError>
         ensures rules { IfOk result (λ planned. planned.rules.items ≡ []) }
         ensures plans { IfOk result (λ planned. planned.plans.items ≡ []) }
@@ -54,7 +54,7 @@ impl Planned {
         })
     }
 
-    // Takes what one more rule comes to.
+    // Adds the plan for one more rule.
     fn push(&mut self, plan: RulePlan)
         requires room { HasRoomForRules 1 self.old }
         ensures rules { self.new.rules.items ≡ self.old.rules.items ++ plan.rule ∷ [] }
@@ -72,8 +72,8 @@ impl Planned {
 }
 
 impl Store {
-    // Plans what work on a source comes to for its rules, in the order of their making, and for their destinations. The
-    // first of these that would be full is told before want of memory.
+    // Plans the effects of a change on all rules, in order of creation, and on their destinations. If a destination
+    // would be full, reports the first one, even if memory also ran out.
     pub(crate) fn plan_rules<L: Ledger>(
         &self,
         rules: &[Rule],
@@ -109,7 +109,7 @@ impl Store {
         Ok(planned)
     }
 
-    // Plans what work on a source comes to for a rule of it and for the rule's destination.
+    // Plans the effects of a change on one rule and its destination.
     pub(crate) fn plan_rule<L: Ledger>(
         &self,
         rule: &Rule,
@@ -131,7 +131,7 @@ impl Store {
         self.plan_next(rule, source, work, &mut shared, steps)
     }
 
-    // The same for one rule of the source after another, where `shared` goes from each to the next.
+    // Plans for one rule after another. `shared` caches the bucket that the rules have in common.
     fn plan_next<L: Ledger>(
         &self,
         rule: &Rule,
@@ -166,7 +166,7 @@ impl Store {
     }
 }
 
-// Plans what work on a source comes to for a rule of it and for the rule's destination.
+// Plans the effects of a change on one rule and its destination.
 fn made_plan<L: Ledger>(
     alloc: Global,
     work: Work,

@@ -1,4 +1,4 @@
-// The public questions of a database, each with the clauses that its callers see.
+// Queries by key.
 ghost use Rattle.std.specs.Prelude.{◌≡◌, ◌≤◌, nat_lt, IfOk, IfErr, ◌*◌};
 ghost use Rattle.std.specs.Option.{ForSome};
 ghost use Rattle.ts_spec.specs.Keyed.{get};
@@ -19,8 +19,8 @@ use ts_resp::Word;
 use ts_sample::{Gathered, Sample, Steps};
 
 impl Db {
-    /// The last sample of a key, if it has one; with `latest` also that of an open bucket. It takes no memory:
-    /// only a missing key refuses it.
+    /// The last sample of a key, if there is one (TS.GET). With `latest`, includes the row of an open bucket. Fails
+    /// only if the key does not exist; allocates nothing.
     pub fn last<L: Ledger>(
         &self,
         key: &Word,
@@ -38,8 +38,8 @@ impl Db {
         Ok(self.last_of(id, latest, steps))
     }
 
-    /// The samples of a key between two times, in milliseconds, both included, in their order; with `latest`
-    /// also that of an open bucket.
+    /// The samples of a key from `from` to `to`, in milliseconds and inclusive, in ascending order. With `latest`,
+    /// includes the row of an open bucket.
     pub fn samples<L: Ledger>(
         &self,
         key: &Word,
@@ -67,8 +67,8 @@ impl Db {
         Ok(gathered.into_samples())
     }
 
-    /// The last sample of a key before a time, in milliseconds, if it has one; with `latest` that of an open bucket
-    /// counts too. It takes no memory: only a missing key refuses it.
+    /// The last sample of a key before `t` (milliseconds), if there is one. With `latest`, includes the row of an open
+    /// bucket. Fails only if the key does not exist; allocates nothing.
     pub fn before<L: Ledger>(
         &self,
         key: &Word,
@@ -86,8 +86,8 @@ impl Db {
         Ok(self.before_of(id, t, latest, steps))
     }
 
-    /// The times of the first and of the last sample of a key, in milliseconds, if it has any; with `latest` that of
-    /// an open bucket counts too. It takes no memory: only a missing key refuses it.
+    /// The times of a key's first and last sample in milliseconds, if there are any. With `latest`, includes the row
+    /// of an open bucket. Fails only if the key does not exist; allocates nothing.
     pub fn ends<L: Ledger>(
         &self,
         key: &Word,
@@ -105,7 +105,7 @@ impl Db {
         Ok(self.ends_of(id, latest, steps))
     }
 
-    /// What TS.INFO tells of a key. It is refused for a missing key, and for want of memory.
+    /// The facts about a key that TS.INFO reports. Fails if the key does not exist or memory runs out.
     pub fn info<L: Ledger>(&self, key: &Word, steps: &mut Steps<L>) -> Result<Info, DbFault>
         ensures info { (held : Held) → Stands self.now held → Finds (get key.now held.state) (λ info. Told (info_of info) ≡ info_response held.state key.now (get key.now held.state)) result }
         ensures steps { Takes steps.old steps.new (2 * reach_at self.now key.now) }

@@ -1,4 +1,4 @@
-// The rules of a store: how they are made, and how they end.
+// Creates and deletes rules.
 ghost use Rattle.std.specs.Prelude.{◌≡◌, Some, IfErr, option_map, IfOk};
 ghost use Rattle.slab.specs.Slab as slab;
 ghost use Rattle.ts_spec.specs.KeptStep.{kept_create_rule, kept_delete_rule};
@@ -20,7 +20,7 @@ use ts_sample::Id;
 use ts_spec::Aggregator;
 
 impl Store {
-    // Makes a rule from one key to another.
+    // Creates a rule between two keys.
     pub(crate) fn create_rule(
         &mut self,
         source: &Word,
@@ -52,7 +52,7 @@ impl Store {
         Ok(())
     }
 
-    // Why there can be no rule from one series to another, if there is a reason.
+    // Why a rule from `id` to `dest` is not allowed, or `None` if it is.
     fn barred(&self, id: Id, dest: Id) -> Option<DbFault>
         requires live { HasNode self.now.nodes id }
         requires dest { HasNode self.now.nodes dest }
@@ -61,7 +61,7 @@ impl Store {
         barred(&self.limits, self.nodes.node(id), self.nodes.node(dest))
     }
 
-    // Ends the rule from one key to another, without memory.
+    // Deletes the rule between two keys. Allocates nothing.
     pub(crate) fn delete_rule(&mut self, source: &Word, dest: &Word) -> Result<(), DbFault>
         requires { IsDb self.old }
         ensures ended { KeptDone (stock_of self.old) (kept_delete_rule (stock_of self.old).keys source.now dest.now) result (stock_of self.new) }
@@ -82,7 +82,7 @@ impl Store {
         Ok(())
     }
 
-    // Whether a rule leads from one series to another.
+    // Whether there is a rule from `id` to `dest`.
     fn has_rule(&self, id: Id, dest: Id) -> bool
         requires { HasNode self.now.nodes id }
         ensures { (n : TheNode) → slab.get self.now.nodes id.0 ≡ Some n → result ≡ any_to dest.0 n.rules.items }
@@ -90,7 +90,7 @@ impl Store {
         self.nodes.node(id).has_rule(dest)
     }
 
-    // Adds a rule to those of a series. It alone takes memory.
+    // Adds a rule to series `id`.
     pub(crate) fn add_rule(
         &mut self,
         id: Id,
@@ -111,7 +111,7 @@ impl Store {
         self.nodes.add_rule(id, dest, agg, grid)
     }
 
-    // Ends the rule from one series to another.
+    // Deletes the rule from `id` to `dest`.
     pub(crate) fn remove_rule(&mut self, id: Id, dest: Id)
         requires store { IsInOrder self.old }
         requires live { HasNode self.old.nodes id }
@@ -123,7 +123,7 @@ impl Store {
         self.nodes.remove_rule(id, dest);
     }
 
-    // Takes its rules from a series.
+    // Moves the rules of a series out.
     pub(crate) fn take_rules(&mut self, id: Id) -> Vec<Rule>
         requires store { IsInOrder self.old }
         requires live { HasNode self.old.nodes id }
@@ -135,7 +135,7 @@ impl Store {
         self.nodes.take_rules(id, self.alloc)
     }
 
-    // Gives a series this source, or none.
+    // Sets or clears the rule source of a series.
     pub(crate) fn set_source(&mut self, id: Id, source: Option<Id>)
         requires store { IsInOrder self.old }
         requires live { HasNode self.old.nodes id }
@@ -147,7 +147,7 @@ impl Store {
         self.nodes.set_source(id, source);
     }
 
-    // Leaves the destination of each rule without a source.
+    // Clears the rule source of each rule's destination.
     pub(crate) fn free(&mut self, rules: Vec<Rule>)
         requires store { IsInOrder self.old }
         requires live { AreLive self.old.nodes rules.items }

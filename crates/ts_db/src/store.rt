@@ -1,4 +1,4 @@
-// Where series and keys are kept, and how a plan for one of them is done.
+// Stores series by id and ids by key, and commits plans.
 ghost use Rattle.std.specs.Prelude.{◌≡◌, nat_lt, nat_le, length, is_some, None, Some, List};
 ghost use Rattle.std.specs.Cmp.Lexicographic.{slice_cmp};
 ghost use Rattle.std.specs.List.{All};
@@ -26,7 +26,7 @@ use ts_sample::Id;
 use ts_series::SeriesPlan;
 use ts_spec::Limits;
 
-// Series by their numbers, and the numbers by their keys.
+// Series by id, and ids by key.
 #[derive(Drop)]
 pub(crate) struct Store {
     pub(crate) alloc: Global,
@@ -36,8 +36,7 @@ pub(crate) struct Store {
 }
 
 impl Store {
-    // Does what was planned for the series of a number, and puts these rules in place of its own, where they are
-    // given. It can't fail, and takes no memory.
+    // Commits a plan for series `id` and replaces its rules if given. Can't fail and allocates nothing.
     pub(crate) fn apply(&mut self, id: Id, plan: SeriesPlan, rules: Option<Vec<Rule>>)
         requires store { IsInOrder self.old }
         requires ready { IsReady self.old id plan None rules }
@@ -48,7 +47,7 @@ impl Store {
         self.nodes.apply(id, plan, rules);
     }
 
-    // The labels of the nodes by their numbers, and that they and the keys are in order.
+    // The label index. The contract also tells callers that the index and the keys are sorted.
     pub(crate) fn index(&self) -> &Index
         ensures indexed { IsIndexed self.now.nodes result.now }
         ensures order { AreInOrder result.now }
@@ -61,7 +60,7 @@ impl Store {
         index
     }
 
-    // Whether the key is there.
+    // Whether the key exists.
     pub(crate) fn has(&self, key: &Word) -> bool
         requires { IsInOrder self.now }
         ensures { result ≡ is_some (get key.now (stock_of self.now).keys) }
@@ -69,14 +68,14 @@ impl Store {
         self.keys.contains_key(key)
     }
 
-    // Whether these are more labels than a series may have.
+    // Whether a series may not have this many labels.
     pub(crate) fn are_too_many(&self, labels: &Labels) -> bool
         ensures { result ≡ nat_lt self.now.limits.labels (length labels.now) }
     {
         (self.limits.labels as usize) < labels.len()
     }
 
-    // Whether there are as many keys as there may be.
+    // Whether the store holds as many keys as its limits allow.
     pub(crate) fn is_full(&self) -> bool
         requires { IsInOrder self.now }
         ensures { result ≡ nat_le self.now.limits.keys (count_keys (stock_of self.now).keys) }
@@ -84,7 +83,7 @@ impl Store {
         self.limits.keys as usize <= self.keys.len()
     }
 
-    // Does what was planned for the destinations of rules. It can't fail, and takes no memory.
+    // Commits the plans for the destinations of rules. Can't fail and allocates nothing.
     pub(crate) fn feed(&mut self, plans: Vec<DestinationPlan>)
         requires store { IsInOrder self.old }
         requires planned { AreDestinationPlans self.old plans.items }
@@ -101,7 +100,7 @@ impl Store {
     }
 }
 
-// A store is these fields and no others: a further one, such as a copy of samples, does not compile here.
+// Lists all fields: adding one, such as a copy of the samples, does not compile.
 fn fields(it: &Store) {
     let Store {
         alloc: _,

@@ -1,4 +1,4 @@
-// Work for which there was no memory: whether the destination of a rule would be full is told all the same.
+// The error for a change that could not be planned.
 ghost use Rattle.std.specs.Prelude.{◌≡◌, false, nat_lt, length};
 ghost use Rattle.ts_sample.specs.Steps.{Takes};
 ghost use Rattle.slab.specs.Slab as slab;
@@ -16,8 +16,9 @@ use ts_sample::Steps;
 use ts_series::Series;
 
 impl Store {
-    // What is told of work for which there was no memory: that the destination of the first of these rules that would be
-    // full is, or else want of memory. What is planned to find this out is let go.
+    // The error for a change whose planning ran out of memory. Reports the first destination that would be full, or
+    // else out of memory: a command that would fail anyway fails with its own error. Plans each rule again to find
+    // out, and discards the plans.
     pub(crate) fn unplanned<L: Ledger>(
         &self,
         rules: &[Rule],
@@ -40,7 +41,7 @@ impl Store {
         DbFault::Memory(AllocError)
     }
 
-    // Whether the destination of a rule would be full after work on the rule's source.
+    // Whether the rule's destination would be full after the change.
     fn overfills<L: Ledger>(
         &self,
         rule: &Rule,
@@ -63,7 +64,7 @@ impl Store {
     }
 }
 
-// The destination of a rule would be full.
+// The error for a full destination.
 pub(crate) fn full_at(rule: &Rule) -> DbFault
     ensures { result ≡ SamplesFull rule.now.dest false }
 {

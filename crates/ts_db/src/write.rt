@@ -1,4 +1,4 @@
-// Writes of one sample on the store, by which destinations are mended too.
+// Writes of one sample, including the updates of destinations.
 ghost use Rattle.std.specs.Prelude.{◌≡◌, ◌≤◌, Some, option_map, IfOk, IfErr};
 ghost use Rattle.ts_spec.specs.declared.series.Merge.TheVariants.{By};
 ghost use Rattle.ts_spec.specs.Sample.{MAX_TIME};
@@ -27,8 +27,8 @@ use ts_sample::{Id, Steps, Units};
 use ts_spec::{Merge, Policy};
 
 impl Store {
-    // Adds a sample to the series of a key, by this policy or else its own where the time has one. Where the key
-    // is missing it begins with the sample. Answers the time, or that of the last sample where this one is ignored.
+    // Adds a sample. Creates the series if the key does not exist. Returns the sample's time, or the last sample's
+    // time if the write was ignored (IGNORE).
     pub(crate) fn add<L: Ledger>(
         &mut self,
         key: Word,
@@ -54,8 +54,9 @@ impl Store {
         self.write(id, merge_by(on), time, value, steps)
     }
 
-    // Writes to the series of the key of a number, by this merge, or else by its own policy, where the time has a sample. Answers the
-    // time, or that of the last sample where this one is ignored.
+    // Writes a sample to series `id`. If the series already has a sample at `time`, merges the two by `how`, or by the
+    // series' duplicate policy if `how` is `None`. Returns the sample's time, or the last sample's time if the write
+    // was ignored (IGNORE).
     pub(crate) fn write<L: Ledger>(
         &mut self,
         id: Id,
@@ -91,8 +92,8 @@ impl Store {
         self.write_planned(id, how, time, value, steps)
     }
 
-    // Writes a sample that is not ignored to the series of a number by a plan for it, and has the destinations of its rules
-    // mended. Answers the time.
+    // Writes a sample that is not ignored, and updates the destinations of the series' rules. Plans all changes before
+    // it makes any. Returns the time.
     fn write_planned<L: Ledger>(
         &mut self,
         id: Id,
@@ -137,7 +138,7 @@ impl Store {
     }
 }
 
-// By this policy, if it is given.
+// The merge for this duplicate policy, if one is given.
 pub(crate) fn merge_by(on: Option<Policy>) -> Option<Merge>
     ensures { result ≡ option_map By on }
 {
@@ -147,8 +148,7 @@ pub(crate) fn merge_by(on: Option<Policy>) -> Option<Merge>
     }
 }
 
-// The time of the last sample of a series, where it ignores a sample for being close to that one. A series to which
-// a rule leads ignores nothing.
+// The last sample's time if the series ignores this sample (IGNORE). A destination of a rule ignores nothing.
 pub(crate) fn ignored(node: &Node, time: u64, value: Units) -> Option<u64>
     ensures { result ≡ ignored_by node.now time value }
 {
