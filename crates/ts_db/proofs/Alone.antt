@@ -1,4 +1,4 @@
--- Each rule from a key and to it ends: what is kept then, but for the key itself.
+-- Deleting all rules from a key and to it: the stored data afterwards, apart from the key itself.
 use Rattle.std.proofs.Common.{◌≡◌, Bool, true, false, not, ◌||◌, cond, List, [], ◌∷◌, filter, refl, sym, ◌∙◌, ap}
 use Rattle.std.specs.Prelude.{if◌then◌else◌, Option, None, Some, is_some, option_map}
 use Rattle.ts_spec.specs.declared.limits.Limits.{Limits}

@@ -1,4 +1,4 @@
--- What a change of one node is to the store.
+-- How a change of one node changes the store.
 use Rattle.std.proofs.Common.{◌≡◌, ◌≤◌, cond, List, length, refl, sym, ◌∙◌, ap, subst, arith}
 use Rattle.std.specs.Prelude.{Vec, Option, None, Some, is_some, Result, Ok, Err, IfOk, OnErr}
 use Rattle.std.specs.declared.alloc.Global.{Global}

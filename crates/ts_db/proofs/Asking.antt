@@ -1,4 +1,4 @@
--- What a number of a database leads to, and what a question finds.
+-- Lookups by id, and results of queries.
 use Rattle.std.proofs.Common.{◌≡◌, true, false, refl, sym, ◌∙◌, ap}
 use Rattle.std.specs.Prelude.{Option, None, Some, is_some, Result, Err}
 use Rattle.slab.specs.Slab as slab

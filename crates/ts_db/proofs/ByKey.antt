@@ -1,4 +1,4 @@
--- Numbers sorted by their keys.
+-- Ids sorted by their keys.
 use Rattle.std.proofs.Common.{◌≡◌, ℕ, ◌+◌, Bool, true, false, List, [], ◌∷◌, map, length, get_or, refl, sym, ◌∙◌, ap, subst, nat_cmp, Less, Equal, Greater, Ordering, true≢false, arith}
 use Rattle.std.specs.Option.{unwrap_or}
 use Rattle.std.specs.Prelude.{Option, Some, if◌then◌else◌}

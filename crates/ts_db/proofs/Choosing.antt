@@ -1,4 +1,4 @@
--- The index of the labels of nodes: what it tells of a test, by the keys.
+-- Selections by the label index, in terms of keys.
 use Rattle.std.proofs.Common.{◌≡◌, ℕ, suc, ◌*◌, Bool, true, false, List, [], ◌∷◌, length, refl, sym, ◌∙◌, ap, subst, nat_cmp, min}
 use Rattle.std.specs.Prelude.{sum_by, Option, None, Some, option_map, if◌then◌else◌}
 use Rattle.std.specs.Option.{unwrap_or}

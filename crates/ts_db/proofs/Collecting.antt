@@ -1,4 +1,4 @@
--- What numbered series keep, by what each key has.
+-- The stored data of the nodes, key by key.
 use Rattle.std.proofs.Common.{◌≡◌, ◌≢◌, ℕ, Bool, true, false, cond, List, [], ◌∷◌, refl, sym, ◌∙◌, ap, ◌⊎◌, inl, inr}
 use Rattle.std.specs.Prelude.{slice_index_or, ◌&&◌, ◌==◌, Option, None, Some, option_map, if◌then◌else◌, nat_eq}
 use Rattle.std.specs.Cmp.Lexicographic.{pointwise}

@@ -1,4 +1,4 @@
--- The numbers that an index lends for filters: their keys, and those of these keys that pass.
+-- Candidate ids: their keys, and those of these keys that pass the filters.
 use Rattle.std.proofs.Common.{◌≡◌, ℕ, Bool, true, false, cond, List, [], ◌∷◌, map, refl, sym, ◌∙◌, ap, subst, ⊎_elim}
 use Rattle.std.specs.Prelude.{◌||◌, Option, None, Some, if◌then◌else◌}
 use Rattle.std.specs.Option.{unwrap_or}

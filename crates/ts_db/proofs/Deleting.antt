@@ -1,4 +1,4 @@
--- How a deletion answers.
+-- The result of a deletion.
 use Rattle.std.proofs.Common.{◌≡◌, ◌≤◌, ℕ, Bool, true, false, not, ◌||◌, List, [], ◌∷◌, map, length, refl, sym, ◌∙◌, ap, subst, arith, nat_le}
 use Rattle.std.specs.Prelude.{nat_lt, if◌then◌else◌, Vec, Option, None, Some, option_map}
 use Rattle.std.specs.declared.alloc.Global.{Global}

@@ -1,4 +1,4 @@
--- Work on a source that the destination of one of its rules refuses.
+-- Changes of a source that fail because a destination would be full.
 use Rattle.std.proofs.Common.{◌≡◌, Bool, true, false, List, [], ◌∷◌, length, refl, sym, ◌∙◌, ap, subst, eqb-true, eq-eqb}
 use Rattle.std.specs.Prelude.{◌==◌, nat_lt, if◌then◌else◌, Option, None, Some, option_map}
 use Rattle.std.proofs.lemmas.Bool.{and_parts}

@@ -1,4 +1,4 @@
--- What a write and a deletion decode for the rules of a key, by what contracts see.
+-- How many samples a write and a deletion decode for the rules of a key.
 use Rattle.std.proofs.Common.{◌≡◌, ◌≤◌, ◌<◌, ◌+◌, ◌*◌, ℕ, true, List, [], ◌∷◌, map, length, refl, sym, ◌∙◌, ap, subst, arith, ltb-true, ◌^◌}
 use Rattle.std.specs.Prelude.{⊤, sum_by, Option, None, Some, option_map, ◌-◌}
 use Rattle.std.proofs.lemmas.List.Sums.{sum_by-cons}

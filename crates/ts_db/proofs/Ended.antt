@@ -1,4 +1,4 @@
--- Rules end: what becomes of each key, by what is kept of it.
+-- The stored data of each key after rules are deleted.
 use Rattle.std.proofs.Common.{◌≡◌, Bool, true, false, not, ◌&&◌, List, [], ◌∷◌, filter, refl, sym, ◌∙◌, ap}
 use Rattle.std.specs.Prelude.{if◌then◌else◌, Option, None, Some, is_some, option_map}
 use Rattle.ts_spec.specs.Key.{Key, same}

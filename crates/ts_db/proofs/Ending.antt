@@ -1,4 +1,4 @@
--- The rules of a series and the one to it end, by three changes of the store.
+-- Deleting all rules from and to a series takes three changes of the store.
 use Rattle.std.proofs.Common.{◌≡◌, List, refl, sym, ◌∙◌, ap}
 use Rattle.std.specs.Prelude.{Option, None, Some, option_map}
 use Rattle.ts_spec.specs.Key.{Key}

@@ -1,4 +1,4 @@
--- What is kept once destinations are mended one after another, and that a write and a deletion come to no more.
+-- The stored data after destinations are updated one after another; it is that of a write and of a deletion.
 use Rattle.std.proofs.Common.{◌≡◌, ℕ, ℤ, Bool, true, false, List, [], ◌∷◌, refl, sym, ◌∙◌, ap, subst}
 use Rattle.std.specs.Prelude.{Option, None, Some, option_map, if◌then◌else◌}
 use Rattle.ts_spec.specs.Sample.{put, between, outside}

@@ -1,4 +1,4 @@
--- Destinations are mended one after another.
+-- Destinations are updated one after another.
 use Rattle.std.proofs.Common.{◌≡◌, ◌≤◌, ℕ, List, [], ◌∷◌, length, refl, sym, ◌∙◌, ap, subst, arith}
 use Rattle.std.specs.Prelude.{Option, None, Some}
 use Rattle.slab.specs.Slab as slab

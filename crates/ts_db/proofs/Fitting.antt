@@ -1,4 +1,4 @@
--- Whether the destinations of a key's rules have room once they are mended, by what is kept and by the rules.
+-- Whether the destinations of a key's rules stay within the sample limit, in stored data and in nodes.
 use Rattle.std.proofs.Common.{◌≡◌, Bool, true, false, List, [], ◌∷◌, length, refl, sym, ◌∙◌, ap}
 use Rattle.std.specs.Prelude.{nat_lt, if◌then◌else◌, Option, None, Some, option_map}
 use Rattle.ts_spec.specs.Key.{Key}

@@ -1,4 +1,4 @@
--- The destinations of rules lose their source, one after another.
+-- The rule source of each destination is cleared, one after another.
 use Rattle.std.proofs.Common.{◌≡◌, List, [], ◌∷◌, refl, ◌∙◌, ap}
 use Rattle.std.specs.Prelude.{Option, None, Some}
 use Rattle.ts_spec.specs.Key.{Key}

@@ -1,4 +1,4 @@
--- A node to whose series a sample is appended that stays in the open bucket of each rule.
+-- A node after an append inside the open bucket of each rule.
 use Rattle.std.proofs.Common.{◌≡◌, ◌≤◌, length, refl, sym, ◌∙◌, ap, subst}
 use Rattle.std.specs.Prelude.{None, Some, option_map}
 use Rattle.slab.specs.Slab as slab

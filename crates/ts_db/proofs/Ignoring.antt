@@ -1,4 +1,4 @@
--- Samples that a series of the store ignores: what is kept of the key ignores the same, and a write of one changes nothing.
+-- Ignored samples: node and stored data agree on which are ignored, and writing one changes nothing.
 use Rattle.std.proofs.Common.{◌≡◌, ◌≤◌, ◌<◌, ℕ, ℤ, Bool, true, false, List, [], refl, sym, ◌∙◌, ap, subst, arith, leb-true, ltb-true}
 use Rattle.std.specs.Prelude.{◌-◌, nat_lt, nat_le, ◌&&◌, if◌then◌else◌, Option, None, Some, is_some, option_map}
 use Rattle.std.proofs.lemmas.Bool.{false≢true, and_parts}

@@ -1,4 +1,4 @@
--- That the index has the labels of the nodes after a change of one of them.
+-- After a change of one node, the index again has the labels of all nodes.
 use Rattle.std.proofs.Common.{◌≡◌, ◌≢◌, List, refl, sym, ◌∙◌, ap, subst, ◌⊎◌, inl, inr}
 use Rattle.std.specs.Prelude.{Vec, Option, Some, IsSome, option_map}
 use Rattle.std.specs.declared.alloc.Global.{Global}

@@ -1,4 +1,4 @@
--- What is known of a store that stands for a state: the links of a key's rules, and the room of their open buckets.
+-- Facts about a store that represents a state: its links, and the capacity of open buckets.
 use Rattle.std.proofs.Common.{◌≡◌, ◌<◌, ◌≤◌, ◌^◌, ℕ, Bool, true, false, List, [], ◌∷◌, refl, sym, ◌∙◌, ap, subst, arith}
 use Rattle.std.specs.Prelude.{None, Some, if◌then◌else◌}
 use Rattle.slab.specs.Slab as slab

@@ -1,4 +1,4 @@
--- The answers of the calls of a store are those of the steps of each state that it stands for.
+-- Operations on a store answer as the steps of each represented state do.
 use Rattle.std.proofs.Common.{◌≡◌, ℕ, ℤ, Bool, true, false, List, sym, ◌∙◌, ap, subst}
 use Rattle.std.specs.Prelude.{⊤, nat_le, Option, is_some, if◌then◌else◌, Result, Ok, Err, IfOk}
 use Rattle.ts_spec.specs.declared.limits.Limits.{Limits}

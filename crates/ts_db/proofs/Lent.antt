@@ -1,4 +1,4 @@
--- The numbers that the index lends for filters, by the keys.
+-- The candidate ids of the index, in terms of keys.
 use Rattle.std.proofs.Common.{◌≡◌, ℕ, Bool, true, false, List, [], ◌∷◌, map, refl, sym, ◌∙◌, ap, subst, eq-eqb}
 use Rattle.std.specs.Prelude.{◌==◌, ◌||◌, Option, None, Some, IsSome, option_map, if◌then◌else◌}
 use Rattle.std.specs.Option.{unwrap_or}

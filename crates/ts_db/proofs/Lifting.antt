@@ -1,4 +1,4 @@
--- From answers over what is kept to those of each state that is stood for.
+-- From results in stored data to results in each represented state.
 use Rattle.std.proofs.Common.{◌≡◌, sym, ◌∙◌, ap, subst}
 use Rattle.std.specs.Prelude.{Option, None, Some, ⊤, Result, Ok, Err}
 use Rattle.ts_spec.specs.declared.limits.Limits.{Limits}

@@ -1,4 +1,4 @@
--- A rule is made: what the step over what is kept comes to.
+-- Creating a rule: the step in stored data.
 use Rattle.std.proofs.Common.{◌≡◌, suc, Bool, true, false, List, [], ◌∷◌, length, refl, sym, ◌∙◌, ap, subst}
 use Rattle.std.specs.Prelude.{nat_le, nat_eq, if◌then◌else◌, Option, None, Some, is_some, option_map}
 use Rattle.std.specs.Cmp.Lexicographic.{pointwise}

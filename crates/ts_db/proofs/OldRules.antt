@@ -1,4 +1,4 @@
--- A rule ends: what the step over what is kept comes to.
+-- Deleting a rule: the step in stored data.
 use Rattle.std.proofs.Common.{◌≡◌, ◌==◌, Bool, true, false, List, [], ◌∷◌, refl, sym, ◌∙◌, ap}
 use Rattle.std.specs.Prelude.{◌||◌, if◌then◌else◌, Option, None, Some, is_some}
 use Rattle.ts_spec.specs.Key.{Key, same}

@@ -1,4 +1,4 @@
--- What a series shows with the open bucket of the rule that leads to it.
+-- The samples of a series with the row of its rule's open bucket.
 use Rattle.std.proofs.Common.{◌≡◌, ℕ, Bool, true, false, ◌==◌, List, [], ◌∷◌, refl, sym, ◌∙◌, ap, eqb-true, eq-eqb}
 use Rattle.std.specs.Prelude.{if◌then◌else◌, Option, None, Some, option_map}
 use Rattle.slab.specs.Slab as slab

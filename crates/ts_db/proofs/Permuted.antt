@@ -1,4 +1,4 @@
--- Two lists that have the same labels of each number: their numbers whose labels pass a test are the same, in some order.
+-- Two lists with the same labels for each id select the same ids, in some order.
 use Rattle.std.proofs.Common.{◌≡◌, ◌≢◌, ℕ, Bool, true, false, cond, List, [], ◌∷◌, refl, sym, ◌∙◌, ap, subst, nat_cmp, ◌<◌, true≢false, ⊎_elim, arith, lt-ltb}
 use Rattle.std.specs.Prelude.{Option, None, Some, is_some, if◌then◌else◌}
 use Rattle.std.specs.Option.{unwrap_or}

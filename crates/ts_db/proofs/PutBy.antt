@@ -1,4 +1,4 @@
--- A write to a key that is there, by a policy of its own: what it leaves of each state.
+-- A write to an existing key with its own duplicate policy: its effect on each represented state.
 use Rattle.std.proofs.Common.{◌≡◌, ◌≤◌, ℕ, ℤ, refl, sym, ◌∙◌, ap, subst}
 use Rattle.std.specs.Prelude.{Option, None, Some, option_map, unwrap_or, Result}
 use Rattle.ts_spec.specs.declared.limits.Limits.{Limits}

@@ -1,4 +1,4 @@
--- The reach and the chunks of the series of each key, where nodes change.
+-- The reach and the chunks of each key's series after nodes change.
 use Rattle.std.proofs.Common.{◌≡◌, ◌≢◌, ◌==◌, true, false, ℕ, List, [], refl, sym, ◌∙◌, ap, subst, ◌⊎◌, inl, inr}
 use Rattle.std.specs.Prelude.{slice_index_or, Option, None, Some, IsSome, option_map}
 use Rattle.std.specs.Option.{unwrap_or}

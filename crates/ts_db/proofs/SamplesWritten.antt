@@ -1,4 +1,4 @@
--- The sample that a plan of a series writes, and the one for which there was no memory.
+-- The sample that a plan writes, and the one lost when memory runs out.
 use Rattle.std.proofs.Common.{◌≡◌, ℕ, ℤ, refl, sym, ◌∙◌, ap}
 use Rattle.std.specs.Prelude.{None, Some, Ok, Err}
 use Rattle.ts_spec.specs.Sample.{Point, first_of}

@@ -1,4 +1,4 @@
--- The keys that filters select, walked in the order of their bytes.
+-- The selected keys, found by scanning all keys in order.
 use Rattle.std.proofs.Common.{◌≡◌, ◌<◌, Bool, true, false, ◌⊎◌, inl, inr, List, [], ◌∷◌, refl, sym, ap, subst, ◌∙◌, arith, eq-eqb, le-ltb, lt-ltb, ne_eqb}
 use Rattle.std.proofs.lemmas.Bool.{cases_order, false≢true, and_parts}
 use Rattle.std.specs.Cmp.Derive.{both_true}

@@ -1,4 +1,4 @@
--- An append that stays in all open buckets is a write whose plans leave the destinations as they are.
+-- An append inside all open buckets is a write whose plans leave the destinations unchanged.
 use Rattle.std.proofs.Common.{◌≡◌, ◌≤◌, ℕ, ℤ, true, false, List, [], ◌∷◌, map, length, refl, sym, ◌∙◌, ap, subst, le-ltb, eq-eqb, max, arith}
 use Rattle.std.specs.Prelude.{◌==◌, if◌then◌else◌, None, Some, option_map}
 use Rattle.ts_spec.specs.Sample.{Point, put}

@@ -1,4 +1,4 @@
--- That a database stays in order.
+-- Changes preserve the invariant of the store.
 use Rattle.std.proofs.Common.{◌≡◌, ◌≢◌, ◌<◌, ◌≤◌, ◌+◌, ℕ, suc, Bool, true, false, cond, List, [], ◌∷◌, length, refl, sym, ◌∙◌, ap, subst, ◌⊎◌, inl, inr, arith}
 use Rattle.std.specs.Prelude.{slice_index_or, Option, None, Some, is_some, option_map, count_by}
 use Rattle.std.proofs.lemmas.Bool.{cases_eq}

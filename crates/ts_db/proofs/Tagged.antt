@@ -1,4 +1,4 @@
--- The numbers of an index whose labels pass a test, and those of the keys, in the order of the keys.
+-- The selected ids of the index and the selected keys, in key order.
 use Rattle.std.proofs.Common.{◌≡◌, ℕ, Bool, true, false, List, [], ◌∷◌, refl, sym, ◌∙◌, ap, nat_cmp, ⊎_elim, Less}
 use Rattle.std.specs.Prelude.{Option, None, Some}
 use Rattle.std.specs.Option.{unwrap_or}

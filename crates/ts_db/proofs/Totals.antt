@@ -1,4 +1,4 @@
--- How many samples all keys show, on a walk over them.
+-- The number of samples in all series, counted one by one.
 use Rattle.std.proofs.Common.{◌≡◌, ◌+◌, ◌*◌, ◌^◌, ◌-◌, ◌≤◌, ◌<◌, ℕ, [], ◌∷◌, length, refl, ◌∙◌, ap, arith}
 use Rattle.std.proofs.Math.Nat.{mul-le-mul}
 use Rattle.std.specs.Prelude.{Option, Some, option_map, sum_by}

@@ -1,4 +1,4 @@
--- A walk over the keys that takes the numbers which are among ascending ones.
+-- Scanning all keys and keeping the ids in a sorted list.
 use Rattle.std.proofs.Common.{◌≡◌, ◌<◌, ℕ, ◌&&◌, Bool, true, false, List, [], ◌∷◌, length, refl, sym, ◌∙◌, ap, eq-eqb}
 use Rattle.std.specs.Prelude.{Option, Err, if◌then◌else◌}
 use Rattle.std.specs.Option.{unwrap_or}

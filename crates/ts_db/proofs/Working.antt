@@ -1,4 +1,4 @@
--- What is kept after work on a source: its node is another, and then the destinations of its rules are mended.
+-- The stored data after a change of a source: its node changes, then the destinations of its rules.
 use Rattle.std.proofs.Common.{◌≡◌, ℕ, List, [], ◌∷◌, map, refl, sym, ◌∙◌, ap, subst}
 use Rattle.std.specs.Prelude.{None}
 use Rattle.ts_spec.specs.Key.{Key}

@@ -1,4 +1,4 @@
--- A write to the series of a number that is done: what it needs of the plans, and what is kept then.
+-- A successful write: what it needs of the plans, and the stored data afterwards.
 use Rattle.std.proofs.Common.{◌≡◌, ℕ, ℤ, List, refl, sym, ◌∙◌, ap, subst}
 use Rattle.std.specs.Prelude.{Vec, None, Some, Ok}
 use Rattle.std.specs.declared.alloc.Global.{Global}

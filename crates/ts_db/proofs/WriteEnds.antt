@@ -1,4 +1,4 @@
--- How a write to the series of a number ends: what it answers, whose fault it tells, and how much is decoded.
+-- The outcomes of a write: its result, the series that an error names, and its cost.
 use Rattle.std.proofs.Common.{◌≡◌, ◌<◌, ◌≤◌, ◌+◌, ◌*◌, ℕ, ℤ, List, length, refl, sym, ◌∙◌, ap, subst, arith}
 use Rattle.std.specs.Prelude.{None, Some, Result, Ok, Err, IfErr}
 use Rattle.slab.specs.Slab as slab

@@ -1,4 +1,4 @@
--- How a write to a series answers, by what it comes to.
+-- The result of a write to a series, case by case.
 use Rattle.std.proofs.Common.{◌≡◌, ◌≤◌, ℕ, ℤ, Bool, true, false, map, length, refl, sym, ◌∙◌, ap, subst, le-ltb, lt-ltb}
 use Rattle.std.specs.Prelude.{nat_lt, if◌then◌else◌, Vec, Option, None, Some, option_map, Ok, Err}
 use Rattle.std.specs.declared.alloc.Global.{Global}

@@ -1,4 +1,4 @@
--- Numbers of which none is there twice: how many they are at most, and what they are in another order.
+-- Lists of distinct ids: their length, and their reorderings.
 use Rattle.std.proofs.Common.{◌≡◌, ℕ, ◌≤◌, ◌==◌, ◌||◌, Bool, true, false, List, [], ◌∷◌, map, length, refl, sym, ◌∙◌, ap, subst}
 use Rattle.std.proofs.lemmas.Bool.{false≢true}
 use Rattle.std.proofs.lemmas.List.{length-map}

@@ -1,4 +1,4 @@
--- The numbers that can pass filters, by the narrowest filter or without one.
+-- Candidates, from the most selective filter or from all series.
 use Rattle.std.proofs.Common.{◌≡◌, ℕ, ◌≤◌, ◌&&◌, not, Bool, true, false, List, [], ◌∷◌, map, length, Option, None, Some, IsSome, refl, sym, ◌∙◌, ap, subst, arith}
 use Rattle.std.proofs.lemmas.Bool.{false≢true}
 use Rattle.std.proofs.lemmas.List.{length-map}

@@ -1,4 +1,4 @@
--- The lists of an index, after a number came, went or got other labels.
+-- Posting lists after an id is added, removed or relabelled.
 use Rattle.std.proofs.Common.{◌≡◌, ℕ, ◌==◌, ◌||◌, ◌&&◌, not, Bool, true, false, List, Option, Vec, refl, sym, ◌∙◌, ap, subst, eq-eqb, eqb-true, ne_eqb, take, length}
 use Rattle.std.proofs.lemmas.Bool.{false≢true}
 use Rattle.std.proofs.Math.Seq.{take-length}

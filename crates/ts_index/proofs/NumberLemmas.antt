@@ -1,4 +1,4 @@
--- The numbers whose labels pass a test: which they are, and their order.
+-- The ids whose labels pass a test: which they are, and their order.
 use Rattle.std.proofs.Common.{◌≡◌, ℕ, suc, ◌<◌, ◌==◌, Bool, true, false, List, [], ◌∷◌, None, Some, refl, sym, ◌∙◌, ap, arith, if◌then◌else◌, ne_eqb, eqb-true}
 use Rattle.std.proofs.lemmas.Cmp.{ranked}
 use Rattle.std.specs.Cmp.{unsigned_tied, on_equiv, nat_eq_equiv}

@@ -1,4 +1,4 @@
--- Numbers at their places in ascending lists.
+-- Ids at their indexes in sorted lists.
 use Rattle.std.proofs.Common.{◌≡◌, ℕ, zero, suc, ◌<◌, ◌≤◌, List, [], ◌∷◌, ◌++◌, length, take, drop, get_or, refl, sym, ap, arith, eq-eqb, ne_eqb, lt-ltb, le-ltb}
 use native.Mathlib.Numerals.{unary_clauses}
 use Rattle.std.specs.List.{AllByRecursion, HoldsAt, remove, insert}

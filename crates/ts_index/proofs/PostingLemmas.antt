@@ -1,4 +1,4 @@
--- Lists by value and by label, after one of them has changed.
+-- Posting lists by value and by label after one of them changes.
 use Rattle.std.proofs.Common.{◌≡◌, ℕ, ◌&&◌, Bool, true, false, List, [], None, Some, Vec, refl, sym, ◌∙◌, ap, if◌then◌else◌, cond}
 use Rattle.std.specs.BTreeMap.{BTreeMap, get_by, is_at, UpdatesBy}
 use Rattle.std.specs.Cmp.Lexicographic.{slice_cmp}

@@ -1,4 +1,4 @@
--- Values of a filter, one after another.
+-- The values of a filter, one after another.
 use Rattle.std.proofs.Common.{◌≡◌, ◌<◌, Bool, true, false, length, get_or, arith, ℕ, zero, suc, ◌+◌, add-one, List, [], ◌∷◌, ◌++◌, take, drop, slice_get, Some, refl, ap, if◌then◌else◌}
 use Rattle.ts_spec.specs.Key.{Key}
 use Rattle.ts_spec.specs.Filter.{is_among}

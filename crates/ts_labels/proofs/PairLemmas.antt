@@ -1,4 +1,4 @@
--- Labels that are looked through one after another.
+-- Labels in a list that is searched linearly.
 use Rattle.std.proofs.Common.{◌≡◌, ℕ, zero, suc, ◌<◌, nat_eq, Bool, true, false, List, [], ◌∷◌, ◌++◌, length, drop, slice_get, slice_set, slice_index_or, option_map, Some, None, refl, sym, ap, ◌∙◌, if◌then◌else◌, arith}
 use Rattle.std.specs.Cmp.Lexicographic.{pointwise}
 use Rattle.ts_spec.specs.Key.{Key, same}
