@@ -183,6 +183,6 @@ small-new size = omega arith
 pub reach-small : (h : History) → IsKept h → reach h < 2 ^ 20
 reach-small h kept = omega (arith, small-limits (format_of h.options.encoding) (limit_for h.options.chunk_size) h.held.pieces h.held.limits (small-new h.options.chunk_size) kept.chunks.chunks)
 
--- an empty series with this much room takes a sample without steps
+-- an empty series with this much capacity takes a sample without steps
 pub few-new : (h : History) → IsKept h → list_of h ≡ [] → length (list_of h) + reach h < 2 ^ 32 - 1
 few-new h kept empty = omega (arith, reach-small h kept, ap (λ (ps : List Point). length ps) empty)

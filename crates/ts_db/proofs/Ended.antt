@@ -68,7 +68,7 @@ module _ (m : Keeping) (source dest : Key) (s : Kept) (is : get source m ≡ Som
   left-here : (o : Option Key) → o ≡ Some source → left_by true o ≡ None
   left-here o e = ap (left_by true) e ∙ ap (λ b. if b && true then None else Some source) (same-refl source)
 
-  -- what is kept of a key then
+  -- the stored data of a key then
   abbrev ended_by : Bool → Bool → Kept → Kept
   ended_by a b d = record d { rules = filter (λ q. not (a && same q.dest dest)) d.rules; source = left_by b d.source }
 

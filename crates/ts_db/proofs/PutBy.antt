@@ -27,7 +27,7 @@ use Rattle.ts_db.proofs.Refusing.{add-refuses, put-refuses}
 use Rattle.ts_db.proofs.Lifting.{IsLaw, lifted-on}
 
 module _ (limits : Limits) (keys : Keeping) (m : State) (stands : StandsFor limits keys m) (key : Key) where
-  -- what is kept of the key, by its record
+  -- the stored data of the key, by its record
   abbrev kept_series : Option Record → Option Kept
   kept_series o = option_map (kept_record (link_to m key)) o
 

@@ -19,7 +19,7 @@ use Rattle.ts_db.specs.Store.{Nodes, Numbers, rules_by, key_at, key_in, kept_nod
 use Rattle.ts_db.proofs.Collecting.{collected-removed}
 use Rattle.ts_db.proofs.Storing.{apart, there, missing, others-removed}
 
--- ---- what is kept of other keys once a key was dropped is free of it
+-- ---- the stored data of other keys once a key was dropped is free of it
 
 module _ (key k : Key) where
   abbrev ends : Key → Key → Bool

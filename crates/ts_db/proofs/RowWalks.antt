@@ -69,7 +69,7 @@ module _ {V : Type 0} (step : V → Point → V) where
           ∙ past (nat_lt row.time q.time) refl
           ∙ ap goal (sym (put-first row q qs h e))
 
-  -- where it still waits there is room for it
+  -- if the row is still pending, there is capacity for it
   module _ (room : V → ℕ) (lowers : (v : V) (p : Point) → room v ≤ room (step v p) + 1) where
     none-waits : (b : MutBor V) (ps : List Point) (row : Point) → (visited (with_sample step) (record { visit = b; row = None }) ps).row ≡ Some row → ⊥
     none-waits b ps row e = absurd (cc (sym (ap (λ (w : RowAmong V). w.row) (without-row b ps)) ∙ e))

@@ -28,7 +28,7 @@ written-sample plan (To v) limit t h p a is = record {
   writes = a;
 }
 
--- the sample of a write that fits, as where there was no memory for it
+-- the sample of a write that fits, and the one lost when memory runs out
 pub record IsUnwritten (limit : ℕ) (what : Merged) (t : ℕ) (h : History) (p : Point) : Type 0 where
   pub value : ℤ
   pub sets : what ≡ To value

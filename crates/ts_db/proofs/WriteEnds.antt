@@ -44,7 +44,7 @@ pub record Ends (s : Store) (id : Id) (how : Merge) (t : ℕ) (v : ℤ) (result 
   pub steps : Takes from to (write_steps (stock_of s) (key_in s.nodes id) t)
   pub easy : (key : Key) → number_of key s.keys.entries ≡ Some id → IsEasyAppend (stock_of s) key t → to ≡ from
 
--- a plan that writes nothing leaves what is kept
+-- a plan that writes nothing leaves the stored data
 keeps : (plan : Plan) (what : Merged) (limits : Limits) (m : Keeping) (key : Key) (t : ℕ) (h : History) → PutAnswers what limits.samples t h (Ok plan) → None ≡ first_of plan.wrote
     → kept_write_merged limits m key t what ≡ record { keys = m; response = Count t }
 keeps plan (Refuse r) limits m key t h a none = absurd a
@@ -71,7 +71,7 @@ module _ (s : Store) (db : IsDb s) (id : Id) (n : Node) (at : slab.get s.nodes i
     abbrev what : Merged
     what = met how t v n.series
 
-    -- what holds of the node and of its key holds of each that the number has
+    -- what holds of the node and of its key holds of each that the id has
     ended : (result : Result ℕ DbFault) (new : Stock) (from to : ℕ) → KeptNumber stock (kept_write_merged s.limits stock.keys key t what) result new → IfErr result (IsOwn stock key)
         → Takes from to (write_steps stock key t) → (IsEasyAppend stock key t → to ≡ from) → Ends s id how t v result new from to
     ended result new from to written own steps easy = record {
@@ -129,7 +129,7 @@ module _ (s : Store) (db : IsDb s) (id : Id) (n : Node) (at : slab.get s.nodes i
             more_spared (subst (AreEasyOf s.limits.samples s.nodes (Write p) n.series) (sym items) (easy-rules s db key id n holds p (subst (IsEasyAppend stock key) (sym time) e)))
             ∙ easy_alone e
 
-        -- a destination refuses it, or there is no memory
+        -- a destination refuses it, or memory runs out
         pub unplanned : (fault : DbFault) → IsUnplanned (first_full s.limits.samples s.nodes (rows_by_work (Write p) n.series) (gone_by (Write p) n.series) rs) fault → Ends s id how t v (Err fault) stock from to
         unplanned fault is =
             let sample : Point = sample_of t fitting.value n.series in

@@ -54,7 +54,7 @@ unfolding IsDistinct
 apart [] a = tt
 apart (i ∷ is) a = (alike_none i.0 is a.0, apart is a.1)
 
--- numbers that are there, and none twice, are at most as many as all
+-- ids that are there, and none twice, are at most as many as all
 pub length-apart : (es : Labelled) (is : List Id) → AreApart is → AreLive es is → length is ≤ length es
 length-apart es is a live =
     subst (λ n. n ≤ length es) (length-map is (λ i. i.0))

@@ -105,7 +105,7 @@ apart_append (x ∷ xs) ys a b h = (
     later true b e = refl
     later false b e = e
 
--- a number that has a value is in no list of those after it
+-- an id that has a value is in no list of those after it
 parted : (label v : List ℕ) (seen vs : List Key) (labels : Option (List Label)) (b : Bool)
     → (if b then false else pass (has_pair label v) labels) ≡ true → pass (has_unseen label (seen ++ v ∷ []) vs) labels ≡ false
 parted label v seen vs labels true h = absurd (false≢true h)
