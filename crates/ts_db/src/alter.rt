@@ -26,7 +26,9 @@ impl Store {
         steps: &mut Steps<L>,
     ) -> Result<(), DbFault>
         requires { IsInOrder self.old }
-        ensures altered { KeptDone (stock_of self.old) (kept_alter self.old.limits (stock_of self.old).keys key.now (change_of change)) result (stock_of self.new) }
+        ensures altered { KeptDone (stock_of self.old)
+            (kept_alter self.old.limits (stock_of self.old).keys key.now (change_of change)) result
+            (stock_of self.new) }
         ensures own { IfErr result (IsOwn (stock_of self.old) key.now) }
         ensures store { IsInOrder self.new }
         ensures steps { Takes steps.old steps.new (2 * reach_at (stock_of self.old) key.now) }

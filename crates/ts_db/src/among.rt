@@ -124,7 +124,8 @@ pub(crate) fn scan_shown<V: Visit, L: Ledger>(
     steps: &mut Steps<L>,
 )
     requires room { length (between from to (list_of series.now)) + 1 ≤ V.room visit.old }
-    ensures visited { visit.new ≡ visited V.step visit.old (between from to (put_all (one_of row) (list_of series.now))) }
+    ensures visited { visit.new ≡ visited V.step visit.old
+        (between from to (put_all (one_of row) (list_of series.now))) }
     ensures steps { Takes steps.old steps.new (length (between from to (list_of series.now)) + 2 * reach series.now) }
     ensures seams { IsSeamed series.now.held.pieces from to steps.old steps.new }
 {

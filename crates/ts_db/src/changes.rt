@@ -36,7 +36,8 @@ impl Db {
         change: Change,
         steps: &mut Steps<L>,
     ) -> Result<(), DbFault>
-        ensures altered { AnswersDone self.old (λ h. alter h.limits h.state key.now (change_of change)) result self.new }
+        ensures altered { AnswersDone self.old (λ h. alter h.limits h.state key.now (change_of change)) result
+            self.new }
         ensures limits { self.new.limits ≡ self.old.limits }
         ensures own { IfErr result (IsOwn self.old key.now) }
         ensures steps { Takes steps.old steps.new (2 * reach_at self.old key.now) }
@@ -60,7 +61,8 @@ impl Db {
         steps: &mut Steps<L>,
     ) -> Result<u64, DbFault>
         requires time { time ≤ MAX_TIME }
-        ensures added { AnswersNumber self.old (λ h. add h.limits h.state key time value on (spec_of spec)) result self.new }
+        ensures added { AnswersNumber self.old (λ h. add h.limits h.state key time value on (spec_of spec)) result
+            self.new }
         ensures bounded { IfOk result (λ t. t ≤ MAX_TIME) }
         ensures limits { self.new.limits ≡ self.old.limits }
         ensures own { IfErr result (IsOwn self.old key) }
@@ -83,7 +85,8 @@ impl Db {
         steps: &mut Steps<L>,
     ) -> Result<u64, DbFault>
         requires time { time ≤ MAX_TIME }
-        ensures changed { AnswersNumber self.old (λ h. incr h.limits h.state key change time (spec_of spec)) result self.new }
+        ensures changed { AnswersNumber self.old (λ h. incr h.limits h.state key change time (spec_of spec)) result
+            self.new }
         ensures bounded { IfOk result (λ t. t ≤ MAX_TIME) }
         ensures limits { self.new.limits ≡ self.old.limits }
         ensures own { IfErr result (IsOwn self.old key) }
@@ -144,7 +147,8 @@ impl Db {
         agg: Aggregator,
         grid: Grid,
     ) -> Result<(), DbFault>
-        ensures ruled { AnswersDone self.old (λ h. create_rule h.limits h.state source.now dest.now agg grid) result self.new }
+        ensures ruled { AnswersDone self.old (λ h. create_rule h.limits h.state source.now dest.now agg grid) result
+            self.new }
         ensures limits { self.new.limits ≡ self.old.limits }
     {
         self.store.create_rule(source, dest, agg, grid)

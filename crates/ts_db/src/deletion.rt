@@ -32,7 +32,8 @@ impl Store {
     ) -> Result<u64, DbFault>
         requires time { from ≤ MAX_TIME }
         requires db { IsDb self.old }
-        ensures deleted { KeptNumber (stock_of self.old) (kept_delete self.old.limits (stock_of self.old).keys key.now from to) result (stock_of self.new) }
+        ensures deleted { KeptNumber (stock_of self.old)
+            (kept_delete self.old.limits (stock_of self.old).keys key.now from to) result (stock_of self.new) }
         ensures bounded { IfOk result (λ n. n ≤ MAX_TIME) }
         ensures own { IfErr result (IsOwn (stock_of self.old) key.now) }
         ensures store { IsInOrder self.new }
@@ -63,12 +64,15 @@ impl Store {
         requires db { IsDb self.old }
         requires there { IsThere self.old id }
         ensures deleted { (key : Key) (n : TheNode) → Holds self.old key id n → KeptNumber (stock_of self.old)
-            (kept_within_destinations self.old.limits (stock_of self.old).keys key (record { keys = keep_deleted key from to (stock_of self.old).keys; response = Count (length (between from to (list_of n.series))) }))
+            (kept_within_destinations self.old.limits (stock_of self.old).keys key
+            (record { keys = keep_deleted key from to (stock_of self.old).keys; response = Count (length (between from to (list_of n.series))) }))
             result (stock_of self.new) }
         ensures bounded { IfOk result (λ n. n ≤ MAX_TIME) }
-        ensures own { (key : Key) → number_of key self.old.keys.entries ≡ Some id → IfErr result (IsOwn (stock_of self.old) key) }
+        ensures own { (key : Key) → number_of key self.old.keys.entries ≡ Some id
+            → IfErr result (IsOwn (stock_of self.old) key) }
         ensures store { IsInOrder self.new }
-        ensures steps { Takes steps.old steps.new (deletion_steps (stock_of self.old) (key_in self.old.nodes id) from to) }
+        ensures steps { Takes steps.old steps.new
+            (deletion_steps (stock_of self.old) (key_in self.old.nodes id) from to) }
     {
         let node = self.nodes.node(id);
         let work = Work::Delete(from, to);

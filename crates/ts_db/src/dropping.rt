@@ -5,7 +5,8 @@ ghost use Rattle.ts_spec.specs.Keyed.{get, without_key};
 ghost use Rattle.ts_spec.specs.Keeping.{keep_dropped};
 ghost use Rattle.ts_db.specs.declared.node.Node.{Node as TheNode};
 ghost use Rattle.ts_db.specs.Linking.{keep_unled, AreFreeOf, IsAlone, KeepsNames};
-ghost use Rattle.ts_db.specs.Store.{key_in, stock_of, contents_of, number_of, IsInOrder, IsDb, HasNode, IsLiveSource, IsThere, Holds};
+ghost use Rattle.ts_db.specs.Store.{key_in, stock_of, contents_of, number_of, IsInOrder, IsDb, HasNode, IsLiveSource};
+ghost use Rattle.ts_db.specs.Store.{IsThere, Holds};
 
 use crate::store::Store;
 use ts_resp::Word;
@@ -16,7 +17,9 @@ impl Store {
     pub(crate) fn drop_key(&mut self, key: &Word) -> bool
         requires { IsDb self.old }
         ensures there { result ≡ is_some (get key.now (stock_of self.old).keys) }
-        ensures keys { (stock_of self.new).keys ≡ (if is_some (get key.now (stock_of self.old).keys) then keep_dropped key.now (stock_of self.old).keys else (stock_of self.old).keys) }
+        ensures keys { (stock_of self.new).keys
+            ≡ (if is_some (get key.now (stock_of self.old).keys) then keep_dropped key.now (stock_of self.old).keys
+            else (stock_of self.old).keys) }
         ensures limits { self.new.limits ≡ self.old.limits }
         ensures store { IsInOrder self.new }
     {
@@ -48,7 +51,9 @@ impl Store {
         requires live { HasNode self.old.nodes id }
         requires source { IsLiveSource self.old.nodes source }
         ensures store { IsInOrder self.new }
-        ensures ended { contents_of self.new ≡ record (contents_of self.old) { keys = keep_unled (option_map (key_in self.old.nodes) source) (key_in self.old.nodes id) (stock_of self.old).keys } }
+        ensures ended { contents_of self.new
+            ≡ record (contents_of
+            self.old) { keys = keep_unled (option_map (key_in self.old.nodes) source) (key_in self.old.nodes id) (stock_of self.old).keys } }
         ensures names { KeepsNames self.old self.new }
     {
         match source {

@@ -20,7 +20,10 @@ impl Store {
         requires ready { IsReady self.old id plan None None }
         requires room { (key : Key) (n : TheNode) → Holds self.old key id n → HaveRoom n.rules.items }
         ensures store { IsInOrder self.new }
-        ensures grown { (key : Key) (n : TheNode) → Holds self.old key id n → contents_of self.new ≡ record (contents_of self.old) { keys = with_key key (kept_grown self.old.nodes plan wrote.now n) (stock_of self.old).keys } }
+        ensures grown { (key : Key) (n : TheNode) → Holds self.old key id n
+            → contents_of self.new
+            ≡ record (contents_of
+            self.old) { keys = with_key key (kept_grown self.old.nodes plan wrote.now n) (stock_of self.old).keys } }
         ensures elsewhere { IsElsewhere self.old self.new id }
     {
         self.nodes.grow(id, plan, wrote);

@@ -113,7 +113,8 @@ impl Store {
     ) -> Result<u64, DbFault>
         requires time { time ≤ MAX_TIME }
         requires db { IsDb self.old }
-        ensures put { KeptNumber (stock_of self.old) (kept_put_by self.old.limits (stock_of self.old).keys key.now time value on) result (stock_of self.new) }
+        ensures put { KeptNumber (stock_of self.old)
+            (kept_put_by self.old.limits (stock_of self.old).keys key.now time value on) result (stock_of self.new) }
         ensures bounded { IfOk result (λ t. t ≤ MAX_TIME) }
         ensures own { IfErr result (IsOwn (stock_of self.old) key.now) }
         ensures store { IsInOrder self.new }

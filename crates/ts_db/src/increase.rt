@@ -35,7 +35,9 @@ impl Store {
     ) -> Result<u64, DbFault>
         requires time { time ≤ MAX_TIME }
         requires db { IsDb self.old }
-        ensures changed { KeptNumber (stock_of self.old) (kept_incr self.old.limits (stock_of self.old).keys key change time (spec_of spec)) result (stock_of self.new) }
+        ensures changed { KeptNumber (stock_of self.old)
+            (kept_incr self.old.limits (stock_of self.old).keys key change time (spec_of spec)) result
+            (stock_of self.new) }
         ensures bounded { IfOk result (λ t. t ≤ MAX_TIME) }
         ensures own { IfErr result (IsOwn (stock_of self.old) key) }
         ensures store { IsInOrder self.new }

@@ -7,7 +7,8 @@ ghost use Rattle.ts_sample.specs.Steps.{Takes};
 ghost use Rattle.ts_series.specs.History.{reach};
 ghost use Rattle.ts_rules.specs.Rules.{kept_with_dest};
 ghost use Rattle.ts_db.specs.Information.{rule_info_of, info_of};
-ghost use Rattle.ts_db.specs.Store.{rules_by, key_in, kept_node, HasNode, AreLive, IsLiveSource, HasLiveLinks, IsInOrder};
+ghost use Rattle.ts_db.specs.Store.{rules_by, key_in, kept_node, HasNode, AreLive, IsLiveSource, HasLiveLinks};
+ghost use Rattle.ts_db.specs.Store.{IsInOrder};
 
 use crate::node::Node;
 use crate::store::Store;
@@ -54,7 +55,8 @@ impl Store {
     ) -> Result<Info, AllocError>
         requires store { IsInOrder self.now }
         requires links { HasLiveLinks self.now.nodes node.now }
-        ensures info { IfOk result (λ info. Told (info_of info) ≡ kept_info_response (Some (kept_node self.now.nodes node.now))) }
+        ensures info { IfOk result (λ info. Told (info_of info)
+            ≡ kept_info_response (Some (kept_node self.now.nodes node.now))) }
         ensures steps { Takes steps.old steps.new (2 * reach node.now.series) }
     {
         let first = node.series.first(steps);
@@ -86,7 +88,8 @@ impl Store {
     fn rule_infos(&self, rules: &[Rule]) -> Result<Vec<RuleInfo>, AllocError>
         requires store { IsInOrder self.now }
         requires live { AreLive self.now.nodes rules.now }
-        ensures { IfOk result (λ infos. map rule_info_of infos.items ≡ map kept_rule_info (rules_by (key_in self.now.nodes) rules.now)) }
+        ensures { IfOk result (λ infos. map rule_info_of infos.items
+            ≡ map kept_rule_info (rules_by (key_in self.now.nodes) rules.now)) }
     {
         let mut infos = Vec::with_capacity(self.alloc, rules.len())?;
         for rule in rules {
@@ -99,7 +102,8 @@ impl Store {
     fn rule_info(&self, rule: &Rule) -> Result<RuleInfo, AllocError>
         requires store { IsInOrder self.now }
         requires live { HasNode self.now.nodes rule.now.dest }
-        ensures { IfOk result (λ info. rule_info_of info ≡ kept_rule_info (kept_with_dest (key_in self.now.nodes rule.now.dest) rule.now)) }
+        ensures { IfOk result (λ info. rule_info_of info
+            ≡ kept_rule_info (kept_with_dest (key_in self.now.nodes rule.now.dest) rule.now)) }
     {
         Ok(RuleInfo {
             dest: self.copied_key(rule.dest)?,

@@ -34,7 +34,8 @@ impl Db {
         filters: &[Filter],
         steps: &mut Steps<L>,
     ) -> Result<Vec<Id>, AllocError>
-        ensures numbers { IfOk result (λ ids. AreNumbersOf self.now.ids (kept_selection self.now.keys filters.now) ids.items) }
+        ensures numbers { IfOk result
+            (λ ids. AreNumbersOf self.now.ids (kept_selection self.now.keys filters.now) ids.items) }
         ensures each { (held : Held) → Stands self.now held
             → IfOk result (λ ids. AreNumbersOf self.now.ids (selection held.state filters.now) ids.items) }
         ensures unspent { OnErr result (steps.new ≡ steps.old) }

@@ -34,7 +34,8 @@ pub(crate) struct Node {
 impl Node {
     // Replaces the labels and the rules that are given.
     pub(crate) fn change(&mut self, labels: Option<Labels>, rules: Option<Vec<Rule>>)
-        ensures { self.new ≡ record self.old { labels = unwrap_or labels self.old.labels; rules = unwrap_or rules self.old.rules } }
+        ensures { self.new ≡ record
+            self.old { labels = unwrap_or labels self.old.labels; rules = unwrap_or rules self.old.rules } }
     {
         if let Some(labels) = labels {
             self.labels = labels;
@@ -110,7 +111,8 @@ fn fields(it: &Node) {
 // A rule that has counted no samples yet.
 fn begun(dest: Id, agg: Aggregator, grid: Grid, made: u32) -> Rule
     ensures leads { result.dest ≡ dest }
-    ensures begun { (k : Key) → kept_with_dest k result ≡ record { dest = k; agg = agg; grid = grid; made = made; current = None; running = nothing } }
+    ensures begun { (k : Key) → kept_with_dest k result
+        ≡ record { dest = k; agg = agg; grid = grid; made = made; current = None; running = nothing } }
 {
     Rule {
         dest,

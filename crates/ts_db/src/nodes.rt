@@ -77,7 +77,8 @@ impl Nodes {
     ) -> Result<Id, AllocError>
         requires { number_of key keys.old.entries ≡ None }
         ensures added { IfOk result (λ id. IsAdded self.old self.new id node) }
-        ensures numbered { IfOk result (λ id. (q : Key) → number_of q keys.new.entries ≡ cond (has_key key q) (Some id) (number_of q keys.old.entries)) }
+        ensures numbered { IfOk result (λ id. (q : Key)
+            → number_of q keys.new.entries ≡ cond (has_key key q) (Some id) (number_of q keys.old.entries)) }
         ensures len { OnOk result (length keys.new.entries ≡ length keys.old.entries + 1) }
         ensures unchanged { OnErr result (self.new.slots ≡ self.old.slots) }
         ensures entries { OnErr result (keys.new.entries ≡ keys.old.entries) }

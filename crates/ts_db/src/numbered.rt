@@ -50,7 +50,8 @@ impl Db {
     /// The labels of series `id`. Allocates nothing.
     pub fn labels_of(&self, id: Id) -> &Labels
         requires { IsLive self.now.ids id }
-        ensures labels { (key : Key) → get key self.now.ids ≡ Some id → result.now ≡ kept_labels_at (get key self.now.keys) }
+        ensures labels { (key : Key) → get key self.now.ids ≡ Some id
+            → result.now ≡ kept_labels_at (get key self.now.keys) }
         ensures each { (held : Held) → Stands self.now held → (key : Key) → get key self.now.ids ≡ Some id
             → result.now ≡ labels_at (get key held.state) }
     {
@@ -73,7 +74,8 @@ impl Db {
     /// nothing.
     pub fn last_of<L: Ledger>(&self, id: Id, latest: bool, steps: &mut Steps<L>) -> Option<Sample>
         requires { IsLive self.now.ids id }
-        ensures last { (key : Key) → get key self.now.ids ≡ Some id → result ≡ last_of (kept_asked self.now.keys latest key) }
+        ensures last { (key : Key) → get key self.now.ids ≡ Some id
+            → result ≡ last_of (kept_asked self.now.keys latest key) }
         ensures counted { steps.old ≤ steps.new }
         ensures steps { steps.new ≡ steps.old }
     {
@@ -109,7 +111,8 @@ impl Db {
         steps: &mut Steps<L>,
     ) -> Option<(u64, u64)>
         requires { IsLive self.now.ids id }
-        ensures ends { (key : Key) → get key self.now.ids ≡ Some id → result ≡ ends_of (kept_asked self.now.keys latest key) }
+        ensures ends { (key : Key) → get key self.now.ids ≡ Some id
+            → result ≡ ends_of (kept_asked self.now.keys latest key) }
         ensures bounded { ForSome result AreTimes }
         ensures counted { steps.old ≤ steps.new }
         ensures steps { (key : Key) → get key self.now.ids ≡ Some id → steps.new ≤ steps.old + reach_at self.now key }

@@ -6,7 +6,9 @@ ghost use Rattle.ts_series.specs.History.{list_of};
 ghost use Rattle.ts_rules.specs.Rules.{kept_with_dest, IsChanged};
 ghost use Rattle.ts_rules.specs.Plans.{IsPlanned as IsPlannedSo};
 ghost use Rattle.ts_spec.specs.Key.{Key};
-ghost use Rattle.ts_db.specs.Planning.{changed_by, gone_by, rows_by_work, TakesWork, AllTake, IsSharedOf, AreChanged, for_destination, IsFedBy, AreFedBy, first_full, IsRuleUnplanned, IsUnplanned, share_of, share_at, shares_of, HasRoomForRules, IsEasyOf, IsEasyAt, AreEasyOf};
+ghost use Rattle.ts_db.specs.Planning.{changed_by, gone_by, rows_by_work, TakesWork, AllTake, IsSharedOf, AreChanged};
+ghost use Rattle.ts_db.specs.Planning.{for_destination, IsFedBy, AreFedBy, first_full, IsRuleUnplanned, IsUnplanned};
+ghost use Rattle.ts_db.specs.Planning.{share_of, share_at, shares_of, HasRoomForRules, IsEasyOf, IsEasyAt, AreEasyOf};
 ghost use Rattle.ts_db.specs.Store.{IsInOrder, HasNode, AreLive};
 
 use crate::fault::DbFault;
@@ -84,12 +86,21 @@ impl Store {
         requires store { IsInOrder self.now }
         requires live { AreLive self.now.nodes rules.now }
         requires room { AllTake work.now source.now rules.now }
-        ensures rules { IfOk result (λ planned. AreChanged (changed_by work.now source.now) rules.now planned.rules.items) }
-        ensures fed { IfOk result (λ planned. AreFedBy self.now.limits.samples self.now.nodes (rows_by_work work.now source.now) (gone_by work.now source.now) rules.now planned.plans.items) }
-        ensures fit { IfOk result (λ planned. first_full self.now.limits.samples self.now.nodes (rows_by_work work.now source.now) (gone_by work.now source.now) rules.now ≡ None) }
-        ensures refused { IfErr result (IsUnplanned (first_full self.now.limits.samples self.now.nodes (rows_by_work work.now source.now) (gone_by work.now source.now) rules.now)) }
+        ensures rules { IfOk result
+            (λ planned. AreChanged (changed_by work.now source.now) rules.now planned.rules.items) }
+        ensures fed { IfOk result
+            (λ planned. AreFedBy self.now.limits.samples self.now.nodes (rows_by_work work.now source.now)
+            (gone_by work.now source.now) rules.now planned.plans.items) }
+        ensures fit { IfOk result
+            (λ planned. first_full self.now.limits.samples self.now.nodes (rows_by_work work.now source.now)
+            (gone_by work.now source.now) rules.now ≡ None) }
+        ensures refused { IfErr result
+            (IsUnplanned
+            (first_full self.now.limits.samples self.now.nodes (rows_by_work work.now source.now)
+            (gone_by work.now source.now) rules.now)) }
         ensures steps { Takes steps.old steps.new (shares_of self.now.nodes work.now source.now rules.now) }
-        ensures easy { AreEasyOf self.now.limits.samples self.now.nodes work.now source.now rules.now → steps.new ≡ steps.old }
+        ensures easy { AreEasyOf self.now.limits.samples self.now.nodes work.now source.now rules.now
+            → steps.new ≡ steps.old }
     {
         let mut planned = match Planned::with_room(self.alloc, rules.len()) {
             Ok(planned) => planned,
@@ -121,11 +132,20 @@ impl Store {
         requires live { HasNode self.now.nodes rule.now.dest }
         requires room { TakesWork work source.now rule.now }
         ensures changed { IfOk result (λ plan. IsChanged (changed_by work source.now) rule.now plan.rule) }
-        ensures fed { IfOk result (λ plan. IsFedBy self.now.limits.samples self.now.nodes (rows_by_work work source.now) (gone_by work source.now) rule.now (for_destination plan)) }
-        ensures fits { IfOk result (λ _. first_full self.now.limits.samples self.now.nodes (rows_by_work work source.now) (gone_by work source.now) (rule.now ∷ []) ≡ None) }
-        ensures refused { IfErr result (IsRuleUnplanned rule.now (first_full self.now.limits.samples self.now.nodes (rows_by_work work source.now) (gone_by work source.now) (rule.now ∷ []))) }
-        ensures steps { Takes steps.old steps.new (share_at work source.now rule.now (slab.get self.now.nodes rule.now.dest.0)) }
-        ensures easy { IsEasyAt self.now.limits.samples work source.now rule.now (slab.get self.now.nodes rule.now.dest.0) → steps.new ≡ steps.old }
+        ensures fed { IfOk result
+            (λ plan. IsFedBy self.now.limits.samples self.now.nodes (rows_by_work work source.now)
+            (gone_by work source.now) rule.now (for_destination plan)) }
+        ensures fits { IfOk result
+            (λ _. first_full self.now.limits.samples self.now.nodes (rows_by_work work source.now)
+            (gone_by work source.now) (rule.now ∷ []) ≡ None) }
+        ensures refused { IfErr result
+            (IsRuleUnplanned rule.now
+            (first_full self.now.limits.samples self.now.nodes (rows_by_work work source.now) (gone_by work source.now)
+            (rule.now ∷ []))) }
+        ensures steps { Takes steps.old steps.new
+            (share_at work source.now rule.now (slab.get self.now.nodes rule.now.dest.0)) }
+        ensures easy { IsEasyAt self.now.limits.samples work source.now rule.now
+            (slab.get self.now.nodes rule.now.dest.0) → steps.new ≡ steps.old }
     {
         let mut shared = SharedBucket::new();
         self.plan_next(rule, source, work, &mut shared, steps)
@@ -145,12 +165,21 @@ impl Store {
         requires room { TakesWork work source.now rule.now }
         requires shared { IsSharedOf work source.now shared.old }
         ensures changed { IfOk result (λ plan. IsChanged (changed_by work source.now) rule.now plan.rule) }
-        ensures fed { IfOk result (λ plan. IsFedBy self.now.limits.samples self.now.nodes (rows_by_work work source.now) (gone_by work source.now) rule.now (for_destination plan)) }
-        ensures fits { IfOk result (λ _. first_full self.now.limits.samples self.now.nodes (rows_by_work work source.now) (gone_by work source.now) (rule.now ∷ []) ≡ None) }
-        ensures refused { IfErr result (IsRuleUnplanned rule.now (first_full self.now.limits.samples self.now.nodes (rows_by_work work source.now) (gone_by work source.now) (rule.now ∷ []))) }
+        ensures fed { IfOk result
+            (λ plan. IsFedBy self.now.limits.samples self.now.nodes (rows_by_work work source.now)
+            (gone_by work source.now) rule.now (for_destination plan)) }
+        ensures fits { IfOk result
+            (λ _. first_full self.now.limits.samples self.now.nodes (rows_by_work work source.now)
+            (gone_by work source.now) (rule.now ∷ []) ≡ None) }
+        ensures refused { IfErr result
+            (IsRuleUnplanned rule.now
+            (first_full self.now.limits.samples self.now.nodes (rows_by_work work source.now) (gone_by work source.now)
+            (rule.now ∷ []))) }
         ensures shared { IsSharedOf work source.now shared.new }
-        ensures steps { Takes steps.old steps.new (share_at work source.now rule.now (slab.get self.now.nodes rule.now.dest.0)) }
-        ensures easy { IsEasyAt self.now.limits.samples work source.now rule.now (slab.get self.now.nodes rule.now.dest.0) → steps.new ≡ steps.old }
+        ensures steps { Takes steps.old steps.new
+            (share_at work source.now rule.now (slab.get self.now.nodes rule.now.dest.0)) }
+        ensures easy { IsEasyAt self.now.limits.samples work source.now rule.now
+            (slab.get self.now.nodes rule.now.dest.0) → steps.new ≡ steps.old }
     {
         let dest = self.nodes.node(rule.dest);
         made_plan(
@@ -180,7 +209,9 @@ fn made_plan<L: Ledger>(
     requires room { TakesWork work source.now rule.now }
     requires fits { length (list_of dest.now) ≤ limit }
     requires shared { IsSharedOf work source.now shared.old }
-    ensures planned { (k : Key) → IsPlannedSo limit (changed_by work source.now) (gone_by work source.now (kept_with_dest k rule.now)) (rows_by_work work source.now dest.now.born (kept_with_dest k rule.now)) rule.now dest.now result }
+    ensures planned { (k : Key) → IsPlannedSo limit (changed_by work source.now)
+        (gone_by work source.now (kept_with_dest k rule.now))
+        (rows_by_work work source.now dest.now.born (kept_with_dest k rule.now)) rule.now dest.now result }
     ensures shared { IsSharedOf work source.now shared.new }
     ensures steps { Takes steps.old steps.new (share_of work source.now rule.now dest.now) }
     ensures easy { IsEasyOf limit work source.now rule.now dest.now → steps.new ≡ steps.old }

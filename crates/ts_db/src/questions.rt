@@ -27,7 +27,8 @@ impl Db {
         latest: bool,
         steps: &mut Steps<L>,
     ) -> Result<Option<Sample>, DbFault>
-        ensures last { (held : Held) → Stands self.now held → Finds (get key.now held.state) (λ last. last ≡ last_of (asked held.state latest key.now)) result }
+        ensures last { (held : Held) → Stands self.now held
+            → Finds (get key.now held.state) (λ last. last ≡ last_of (asked held.state latest key.now)) result }
         ensures refused { IfErr result (λ fault. fault ≡ DbFault.NoKey) }
         ensures counted { steps.old ≤ steps.new }
         ensures steps { steps.new ≡ steps.old }
@@ -48,7 +49,9 @@ impl Db {
         latest: bool,
         steps: &mut Steps<L>,
     ) -> Result<Vec<Sample>, DbFault>
-        ensures samples { (held : Held) → Stands self.now held → Finds (get key.now held.state) (λ samples. samples.items ≡ between from to (asked held.state latest key.now)) result }
+        ensures samples { (held : Held) → Stands self.now held
+            → Finds (get key.now held.state) (λ samples. samples.items
+            ≡ between from to (asked held.state latest key.now)) result }
         ensures ascending { IfOk result (λ samples. IsAscending samples.items) }
         ensures within { IfOk result (λ samples. between from to samples.items ≡ samples.items) }
         ensures steps { Takes steps.old steps.new (walk_steps self.now key.now from to) }
@@ -76,7 +79,9 @@ impl Db {
         latest: bool,
         steps: &mut Steps<L>,
     ) -> Result<Option<Sample>, DbFault>
-        ensures before { (held : Held) → Stands self.now held → Finds (get key.now held.state) (λ before. before ≡ last_of (at_times (λ u. nat_lt u t) (asked held.state latest key.now))) result }
+        ensures before { (held : Held) → Stands self.now held
+            → Finds (get key.now held.state) (λ before. before
+            ≡ last_of (at_times (λ u. nat_lt u t) (asked held.state latest key.now))) result }
         ensures refused { IfErr result (λ fault. fault ≡ DbFault.NoKey) }
         ensures steps { Takes steps.old steps.new (reach_at self.now key.now) }
     {
@@ -94,7 +99,8 @@ impl Db {
         latest: bool,
         steps: &mut Steps<L>,
     ) -> Result<Option<(u64, u64)>, DbFault>
-        ensures ends { (held : Held) → Stands self.now held → Finds (get key.now held.state) (λ ends. ends ≡ ends_of (asked held.state latest key.now)) result }
+        ensures ends { (held : Held) → Stands self.now held
+            → Finds (get key.now held.state) (λ ends. ends ≡ ends_of (asked held.state latest key.now)) result }
         ensures bounded { IfOk result (λ ends. ForSome ends AreTimes) }
         ensures refused { IfErr result (λ fault. fault ≡ DbFault.NoKey) }
         ensures steps { Takes steps.old steps.new (reach_at self.now key.now) }
@@ -107,7 +113,9 @@ impl Db {
 
     /// The facts about a key that TS.INFO reports. Fails if the key does not exist or memory runs out.
     pub fn info<L: Ledger>(&self, key: &Word, steps: &mut Steps<L>) -> Result<Info, DbFault>
-        ensures info { (held : Held) → Stands self.now held → Finds (get key.now held.state) (λ info. Told (info_of info) ≡ info_response held.state key.now (get key.now held.state)) result }
+        ensures info { (held : Held) → Stands self.now held
+            → Finds (get key.now held.state) (λ info. Told (info_of info)
+            ≡ info_response held.state key.now (get key.now held.state)) result }
         ensures steps { Takes steps.old steps.new (2 * reach_at self.now key.now) }
     {
         let Some(id) = self.id_of(key) else {

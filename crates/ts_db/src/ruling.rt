@@ -5,8 +5,10 @@ ghost use Rattle.ts_spec.specs.KeptStep.{kept_create_rule, kept_delete_rule};
 ghost use Rattle.ts_db.specs.Answering.{KeptDone, IsElsewhere};
 ghost use Rattle.ts_db.specs.Faults.{IsRefusal};
 ghost use Rattle.ts_db.specs.declared.node.Node.{Node as TheNode};
-ghost use Rattle.ts_db.specs.Linking.{any_to, IsReason, kept_unruled, kept_ruleless, kept_sourced, keep_freed, IsKeptBy, IsUnspent};
-ghost use Rattle.ts_db.specs.Store.{stock_of, IsInOrder, IsDb, HasNode, rules_by, key_in, contents_of, AreLive, IsLiveSource};
+ghost use Rattle.ts_db.specs.Linking.{any_to, IsReason, kept_unruled, kept_ruleless, kept_sourced, keep_freed};
+ghost use Rattle.ts_db.specs.Linking.{IsKeptBy, IsUnspent};
+ghost use Rattle.ts_db.specs.Store.{stock_of, IsInOrder, IsDb, HasNode, rules_by, key_in, contents_of, AreLive};
+ghost use Rattle.ts_db.specs.Store.{IsLiveSource};
 ghost use Rattle.ts_spec.specs.Keeping.{kept_with_rule};
 
 use crate::fault::DbFault;
@@ -29,7 +31,9 @@ impl Store {
         grid: Grid,
     ) -> Result<(), DbFault>
         requires { IsDb self.old }
-        ensures ruled { KeptDone (stock_of self.old) (kept_create_rule self.old.limits (stock_of self.old).keys source.now dest.now agg grid) result (stock_of self.new) }
+        ensures ruled { KeptDone (stock_of self.old)
+            (kept_create_rule self.old.limits (stock_of self.old).keys source.now dest.now agg grid) result
+            (stock_of self.new) }
         ensures store { IsInOrder self.new }
     {
         if source == dest {
@@ -56,7 +60,8 @@ impl Store {
     fn barred(&self, id: Id, dest: Id) -> Option<DbFault>
         requires live { HasNode self.now.nodes id }
         requires dest { HasNode self.now.nodes dest }
-        ensures barred { (n d : TheNode) → slab.get self.now.nodes id.0 ≡ Some n → slab.get self.now.nodes dest.0 ≡ Some d → IsReason self.now.limits n d result }
+        ensures barred { (n d : TheNode) → slab.get self.now.nodes id.0 ≡ Some n
+            → slab.get self.now.nodes dest.0 ≡ Some d → IsReason self.now.limits n d result }
     {
         barred(&self.limits, self.nodes.node(id), self.nodes.node(dest))
     }
@@ -64,7 +69,8 @@ impl Store {
     // Deletes the rule between two keys. Allocates nothing.
     pub(crate) fn delete_rule(&mut self, source: &Word, dest: &Word) -> Result<(), DbFault>
         requires { IsDb self.old }
-        ensures ended { KeptDone (stock_of self.old) (kept_delete_rule (stock_of self.old).keys source.now dest.now) result (stock_of self.new) }
+        ensures ended { KeptDone (stock_of self.old) (kept_delete_rule (stock_of self.old).keys source.now dest.now)
+            result (stock_of self.new) }
         ensures refused { IfErr result IsRefusal }
         ensures store { IsInOrder self.new }
     {
@@ -103,7 +109,8 @@ impl Store {
         requires dest { HasNode self.old.nodes dest }
         requires born { (n : TheNode) → slab.get self.old.nodes id.0 ≡ Some n → IsUnspent self.old.limits n }
         ensures store { IsInOrder self.new }
-        ensures added { IfOk result (λ _. IsKeptBy self.old id (kept_with_rule (key_in self.old.nodes dest) agg grid) self.new) }
+        ensures added { IfOk result
+            (λ _. IsKeptBy self.old id (kept_with_rule (key_in self.old.nodes dest) agg grid) self.new) }
         ensures unchanged { IfErr result (λ _. stock_of self.new ≡ stock_of self.old) }
         ensures elsewhere { IsElsewhere self.old self.new id }
     {
@@ -152,7 +159,9 @@ impl Store {
         requires store { IsInOrder self.old }
         requires live { AreLive self.old.nodes rules.items }
         ensures store { IsInOrder self.new }
-        ensures freed { contents_of self.new ≡ record (contents_of self.old) { keys = keep_freed (rules_by (key_in self.old.nodes) rules.items) (stock_of self.old).keys } }
+        ensures freed { contents_of self.new
+            ≡ record (contents_of
+            self.old) { keys = keep_freed (rules_by (key_in self.old.nodes) rules.items) (stock_of self.old).keys } }
     {
         for rule in rules {
             self.set_source(rule.dest, None);

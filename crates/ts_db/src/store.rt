@@ -88,7 +88,9 @@ impl Store {
         requires store { IsInOrder self.old }
         requires planned { AreDestinationPlans self.old plans.items }
         ensures store { IsInOrder self.new }
-        ensures fed { (rows : Rows) (gone : Gone) (rs : List TheRule) → AreFedBy self.old.limits.samples self.old.nodes rows gone rs plans.items → AreDistinct rs → IsFed self.old rows gone rs self.new }
+        ensures fed { (rows : Rows) (gone : Gone) (rs : List TheRule)
+            → AreFedBy self.old.limits.samples self.old.nodes rows gone rs plans.items → AreDistinct rs
+            → IsFed self.old rows gone rs self.new }
     {
         for plan in plans {
             let DestinationPlan { dest, change } = plan;

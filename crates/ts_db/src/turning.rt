@@ -78,7 +78,8 @@ impl Nodes {
     // Deletes the rule to `dest`.
     pub(crate) fn remove_rule(&mut self, id: Id, dest: Id)
         requires { slab.ContainsKey self.old id.0 }
-        ensures { IsTurned self.old self.new id (λ n m. HasRules (filter (λ r. not (r.dest.0 == dest.0)) n.rules.items) n m) }
+        ensures { IsTurned self.old self.new id
+            (λ n m. HasRules (filter (λ r. not (r.dest.0 == dest.0)) n.rules.items) n m) }
     {
         let node = &mut self.slab[id.0];
         node.remove_rule(dest);

@@ -3,7 +3,8 @@ ghost use Rattle.std.specs.Prelude.{◌≡◌, false, nat_lt, length};
 ghost use Rattle.ts_sample.specs.Steps.{Takes};
 ghost use Rattle.slab.specs.Slab as slab;
 ghost use Rattle.ts_db.specs.declared.fault.DbFault.TheVariants.{SamplesFull};
-ghost use Rattle.ts_db.specs.Planning.{gone_by, rows_by_work, TakesWork, AllTake, fed_list, first_full, IsUnplanned, share_at, shares_of, IsEasyAt, AreEasyOf};
+ghost use Rattle.ts_db.specs.Planning.{gone_by, rows_by_work, TakesWork, AllTake, fed_list, first_full, IsUnplanned};
+ghost use Rattle.ts_db.specs.Planning.{share_at, shares_of, IsEasyAt, AreEasyOf};
 ghost use Rattle.ts_db.specs.Store.{IsInOrder, HasNode, AreLive};
 
 use crate::fault::DbFault;
@@ -29,9 +30,12 @@ impl Store {
         requires store { IsInOrder self.now }
         requires live { AreLive self.now.nodes rules.now }
         requires room { AllTake work.now source.now rules.now }
-        ensures refused { IsUnplanned (first_full self.now.limits.samples self.now.nodes (rows_by_work work.now source.now) (gone_by work.now source.now) rules.now) result }
+        ensures refused { IsUnplanned
+            (first_full self.now.limits.samples self.now.nodes (rows_by_work work.now source.now)
+            (gone_by work.now source.now) rules.now) result }
         ensures steps { Takes steps.old steps.new (shares_of self.now.nodes work.now source.now rules.now) }
-        ensures easy { AreEasyOf self.now.limits.samples self.now.nodes work.now source.now rules.now → steps.new ≡ steps.old }
+        ensures easy { AreEasyOf self.now.limits.samples self.now.nodes work.now source.now rules.now
+            → steps.new ≡ steps.old }
     {
         for rule in rules {
             if self.overfills(rule, source, work, steps) {
@@ -52,9 +56,13 @@ impl Store {
         requires store { IsInOrder self.now }
         requires live { HasNode self.now.nodes rule.now.dest }
         requires room { TakesWork work.now source.now rule.now }
-        ensures full { result ≡ nat_lt self.now.limits.samples (length (fed_list self.now.nodes (rows_by_work work.now source.now) (gone_by work.now source.now) rule.now)) }
-        ensures steps { Takes steps.old steps.new (share_at work.now source.now rule.now (slab.get self.now.nodes rule.now.dest.0)) }
-        ensures easy { IsEasyAt self.now.limits.samples work.now source.now rule.now (slab.get self.now.nodes rule.now.dest.0) → steps.new ≡ steps.old }
+        ensures full { result ≡ nat_lt self.now.limits.samples
+            (length (fed_list self.now.nodes (rows_by_work work.now source.now) (gone_by work.now source.now)
+            rule.now)) }
+        ensures steps { Takes steps.old steps.new
+            (share_at work.now source.now rule.now (slab.get self.now.nodes rule.now.dest.0)) }
+        ensures easy { IsEasyAt self.now.limits.samples work.now source.now rule.now
+            (slab.get self.now.nodes rule.now.dest.0) → steps.new ≡ steps.old }
     {
         match self.plan_rule(rule, source, *work, steps) {
             Ok(_) => false,

@@ -28,7 +28,8 @@ impl Db {
     )
         requires live { IsLive self.now.ids id }
         requires room { 2 ^ 32 ≤ V.room visit.old }
-        ensures visited { visit.new ≡ visited V.step visit.old (between from to (kept_asked self.now.keys latest (key_with self.now.ids id))) }
+        ensures visited { visit.new ≡ visited V.step visit.old
+            (between from to (kept_asked self.now.keys latest (key_with self.now.ids id))) }
         ensures counted { steps.old ≤ steps.new }
         ensures steps { steps.new ≤ steps.old + walk_steps self.now (key_with self.now.ids id) from to }
         ensures seams { IsSeamed (pieces_at self.now (key_with self.now.ids id)) from to steps.old steps.new }
@@ -56,7 +57,8 @@ impl Db {
         requires live { IsLive self.now.ids id }
         requires ordered { from ≤ to }
         ensures within { (from ≤ result) × (result ≤ to) }
-        ensures reach { (result ≡ to) ⊎ (count ≤ length (between from result (kept_asked self.now.keys false (key_with self.now.ids id)))) }
+        ensures reach { (result ≡ to)
+            ⊎ (count ≤ length (between from result (kept_asked self.now.keys false (key_with self.now.ids id)))) }
         ensures seam { (result ≡ to) ⊎ IsSeam (result + 1) (pieces_at self.now (key_with self.now.ids id)) }
     {
         self.node(id).series.time_for(from, to, count)
@@ -68,7 +70,8 @@ impl Db {
         requires live { IsLive self.now.ids id }
         requires ordered { from ≤ to }
         ensures within { (from ≤ result) × (result ≤ to) }
-        ensures reach { (result ≡ from) ⊎ (count ≤ length (between result to (kept_asked self.now.keys false (key_with self.now.ids id)))) }
+        ensures reach { (result ≡ from)
+            ⊎ (count ≤ length (between result to (kept_asked self.now.keys false (key_with self.now.ids id)))) }
         ensures seam { (result ≡ from) ⊎ IsSeam result (pieces_at self.now (key_with self.now.ids id)) }
     {
         self.node(id).series.time_from(from, to, count)
@@ -79,8 +82,11 @@ impl Db {
     pub fn chunk_reach_of(&self, id: Id) -> u64
         requires live { IsLive self.now.ids id }
         ensures within { result ≤ reach_at self.now (key_with self.now.ids id) }
-        ensures around { (from to : ℕ) → Around from to (walk_steps self.now (key_with self.now.ids id) from to) (pieces_at self.now (key_with self.now.ids id)) }
-        ensures cuts { (t : ℕ) → Around (suc t) t (reach_at self.now (key_with self.now.ids id)) (pieces_at self.now (key_with self.now.ids id)) }
+        ensures around { (from to : ℕ)
+            → Around from to (walk_steps self.now (key_with self.now.ids id) from to)
+            (pieces_at self.now (key_with self.now.ids id)) }
+        ensures cuts { (t : ℕ) → Around (suc t) t (reach_at self.now (key_with self.now.ids id))
+            (pieces_at self.now (key_with self.now.ids id)) }
     {
         let series = &self.node(id).series;
         series.seams();

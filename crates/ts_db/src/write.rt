@@ -40,7 +40,9 @@ impl Store {
     ) -> Result<u64, DbFault>
         requires time { time ≤ MAX_TIME }
         requires db { IsDb self.old }
-        ensures added { KeptNumber (stock_of self.old) (kept_add self.old.limits (stock_of self.old).keys key time value on (spec_of spec)) result (stock_of self.new) }
+        ensures added { KeptNumber (stock_of self.old)
+            (kept_add self.old.limits (stock_of self.old).keys key time value on (spec_of spec)) result
+            (stock_of self.new) }
         ensures bounded { IfOk result (λ t. t ≤ MAX_TIME) }
         ensures own { IfErr result (IsOwn (stock_of self.old) key) }
         ensures store { IsInOrder self.new }
@@ -69,13 +71,17 @@ impl Store {
         requires db { IsDb self.old }
         requires there { IsThere self.old id }
         ensures written { (key : Key) → number_of key self.old.keys.entries ≡ Some id
-            → KeptNumber (stock_of self.old) (kept_merge self.old.limits (stock_of self.old).keys key time value how) result (stock_of self.new) }
+            → KeptNumber (stock_of self.old) (kept_merge self.old.limits (stock_of self.old).keys key time value how)
+            result (stock_of self.new) }
         ensures bounded { IfOk result (λ t. t ≤ MAX_TIME) }
-        ensures own { (key : Key) → number_of key self.old.keys.entries ≡ Some id → IfErr result (IsOwn (stock_of self.old) key) }
+        ensures own { (key : Key) → number_of key self.old.keys.entries ≡ Some id
+            → IfErr result (IsOwn (stock_of self.old) key) }
         ensures store { IsInOrder self.new }
         ensures steps { Takes steps.old steps.new (write_steps (stock_of self.old) (key_in self.old.nodes id) time) }
-        ensures easy { (key : Key) → number_of key self.old.keys.entries ≡ Some id → IsEasyAppend (stock_of self.old) key time → steps.new ≡ steps.old }
-        ensures spared { (key : Key) → number_of key self.old.keys.entries ≡ Some id → IsIgnored (stock_of self.old) key time value → steps.new ≡ steps.old }
+        ensures easy { (key : Key) → number_of key self.old.keys.entries ≡ Some id
+            → IsEasyAppend (stock_of self.old) key time → steps.new ≡ steps.old }
+        ensures spared { (key : Key) → number_of key self.old.keys.entries ≡ Some id
+            → IsIgnored (stock_of self.old) key time value → steps.new ≡ steps.old }
     {
         let node = self.nodes.node(id);
         if let Some(last) = ignored(node, time, value) {
@@ -105,12 +111,17 @@ impl Store {
         requires time { time ≤ MAX_TIME }
         requires db { IsDb self.old }
         requires there { IsThere self.old id }
-        ensures written { (key : Key) (n : TheNode) → Holds self.old key id n → KeptNumber (stock_of self.old) (kept_write_merged self.old.limits (stock_of self.old).keys key time (met how time value n.series)) result (stock_of self.new) }
+        ensures written { (key : Key) (n : TheNode) → Holds self.old key id n
+            → KeptNumber (stock_of self.old)
+            (kept_write_merged self.old.limits (stock_of self.old).keys key time (met how time value n.series)) result
+            (stock_of self.new) }
         ensures time { IfOk result (λ t. t ≡ time) }
-        ensures own { (key : Key) → number_of key self.old.keys.entries ≡ Some id → IfErr result (IsOwn (stock_of self.old) key) }
+        ensures own { (key : Key) → number_of key self.old.keys.entries ≡ Some id
+            → IfErr result (IsOwn (stock_of self.old) key) }
         ensures store { IsInOrder self.new }
         ensures steps { Takes steps.old steps.new (write_steps (stock_of self.old) (key_in self.old.nodes id) time) }
-        ensures easy { (key : Key) → number_of key self.old.keys.entries ≡ Some id → IsEasyAppend (stock_of self.old) key time → steps.new ≡ steps.old }
+        ensures easy { (key : Key) → number_of key self.old.keys.entries ≡ Some id
+            → IsEasyAppend (stock_of self.old) key time → steps.new ≡ steps.old }
     {
         let node = self.nodes.node(id);
         let limit = self.limits.samples;

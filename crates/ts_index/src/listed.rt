@@ -1,5 +1,6 @@
 // An iterator over the posting lists of several values.
-ghost use Rattle.std.specs.Prelude.{◌≡◌, ◌<◌, ◌≤◌, [], ◌∷◌, ◌++◌, Some, List, ℕ, length, take, drop, slice_get, if◌then◌else◌};
+ghost use Rattle.std.specs.Prelude.{◌≡◌, ◌<◌, ◌≤◌, [], ◌∷◌, ◌++◌, Some, List, ℕ, length, take, drop, slice_get};
+ghost use Rattle.std.specs.Prelude.{if◌then◌else◌};
 ghost use Rattle.std.specs.Iterator.{YieldsFirst};
 ghost use Rattle.ts_spec.specs.Filter.{is_among};
 ghost use Rattle.ts_labels.specs.Filter.{label_of, values_wanted};
@@ -31,7 +32,8 @@ impl<'a> Model for Listed<'a> {
 
     ghost Value = { List Number };
 
-    ghost view = { λ l. l.list.now ++ listed_by l.label.now (take l.passed l.values.now) (drop l.passed l.values.now) l.index.now };
+    ghost view = { λ l. l.list.now
+        ++ listed_by l.label.now (take l.passed l.values.now) (drop l.passed l.values.now) l.index.now };
 
     ghost invariant = { λ l. l.passed ≤ length l.values.now };
 }
@@ -81,8 +83,10 @@ fn next_list<'a>(
 ) -> &'a [Id]
     requires passed { passed.old ≤ length values.now }
     ensures passed { passed.new ≤ length values.now }
-    ensures left { result.now ++ listed_by label.now (take passed.new values.now) (drop passed.new values.now) index.now ≡ list.now ++ listed_by label.now (take passed.old values.now) (drop passed.old values.now) index.now }
-    ensures all { result.now ≡ [] → listed_by label.now (take passed.new values.now) (drop passed.new values.now) index.now ≡ [] }
+    ensures left { result.now ++ listed_by label.now (take passed.new values.now) (drop passed.new values.now) index.now
+        ≡ list.now ++ listed_by label.now (take passed.old values.now) (drop passed.old values.now) index.now }
+    ensures all { result.now ≡ []
+        → listed_by label.now (take passed.new values.now) (drop passed.new values.now) index.now ≡ [] }
 {
     let mut found = list;
     while found.is_empty() && *passed < values.len() {
@@ -95,7 +99,9 @@ fn next_list<'a>(
 // The posting list of the value at index `at`, or an empty one if the value occurred before.
 fn fresh_list<'a>(index: &'a Index, label: &Word, values: &[Word], at: usize) -> &'a [Id]
     requires at { at < length values.now }
-    ensures { (v : List ℕ) → slice_get values.now at ≡ Some v → result.now ≡ (if is_among (take at values.now) v then [] else numbers_where (has_pair label.now v) index.now) }
+    ensures { (v : List ℕ) → slice_get values.now at ≡ Some v
+        → result.now
+        ≡ (if is_among (take at values.now) v then [] else numbers_where (has_pair label.now v) index.now) }
 {
     let value = &values[at];
     let list = index.posting(label, value);

@@ -33,7 +33,10 @@ pub(crate) fn put_pair(
     id: Id,
 ) -> Result<(), AllocError>
     requires { AreAscending (posting_in label.now value.now lists.old) }
-    ensures ok { OnOk result ((l v : List ℕ) → posting_in l v lists.new ≡ (if alike label.now l && alike value.now v then with_number id (posting_in l v lists.old) else posting_in l v lists.old)) }
+    ensures ok { OnOk result ((l v : List ℕ)
+        → posting_in l v lists.new
+        ≡ (if alike label.now l && alike value.now v then with_number id (posting_in l v lists.old) else posting_in l v
+        lists.old)) }
     ensures err { OnErr result ((l v : List ℕ) → posting_in l v lists.new ≡ posting_in l v lists.old) }
 {
     match lists.get_mut(label) {
@@ -50,7 +53,10 @@ pub(crate) fn put_pair(
 // Removes an id from the posting list of a label and value. Drops the label once it has no posting lists left.
 pub(crate) fn take_pair(lists: &mut Lists, label: &Word, value: &Word, id: Id)
     requires { AreAscending (posting_in label.now value.now lists.old) }
-    ensures { (l v : List ℕ) → posting_in l v lists.new ≡ (if alike label.now l && alike value.now v then without_number id (posting_in l v lists.old) else posting_in l v lists.old) }
+    ensures { (l v : List ℕ)
+        → posting_in l v lists.new
+        ≡ (if alike label.now l && alike value.now v then without_number id (posting_in l v lists.old) else posting_in l
+        v lists.old) }
 {
     if take_labelled(lists, label, value, id) {
         let _empty = lists.remove(label);
@@ -60,7 +66,10 @@ pub(crate) fn take_pair(lists: &mut Lists, label: &Word, value: &Word, id: Id)
 // Removes an id from the posting list of a label and value. Returns `true` if the label has no posting lists left.
 fn take_labelled(lists: &mut Lists, label: &Word, value: &Word, id: Id) -> bool
     requires { AreAscending (posting_in label.now value.now lists.old) }
-    ensures lists { (l v : List ℕ) → posting_in l v lists.new ≡ (if alike label.now l && alike value.now v then without_number id (posting_in l v lists.old) else posting_in l v lists.old) }
+    ensures lists { (l v : List ℕ)
+        → posting_in l v lists.new
+        ≡ (if alike label.now l && alike value.now v then without_number id (posting_in l v lists.old) else posting_in l
+        v lists.old) }
     ensures empty { IsTrue result → (v : List ℕ) → posting_in label.now v lists.new ≡ [] }
 {
     match lists.get_mut(label) {
@@ -82,7 +91,9 @@ pub(crate) fn put_value(
     id: Id,
 ) -> Result<(), AllocError>
     requires { AreAscending (by_value value.now values.old) }
-    ensures ok { OnOk result ((v : List ℕ) → by_value v values.new ≡ (if alike value.now v then with_number id (by_value v values.old) else by_value v values.old)) }
+    ensures ok { OnOk result ((v : List ℕ)
+        → by_value v values.new
+        ≡ (if alike value.now v then with_number id (by_value v values.old) else by_value v values.old)) }
     ensures err { OnErr result ((v : List ℕ) → by_value v values.new ≡ by_value v values.old) }
 {
     match values.get_mut(value) {
@@ -99,7 +110,9 @@ pub(crate) fn put_value(
 // Removes an id from the posting list of a value. Drops the list once it is empty.
 pub(crate) fn take_value(values: &mut Values, value: &Word, id: Id)
     requires { AreAscending (by_value value.now values.old) }
-    ensures { (v : List ℕ) → by_value v values.new ≡ (if alike value.now v then without_number id (by_value v values.old) else by_value v values.old) }
+    ensures { (v : List ℕ)
+        → by_value v values.new
+        ≡ (if alike value.now v then without_number id (by_value v values.old) else by_value v values.old) }
 {
     if take_listed(values, value, id) {
         let _empty = values.remove(value);
@@ -109,7 +122,9 @@ pub(crate) fn take_value(values: &mut Values, value: &Word, id: Id)
 // Removes an id from the posting list of a value. Returns `true` if the list is empty now.
 fn take_listed(values: &mut Values, value: &Word, id: Id) -> bool
     requires { AreAscending (by_value value.now values.old) }
-    ensures lists { (v : List ℕ) → by_value v values.new ≡ (if alike value.now v then without_number id (by_value v values.old) else by_value v values.old) }
+    ensures lists { (v : List ℕ)
+        → by_value v values.new
+        ≡ (if alike value.now v then without_number id (by_value v values.old) else by_value v values.old) }
     ensures empty { IsTrue result → by_value value.now values.new ≡ [] }
 {
     match values.get_mut(value) {

@@ -21,10 +21,14 @@ pub(crate) fn put_pairs(
     others: &Labels,
 ) -> Result<(), AllocError>
     requires ascending { (l v : List ℕ) → AreAscending (posting_in l v lists.old) }
-    requires absent { (l v : List ℕ) → is_own l v labels.now others.now ≡ true → has_number id.0 (posting_in l v lists.old) ≡ false }
+    requires absent { (l v : List ℕ) → is_own l v labels.now others.now ≡ true
+        → has_number id.0 (posting_in l v lists.old) ≡ false }
     ensures ascending { (l v : List ℕ) → AreAscending (posting_in l v lists.new) }
-    ensures ok { OnOk result ((l v : List ℕ) (q : ℕ) → has_number q (posting_in l v lists.new) ≡ (((q == id.0) && is_own l v labels.now others.now) || has_number q (posting_in l v lists.old))) }
-    ensures err { OnErr result ((l v : List ℕ) (q : ℕ) → has_number q (posting_in l v lists.new) ≡ has_number q (posting_in l v lists.old)) }
+    ensures ok { OnOk result ((l v : List ℕ) (q : ℕ)
+        → has_number q (posting_in l v lists.new)
+        ≡ (((q == id.0) && is_own l v labels.now others.now) || has_number q (posting_in l v lists.old))) }
+    ensures err { OnErr result ((l v : List ℕ) (q : ℕ)
+        → has_number q (posting_in l v lists.new) ≡ has_number q (posting_in l v lists.old)) }
 {
     labels.known();
     for i in 0..labels.len() {
@@ -54,7 +58,10 @@ fn put_other(
 ) -> Result<(), AllocError>
     requires ascending { (l v : List ℕ) → AreAscending (posting_in l v lists.old) }
     ensures ascending { (l v : List ℕ) → AreAscending (posting_in l v lists.new) }
-    ensures ok { OnOk result ((l v : List ℕ) (q : ℕ) → has_number q (posting_in l v lists.new) ≡ (((q == id.0) && ((alike label.now l && alike value.now v) && not (has_pair l v others.now))) || has_number q (posting_in l v lists.old))) }
+    ensures ok { OnOk result ((l v : List ℕ) (q : ℕ)
+        → has_number q (posting_in l v lists.new)
+        ≡ (((q == id.0) && ((alike label.now l && alike value.now v) && not (has_pair l v others.now))) || has_number q
+        (posting_in l v lists.old))) }
     ensures err { OnErr result ((l v : List ℕ) → posting_in l v lists.new ≡ posting_in l v lists.old) }
 {
     if has_pair(others, label, value) {
@@ -68,7 +75,10 @@ pub(crate) fn take_pairs(lists: &mut Lists, id: Id, labels: &Labels, count: usiz
     requires count { count ≤ length labels.now }
     requires ascending { (l v : List ℕ) → AreAscending (posting_in l v lists.old) }
     ensures ascending { (l v : List ℕ) → AreAscending (posting_in l v lists.new) }
-    ensures lists { (l v : List ℕ) (q : ℕ) → has_number q (posting_in l v lists.new) ≡ (has_number q (posting_in l v lists.old) && not ((q == id.0) && is_own l v (take count labels.now) others.now)) }
+    ensures lists { (l v : List ℕ) (q : ℕ)
+        → has_number q (posting_in l v lists.new)
+        ≡ (has_number q (posting_in l v lists.old) && not
+        ((q == id.0) && is_own l v (take count labels.now) others.now)) }
 {
     labels.known();
     for i in 0..count {
@@ -80,7 +90,10 @@ pub(crate) fn take_pairs(lists: &mut Lists, id: Id, labels: &Labels, count: usiz
 fn take_other(lists: &mut Lists, id: Id, label: &Word, value: &Word, others: &Labels)
     requires ascending { (l v : List ℕ) → AreAscending (posting_in l v lists.old) }
     ensures ascending { (l v : List ℕ) → AreAscending (posting_in l v lists.new) }
-    ensures lists { (l v : List ℕ) (q : ℕ) → has_number q (posting_in l v lists.new) ≡ (has_number q (posting_in l v lists.old) && not ((q == id.0) && ((alike label.now l && alike value.now v) && not (has_pair l v others.now)))) }
+    ensures lists { (l v : List ℕ) (q : ℕ)
+        → has_number q (posting_in l v lists.new)
+        ≡ (has_number q (posting_in l v lists.old) && not
+        ((q == id.0) && ((alike label.now l && alike value.now v) && not (has_pair l v others.now)))) }
 {
     if has_pair(others, label, value) {
         return;

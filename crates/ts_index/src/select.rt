@@ -1,5 +1,6 @@
 // Selects series by filters.
-ghost use Rattle.std.specs.Prelude.{◌≡◌, ◌+◌, ◌*◌, ◌≤◌, true, [], ◌∷◌, length, vec_len, vec_capacity, IfOk, IfSome, OnErr};
+ghost use Rattle.std.specs.Prelude.{◌≡◌, ◌+◌, ◌*◌, ◌≤◌, true, [], ◌∷◌, length, vec_len, vec_capacity, IfOk, IfSome};
+ghost use Rattle.std.specs.Prelude.{OnErr};
 ghost use Rattle.ts_spec.specs.Filter.{all_hold, is_positive};
 ghost use Rattle.ts_index.specs.Bounds.{fewest, selection_steps};
 ghost use Rattle.ts_index.specs.Index.{labels_of, numbers_where};

@@ -1,7 +1,8 @@
 // Parses filters: `label=value`, `label!=value`, `label=(a,b)` and the like.
 ghost use Rattle.std.specs.Prelude.{◌≡◌, ⊤, [], ◌∷◌, ◌++◌, Some, Ok, option_map, IfOk, IfErr, OnOk};
 ghost use Rattle.std.specs.Option.{option_copied};
-ghost use Rattle.ts_spec.specs.FilterText.{filter_of, of_label, values_of, cut_at, before_last, comma, pieces, has_empty};
+ghost use Rattle.ts_spec.specs.FilterText.{filter_of, of_label, values_of, cut_at, before_last, comma, pieces};
+ghost use Rattle.ts_spec.specs.FilterText.{has_empty};
 ghost use Rattle.ts_labels.specs.FaultNames.{name_of};
 ghost use Rattle.ts_labels.specs.Faults.{IsFaultOf, IsMemory, listed};
 

@@ -1,5 +1,6 @@
 // Storage of labels and their values.
-ghost use Rattle.std.specs.Prelude.{◌≡◌, ◌<◌, ◌^◌, [], length, slice_get, option_map, Some, IfOk, IfSome, IfNone, OnOk, OnErr, None};
+ghost use Rattle.std.specs.Prelude.{◌≡◌, ◌<◌, ◌^◌, [], length, slice_get, option_map, Some, IfOk, IfSome, IfNone, OnOk};
+ghost use Rattle.std.specs.Prelude.{OnErr, None};
 ghost use Rattle.std.specs.Option.{option_copied};
 ghost use Rattle.ts_spec.specs.Filter.{value_of};
 ghost use Rattle.ts_spec.specs.Labels.{with_label};
@@ -114,7 +115,8 @@ impl Pairs {
 fn place_of(pairs: &[(Word, Word)], label: &Word) -> Option<usize>
     ensures place { IfSome result (λ i. option_map (λ l. l.name) (slice_get (labels_in pairs.now) i) ≡ Some label.now) }
     ensures within { IfSome result (λ i. i < length pairs.now) }
-    ensures value { IfSome result (λ i. option_map (λ l. l.value) (slice_get (labels_in pairs.now) i) ≡ value_of label.now (labels_in pairs.now)) }
+    ensures value { IfSome result (λ i. option_map (λ l. l.value) (slice_get (labels_in pairs.now) i)
+        ≡ value_of label.now (labels_in pairs.now)) }
     ensures absent { IfNone result (value_of label.now (labels_in pairs.now) ≡ None) }
 {
     for (place, pair) in pairs.iter().enumerate() {
@@ -128,7 +130,8 @@ fn place_of(pairs: &[(Word, Word)], label: &Word) -> Option<usize>
 // Sets the value of a label in the list.
 fn set_few(pairs: &mut Vec<(Word, Word)>, label: Word, value: Word) -> Result<(), AllocError>
     requires { AreDistinct (labels_in pairs.old.items) }
-    ensures ok { OnOk result (labels_in pairs.new.items ≡ with_label (labelled label value) (labels_in pairs.old.items)) }
+    ensures ok { OnOk result (labels_in pairs.new.items
+        ≡ with_label (labelled label value) (labels_in pairs.old.items)) }
     ensures err { OnErr result (pairs.new.items ≡ pairs.old.items) }
     ensures distinct { AreDistinct (labels_in pairs.new.items) }
 {

@@ -2,7 +2,8 @@
 ghost use Rattle.std.specs.Prelude.{ℕ, ◌≡◌, ◌+◌, ◌-◌, ◌^◌, ◌<◌, ◌≤◌, drop, length, slice_index};
 ghost use Rattle.ts_spec.specs.declared.wire.Kind.TheVariants.{TooLarge};
 ghost use Rattle.ts_spec.specs.Wire.{Request};
-ghost use Rattle.ts_resp.specs.Headers.{IsCount, IsBegun, IsLength, IsWord, IsHeaderWithin, IsWordWithin, HasNumber, HasAtMost, feed_at, ended_by, body_at};
+ghost use Rattle.ts_resp.specs.Headers.{IsCount, IsBegun, IsLength, IsWord, IsHeaderWithin, IsWordWithin, HasNumber};
+ghost use Rattle.ts_resp.specs.Headers.{HasAtMost, feed_at, ended_by, body_at};
 
 use crate::line::{NumberLine, number_line, short_line};
 use ts_spec::{Kind, WireLimits};

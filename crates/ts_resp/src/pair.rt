@@ -21,7 +21,8 @@ const POINT: usize = 56;
 /// Appends the array `[number, value]` to `out`. Needs `PAIR` bytes of reserved capacity. Allocates nothing.
 pub fn put_pair(number: u64, cell: Cell, out: &mut Out)
     requires { 64 ≤ out.old.spare }
-    ensures bytes { out.new.bytes ≡ out.old.bytes ++ text (Array (Item (Int (pos number)) (Item (Value (value_of cell)) Empty))) }
+    ensures bytes { out.new.bytes
+        ≡ out.old.bytes ++ text (Array (Item (Int (pos number)) (Item (Value (value_of cell)) Empty))) }
     ensures room { out.old.spare ≤ out.new.spare + 64 }
     ensures total { length out.new.bytes + out.new.spare ≡ length out.old.bytes + out.old.spare }
 {

@@ -1,5 +1,6 @@
 // Parses inline requests: a line of text whose arguments are separated by blanks.
-ghost use Rattle.std.specs.Prelude.{◌≡◌, ◌≢◌, ◌<◌, ◌≤◌, true, false, length, slice_index, position, IfSome, not, ◌∷◌, [], ◌++◌, OnOk, MatchOption};
+ghost use Rattle.std.specs.Prelude.{◌≡◌, ◌≢◌, ◌<◌, ◌≤◌, true, false, length, slice_index, position, IfSome, not, ◌∷◌};
+ghost use Rattle.std.specs.Prelude.{[], ◌++◌, OnOk, MatchOption};
 ghost use Rattle.ts_resp.specs.Texts.{IsText, IsTextBegun, IsTextWithin, before_feed, is_feed, text_at};
 ghost use Rattle.ts_spec.specs.Wire.{is_blank as is_blank_byte, text_of_line, words_of, words_of_line};
 

@@ -1,5 +1,6 @@
 // Finds where the current request starts in the unread bytes.
-ghost use Rattle.std.specs.Prelude.{ℕ, ◌≡◌, ◌≢◌, ◌+◌, ◌^◌, ◌<◌, ◌≤◌, length, drop, slice_index, Some, IfSome, MatchOption};
+ghost use Rattle.std.specs.Prelude.{ℕ, ◌≡◌, ◌≢◌, ◌+◌, ◌^◌, ◌<◌, ◌≤◌, length, drop, slice_index, Some, IfSome};
+ghost use Rattle.std.specs.Prelude.{MatchOption};
 ghost use Rattle.ts_spec.specs.Wire.{Start};
 ghost use Rattle.ts_resp.specs.Reading.{begun_on};
 

@@ -1,5 +1,6 @@
 // Reads an array request: its header, then its arguments.
-ghost use Rattle.std.specs.Prelude.{◌≡◌, ◌+◌, ◌-◌, ◌<◌, ◌≤◌, [], ◌∷◌, ◌++◌, length, drop, slice_index, slice_range, Some, None, OnOk, OnErr, IfOk, IfErr, MatchOption, vec_capacity, IfSome};
+ghost use Rattle.std.specs.Prelude.{◌≡◌, ◌+◌, ◌-◌, ◌<◌, ◌≤◌, [], ◌∷◌, ◌++◌, length, drop, slice_index, slice_range};
+ghost use Rattle.std.specs.Prelude.{Some, None, OnOk, OnErr, IfOk, IfErr, MatchOption, vec_capacity, IfSome};
 ghost use Rattle.ts_resp.specs.Headers.{IsCount, IsBegun, IsWord, IsWordWithin};
 ghost use Rattle.ts_resp.specs.Steps.{GoesOn, Gives};
 
