@@ -52,8 +52,7 @@ impl Store {
         requires source { IsLiveSource self.old.nodes source }
         ensures store { IsInOrder self.new }
         ensures ended { contents_of self.new
-            ≡ record (contents_of
-            self.old) { keys = keep_unled (option_map (key_in self.old.nodes) source) (key_in self.old.nodes id) (stock_of self.old).keys } }
+            ≡ record (contents_of self.old) { keys = keep_unled (option_map (key_in self.old.nodes) source) (key_in self.old.nodes id) (stock_of self.old).keys } }
         ensures names { KeepsNames self.old self.new }
     {
         match source {
