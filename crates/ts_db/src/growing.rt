@@ -22,8 +22,7 @@ impl Store {
         ensures store { IsInOrder self.new }
         ensures grown { (key : Key) (n : TheNode) → Holds self.old key id n
             → contents_of self.new
-            ≡ record (contents_of
-            self.old) { keys = with_key key (kept_grown self.old.nodes plan wrote.now n) (stock_of self.old).keys } }
+            ≡ record (contents_of self.old) { keys = with_key key (kept_grown self.old.nodes plan wrote.now n) (stock_of self.old).keys } }
         ensures elsewhere { IsElsewhere self.old self.new id }
     {
         self.nodes.grow(id, plan, wrote);
