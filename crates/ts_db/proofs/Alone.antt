@@ -1,4 +1,4 @@
--- Each rule from a key and to it ends: what is kept then, but for the key itself.
+-- Deleting all rules from a key and to it: the stored data afterwards, apart from the key itself.
 use Rattle.std.proofs.Common.{◌≡◌, Bool, true, false, not, ◌||◌, cond, List, [], ◌∷◌, filter, refl, sym, ◌∙◌, ap}
 use Rattle.std.specs.Prelude.{if◌then◌else◌, Option, None, Some, is_some, option_map}
 use Rattle.ts_spec.specs.declared.limits.Limits.{Limits}
@@ -192,7 +192,7 @@ module _ (m : Keeping) (key : Key) (own : Kept) (is : get key m ≡ Some own) (l
           ∙ at-other k (same-sym k key ∙ x) (get k m) refl
           ∙ sym (get-each (kept_ended ends) k m)
 
--- the same of what stands for a state
+-- the same for stored data that represents a state
 pub ended-alone : (limits : Limits) (keys : Keeping) (m : State) → StandsFor limits keys m → (key : Key) (own : Kept) → get key keys ≡ Some own
     → without_key key (keep_freed own.rules (keep_unled own.source key (keep_changed key kept_ruleless keys))) ≡ keep_dropped key keys
 ended-alone limits keys m stands key own is = all-ended keys key own is (λ k d at. links-of limits keys m stands k d at) (λ k d at. led-by limits keys m stands k d at)

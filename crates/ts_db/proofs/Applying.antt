@@ -1,4 +1,4 @@
--- What a change of one node is to the store.
+-- How a change of one node changes the store.
 use Rattle.std.proofs.Common.{◌≡◌, ◌≤◌, cond, List, length, refl, sym, ◌∙◌, ap, subst, arith}
 use Rattle.std.specs.Prelude.{Vec, Option, None, Some, is_some, Result, Ok, Err, IfOk, OnErr}
 use Rattle.std.specs.declared.alloc.Global.{Global}
@@ -30,7 +30,7 @@ use Rattle.ts_db.proofs.Storing.{names-written, store-written}
 pub there : (s : Store) (store : IsInOrder s) (key : Key) (id : Id) (n : Node) → Holds s key id n → get key (stock_of s).keys ≡ Some (kept_node s.nodes n)
 there s store key id n holds = storing.there s.limits s.nodes s.keys.entries store key id n holds.number holds.node
 
--- ---- another node under the number and the key of one
+-- ---- another node with the same id and key
 
 module _ (s : Store) (store : IsInOrder s) (key : Key) (id : Id) (n changed : Node) (holds : Holds s key id n) (name : changed.key ≡ n.key) where
   change : slab.Updates s.nodes (slab.with_value s.nodes id.0 changed) id.0 (Some changed)
@@ -47,7 +47,7 @@ module _ (s : Store) (store : IsInOrder s) (key : Key) (id : Id) (n changed : No
   pub store-changed : HasLiveLinks s.nodes changed → IsNode s.limits changed → IsStore s.limits (slab.with_value s.nodes id.0 changed) s.keys.entries
   store-changed links sound = store-written s.limits s.nodes s.keys.entries store (slab.with_value s.nodes id.0 changed) key id n changed holds.number holds.node change as_many name links sound
 
-  -- and of the key alone another value is kept
+  -- and only the stored data of its key changes
   pub keys-changed : HasLiveLinks s.nodes changed → collected (slab.with_value s.nodes id.0 changed) s.keys.entries ≡ with_key key (kept_node s.nodes changed) (collected s.nodes s.keys.entries)
   keys-changed links =
       collected-written s.nodes (slab.with_value s.nodes id.0 changed) s.keys.entries key id changed (storing.apart s.limits s.nodes s.keys.entries store) holds.number change
@@ -74,7 +74,7 @@ elsewhere-turned s store id new t name =
 
 -- ---- a node after a plan of its series
 
--- a plan was made for the node of its number
+-- a plan was made for the node of its id
 pub has-such : (s : Store) (id : Id) (plan : Plan) (labels : Option (List Label)) (rules : Option (Vec Rule Global)) → IsReady s id plan labels rules → HasSuch s.nodes id (λ n. IsFor plan n.series)
 has-such s id plan labels rules planned = record { node = planned.node; there = planned.holds.node; holds = planned.ready }
 
@@ -118,7 +118,7 @@ module _ (s : Store) (store : IsInOrder s) (id : Id) (plan : Plan) (labels : Opt
   pub store-applied : IsStore s.limits new s.keys.entries
   store-applied = subst (λ (nodes : Nodes). IsStore s.limits nodes s.keys.entries) turned (store-changed s store planned.key id n changed holds refl links in_order)
 
-  -- and of the key of the number that is kept
+  -- and the stored data of its key
   pub applied : IsApplied s id plan labels rules (record s { nodes = new })
   applied key g held =
       ap (λ (nodes : Nodes). record (contents_of s) { keys = collected nodes s.keys.entries }) (sym turned)
@@ -130,7 +130,7 @@ module _ (s : Store) (store : IsInOrder s) (id : Id) (plan : Plan) (labels : Opt
   pub elsewhere : IsElsewhere s (record s { nodes = new }) id
   elsewhere = elsewhere-turned s store id new t (ap (λ (x : Node). x.key) t.so.rest)
 
--- where labels are given in their place, or there was no memory
+-- with new labels, or after memory ran out
 
 module _ (s : Store) (store : IsInOrder s) (id : Id) (plan : Plan) (labels : Option (List Label)) (planned : IsReady s id plan labels None) (new : Nodes) where
   pub store-altered : (r : Result (Unit {0}) AllocError) → IfOk r (λ x. IsTurned s.nodes new id (IsAfter plan labels None)) → OnErr r (new ≡ s.nodes) → IsStore s.limits new s.keys.entries

@@ -1,4 +1,4 @@
--- What a number of a database leads to, and what a question finds.
+-- Lookups by id, and results of queries.
 use Rattle.std.proofs.Common.{◌≡◌, true, false, refl, sym, ◌∙◌, ap}
 use Rattle.std.specs.Prelude.{Option, None, Some, is_some, Result, Err}
 use Rattle.slab.specs.Slab as slab
@@ -19,13 +19,13 @@ use Rattle.ts_db.proofs.Laws.{there-law}
 use Rattle.ts_db.proofs.Reaches.{reach-held, pieces-held}
 use Rattle.ts_db.proofs.Storing.{missing}
 
--- ---- by numbers
+-- ---- by ids
 
--- the node of the number of a key
+-- the node of the id of a key
 pub numbered-holds : (s : Store) (key : Key) (id : Id) (n : Node) → get key (stock_of s).ids ≡ Some id → slab.get s.nodes id.0 ≡ Some n → Holds s key id n
 numbered-holds s key id n is at = record { number = sym (get-ids key s.keys.entries) ∙ is; node = at }
 
--- a number of a key has a node
+-- an id of a key has a node
 pub node-live : (s : Store) (store : IsInOrder s) (id : Id) → IsLive (stock_of s).ids id → (n : Node) × (slab.get s.nodes id.0 ≡ Some n)
 node-live s store id live = store.stored live.key id (sym (get-ids live.key s.keys.entries) ∙ live.is)
 
@@ -39,7 +39,7 @@ node-shows s store key id n holds = let at = there s store key id n holds in rec
   pieces = pieces-held s key id n holds;
 }
 
--- a key has a number exactly where something is kept of it
+-- a key has an id exactly if it has stored data
 pub numbered-there : (s : Store) (store : IsInOrder s) (key : Key) → is_some (number_of key s.keys.entries) ≡ is_some (get key (stock_of s).keys)
 numbered-there s store key = go (number_of key s.keys.entries) refl
   where
@@ -47,7 +47,7 @@ numbered-there s store key = go (number_of key s.keys.entries) refl
     go None is = ap is_some (sym (missing s.limits s.nodes s.keys.entries store key is))
     go (Some id) is = let of = store.stored key id is in ap is_some (sym (there s store key id of.0 (record { number = is; node = of.1 })))
 
--- ---- by keys, in each state that is stood for
+-- ---- by keys, in each state that is represented
 
 module _ {T : Type 0} (stock : Stock) (key : Key) (what : Held → T → Type 0) where
   -- a key that is missing

@@ -1,4 +1,4 @@
--- Numbers sorted by their keys.
+-- Ids sorted by their keys.
 use Rattle.std.proofs.Common.{◌≡◌, ℕ, ◌+◌, Bool, true, false, List, [], ◌∷◌, map, length, get_or, refl, sym, ◌∙◌, ap, subst, nat_cmp, Less, Equal, Greater, Ordering, true≢false, arith}
 use Rattle.std.specs.Option.{unwrap_or}
 use Rattle.std.specs.Prelude.{Option, Some, if◌then◌else◌}
@@ -51,7 +51,7 @@ module _ (name : Id → Key) where
       below (get_or (names ids) k (name nobody)) (get_or (names ids) (k + 1) (name nobody))
       (ap is_lt (λ i. cmp (next i) (one i)) ∙ up k nobody (omega arith) (omega (arith, many, less))) differ)
 
-  -- two lists of the same numbers, both in the order of their keys, have the same keys
+  -- two lists of the same ids, both in the order of their keys, have the same keys
   same-names : (xs ys : List Id) → IsPermutation xs ys → IsStrictlySortedBy cmp (names xs) → IsSortedByKey name cmp ys → names xs ≡ names ys
   same-names xs ys moved sorted up =
       let turned : IsPermutation (names xs) (names ys) = IsPermutation-map name xs ys moved in
@@ -62,7 +62,7 @@ module _ (name : Id → Key) where
       btree_set_from_contains nat_list_cmp_total left right sorted (sorted-names ys up apart)
       (λ q. list_any-IsPermutation (is_at (cmp q)) (names xs) (names ys) turned) exact_bytes
 
-  -- and are the same, where each number is found by its key
+  -- and are the same, where each id is found by its key
   module _ (find : Key → Option Id) where
     same-list : (xs ys : List Id) → AllByRecursion (λ x. find (name x) ≡ Some x) xs → AllByRecursion (λ y. find (name y) ≡ Some y) ys → names xs ≡ names ys → xs ≡ ys
     same-list [] [] f g e = refl
@@ -117,7 +117,7 @@ module _ (name : Id → Key) where
         sorted-more (test (unwrap_or (labels e.1.0) [])) e.1 (chosen es)
         (subst (λ k. AllByRecursion (λ j. cmp k j ≡ Less) (names (chosen es))) (sym known.0.named) (below-chosen e.0 es known.1 s.0)) (sorted-chosen es known.1 s.1)
 
-    -- The numbers that the index tells, sorted by their keys, are those that a walk over the keys takes.
+    -- The ids that the index selects, sorted by key, are those that a scan of all keys collects.
     pub by-key : (index : Labelled) (es : Numbers) → IsIndexOf labels name index es → (before after : List Id) → before ≡ numbers_where test index → IsPermutation before after
         → IsSortedByKey name cmp after → after ≡ chosen es
     by-key index es is before after told_is moved up =

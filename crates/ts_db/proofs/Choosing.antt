@@ -1,4 +1,4 @@
--- The index of the labels of nodes: what it tells of a test, by the keys.
+-- Selections by the label index, in terms of keys.
 use Rattle.std.proofs.Common.{◌≡◌, ℕ, suc, ◌*◌, Bool, true, false, List, [], ◌∷◌, length, refl, sym, ◌∙◌, ap, subst, nat_cmp, min}
 use Rattle.std.specs.Prelude.{sum_by, Option, None, Some, option_map, if◌then◌else◌}
 use Rattle.std.specs.Option.{unwrap_or}
@@ -35,14 +35,14 @@ use Rattle.ts_db.proofs.ByKey.{by-key}
 use Rattle.ts_db.proofs.Walked.{walked}
 use Rattle.ts_db.proofs.Selecting.{chosen, passes, onto, listing, listing-entries, HaveNodes, all-there, all-found, chosen-selected}
 
--- the labels of the node of a number
+-- the labels of the node of an id
 abbrev pub labels_in : Nodes → ℕ → Option (List Label)
 labels_in nodes i = option_map (λ n. n.labels) (slab.get nodes i)
 
 abbrev pub tags : Nodes → Numbers → Labelled
 tags nodes es = tagged (labels_in nodes) (key_in nodes) es
 
--- the names of stored numbers
+-- the names of stored ids
 all-known : (nodes : Nodes) (all es : Numbers) → ((k : Key) (id : Id) (n : Node) → number_of k all ≡ Some id → slab.get nodes id.0 ≡ Some n → n.key ≡ k)
     → HaveNodes nodes es → AllByRecursion (λ e. number_of e.0 all ≡ Some e.1) es → AllByRecursion (IsKnown (labels_in nodes) (key_in nodes)) es
 all-known nodes all [] named there found = tt
@@ -130,7 +130,7 @@ module _ (nodes : Nodes) (es : Numbers) (told_by : Labelled) (is : IsTold nodes 
   pub is-index : IsIndexOf (labels_in nodes) (key_in nodes) told_by es
   is-index = record { sorted = sorted; once = once; known = known; found = named-found nodes es es known each; owned = owner; indexed = indexed }
 
-  -- the numbers that the index tells ascend
+  -- the ids that the index selects are in ascending order
   pub select-ascends : (fs : List Filter) (ids : List Id) → AreInOrder told_by → ids ≡ numbers_where (all_hold fs) told_by → AreAscending ids
   select-ascends fs ids ordered is = subst AreAscending (sym is) (AreAscending-where (all_hold fs) told_by ordered)
 
@@ -142,7 +142,7 @@ module _ (nodes : Nodes) (es : Numbers) (told_by : Labelled) (is : IsTold nodes 
       (sym (walk ∙ ap (λ (l : List Id). among l es) is ∙ walked (labels_in nodes) (key_in nodes) (all_hold fs) told_by ordered indexed es known ∙ chosen-tags nodes fs es there))
       (chosen-selected nodes (ids_of es) fs es sorted there (all-found (ids_of es) es es (λ key. get-ids key es) found))
 
-  -- The numbers that the index tells, in the order of their keys, are those of the keys that the filters select.
+  -- The ids that the index selects, in key order, are those of the selected keys.
   pub select-numbers : (fs : List Filter) (before after : List Id) → before ≡ numbers_where (all_hold fs) told_by → IsPermutation before after → IsSortedByKey (key_in nodes) (slice_cmp nat_cmp) after
       → AreNumbersOf (ids_of es) (kept_selection (collected nodes es) fs) after
   select-numbers fs before after is moved up =
@@ -150,7 +150,7 @@ module _ (nodes : Nodes) (es : Numbers) (told_by : Labelled) (is : IsTold nodes 
       (sym (by-key (key_in nodes) (labels_in nodes) (all_hold fs) told_by es is-index before after is moved up ∙ chosen-tags nodes fs es there))
       (chosen-selected nodes (ids_of es) fs es sorted there (all-found (ids_of es) es es (λ key. get-ids key es) found))
 
-  -- so many numbers pass a test as keys do
+  -- as many ids pass a test as keys do
   count : (test : List Label → Bool) → length (numbers_where test told_by) ≡ count_where test (collected nodes es).entries
   count test =
       sym (length_permutation (numbers_where test told_by) (numbers_where test (tags nodes es)) (told (labels_in nodes) (key_in nodes) told_by es is-index test))

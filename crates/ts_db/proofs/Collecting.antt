@@ -1,4 +1,4 @@
--- What numbered series keep, by what each key has.
+-- The stored data of the nodes, key by key.
 use Rattle.std.proofs.Common.{◌≡◌, ◌≢◌, ℕ, Bool, true, false, cond, List, [], ◌∷◌, refl, sym, ◌∙◌, ap, ◌⊎◌, inl, inr}
 use Rattle.std.specs.Prelude.{slice_index_or, ◌&&◌, ◌==◌, Option, None, Some, option_map, if◌then◌else◌, nat_eq}
 use Rattle.std.specs.Cmp.Lexicographic.{pointwise}
@@ -26,7 +26,7 @@ same-pointwise (x ∷ xs) (y ∷ ys) = ap (λ b. (x == y) && b) (same-pointwise 
 pub same-at : (j k : Key) → same j k ≡ has_key j k
 same-at j k = same-pointwise j k ∙ sym (is_eq-slice_cmp j k)
 
--- what is kept of a number, if there is one
+-- the stored data of an id, if there is one
 abbrev pub found : Nodes → Option Id → Option Kept
 found nodes None = None
 found nodes (Some id) = kept_numbered nodes id
@@ -52,7 +52,7 @@ cond-same : (b : Bool) (id : Id) (o : Option Id) → cond b (Some id) o ≡ (if 
 cond-same true id o = refl
 cond-same false id o = refl
 
--- the number of a key, by the map of all numbers
+-- the id of a key, by the map of all ids
 pub get-ids : (q : Key) (es : Numbers) → get q (ids_of es) ≡ number_of q es
 get-ids q [] = refl
 get-ids q (e ∷ es) =
@@ -61,14 +61,14 @@ get-ids q (e ∷ es) =
     ∙ sym (cond-same (has_key q e.0) e.1 (get q (ids_of es)))
     ∙ ap (cond (has_key q e.0) (Some e.1)) (get-ids q es)
 
--- a key has the number of any key that is the same
+-- a key has the id of any key that is the same
 pub number-same : (j k : Key) (es : Numbers) → same j k ≡ true → number_of j es ≡ number_of k es
 number-same j k es is = ap (λ q. number_of q es) (same-true j k is)
 
 pub id-same : (a b : Id) → a.0 ≡ b.0 → a ≡ b
 id-same a b is = λ i. record { 0 = is i }
 
--- ---- what is kept of a node where numbers keep their keys
+-- ---- the stored data of a node where ids keep their keys
 
 same-rules : (nodes : Nodes) (new old : Id → Key) (rs : List Rule) → AreLive nodes rs → ((id : Id) → HasNode nodes id → new id ≡ old id) → rules_by new rs ≡ rules_by old rs
 same-rules nodes new old [] live same = refl
@@ -91,7 +91,7 @@ same-names nodes new old n live same =
 pub bare-kept : (nodes : Nodes) (n : Node) → n.rules.items ≡ [] → n.source ≡ None → kept_node nodes n ≡ kept_series n.labels n.series
 bare-kept nodes n rules source = λ i. record (kept_series n.labels n.series) { rules = rules_by (key_in nodes) (rules i); source = option_map (key_in nodes) (source i) }
 
--- the nodes of other numbers are kept as they were
+-- the nodes of other ids are stored unchanged
 abbrev pub KeepsOthers : (nodes new : Nodes) → ℕ → Type 0
 KeepsOthers nodes new i = (j : ℕ) (g : Node) → j ≢ i → slab.get nodes j ≡ Some g → kept_node new g ≡ kept_node nodes g
 
@@ -167,7 +167,7 @@ collected-removed nodes new es fs key id apart is change kept differs = maps-sam
     pick q true x = refl
     pick q false x = others-found nodes new es key id apart is change.others kept q (number_of q es) refl x ∙ sym (get-collected q nodes es)
 
--- the series of what is kept
+-- the series of the stored data
 pub record IsOf (nodes : Nodes) (d : Kept) : Type 0 where
   pub number : ℕ
   pub node : Node
@@ -185,7 +185,7 @@ node-of nodes es k d is = from (number_of k es) (sym (get-collected k nodes es) 
     from None e = absurd (cc e)
     from (Some id) e = of id.0 (slab.get nodes id.0) refl e
 
--- room alone changes nothing
+-- capacity alone changes nothing
 pub collected-slots : (nodes new : Nodes) (es : Numbers) → new.slots ≡ nodes.slots → collected new es ≡ collected nodes es
 collected-slots nodes new es same = maps-same _ _ (λ q. get-collected q new es ∙ go (number_of q es) ∙ sym (get-collected q nodes es))
   where

@@ -1,4 +1,4 @@
--- How many keys a map has once one is put in, or taken out.
+-- The number of keys after an insertion or a removal.
 use Rattle.std.proofs.Common.{◌≡◌, suc, Bool, true, false, cond, List, [], ◌∷◌, length, refl, sym, ◌∙◌, ap, subst}
 use Rattle.std.specs.Prelude.{None, Some, if◌then◌else◌}
 use Rattle.std.proofs.lemmas.Bool.{and_parts, false≢true}

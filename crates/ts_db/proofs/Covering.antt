@@ -1,4 +1,4 @@
--- The numbers that an index lends for filters: their keys, and those of these keys that pass.
+-- Candidate ids: their keys, and those of these keys that pass the filters.
 use Rattle.std.proofs.Common.{◌≡◌, ℕ, Bool, true, false, cond, List, [], ◌∷◌, map, refl, sym, ◌∙◌, ap, subst, ⊎_elim}
 use Rattle.std.specs.Prelude.{◌||◌, Option, None, Some, if◌then◌else◌}
 use Rattle.std.specs.Option.{unwrap_or}
@@ -40,7 +40,7 @@ module _ (test : List Label → Bool) where
       go true rest = ap (λ (l : List Id). record { 0 = e.0 } ∷ l) rest
       go false rest = rest
 
-  -- Where each number is there once at most, and has the same labels that pass in both, the same numbers pass.
+  -- Where each id is there once at most, and has the same labels that pass in both, the same ids pass.
   pub same-passing : (xs ys : Labelled) → IsDistinct at (keys_of xs) → IsDistinct at (keys_of ys) → ((i : ℕ) → option_filter test (labels_of i xs) ≡ option_filter test (labels_of i ys))
       → IsPermutation (numbers_where test xs) (numbers_where test ys)
   same-passing xs ys c d same =
@@ -50,7 +50,7 @@ module _ (test : List Label → Bool) where
       subst (λ (l : List Id). IsPermutation (numbers_where test xs) l) (numbers-kept ys)
       (subst (λ (l : List Id). IsPermutation l (numbers_where (λ labels. true) (kept ys))) (numbers-kept xs) moved)
 
--- ---- the labels of lent numbers
+-- ---- the labels of candidate ids
 
 abbrev pub numbers : List Id → List ℕ
 numbers ids = map (λ i. i.0) ids
@@ -78,7 +78,7 @@ module _ (labels : ℕ → Option (List Label)) where
       (λ n. lookup_tail (at i) (c.0, unwrap_or (labels c.0) []) (lent cs) n ∙ lent-missing i cs (sym (ap (λ (b : Bool). b || list_any (at i) (numbers cs)) n) ∙ h))
       (cases_Bool (at i c.0))
 
-  -- a lent number has labels
+  -- a candidate id has labels
   lent-live : (i : ℕ) (cs : List Id) → AllByRecursion (λ c. (ls : List Label) × (labels c.0 ≡ Some ls)) cs → list_any (at i) (numbers cs) ≡ true → labels i ≡ None → ⊥
   lent-live i [] live h none = cc h
   lent-live i (c ∷ cs) live h none = ⊎_elim
@@ -99,7 +99,7 @@ module _ (labels : ℕ → Option (List Label)) where
         go true pass = absurd (cc (sym is ∙ covers i ls at_i pass))
         go false pass = refl
 
-    -- the lent numbers that pass are those that the index tells, in some order
+    -- the candidate ids that pass are those that the index selects, in some order
     pub lent-passing : IsPermutation (numbers_where test index) (numbers_where test (lent cs))
     lent-passing = same-passing test index (lent cs) once (subst (IsDistinct at) (sym (keys-lent cs)) distinct)
         (λ i. ap (option_filter test) (indexed i) ∙ alike i (labels i) (list_any (at i) (numbers cs)) refl refl)

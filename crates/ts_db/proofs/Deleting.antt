@@ -1,4 +1,4 @@
--- How a deletion answers.
+-- The result of a deletion.
 use Rattle.std.proofs.Common.{◌≡◌, ◌≤◌, ℕ, Bool, true, false, not, ◌||◌, List, [], ◌∷◌, map, length, refl, sym, ◌∙◌, ap, subst, arith, nat_le}
 use Rattle.std.specs.Prelude.{nat_lt, if◌then◌else◌, Vec, Option, None, Some, option_map}
 use Rattle.std.specs.declared.alloc.Global.{Global}
@@ -20,7 +20,7 @@ use Rattle.ts_rules.specs.declared.rule.Rule.{Rule}
 use Rattle.ts_db.specs.declared.fault.DbFault.{DbFault}
 use Rattle.ts_db.specs.declared.node.Node.{Node}
 use Rattle.ts_db.specs.declared.store.Store.{Store}
-use Rattle.ts_db.specs.declared.work.Work.TheVariants.{Delete}
+use Rattle.ts_db.specs.declared.planning.Work.TheVariants.{Delete}
 use Rattle.ts_db.specs.Faults.{refusal_of}
 use Rattle.ts_db.specs.Feeding.{Rows, Gone, keep_fed}
 use Rattle.ts_db.specs.Planning.{changed_by, gone_by, rows_by_work, AreChanged, first_full, IsUnplanned}
@@ -137,7 +137,7 @@ module _ (s : Store) (db : IsDb s) (key : Key) (id : Id) (n : Node) (holds : Hol
       ∙ ap (λ (d : Kept). keep_fed rows gone (rules_by (key_in s.nodes) n.rules.items) (with_key key d (stock_of s).keys)) (cuts-after (key_in s.nodes) n plan rules from to many k is changed)))
       ∙ ap (λ (j : ℕ). record { keys = new.keys; response = Count j }) (sym (count ∙ ap (λ (p : Plan). p.removed) is))
 
-  -- one that a destination refuses, or for which there was no memory and that no destination refuses
+  -- a destination refuses it, or no destination does and memory ran out
   pub undeleted-answers : (fault : DbFault) → IsUnplanned full_without fault
       → IsKeptAnswer (refusal_of (stock_of s).ids fault) (stock_of s).keys
       (kept_within_destinations s.limits (stock_of s).keys key (record { keys = keep_deleted key from to (stock_of s).keys; response = Count (length (between from to (list_of n.series))) }))

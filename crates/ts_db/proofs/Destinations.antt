@@ -1,4 +1,4 @@
--- Work on a source that the destination of one of its rules refuses.
+-- Changes of a source that fail because a destination would be full.
 use Rattle.std.proofs.Common.{◌≡◌, Bool, true, false, List, [], ◌∷◌, length, refl, sym, ◌∙◌, ap, subst, eqb-true, eq-eqb}
 use Rattle.std.specs.Prelude.{◌==◌, nat_lt, if◌then◌else◌, Option, None, Some, option_map}
 use Rattle.std.proofs.lemmas.Bool.{and_parts}
@@ -23,7 +23,7 @@ use Rattle.ts_db.specs.Store.{key_at, key_in, number_of, stock_of, HasNode, AreL
 use Rattle.ts_db.specs.Answering.{IsKeptAnswer}
 use Rattle.ts_db.proofs.Collecting.{get-ids, id-same}
 
--- ---- the key of a number
+-- ---- the key of an id
 
 pub among : (es : List (Entry Id)) → is_sorted es ≡ true → (k : Key) (i : Id) → get_in k es ≡ Some i → ((j : Key) → get_in j es ≡ Some i → j ≡ k) → key_among i.0 es ≡ k
 among [] sorted k i is one = absurd (cc is)
@@ -55,14 +55,14 @@ module _ (s : Store) (store : IsInOrder s) (i : Id) (live : HasNode s.nodes i) w
       (λ j is. sym (store.named j i live.node (sym (get-ids j s.keys.entries) ∙ is) live.there))
       ∙ sym (ap key_at live.there)
 
-  -- it has that number, and no other key has it
+  -- it has that id, and no other key has it
   pub key-holds : Holds s (key_in s.nodes i) i live.node
   key-holds = record { number = ap (λ (k : Key). number_of k s.keys.entries) (ap key_at live.there) ∙ store.owned i.0 live.node live.there; node = live.there }
 
   pub only-key : (k : Key) → number_of k s.keys.entries ≡ Some i → key_in s.nodes i ≡ k
   only-key k is = ap key_at live.there ∙ store.named k i live.node is live.there
 
-  -- so it is with the key of the number, by what contracts see
+  -- the same for the key of the id, in the view of contracts
   pub with-number : get (key_with (stock_of s).ids i) (stock_of s).ids ≡ Some i
   with-number = ap (λ (k : Key). get k (stock_of s).ids) key-with ∙ get-ids (key_in s.nodes i) s.keys.entries ∙ key-holds.number
 
@@ -74,7 +74,7 @@ module _ (s : Store) (store : IsInOrder s) (i : Id) (live : HasNode s.nodes i) w
 
 -- ---- the first destination that is full
 
--- want of memory may be told where no destination refuses
+-- memory may run out only if no destination refuses
 pub none-full-yields : (names : Id → Key) (m : Keeping) (full : Option Id) (done : KeptOutcome) → full ≡ None → YieldsToMemory done.response
     → YieldsToMemory (kept_unless_full m (option_map names full) done).response
 none-full-yields names m full done none yields = subst (λ (o : Option Id). YieldsToMemory (kept_unless_full m (option_map names o) done).response) (sym none) yields
@@ -91,7 +91,7 @@ module _ (s : Store) (store : IsInOrder s) (rs : List Rule) (rows : Rows) (gone 
           pick true y ih = subst (λ (j : Id). HasNode s.nodes j) (some-same p.dest i y) l.0
           pick false y ih = ih y
 
-  -- the step refuses for that destination, and the fault tells its number
+  -- the step refuses for that destination, and the error has its id
   pub destination-refused : (fault : DbFault) (done : KeptOutcome)
       → (first_full s.limits.samples s.nodes rows gone rs ≡ None → YieldsToMemory (kept_unless_full (stock_of s).keys (option_map (key_in s.nodes) (first_full s.limits.samples s.nodes rows gone rs)) done).response)
       → IsUnplanned (first_full s.limits.samples s.nodes rows gone rs) fault

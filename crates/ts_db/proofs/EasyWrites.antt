@@ -1,4 +1,4 @@
--- What a write and a deletion decode for the rules of a key, by what contracts see.
+-- How many samples a write and a deletion decode for the rules of a key.
 use Rattle.std.proofs.Common.{◌≡◌, ◌≤◌, ◌<◌, ◌+◌, ◌*◌, ℕ, true, List, [], ◌∷◌, map, length, refl, sym, ◌∙◌, ap, subst, arith, ltb-true, ◌^◌}
 use Rattle.std.specs.Prelude.{⊤, sum_by, Option, None, Some, option_map, ◌-◌}
 use Rattle.std.proofs.lemmas.List.Sums.{sum_by-cons}
@@ -25,7 +25,7 @@ use Rattle.ts_rules.specs.Shares as shares
 use Rattle.ts_rules.specs.Shares.{in_buckets}
 use Rattle.ts_db.specs.declared.node.Node.{Node}
 use Rattle.ts_db.specs.declared.store.Store.{Store}
-use Rattle.ts_db.specs.declared.work.Work.TheVariants.{Write, Delete}
+use Rattle.ts_db.specs.declared.planning.Work.TheVariants.{Write, Delete}
 use Rattle.ts_db.specs.Held.{reach_at}
 use Rattle.ts_db.specs.Bounds as bounds
 use Rattle.ts_db.specs.Bounds.{high_at, rule_steps, write_steps, AllClosePastAll, IsEasyAppend, rule_deletion_steps, deletion_steps}
@@ -183,6 +183,6 @@ small-new size = omega arith
 pub reach-small : (h : History) → IsKept h → reach h < 2 ^ 20
 reach-small h kept = omega (arith, small-limits (format_of h.options.encoding) (limit_for h.options.chunk_size) h.held.pieces h.held.limits (small-new h.options.chunk_size) kept.chunks.chunks)
 
--- an empty series with this much room takes a sample without steps
+-- an empty series with this much capacity takes a sample without steps
 pub few-new : (h : History) → IsKept h → list_of h ≡ [] → length (list_of h) + reach h < 2 ^ 32 - 1
 few-new h kept empty = omega (arith, reach-small h kept, ap (λ (ps : List Point). length ps) empty)

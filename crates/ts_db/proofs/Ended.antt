@@ -1,4 +1,4 @@
--- Rules end: what becomes of each key, by what is kept of it.
+-- The stored data of each key after rules are deleted.
 use Rattle.std.proofs.Common.{◌≡◌, Bool, true, false, not, ◌&&◌, List, [], ◌∷◌, filter, refl, sym, ◌∙◌, ap}
 use Rattle.std.specs.Prelude.{if◌then◌else◌, Option, None, Some, is_some, option_map}
 use Rattle.ts_spec.specs.Key.{Key, same}
@@ -68,7 +68,7 @@ module _ (m : Keeping) (source dest : Key) (s : Kept) (is : get source m ≡ Som
   left-here : (o : Option Key) → o ≡ Some source → left_by true o ≡ None
   left-here o e = ap (left_by true) e ∙ ap (λ b. if b && true then None else Some source) (same-refl source)
 
-  -- what is kept of a key then
+  -- the stored data of a key then
   abbrev ended_by : Bool → Bool → Kept → Kept
   ended_by a b d = record d { rules = filter (λ q. not (a && same q.dest dest)) d.rules; source = left_by b d.source }
 

@@ -1,4 +1,4 @@
--- The rules of a series and the one to it end, by three changes of the store.
+-- Deleting all rules from and to a series takes three changes of the store.
 use Rattle.std.proofs.Common.{◌≡◌, List, refl, sym, ◌∙◌, ap}
 use Rattle.std.specs.Prelude.{Option, None, Some, option_map}
 use Rattle.ts_spec.specs.Key.{Key}
@@ -49,6 +49,6 @@ module _ (s : Store) (db : IsDb s) (key : Key) (id : Id) (n : Node) (holds : Hol
     ids = ap (λ (x : Contents). x.ids) whole;
   }
 
--- the key keeps its number
+-- the key keeps its id
 pub still-numbered : (old new : Store) (key : Key) (id : Id) → IsAlone old new key → number_of key old.keys.entries ≡ Some id → number_of key new.keys.entries ≡ Some id
 still-numbered old new key id alone is = sym (get-ids key new.keys.entries) ∙ ap (get key) alone.ids ∙ get-ids key old.keys.entries ∙ is

@@ -1,4 +1,4 @@
--- What is kept once destinations are mended one after another, and that a write and a deletion come to no more.
+-- The stored data after destinations are updated one after another; it is that of a write and of a deletion.
 use Rattle.std.proofs.Common.{◌≡◌, ℕ, ℤ, Bool, true, false, List, [], ◌∷◌, refl, sym, ◌∙◌, ap, subst}
 use Rattle.std.specs.Prelude.{Option, None, Some, option_map, if◌then◌else◌}
 use Rattle.ts_spec.specs.Sample.{put, between, outside}
@@ -13,7 +13,7 @@ use Rattle.ts_db.specs.Links.{AreLinks, AreApart}
 use Rattle.ts_db.specs.Feeding.{Rows, Gone, keep_fed}
 use Rattle.ts_db.proofs.KeptLinks.{HasLinks}
 
--- what each key has then: the rule to it mends it, if there is one
+-- what each key has then: the rule to it updates it, if there is one
 pub get-fed : (rows : Rows) (gone : Gone) (qs : List KeptRule) (m : Keeping) (k : Key) → AreApart qs → get k (keep_fed rows gone qs m) ≡ option_map (fed rows gone (kept_rule_to k qs)) (get k m)
 get-fed rows gone [] m k a = same-option (get k m)
   where
@@ -45,7 +45,7 @@ no-own m key all [] x = refl
 no-own m key all (q ∷ qs) x = ap (λ b. if b then Some q else kept_rule_to key qs) x.0.apart ∙ no-own m key all qs x.1
 
 module _ (m : Keeping) (key : Key) (s : Kept) (is : get key m ≡ Some s) (links : HasLinks m key s.rules) where
-  -- one key changes, and then the destinations of its rules are mended
+  -- one key changes, and then the destinations of its rules are updated
   change-fed : (rows : Rows) (gone : Gone) (e : Kept) (f : Key → Kept → Kept) → f key s ≡ e → ((k : Key) (d : Kept) → same k key ≡ false → f k d ≡ fed rows gone (kept_rule_to k s.rules) d)
       → each f m ≡ keep_fed rows gone s.rules (with_key key e m)
   change-fed rows gone e f here other = maps-same (each f m) (keep_fed rows gone s.rules (with_key key e m)) (λ k.

@@ -1,4 +1,4 @@
--- Destinations are mended one after another.
+-- Destinations are updated one after another.
 use Rattle.std.proofs.Common.{◌≡◌, ◌≤◌, ℕ, List, [], ◌∷◌, length, refl, sym, ◌∙◌, ap, subst, arith}
 use Rattle.std.specs.Prelude.{Option, None, Some}
 use Rattle.slab.specs.Slab as slab
@@ -35,7 +35,7 @@ pub record Feeding (init now : Store) (rows : Rows) (gone : Gone) (rs : List Rul
 abbrev pub fed_node : Option Plan → Node → Node
 fed_node plan n = record n { series = after_plan plan n.series }
 
--- what is kept of a destination after its plan
+-- the stored data of a destination after its plan
 pub mended-node : (names : Nodes) (n : Node) (plan : Option Plan) (limit : ℕ) (rows : Rows) (gone : Gone) (q : KeptRule) → IsMendedBy limit (gone q) (rows n.series.born q) n.series plan
     → kept_node names (fed_node plan n) ≡ mended_kept (gone q) (rows n.series.born q) (kept_node names n)
 mended-node nodes n None limit rows gone q m =
@@ -57,7 +57,7 @@ module _ (now : Store) (store : IsInOrder now) (rows : Rows) (gone : Gone) (r : 
     node = ap (λ (i : Id). slab.get now.nodes i.0) fed.dest ∙ fed.there;
   }
 
-  -- it is mended alone
+  -- it is updated alone
   pub mends : keep_changed (kept_rule_in now.nodes r).dest (λ d. mended_kept (gone (kept_rule_in now.nodes r)) (rows d.born (kept_rule_in now.nodes r)) d) (stock_of now).keys
       ≡ with_key fed.node.key (kept_node now.nodes (fed_node x.change fed.node)) (stock_of now).keys
   mends =

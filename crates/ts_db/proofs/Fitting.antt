@@ -1,4 +1,4 @@
--- Whether the destinations of a key's rules have room once they are mended, by what is kept and by the rules.
+-- Whether the destinations of a key's rules stay within the sample limit, in stored data and in nodes.
 use Rattle.std.proofs.Common.{◌≡◌, Bool, true, false, List, [], ◌∷◌, length, refl, sym, ◌∙◌, ap}
 use Rattle.std.specs.Prelude.{nat_lt, if◌then◌else◌, Option, None, Some, option_map}
 use Rattle.ts_spec.specs.Key.{Key}
@@ -25,7 +25,7 @@ module _ (s : Store) (store : IsInOrder s) (key : Key) (id : Id) (n : Node) (hol
   abbrev all : List KeptRule
   all = rules_by (key_in s.nodes) n.rules.items
 
-  -- what is kept once the key is another, and the destinations of its rules are mended
+  -- the stored data once the key is another, and the destinations of its rules are updated
   abbrev pub keys_fed : Keeping
   keys_fed = keep_fed rows gone (rules_by (key_in s.nodes) n.rules.items) (with_key key e (stock_of s).keys)
 
@@ -36,7 +36,7 @@ module _ (s : Store) (store : IsInOrder s) (key : Key) (id : Id) (n : Node) (hol
       ∙ ap (λ (o : Option KeptRule). option_map (fed rows gone o) (get key (with_key key e (stock_of s).keys))) (no-own (stock_of s).keys key all all links.links)
       ∙ ap (option_map (fed rows gone None)) (get-with key key e (stock_of s).keys ∙ ap (λ b. if b then Some e else get key (stock_of s).keys) (same-refl key))
 
-  -- a number that is live has what is kept of it under its key
+  -- the stored data of a live id is that of its key
   live-kept : (i : Id) → HasNode s.nodes i → get (key_in s.nodes i) (stock_of s).keys ≡ kept_numbered s.nodes i
   live-kept i live =
       ap (λ (k : Key). get k (stock_of s).keys) (ap key_at live.there)

@@ -1,4 +1,4 @@
--- The destinations of rules lose their source, one after another.
+-- The rule source of each destination is cleared, one after another.
 use Rattle.std.proofs.Common.{◌≡◌, List, [], ◌∷◌, refl, ◌∙◌, ap}
 use Rattle.std.specs.Prelude.{Option, None, Some}
 use Rattle.ts_spec.specs.Key.{Key}
@@ -11,7 +11,7 @@ use Rattle.ts_db.specs.Answering.{IsElsewhere}
 use Rattle.ts_db.specs.Linking.{kept_sourced, keep_freed, IsKeptBy}
 use Rattle.ts_db.specs.Store.{rules_by, key_in, number_of, stock_of, contents_of, Contents, Numbers, HasNode, AreLive, IsLiveSource, IsInOrder}
 
--- a number stays live where all keys stay
+-- an id stays live where all keys stay
 pub live-after : (old new : Store) → IsInOrder old → IsInOrder new → new.keys.entries ≡ old.keys.entries → (id : Id) → HasNode old.nodes id → HasNode new.nodes id
 live-after old new before after same id live =
     let of = after.stored live.node.key id (ap (λ (es : Numbers). number_of live.node.key es) same ∙ before.owned id.0 live.node live.there) in

@@ -1,4 +1,4 @@
--- One more sample in the open buckets of rules, one rule after another.
+-- A sample is counted in the open buckets of rules, one rule after another.
 use Rattle.std.proofs.Common.{◌≡◌, ◌+◌, ◌<◌, ℕ, List, [], ◌∷◌, ◌++◌, length, take, drop, get_or, slice_set, sym, ◌∙◌, subst, arith}
 use Rattle.std.proofs.lemmas.List.{take_more, take_more_set, drop_more, drop-set-lt}
 use Rattle.std.proofs.lemmas.Grind.{drop_more_same}
@@ -8,7 +8,7 @@ use Rattle.ts_rules.specs.Rules.{IsChanged}
 use Rattle.ts_db.specs.Planning.{AreChanged}
 use Rattle.ts_db.proofs.Plans.{changed-more}
 
--- the rule at a place changes, and those after it are as they were
+-- the rule at a place changes, and those after it are unchanged
 same-rule : (all now : List Rule) (i : ℕ) (d : Rule) → i < length all → i < length now → drop i now ≡ drop i all → get_or now i d ≡ get_or all i d
 same-rule all now i d a b same =
     let heads : get_or now i d ∷ drop (i + 1) now ≡ get_or all i d ∷ drop (i + 1) all = sym (drop_more now i d b) ∙ same ∙ drop_more all i d a in

@@ -1,4 +1,4 @@
--- A node to whose series a sample is appended that stays in the open bucket of each rule.
+-- A node after an append inside the open bucket of each rule.
 use Rattle.std.proofs.Common.{◌≡◌, ◌≤◌, length, refl, sym, ◌∙◌, ap, subst}
 use Rattle.std.specs.Prelude.{None, Some, option_map}
 use Rattle.slab.specs.Slab as slab
@@ -59,7 +59,7 @@ module _ (s : Store) (store : IsInOrder s) (id : Id) (plan : Plan) (planned : Is
       let all = changed-rules (key_in s.nodes) (grown p) n.rules.items t.now.rules.items t.so.rules in
       λ i. record (kept_series n.labels (t.so.done i)) { rules = all i; source = option_map (key_in s.nodes) n.source }
 
-  -- and of the key of the number that is kept
+  -- and the stored data of its key
   pub keys-grown : (key : Key) (g : Node) → Holds s key id g → collected new s.keys.entries ≡ with_key key (kept_grown s.nodes plan p g) (collected s.nodes s.keys.entries)
   keys-grown key g held =
       ap (λ (nodes : Nodes). collected nodes s.keys.entries) (sym turned)

@@ -1,4 +1,4 @@
--- Samples that a series of the store ignores: what is kept of the key ignores the same, and a write of one changes nothing.
+-- Ignored samples: node and stored data agree on which are ignored, and writing one changes nothing.
 use Rattle.std.proofs.Common.{◌≡◌, ◌≤◌, ◌<◌, ℕ, ℤ, Bool, true, false, List, [], refl, sym, ◌∙◌, ap, subst, arith, leb-true, ltb-true}
 use Rattle.std.specs.Prelude.{◌-◌, nat_lt, nat_le, ◌&&◌, if◌then◌else◌, Option, None, Some, is_some, option_map}
 use Rattle.std.proofs.lemmas.Bool.{false≢true, and_parts}
@@ -72,7 +72,7 @@ late-enough h t last kept c = go (nat_lt t (low h)) refl
         absurd (false≢true (some-there (list_of h) c.sample c.is (sym kept.past_edge ∙ none-kept (low h) (list_of h) c.sample kept.ascending c.is early)))
 
 module _ (s : Store) (store : IsInOrder s) (key : Key) (id : Id) (n : Node) (holds : Holds s key id n) (t : ℕ) (v : ℤ) where
-  -- a link stands in what is kept of it
+  -- a link is part of the stored data
   pub kept-by : kept_ignored (kept_node s.nodes n) t v ≡ ignored_by n t v
   kept-by = ap (λ (b : Bool). if b then None else ignored_after n.series.options (last_of (list_of n.series)) t v) (same_source n.source)
     where

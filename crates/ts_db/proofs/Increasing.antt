@@ -1,4 +1,4 @@
--- How a change of the last value answers.
+-- The result of TS.INCRBY and TS.DECRBY.
 use Rattle.std.proofs.Common.{◌≡◌, ℕ, ℤ, Bool, true, false, refl, sym, ◌∙◌, ap, subst}
 use Rattle.std.specs.Prelude.{nat_lt, nat_le, unsigned_abs, if◌then◌else◌, Option, None, Some}
 use Rattle.ts_spec.specs.Value.{bound}

@@ -1,4 +1,4 @@
--- That the index has the labels of the nodes after a change of one of them.
+-- After a change of one node, the index again has the labels of all nodes.
 use Rattle.std.proofs.Common.{◌≡◌, ◌≢◌, List, refl, sym, ◌∙◌, ap, subst, ◌⊎◌, inl, inr}
 use Rattle.std.specs.Prelude.{Vec, Option, Some, IsSome, option_map}
 use Rattle.std.specs.declared.alloc.Global.{Global}
@@ -21,7 +21,7 @@ use Rattle.ts_db.specs.Turned.{IsTurned, IsAfter}
 abbrev pub node_labels : Option Node → Option (List Label)
 node_labels o = option_map (λ n. n.labels) o
 
--- a number has other labels in both
+-- an id has other labels in both
 pub indexed-updates : (nodes new : Nodes) (index fresh : Labelled) (id : Id) (o : Option Node) → slab.Updates nodes new id.0 o → Relabels id (node_labels o) index fresh → IsIndexed nodes index → IsIndexed new fresh
 indexed-updates nodes new index fresh id o change gives is i = pick (cases_eq i id.0)
   where
@@ -29,7 +29,7 @@ indexed-updates nodes new index fresh id o change gives is i = pick (cases_eq i 
     pick (inl here) = ap (λ j. labels_of j fresh) here ∙ gives.here ∙ sym (ap node_labels (ap (slab.get new) here ∙ change.changed))
     pick (inr other) = gives.others i other ∙ is i ∙ sym (ap node_labels (change.others i other))
 
--- a number with a node
+-- an id with a node
 pub contains : (nodes : Nodes) (id : Id) (n : Node) → slab.get nodes id.0 ≡ Some n → slab.ContainsKey nodes id.0
 contains nodes id n there = subst (λ (o : Option Node). IsSome o) (sym there) refl
 

@@ -1,4 +1,4 @@
--- What is told of a series.
+-- The facts about a series that TS.INFO reports.
 use Rattle.std.proofs.Common.{◌≡◌, ◌+◌, ℕ, List, [], ◌∷◌, ◌++◌, map, take, refl, sym, ◌∙◌, ap}
 use Rattle.ts_spec.specs.Key.{Key}
 use Rattle.ts_spec.specs.Response as response

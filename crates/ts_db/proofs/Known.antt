@@ -1,4 +1,4 @@
--- What is known of a store that stands for a state: the links of a key's rules, and the room of their open buckets.
+-- Facts about a store that represents a state: its links, and the capacity of open buckets.
 use Rattle.std.proofs.Common.{◌≡◌, ◌<◌, ◌≤◌, ◌^◌, ℕ, Bool, true, false, List, [], ◌∷◌, refl, sym, ◌∙◌, ap, subst, arith}
 use Rattle.std.specs.Prelude.{None, Some, if◌then◌else◌}
 use Rattle.slab.specs.Slab as slab
@@ -15,7 +15,7 @@ use Rattle.ts_rules.specs.declared.rule.Rule.{Rule}
 use Rattle.ts_rules.specs.Rules.{kept_with_dest}
 use Rattle.ts_db.specs.declared.node.Node.{Node}
 use Rattle.ts_db.specs.declared.store.Store.{Store}
-use Rattle.ts_db.specs.declared.work.Work.TheVariants.{Write}
+use Rattle.ts_db.specs.declared.planning.Work.TheVariants.{Write}
 use Rattle.ts_db.specs.Links.{AreLinks, AreApart}
 use Rattle.ts_db.specs.Planning.{AllTake, NoneTo, AreDistinct}
 use Rattle.ts_db.specs.Store.{rules_by, key_at, key_in, kept_node, stock_of, HaveGrids, IsInOrder, IsDb, Holds}
@@ -27,7 +27,7 @@ use Rattle.ts_db.proofs.KeptLinks.{HasLinks, links-of}
 pub links : (s : Store) → IsDb s → (key : Key) (id : Id) (n : Node) → Holds s key id n → HasLinks (stock_of s).keys key (rules_by (key_in s.nodes) n.rules.items)
 links s db key id n holds = links-of s.limits (stock_of s).keys db.stands.to.state db.stands.stands.state key (kept_node s.nodes n) (there s db.store key id n holds)
 
--- ---- room
+-- ---- capacity
 
 some-long : (names : Id → Key) (rs : List Rule) → HaveGrids rs → HaveDurations (rules_by names rs)
 some-long names [] g = tt
@@ -41,7 +41,7 @@ durations s store k d is =
 below : (a b c : ℕ) → a < b → b ≤ c → a < c
 below a b c x y = omega (arith, x, y)
 
--- each rule of a key has room for a sample that is appended to its open bucket
+-- each rule of a key has capacity for a sample that is appended to its open bucket
 pub takes : (s : Store) → IsDb s → (key : Key) (id : Id) (n : Node) → Holds s key id n → (p : Point) → AllTake (Write p) n.series n.rules.items
 takes s db key id n holds p =
     go n.rules.items (db.store.each id.0 n holds.node).grids
@@ -62,7 +62,7 @@ module _ (s : Store) (store : IsInOrder s) (key : Key) (id : Id) (n : Node) (hol
   none-own all [] x = tt
   none-own all (r ∷ rs) x = (λ e. absurd (cc (sym x.0.apart ∙ ap (λ (k : Key). same k key) (ap key_at (ap (slab.get s.nodes) e) ∙ named) ∙ same-refl key)), none-own all rs x.1)
 
--- rules to different keys lead to different numbers
+-- rules to different keys lead to different ids
 pub distinct : (s : Store) (rs : List Rule) → AreApart (rules_by (key_in s.nodes) rs) → AreDistinct rs
 distinct s [] x = tt
 distinct s (r ∷ rs) x = (go rs x.0, distinct s rs x.1)

@@ -1,4 +1,4 @@
--- The answers of the calls of a store are those of the steps of each state that it stands for.
+-- Operations on a store answer as the steps of each represented state do.
 use Rattle.std.proofs.Common.{◌≡◌, ℕ, ℤ, Bool, true, false, List, sym, ◌∙◌, ap, subst}
 use Rattle.std.specs.Prelude.{⊤, nat_le, Option, is_some, if◌then◌else◌, Result, Ok, Err, IfOk}
 use Rattle.ts_spec.specs.declared.limits.Limits.{Limits}
@@ -74,15 +74,15 @@ module _ {stock : Stock} (s new : Store) (view : stock_of s ≡ stock) (db : IsD
   delete_rule-law source dest = lifted-on s new view db order (λ h. delete_rule h.state source dest) (kept_delete_rule (stock_of s).keys source dest)
       (λ m st. record { is_step = kept-step s.limits m (stock_of s).keys 0 (DeleteRule source dest) db.store.some_samples st; refuses = delete_rule-refuses m source dest (get source m) }) (λ x. Done)
 
--- a key is there exactly where it is in each state that is stood for
+-- a key is there exactly where it is in each state that is represented
 pub there-law : (stock : Stock) (key : Key) (was : Bool) → was ≡ is_some (get key stock.keys) → (from : Held) → Stands stock from → was ≡ is_some (get key from.state)
 there-law stock key was is from st = is ∙ ap (λ (m : Keeping). is_some (get key m)) st.state.kept ∙ some-kept from.state key
 
--- there are as many keys as in each state that is stood for
+-- there are as many keys as in each state that is represented
 pub count-law : (stock : Stock) (n : ℕ) → n ≡ count_keys stock.keys → (from : Held) → Stands stock from → n ≡ count_keys from.state
 count-law stock n is from st = is ∙ ap count_keys st.state.kept ∙ count-kept from.state
 
--- a key has the labels that it has in each state that is stood for
+-- a key has the labels that it has in each state that is represented
 pub labels-law : (stock : Stock) (key : Key) (from : Held) → Stands stock from → kept_labels_at (get key stock.keys) ≡ labels_at (get key from.state)
 labels-law stock key from st = ap (λ (m : Keeping). kept_labels_at (get key m)) st.state.kept ∙ labels-kept from.state key
 
@@ -90,7 +90,7 @@ labels-law stock key from st = ap (λ (m : Keeping). kept_labels_at (get key m))
 pub selection-law : (stock : Stock) (filters : List Filter) (from : Held) → Stands stock from → kept_selection stock.keys filters ≡ selection from.state filters
 selection-law stock filters from st = ap (λ (m : Keeping). kept_selection m filters) st.state.kept ∙ selection-kept from.state filters
 
--- so the numbers that are selected are those of the selection in each such state
+-- so the ids that are selected are those of the selection in each such state
 pub select-law : {V E : Type 0} (items : V → List Id) (stock : Stock) (filters : List Filter) (r : Result V E) → IfOk r (λ v. AreNumbersOf stock.ids (kept_selection stock.keys filters) (items v))
     → (from : Held) → Stands stock from → IfOk r (λ v. AreNumbersOf stock.ids (selection from.state filters) (items v))
 select-law items stock filters (Ok v) h from st = subst (λ (ks : List Key). AreNumbersOf stock.ids ks (items v)) (selection-law stock filters from st) h
@@ -100,7 +100,7 @@ select-law items stock filters (Err e) h from st = h
 pub total-law : (stock : Stock) (from : Held) → Stands stock from → total_of stock.keys ≡ total_shown from.state
 total-law stock from st = ap total_of st.state.kept ∙ total-kept from.state
 
--- there is no room for one more exactly where there is none in each state that is stood for
+-- the database is full exactly if each represented state is
 pub full-law : (stock : Stock) (full : Bool) → full ≡ nat_le stock.limits.keys (count_keys stock.keys) → (from : Held) → Stands stock from → full ≡ nat_le from.limits.keys (count_keys from.state)
 full-law stock full is = at-limits stock (λ from. full ≡ nat_le from.limits.keys (count_keys from.state))
     (λ m st. is ∙ ap (λ (keys : Keeping). nat_le stock.limits.keys (count_keys keys)) st.kept ∙ ap (nat_le stock.limits.keys) (count-kept m))
@@ -121,7 +121,7 @@ drop-law old new key was is keys limits = at-limits old (λ from. Drops key was 
     go m st true = record { valid = valid-dropped old.limits m key st.valid; kept = ap (keep_dropped key) st.kept ∙ kept-dropped old.limits m key st.valid }
     go m st false = st
 
--- and so there is still a state that is stood for
+-- and so there is still a state that is represented
 pub drop-leads : (old new : Stock) (key : Key) (was : Bool) → ((from : Held) → Stands old from → Drops key was from new) → Leads old (λ held. ⊤) → Leads new (λ held. ⊤)
 drop-leads old new key was drops w =
     record { to = record { limits = w.to.limits; state = if was then dropped key w.to.state else w.to.state }; done = tt; stands = (drops w.to w.stands).stands }

@@ -1,4 +1,4 @@
--- The numbers that the index lends for filters, by the keys.
+-- The candidate ids of the index, in terms of keys.
 use Rattle.std.proofs.Common.{◌≡◌, ℕ, Bool, true, false, List, [], ◌∷◌, map, refl, sym, ◌∙◌, ap, subst, eq-eqb}
 use Rattle.std.specs.Prelude.{◌==◌, ◌||◌, Option, None, Some, IsSome, option_map, if◌then◌else◌}
 use Rattle.std.specs.Option.{unwrap_or}
@@ -56,7 +56,7 @@ names-chosen nodes fs (e ∷ es) there known =
 module _ (nodes : Nodes) (es : Numbers) (told_by : Labelled) (is : IsTold nodes es told_by) where
   open is use {stored, named, owned, sorted, indexed, once}
 
-  -- a key by its number
+  -- a key by its id
   module _ (k : Key) (c : Id) (at : number_of k es ≡ Some c) where
     of : (n : Node) × (slab.get nodes c.0 ≡ Some n)
     of = stored k c at
@@ -81,7 +81,7 @@ module _ (nodes : Nodes) (es : Numbers) (told_by : Labelled) (is : IsTold nodes 
 
   module _ (fs : List Filter) (cs : List Id) (live : AllByRecursion (λ c. (ls : List Label) × (labels_in nodes c.0 ≡ Some ls)) cs) (lent_once : IsDistinct at (numbers cs))
       (covers : (i : ℕ) (ls : List Label) → labels_in nodes i ≡ Some ls → all_hold fs ls ≡ true → list_any (at i) (numbers cs) ≡ true) where
-    -- The keys of lent numbers whose labels pass are those that the filters select, in some order.
+    -- The keys of candidate ids whose labels pass are those that the filters select, in some order.
     pub lent-covers : (keys : List Key) → AreNumbersOf (ids_of es) keys cs → IsPermutation (kept_selection (collected nodes es) fs) (passing (collected nodes es) fs keys)
     lent-covers keys are =
         let test = all_hold fs in
@@ -96,7 +96,7 @@ module _ (nodes : Nodes) (es : Numbers) (told_by : Labelled) (is : IsTold nodes 
         (names-chosen nodes fs es (there nodes es told_by is) (known nodes es told_by is) ∙ sym (ap (kept_selected_in fs) (listing-entries nodes es sorted (there nodes es told_by is))))
         (IsPermutation-map name (numbers_where test (tags nodes es)) (numbers_where test (lent (labels_in nodes) cs)) moved))
 
-    -- each is the number of a key
+    -- each is the id of a key
     pub lent-alive : AllByRecursion (IsLive (ids_of es)) cs
     lent-alive = go cs live
       where
@@ -125,7 +125,7 @@ others-apart : (i : ℕ) (cs : List Id) → has_number i cs ≡ false → AllByR
 others-apart i [] a = tt
 others-apart i (c ∷ cs) a = let parts = neither (i == c.0) (has_number i cs) a in (same-number i c.0 ∙ parts.0, others-apart i cs parts.1)
 
--- numbers that differ
+-- ids that differ
 pub apart-once : (cs : List Id) → AreApart cs → IsDistinct at (numbers cs)
 unfolding IsDistinct
 apart-once [] a = tt

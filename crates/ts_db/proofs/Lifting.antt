@@ -1,4 +1,4 @@
--- From answers over what is kept to those of each state that is stood for.
+-- From results in stored data to results in each represented state.
 use Rattle.std.proofs.Common.{◌≡◌, sym, ◌∙◌, ap, subst}
 use Rattle.std.specs.Prelude.{Option, None, Some, ⊤, Result, Ok, Err}
 use Rattle.ts_spec.specs.declared.limits.Limits.{Limits}
@@ -16,11 +16,11 @@ use Rattle.ts_db.specs.Answering.{IsKeptAnswer, KeptAnswers}
 use Rattle.ts_db.specs.Store.{stock_of, IsInOrder, IsDb}
 use Rattle.ts_db.proofs.Refusing.{Refuses}
 
--- what is told of keys and of a state for each that they are stood for
+-- results about stored data, and about each state that it represents
 pub at-limits : (stock : Stock) (P : Held → Type 0) → ((m : State) → StandsFor stock.limits stock.keys m → P (record { limits = stock.limits; state = m })) → (from : Held) → Stands stock from → P from
 at-limits stock P each from st = subst (λ (l : Limits). P (record { limits = l; state = from.state })) (sym st.limits) (each from.state st.state)
 
--- A step over what is kept, and that of each state: it is its step, and leaves the state where it refuses.
+-- A step over the stored data, and that of each state: it is its step, and leaves the state where it refuses.
 pub record IsLaw (limits : Limits) (m : State) (step : Outcome) (kept_step : KeptOutcome) : Type 0 where
   pub is_step : IsStepOf limits step kept_step
   pub refuses : Refuses m step
@@ -50,12 +50,12 @@ module _ (old new : Stock) (step : Held → Outcome) (kept_step : KeptOutcome)
   lifted response (Ok x) a = done (response x) a
   lifted response (Err fault) a = (refusal (refusal_of old.ids fault) a.0, a.1)
 
--- where there was a state that was stood for there is one after that
+-- where there was a state that was represented there is one after that
 leads-on : {T : Type 0} (response : T → Response) (old new : Stock) (step : Held → Outcome) (r : Result T DbFault) → Answers response old step r new → Leads old (λ held. ⊤) → Leads new (λ held. ⊤)
 leads-on response old new step (Ok x) a w = record { to = record { limits = w.to.limits; state = (step w.to).state }; done = tt; stands = (a w.to w.stands).stands }
 leads-on response old new step (Err fault) a w = subst (λ (s : Stock). Leads s (λ held. ⊤)) (sym a.1) w
 
--- So a call of a store leaves a database, which answers as the step does of each state that it stood for.
+-- So a call of a store leaves a database, which answers as the step does of each state that it represented.
 pub lifted-on : {stock : Stock} (s new : Store) (view : stock_of s ≡ stock) (db : IsDb s) (order : IsInOrder new) (step : Held → Outcome) (kept_step : KeptOutcome)
     → ((m : State) → StandsFor s.limits (stock_of s).keys m → IsLaw s.limits m (step (record { limits = s.limits; state = m })) kept_step)
     → {T : Type 0} (response : T → Response) (r : Result T DbFault) → KeptAnswers response (stock_of s) kept_step r (stock_of new) → IsDb new × Answers response stock step r (stock_of new)

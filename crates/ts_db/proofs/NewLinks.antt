@@ -1,4 +1,4 @@
--- One node of a store changes its links, and of its key alone another value is kept.
+-- One node changes its links: the stored data of its key changes, and of no other.
 use Rattle.std.proofs.Common.{◌≡◌, ◌<◌, ◌+◌, ◌==◌, Bool, true, false, not, cond, List, [], ◌∷◌, ◌++◌, filter, refl, sym, ◌∙◌, ap, subst, arith, eqb-true, eq-eqb}
 use Rattle.std.specs.Prelude.{Some, Result, Ok, Err, IfOk, IfErr}
 use Rattle.std.specs.declared.alloc.AllocError.{AllocError}
@@ -26,7 +26,7 @@ use Rattle.ts_db.proofs.Applying.{there, store-changed, keys-changed}
 use Rattle.ts_db.proofs.OneKey.{changed-alone, unchanged}
 use Rattle.ts_db.proofs.Reaches.{stock-turned}
 
--- ---- a node that changes its links alone, under its number
+-- ---- a node that changes its links alone, under its id
 
 module _ (s : Store) (store : IsInOrder s) (id : Id) (new : Nodes) {by : (was now : Node) → Type 0} (t : IsTurned s.nodes new id by) (name : t.now.key ≡ t.was.key) where
   holds : Holds s t.was.key id t.was
@@ -40,7 +40,7 @@ module _ (s : Store) (store : IsInOrder s) (id : Id) (new : Nodes) {by : (was no
   kept-changed : HasLiveLinks s.nodes t.now → (stock_of (record s { nodes = new })).keys ≡ with_key t.was.key (kept_node s.nodes t.now) (stock_of s).keys
   kept-changed links = ap (λ (nodes : Nodes). collected nodes s.keys.entries) t.turned ∙ keys-changed s store t.was.key id t.was t.now holds name links
 
-  -- and of its key that is kept which f makes
+  -- and f changes the stored data of its key
   pub kept-turned : (f : Kept → Kept) → HasLiveLinks s.nodes t.now → kept_node s.nodes t.now ≡ f (kept_node s.nodes t.was) → IsKeptBy s id f (record s { nodes = new })
   kept-turned f links is =
       ap (λ (m : Keeping). record (contents_of s) { keys = m })
@@ -49,7 +49,7 @@ module _ (s : Store) (store : IsInOrder s) (id : Id) (new : Nodes) {by : (was no
       ∙ sym (changed-alone (stock_of s).keys t.was.key (kept_node s.nodes t.was) f (there s store t.was.key id t.was holds))
       ∙ ap (λ (k : Key). keep_changed k f (stock_of s).keys) (sym (ap key_at t.there)))
 
-  -- or nothing else, where that is what was kept
+  -- or nothing changes, if f leaves it
   pub same-turned : HasLiveLinks s.nodes t.now → t.now.series ≡ t.was.series → kept_node s.nodes t.now ≡ kept_node s.nodes t.was → stock_of (record s { nodes = new }) ≡ stock_of s
   same-turned links series is =
       ap (λ (nodes : Nodes). stock_of (record s { nodes = nodes })) t.turned
@@ -60,7 +60,7 @@ module _ (s : Store) (store : IsInOrder s) (id : Id) (new : Nodes) {by : (was no
 
 -- ---- a node with other rules
 
--- what is kept of a node with these rules
+-- the stored data of a node with these rules
 pub kept-rules : (nodes : Nodes) (rs : List Rule) (old new : Node) → HasRules rs old new → kept_node nodes new ≡ record (kept_node nodes old) { rules = rules_by (key_in nodes) rs }
 kept-rules nodes rs old new h = ap (kept_node nodes) h.rest ∙ ap (λ (qs : List Rule). record (kept_node nodes old) { rules = rules_by (key_in nodes) qs }) h.rules
 
@@ -72,9 +72,9 @@ pub node-rules : (limits : Limits) (rs : List Rule) (old new : Node) → HasRule
 node-rules limits rs old new h grids x =
     subst (IsNode limits) (sym h.rest) (record { kept = x.kept; within = x.within; born = x.born; labels = x.labels; grids = subst HaveGrids (sym h.rules) grids })
 
--- ---- without the rules to a number
+-- ---- without the rules to an id
 
--- two numbers with one key are one
+-- two ids with one key are one
 pub same-name : (s : Store) → IsInOrder s → (a b : Id) → HasNode s.nodes a → HasNode s.nodes b → same (key_in s.nodes a) (key_in s.nodes b) ≡ (a.0 == b.0)
 same-name s store a b x y = pick (a.0 == b.0) refl (same (key_in s.nodes a) (key_in s.nodes b)) refl
   where
@@ -165,7 +165,7 @@ module _ (nodes : Nodes) (dest : Id) (agg : Aggregator) (grid : Grid) (old new :
       ∙ rules-more (key_in nodes) old.rules.items h.rule
       ∙ ap (λ (q : KeptRule). rules_by (key_in nodes) old.rules.items ++ q ∷ []) (ap (λ (i : Id). kept_with_dest (key_in nodes i) h.rule) h.leads ∙ h.kept (key_in nodes dest)))
 
--- a node that has one more rule, or the rules that it had where there was no memory
+-- a node with one more rule, or with the same rules if memory ran out
 module _ (s : Store) (store : IsInOrder s) (id : Id) (new : Nodes) (dest : Id) (agg : Aggregator) (grid : Grid) (to : HasNode s.nodes dest) where
   abbrev Takes : Result (Unit {0}) AllocError → Type 0
   Takes r = IsTurned s.nodes new id (TakesRule dest agg grid r)

@@ -1,4 +1,4 @@
--- A rule is made: what the step over what is kept comes to.
+-- Creating a rule: the step in stored data.
 use Rattle.std.proofs.Common.{◌≡◌, suc, Bool, true, false, List, [], ◌∷◌, length, refl, sym, ◌∙◌, ap, subst}
 use Rattle.std.specs.Prelude.{nat_le, nat_eq, if◌then◌else◌, Option, None, Some, is_some, option_map}
 use Rattle.std.specs.Cmp.Lexicographic.{pointwise}
@@ -111,7 +111,7 @@ module _ (s : Store) (store : IsInOrder s) (source dest : Key) (from to : Id) (n
   pub unbarred-yields : IsReason s.limits n d None → YieldsToMemory (kept_create_rule s.limits (stock_of s).keys source dest agg grid).response
   unbarred-yields reason = subst (λ (o : KeptOutcome). YieldsToMemory o.response) (sym (unbarred-answer reason)) tt
 
-  -- both changes come to what is kept then
+  -- both changes together give the stored data afterwards
   pub both-ruled : (mid new : Store) → IsElsewhere s mid from → IsKeptBy s from (kept_with_rule (key_in s.nodes to) agg grid) mid → IsKeptBy mid to (kept_sourced (Some (key_in mid.nodes from))) new
       → contents_of new ≡ record (contents_of s) { keys = keep_ruled source dest agg grid (stock_of s).keys }
   both-ruled mid new elsewhere added set =

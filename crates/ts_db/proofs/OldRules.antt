@@ -1,4 +1,4 @@
--- A rule ends: what the step over what is kept comes to.
+-- Deleting a rule: the step in stored data.
 use Rattle.std.proofs.Common.{◌≡◌, ◌==◌, Bool, true, false, List, [], ◌∷◌, refl, sym, ◌∙◌, ap}
 use Rattle.std.specs.Prelude.{◌||◌, if◌then◌else◌, Option, None, Some, is_some}
 use Rattle.ts_spec.specs.Key.{Key, same}
@@ -22,7 +22,7 @@ use Rattle.ts_db.proofs.Ended.{without-rule}
 use Rattle.ts_db.proofs.Known.{links, named}
 use Rattle.ts_db.proofs.NewLinks.{same-name}
 
--- whether a rule leads to a number is told by its key
+-- whether a rule leads to an id depends on its key
 pub rule-some : (s : Store) → IsInOrder s → (dest : Id) → HasNode s.nodes dest → (rs : List Rule) → AreLive s.nodes rs → is_some (kept_rule_to (key_in s.nodes dest) (rules_by (key_in s.nodes) rs)) ≡ any_to dest.0 rs
 rule-some s store dest to [] live = refl
 rule-some s store dest to (r ∷ rs) live =
@@ -76,7 +76,7 @@ module _ (s : Store) (db : IsDb s) (source dest : Key) (from : Id) (n : Node) (h
         → kept_delete_rule (stock_of s).keys source dest ≡ record { keys = keep_without_rule source dest (stock_of s).keys; response = Done }
     to-one b e is = by-test true (tested b e ∙ is)
 
-    -- both changes come to what is kept then
+    -- both changes together give the stored data afterwards
     pub both-ended : (mid new : Store) (b : Bool) → b ≡ any_to to.0 n.rules.items → b ≡ true → IsElsewhere s mid from → IsKeptBy s from (kept_unruled (key_in s.nodes to)) mid → IsKeptBy mid to (kept_sourced None) new
         → contents_of new ≡ record (contents_of s) { keys = keep_without_rule source dest (stock_of s).keys }
     both-ended mid new b e is elsewhere removed set =

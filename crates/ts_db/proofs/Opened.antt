@@ -1,4 +1,4 @@
--- What a series shows with the open bucket of the rule that leads to it.
+-- The samples of a series with the row of its rule's open bucket.
 use Rattle.std.proofs.Common.{◌≡◌, ℕ, Bool, true, false, ◌==◌, List, [], ◌∷◌, refl, sym, ◌∙◌, ap, eqb-true, eq-eqb}
 use Rattle.std.specs.Prelude.{if◌then◌else◌, Option, None, Some, option_map}
 use Rattle.slab.specs.Slab as slab
@@ -35,7 +35,7 @@ module _ (s : Store) (store : IsInOrder s) (key : Key) (id : Id) (n : Node) (hol
   pub asked-bare : n.source ≡ None → kept_asked (stock_of s).keys true key ≡ list_at (get key (stock_of s).keys)
   asked-bare none = asked-latest ∙ ap (λ (o : Option Id). with_open (rule_from (stock_of s).keys key (option_map (key_in s.nodes) o)) (kept_node s.nodes n)) none ∙ own
 
-  -- a number has the key exactly where it is that of the key
+  -- an id has the key exactly where it is that of the key
   same-number : (i : Id) → HasNode s.nodes i → same (key_in s.nodes i) key ≡ (i.0 == id.0)
   same-number i live = go (i.0 == id.0) refl
     where
@@ -51,7 +51,7 @@ module _ (s : Store) (store : IsInOrder s) (key : Key) (id : Id) (n : Node) (hol
           ap (λ (k : Key). same k key) (ap key_at (ap (slab.get s.nodes) (eqb-true i.0 id.0 x)) ∙ named s store key id n holds) ∙ same-refl key ∙ sym x
       go false x = other (same (key_in s.nodes i) key) refl x ∙ sym x
 
-  -- the rule to the key is that to the number
+  -- the rule to the key is that to the id
   rule-number : (rs : List Rule) → AreLive s.nodes rs → kept_rule_to key (rules_by (key_in s.nodes) rs) ≡ option_map (λ r. kept_with_dest (key_in s.nodes r.dest) r) (rule_among id.0 rs)
   rule-number [] live = refl
   rule-number (r ∷ rs) live =

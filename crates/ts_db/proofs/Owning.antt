@@ -1,4 +1,4 @@
--- A fault of full samples names the key to be written.
+-- The error for a full series names the written key.
 use Rattle.std.proofs.Common.{◌≡◌, sym, ◌∙◌, ap, subst}
 use Rattle.std.specs.Prelude.{Some}
 use Rattle.ts_spec.specs.Key.{Key}

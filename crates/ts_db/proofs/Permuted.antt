@@ -1,4 +1,4 @@
--- Two lists that have the same labels of each number: their numbers whose labels pass a test are the same, in some order.
+-- Two lists with the same labels for each id select the same ids, in some order.
 use Rattle.std.proofs.Common.{◌≡◌, ◌≢◌, ℕ, Bool, true, false, cond, List, [], ◌∷◌, refl, sym, ◌∙◌, ap, subst, nat_cmp, ◌<◌, true≢false, ⊎_elim, arith, lt-ltb}
 use Rattle.std.specs.Prelude.{Option, None, Some, is_some, if◌then◌else◌}
 use Rattle.std.specs.Option.{unwrap_or}
@@ -18,7 +18,7 @@ use Rattle.ts_sample.specs.declared.id.Id.{Id}
 use Rattle.ts_index.specs.Index.{Labelled, labels_of, numbers_where}
 use Rattle.ts_index.specs.Numbers.{AreInOrder}
 
--- whether a number is this one
+-- whether an id is this one
 abbrev pub at : ℕ → ℕ → Bool
 at i = is_at (nat_cmp i)
 
@@ -31,7 +31,7 @@ at-same i j e = exact_unsigned i j ((Equal-is (nat_cmp i j)).0 e)
 pub at-self : (i : ℕ) → at i i ≡ true
 at-self i = laws.refl i
 
--- ---- without a number
+-- ---- without an id
 
 all-without : (P : ℕ → Type 0) (test : ℕ → Bool) (es : Labelled) → AllByRecursion P (keys_of es) → AllByRecursion P (keys_of (remove_entry test es))
 all-without P test [] a = tt
@@ -47,7 +47,7 @@ distinct-without test (e ∷ es) d =
 none-some : (ls : List Label) → Some ls ≢ None
 none-some ls e = true≢false (ap is_some e)
 
--- ---- the numbers of entries that pass a test
+-- ---- the ids of entries that pass a test
 
 module _ (test : List Label → Bool) where
   -- one more at the front of both
@@ -58,7 +58,7 @@ module _ (test : List Label → Bool) where
       go true = IsPermutation-cons (record { 0 = e.0 }) (numbers_where test xs) (numbers_where test ys) p
       go false = p
 
-  -- a number in front of others, where it passes
+  -- an id in front of others, where it passes
   abbrev some : Bool → ℕ → List Id → List Id
   some b i l = if b then record { 0 = i } ∷ l else l
 
@@ -75,7 +75,7 @@ module _ (test : List Label → Bool) where
   same : (xs ys : Labelled) → xs ≡ ys → IsPermutation (numbers_where test xs) (numbers_where test ys)
   same xs ys e = subst (λ (l : Labelled). IsPermutation (numbers_where test xs) (numbers_where test l)) e (IsPermutation-refl (numbers_where test xs))
 
-  -- a number that is there comes to the front
+  -- an id that is there comes to the front
   pulled : (q : ℕ) (v : List Label) (es : Labelled) → labels_of q es ≡ Some v → IsPermutation (numbers_where test es) (numbers_where test ((q, v) ∷ remove_entry (at q) es))
   pulled q v [] h = absurd (none-some v (sym h))
   pulled q v (e ∷ es) h =
@@ -90,7 +90,7 @@ module _ (test : List Label → Bool) where
       IsPermutation-trans _ _ _ rest (IsPermutation-trans _ _ _ (turned e (q, v) more) (both (q, v) (e ∷ more) (remove_entry (at q) (e ∷ es)) (same (e ∷ more) (remove_entry (at q) (e ∷ es)) (sym (cond-false (at q e.0) es (e ∷ more) n))))))
       (cases_Bool (at q e.0))
 
-  -- Where each number is there once at most, and has the same labels in both, the same numbers pass.
+  -- Where each id is there once at most, and has the same labels in both, the same ids pass.
   pub same-numbers : (xs ys : Labelled) → IsDistinct at (keys_of xs) → IsDistinct at (keys_of ys) → ((i : ℕ) → labels_of i xs ≡ labels_of i ys) → IsPermutation (numbers_where test xs) (numbers_where test ys)
   same-numbers [] [] c d h = IsPermutation-refl []
   same-numbers [] (y ∷ ys) c d h = absurd (none-some y.1 (sym (h y.0 ∙ lookup_head (at y.0) y ys (laws.refl y.0))))
@@ -101,7 +101,7 @@ module _ (test : List Label → Bool) where
       (λ q. ap (labels_of q) (sym gone) ∙ lookup-remove_entry laws (at k) (laws.congr k) q (x ∷ xs) c ∙ ap (cond (at k q) None) (h q) ∙ sym (lookup-remove_entry laws (at k) (laws.congr k) q ys d)) in
       IsPermutation-trans _ _ _ (both x xs (remove_entry (at k) ys) others) (IsPermutation-sym _ _ (pulled k x.1 ys (sym (h k) ∙ lookup_head (at k) x xs (laws.refl k))))
 
--- ---- numbers in order
+-- ---- ids in order
 
 less-apart : (i j : ℕ) → i < j → at i j ≡ false
 less-apart i j l = rw (lt-ltb i j l) refl
@@ -110,7 +110,7 @@ after-apart : (i : ℕ) (es : Labelled) → AllByRecursion (λ f. i < f.0) es �
 after-apart i [] a = tt
 after-apart i (e ∷ es) a = (less-apart i e.0 a.0, after-apart i es a.1)
 
--- numbers in ascending order are there once
+-- ids in ascending order are there once
 pub distinct-ordered : (es : Labelled) → AreInOrder es → IsDistinct at (keys_of es)
 unfolding IsDistinct
 distinct-ordered [] a = tt

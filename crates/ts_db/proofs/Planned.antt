@@ -16,8 +16,8 @@ use Rattle.ts_rules.specs.SharedBucket.{TheSharedBucket, IsShared}
 use Rattle.ts_rules.specs.Plans.{IsPlanned}
 use Rattle.ts_rules.specs.PlansOfDeletions.{IsPlanOfDeletion}
 use Rattle.ts_db.specs.declared.node.Node.{Node}
-use Rattle.ts_db.specs.declared.work.Work.{Work}
-use Rattle.ts_db.specs.declared.work.Work.TheVariants.{Write, Delete}
+use Rattle.ts_db.specs.declared.planning.Work.{Work}
+use Rattle.ts_db.specs.declared.planning.Work.TheVariants.{Write, Delete}
 use Rattle.ts_db.specs.Store.{Nodes, key_in}
 use Rattle.ts_db.specs.Planning.{changed_by, gone_by, rows_by_work, IsSharedOf, for_destination, IsFedBy, first_full, IsRuleUnplanned}
 use Rattle.ts_db.proofs.Plans.{fits-one, full-one}

@@ -1,4 +1,4 @@
--- The plans for the rules of a source.
+-- The plans for all rules of a source.
 use Rattle.std.proofs.Common.{◌≡◌, ◌<◌, ◌≤◌, ℕ, Bool, true, false, List, [], ◌∷◌, ◌++◌, length, refl, ◌∙◌, ap, le-ltb, lt-ltb}
 use Rattle.std.specs.Prelude.{nat_lt, if◌then◌else◌, Option, None, Some, option_map}
 use Rattle.slab.specs.Slab as slab
@@ -36,7 +36,7 @@ full-one limit nodes rows gone r n is lt =
 
 -- ---- all rules
 
--- past a rule whose destination has room
+-- past a rule whose destination has capacity
 pub full-past : (limit : ℕ) (nodes : Nodes) (rows : Rows) (gone : Gone) (r : Rule) (rs : List Rule) → first_full limit nodes rows gone (r ∷ []) ≡ None
     → first_full limit nodes rows gone (r ∷ rs) ≡ first_full limit nodes rows gone rs
 full-past limit nodes rows gone r rs fits = go (nat_lt limit (length (fed_list nodes rows gone r))) fits

@@ -1,4 +1,4 @@
--- A write to a key that is there, by a policy of its own: what it leaves of each state.
+-- A write to an existing key with its own duplicate policy: its effect on each represented state.
 use Rattle.std.proofs.Common.{◌≡◌, ◌≤◌, ℕ, ℤ, refl, sym, ◌∙◌, ap, subst}
 use Rattle.std.specs.Prelude.{Option, None, Some, option_map, unwrap_or, Result}
 use Rattle.ts_spec.specs.declared.limits.Limits.{Limits}
@@ -27,7 +27,7 @@ use Rattle.ts_db.proofs.Refusing.{add-refuses, put-refuses}
 use Rattle.ts_db.proofs.Lifting.{IsLaw, lifted-on}
 
 module _ (limits : Limits) (keys : Keeping) (m : State) (stands : StandsFor limits keys m) (key : Key) where
-  -- what is kept of the key, by its record
+  -- the stored data of the key, by its record
   abbrev kept_series : Option Record → Option Kept
   kept_series o = option_map (kept_record (link_to m key)) o
 

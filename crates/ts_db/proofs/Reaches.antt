@@ -1,4 +1,4 @@
--- The reach and the chunks of the series of each key, where nodes change.
+-- The reach and the chunks of each key's series after nodes change.
 use Rattle.std.proofs.Common.{◌≡◌, ◌≢◌, ◌==◌, true, false, ℕ, List, [], refl, sym, ◌∙◌, ap, subst, ◌⊎◌, inl, inr}
 use Rattle.std.specs.Prelude.{slice_index_or, Option, None, Some, IsSome, option_map}
 use Rattle.std.specs.Option.{unwrap_or}
@@ -17,13 +17,13 @@ use Rattle.ts_db.specs.Held.{reach_at, pieces_at}
 use Rattle.ts_db.specs.Store.{collected, ids_of, told_of, node_reach, node_pieces, node_sizes, number_of, stock_of, Nodes, Numbers, Holds}
 use Rattle.ts_db.proofs.Collecting.{collected-slots, get-ids}
 
--- what is told of the node of each number
+-- a function of the node of each id
 module _ {X : Type 0} (tell : Option Node → X) where
-  -- it stays where it stays of each number
+  -- it stays where it stays of each id
   told-same : (old new : Nodes) (es : Numbers) → ((j : ℕ) → tell (slab.get new j) ≡ tell (slab.get old j)) → told_of tell new es ≡ told_of tell old es
   told-same old new es same = λ i. each (λ (key : Key) (id : Id). same id.0 i) (ids_of es)
 
-  -- room alone changes nothing
+  -- capacity alone changes nothing
   told-slots : (old new : Nodes) (es : Numbers) → new.slots ≡ old.slots → told_of tell new es ≡ told_of tell old es
   told-slots old new es same = told-same old new es (λ j. ap (λ (slots : List (Option Node)). tell (slice_index_or slots j None)) same)
 
@@ -41,7 +41,7 @@ module _ {X : Type 0} (tell : Option Node → X) where
           ∙ sym (ap tell got) ∙ sym (ap (λ (i : ℕ). tell (slab.get old i)) e.1)
       pick j (inr e) = ap tell (change.others j e.1)
 
--- room changes nothing that contracts see
+-- capacity changes nothing that contracts see
 pub stock-slots : (s : Store) (new : Nodes) → new.slots ≡ s.nodes.slots → stock_of (record s { nodes = new }) ≡ stock_of s
 stock-slots s new same =
     let kept : collected new s.keys.entries ≡ collected s.nodes s.keys.entries = collected-slots s.nodes new s.keys.entries same in
@@ -50,7 +50,7 @@ stock-slots s new same =
     let bounds : told_of node_sizes new s.keys.entries ≡ told_of node_sizes s.nodes s.keys.entries = told-slots node_sizes s.nodes new s.keys.entries same in
     λ i. record (stock_of s) { keys = kept i; reaches = far i; pieces = parts i; sizes = bounds i }
 
--- nor does a node that keeps its series, where the same is kept
+-- nor does a node that keeps its series, where the same is stored
 pub stock-turned : (s : Store) (id : ℕ) (n changed : Node) → slab.get s.nodes id ≡ Some n → changed.series ≡ n.series
     → collected (slab.with_value s.nodes id changed) s.keys.entries ≡ collected s.nodes s.keys.entries → stock_of (record s { nodes = slab.with_value s.nodes id changed }) ≡ stock_of s
 stock-turned s id n changed got same kept =
@@ -63,7 +63,7 @@ stock-turned s id n changed got same kept =
     told-turned node_sizes s.nodes s.keys.entries id n changed got (ap (λ (h : History). h.held.limits) same) in
     λ i. record (stock_of s) { keys = kept i; reaches = far i; pieces = parts i; sizes = bounds i }
 
--- the reach of a key is that of its number
+-- the reach of a key is that of its id
 pub reach-number : (nodes : Nodes) (es : Numbers) (key : Key) (id : Id) → number_of key es ≡ Some id → unwrap_or (get key (told_of node_reach nodes es)) 0 ≡ node_reach (slab.get nodes id.0)
 reach-number nodes es key id is =
     ap (λ (o : Option ℕ). unwrap_or o 0)

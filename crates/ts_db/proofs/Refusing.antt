@@ -1,4 +1,4 @@
--- A step that refuses leaves the state as it was.
+-- A refused step leaves the state unchanged.
 use Rattle.std.proofs.Common.{◌≡◌, ℕ, ℤ, Bool, true, false, Option, None, Some, length, ap}
 use Rattle.std.specs.Prelude.{nat_lt, nat_le, is_some, if◌then◌else◌}
 use Rattle.std.specs.Option.{unwrap_or}

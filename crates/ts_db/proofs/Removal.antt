@@ -1,4 +1,4 @@
--- A key goes from a store, with its series, once no other is linked to it.
+-- Removing a key and its series once no rule links it.
 use Rattle.std.proofs.Common.{◌≡◌, ◌≢◌, ℕ, Bool, true, false, not, ◌||◌, cond, List, [], ◌∷◌, filter, if◌then◌else◌, Option, Some, None, is_some, option_map, refl, sym, ap, ◌∙◌}
 use Rattle.slab.specs.Slab as slab
 use Rattle.ts_spec.specs.declared.limits.Limits.{Limits}
@@ -19,7 +19,7 @@ use Rattle.ts_db.specs.Store.{Nodes, Numbers, rules_by, key_at, key_in, kept_nod
 use Rattle.ts_db.proofs.Collecting.{collected-removed}
 use Rattle.ts_db.proofs.Storing.{apart, there, missing, others-removed}
 
--- ---- what is kept of other keys once a key was dropped is free of it
+-- ---- the stored data of other keys once a key was dropped is free of it
 
 module _ (key k : Key) where
   abbrev ends : Key → Key → Bool

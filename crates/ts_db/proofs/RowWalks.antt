@@ -1,11 +1,11 @@
--- A walk of a visitor that takes a row among the samples.
+-- A scan by a visitor that merges a row in.
 use Rattle.std.proofs.Common.{◌≡◌, ◌≤◌, ◌+◌, ℕ, Bool, true, false, cond, List, [], ◌∷◌, ◌++◌, length, refl, sym, ◌∙◌, ap, subst, arith, MutBor, ltb-true, le-ltb}
 use Rattle.std.specs.Prelude.{nat_lt, if◌then◌else◌, Option, None, Some}
 use Rattle.std.proofs.lemmas.Bool.Decides.{nat_tests}
 use Rattle.ts_spec.specs.Sample.{Point, IsAfter, IsAscending, at_times, put}
 use Rattle.ts_sample.specs.Visit.{visited}
 use Rattle.ts_sample.proofs.Replacing.{none-before, all-past}
-use Rattle.ts_db.specs.declared.row_among.RowAmong.{RowAmong}
+use Rattle.ts_db.specs.declared.among.RowAmong.{RowAmong}
 use Rattle.ts_db.specs.RowAmong.{with_sample, finished, room_beside}
 use Rattle.ts_db.proofs.Rows.{later}
 
@@ -69,7 +69,7 @@ module _ {V : Type 0} (step : V → Point → V) where
           ∙ past (nat_lt row.time q.time) refl
           ∙ ap goal (sym (put-first row q qs h e))
 
-  -- where it still waits there is room for it
+  -- if the row is still pending, there is capacity for it
   module _ (room : V → ℕ) (lowers : (v : V) (p : Point) → room v ≤ room (step v p) + 1) where
     none-waits : (b : MutBor V) (ps : List Point) (row : Point) → (visited (with_sample step) (record { visit = b; row = None }) ps).row ≡ Some row → ⊥
     none-waits b ps row e = absurd (cc (sym (ap (λ (w : RowAmong V). w.row) (without-row b ps)) ∙ e))

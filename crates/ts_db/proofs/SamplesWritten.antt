@@ -1,4 +1,4 @@
--- The sample that a plan of a series writes, and the one for which there was no memory.
+-- The sample that a plan writes, and the one lost when memory runs out.
 use Rattle.std.proofs.Common.{◌≡◌, ℕ, ℤ, refl, sym, ◌∙◌, ap}
 use Rattle.std.specs.Prelude.{None, Some, Ok, Err}
 use Rattle.ts_spec.specs.Sample.{Point, first_of}
@@ -28,7 +28,7 @@ written-sample plan (To v) limit t h p a is = record {
   writes = a;
 }
 
--- the sample of a write that fits, as where there was no memory for it
+-- the sample of a write that fits, and the one lost when memory runs out
 pub record IsUnwritten (limit : ℕ) (what : Merged) (t : ℕ) (h : History) (p : Point) : Type 0 where
   pub value : ℤ
   pub sets : what ≡ To value

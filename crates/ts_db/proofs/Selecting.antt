@@ -1,4 +1,4 @@
--- The keys that filters select, walked in the order of their bytes.
+-- The selected keys, found by scanning all keys in order.
 use Rattle.std.proofs.Common.{◌≡◌, ◌<◌, Bool, true, false, ◌⊎◌, inl, inr, List, [], ◌∷◌, refl, sym, ap, subst, ◌∙◌, arith, eq-eqb, le-ltb, lt-ltb, ne_eqb}
 use Rattle.std.proofs.lemmas.Bool.{cases_order, false≢true, and_parts}
 use Rattle.std.specs.Cmp.Derive.{both_true}
@@ -45,7 +45,7 @@ front {X} k x (e ∷ es) h = go (and_parts (is_before k e.key) (is_below k es) h
     go first true later = absurd (false≢true (sym (before-irrefl k) ∙ before_trans k e.key k first later))
     go first false later = rw (later, first) refl
 
--- what is kept of numbers, in the order of their keys
+-- the stored data of ids, in the order of their keys
 abbrev pub onto : Key → Option Kept → List (Entry Kept) → List (Entry Kept)
 onto k None es = es
 onto k (Some d) es = record { key = k; value = d } ∷ es
@@ -54,7 +54,7 @@ abbrev pub listing : Nodes → Numbers → List (Entry Kept)
 listing nodes [] = []
 listing nodes (e ∷ es) = onto e.0 (kept_numbered nodes e.1) (listing nodes es)
 
--- each number has a node
+-- each id has a node
 abbrev pub HaveNodes : Nodes → Numbers → Type 0
 HaveNodes nodes [] = ⊤
 HaveNodes nodes (e ∷ es) = ((n : Node) × (slab.get nodes e.1.0 ≡ Some n)) × HaveNodes nodes es
@@ -67,7 +67,7 @@ below-listing nodes k (e ∷ es) h = go (kept_numbered nodes e.1) (below-listing
     go None rest = rest
     go (Some d) rest = both_true (below-before k e.0 h.0) rest
 
--- they are the entries of all that is kept
+-- they are the entries of all that is stored
 pub listing-entries : (nodes : Nodes) (es : Numbers) → IsStrictlySortedBy (slice_cmp nat_cmp) (keys_of es) → HaveNodes nodes es → (collected nodes es).entries ≡ listing nodes es
 unfolding IsStrictlySortedBy
 listing-entries nodes [] sorted there = refl
@@ -78,17 +78,17 @@ listing-entries nodes (e ∷ es) sorted there = go (kept_numbered nodes e.1) (ap
     go None is rest = absurd (cc is)
     go (Some d) is rest = ap (put_in e.0 d) rest ∙ front e.0 d (listing nodes es) (below-listing nodes e.0 es sorted.0)
 
--- whether what is kept passes filters
+-- whether the stored data passes filters
 abbrev pub passes : List Filter → Option Kept → Bool
 passes fs None = false
 passes fs (Some d) = all_hold fs d.labels
 
--- the numbers whose labels pass all filters
+-- the ids whose labels pass all filters
 abbrev pub chosen : Nodes → List Filter → Numbers → List Id
 chosen nodes fs [] = []
 chosen nodes fs (e ∷ es) = if passes fs (kept_numbered nodes e.1) then e.1 ∷ chosen nodes fs es else chosen nodes fs es
 
--- each number is that of its key
+-- each id is that of its key
 abbrev pub AreFound : Keyed Id → Numbers → Type 0
 AreFound ids [] = ⊤
 AreFound ids (e ∷ es) = (get e.0 ids ≡ Some e.1) × AreFound ids es
@@ -107,13 +107,13 @@ chosen-listing nodes ids fs (e ∷ es) found = go (kept_numbered nodes e.1) (cho
     go None rest = rest
     go (Some d) rest = choose d (all_hold fs d.labels) rest
 
--- The numbers that are chosen on a walk over all keys are those of the keys that the filters select.
+-- The ids that are chosen on a walk over all keys are those of the keys that the filters select.
 pub chosen-selected : (nodes : Nodes) (ids : Keyed Id) (fs : List Filter) (es : Numbers) → IsStrictlySortedBy (slice_cmp nat_cmp) (keys_of es) → HaveNodes nodes es → AreFound ids es
     → AreNumbersOf ids (kept_selection (collected nodes es) fs) (chosen nodes fs es)
 chosen-selected nodes ids fs es sorted there found =
     subst (λ (l : List (Entry Kept)). AreNumbersOf ids (kept_selected_in fs l) (chosen nodes fs es)) (sym (listing-entries nodes es sorted there)) (chosen-listing nodes ids fs es found)
 
--- of the numbers that a map tells each is found, and has a node
+-- of the ids that a map tells each is found, and has a node
 pub all-found : (ids : Keyed Id) (all es : Numbers) → ((key : Key) → get key ids ≡ number_of key all) → All (λ e. number_of e.0 all ≡ Some e.1) es → AreFound ids es
 all-found ids all [] same each = tt
 all-found ids all (e ∷ es) same each =

@@ -1,4 +1,4 @@
--- Worked examples of the steps of a selection.
+-- Worked examples: the cost of selections.
 use Rattle.std.specs.Prelude.{◌≡◌, refl, List, [], ◌∷◌, None, codes}
 use Rattle.ts_spec.specs.declared.series.Options.{Options}
 use Rattle.ts_spec.specs.Filter.{Filter, Among, NotAmong, Present}

@@ -1,4 +1,4 @@
--- What is kept of a state has as many samples as the state shows.
+-- Stored data has as many samples as the state it represents.
 use Rattle.std.proofs.Common.{◌≡◌, ◌+◌, Bool, true, false, cond, List, [], ◌∷◌, length, Some, refl, sym, ap, ◌∙◌}
 use Rattle.std.specs.Prelude.{⊤}
 use Rattle.std.proofs.lemmas.Bool.{false≢true, and_parts}

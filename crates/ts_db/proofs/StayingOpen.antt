@@ -1,4 +1,4 @@
--- An append that stays in all open buckets is a write whose plans leave the destinations as they are.
+-- An append inside all open buckets is a write whose plans leave the destinations unchanged.
 use Rattle.std.proofs.Common.{◌≡◌, ◌≤◌, ℕ, ℤ, true, false, List, [], ◌∷◌, map, length, refl, sym, ◌∙◌, ap, subst, le-ltb, eq-eqb, max, arith}
 use Rattle.std.specs.Prelude.{◌==◌, if◌then◌else◌, None, Some, option_map}
 use Rattle.ts_spec.specs.Sample.{Point, put}
@@ -19,7 +19,7 @@ use Rattle.ts_rules.proofs.Mended.{unmended}
 use Rattle.ts_db.specs.declared.planning.DestinationPlan.{DestinationPlan}
 use Rattle.ts_db.specs.declared.node.Node.{Node}
 use Rattle.ts_db.specs.declared.store.Store.{Store}
-use Rattle.ts_db.specs.declared.work.Work.TheVariants.{Write}
+use Rattle.ts_db.specs.declared.planning.Work.TheVariants.{Write}
 use Rattle.ts_db.specs.Feeding.{Rows, Gone}
 use Rattle.ts_db.specs.Growing.{grown, AreOpenAt, StaysOpen, HaveRoom, kept_grown}
 use Rattle.ts_db.specs.Planning.{changed_by, gone_by, rows_by_work, AllTake, kept_rule_in, AreFedBy, AreChanged, first_full, AreDistinct, IsFed}
@@ -61,7 +61,7 @@ module _ (h : History) (p : Point) (append : is_append p.time h.high ≡ true) w
       ap (λ (q : KeptRule). q ∷ map (grown p) (rules_by names rs)) (grows (kept_with_dest (names r.dest) r) o.0)
       ∙ ap (λ (qs : List KeptRule). changed_by (Write p) h (kept_with_dest (names r.dest) r) ∷ qs) (grown-rules names rs o.1)
 
--- what is kept of the node is what is kept after the write
+-- the stored data of the node is that after the write
 pub grown-after : (s : Store) (n : Node) (plan : Plan) (t : ℕ) (v : ℤ) → Writes (sample_of t v n.series) plan → StaysOpen n.series (sample_of t v n.series) n.rules.items
     → kept_grown s.nodes plan (sample_of t v n.series) n ≡ kept_with t v (kept_named (key_in s.nodes) n)
 grown-after s n plan t v w o =
@@ -113,7 +113,7 @@ module _ (s : Store) (store : IsInOrder s) (h : History) (p : Point) (append : i
       (fits-one s.limits.samples s.nodes rows gone r live.0.node live.0.there (left-alone r live.0.node (store.each r.dest.0 live.0.node live.0.there) o.0).fits)
       ∙ none-full rs o.1 live.1
 
--- destinations without plans are mended
+-- destinations without plans are updated
 all-none : (init now : Store) (store : IsInOrder now) (rows : Rows) (gone : Gone) (rs xs : List Rule) → Feeding init now rows gone rs (no_plans xs) → IsFed init rows gone rs now
 all-none init now store rows gone rs [] f = fed-all init now rows gone rs f
 all-none init now store rows gone rs (x ∷ xs) f =
@@ -130,7 +130,7 @@ grown-grids p [] (x ∷ xs) c g = absurd c
 grown-grids p (r ∷ rs) [] c g = absurd c
 grown-grids p (r ∷ rs) (x ∷ xs) c g = (subst IsGrid (sym (ap (λ (q : KeptRule). q.grid) (c.0.kept []))) g.0, grown-grids p rs xs c.1 g.1)
 
--- rules that take an appended sample have room for it
+-- rules that take an appended sample have capacity for it
 pub open-room : (h : History) (p : Point) (rs : List Rule) → StaysOpen h p rs → AllTake (Write p) h rs → HaveRoom rs
 open-room h p [] o t = tt
 open-room h p (r ∷ rs) o t = (t.0 o.append o.at.0, open-room h p rs (record { append = o.append; at = o.at.1 }) t.1)

@@ -1,4 +1,4 @@
--- That a database stays in order.
+-- Changes preserve the invariant of the store.
 use Rattle.std.proofs.Common.{◌≡◌, ◌≢◌, ◌<◌, ◌≤◌, ◌+◌, ℕ, suc, Bool, true, false, cond, List, [], ◌∷◌, length, refl, sym, ◌∙◌, ap, subst, ◌⊎◌, inl, inr, arith}
 use Rattle.std.specs.Prelude.{slice_index_or, Option, None, Some, is_some, option_map, count_by}
 use Rattle.std.proofs.lemmas.Bool.{cases_eq}
@@ -16,7 +16,7 @@ use Rattle.ts_db.specs.Store.{Nodes, Numbers, key_at, key_in, kept_node, collect
 use Rattle.ts_db.proofs.Counts.{count-more, count-same, count-less}
 use Rattle.ts_db.proofs.Collecting.{same-at, found, get-collected, id-same, collected-written, collected-added, collected-removed, collected-slots, KeepsOthers, same-names}
 
--- what a number has after one was updated
+-- what an id has after one was updated
 after-update : (nodes new : Nodes) (i : ℕ) (n : Node) → slab.Updates nodes new i (Some n) → (P : Node → Type 0) → P n
     → ((j : ℕ) (g : Node) → slab.get nodes j ≡ Some g → P g) → (j : ℕ) (g : Node) → slab.get new j ≡ Some g → P g
 after-update nodes new i n change P here old j g is = pick (cases_eq j i)
@@ -32,9 +32,9 @@ still-there nodes new i n change j g is = pick (cases_eq j i)
     pick (inl same) = (n, ap (slab.get new) same ∙ change.changed)
     pick (inr other) = (g, change.others j other ∙ is)
 
--- ---- live numbers
+-- ---- live ids
 
--- where each number that is live is so after a change, links stay live
+-- where each id that is live is so after a change, links stay live
 pub live-on : (nodes new : Nodes) (n : Node) → ((id : Id) → HasNode nodes id → HasNode new id) → HasLiveLinks nodes n → HasLiveLinks new n
 live-on nodes new n on live = record { rules = rules n.rules.items live.rules; source = source n.source live.source }
   where
@@ -53,7 +53,7 @@ live-bare nodes n rules source = record { rules = subst (AreLive nodes) (sym rul
 pub live-written : (nodes new : Nodes) (i : ℕ) (n : Node) → slab.Updates nodes new i (Some n) → (id : Id) → HasNode nodes id → HasNode new id
 live-written nodes new i n change id live = let g = still-there nodes new i n change id.0 live.node live.there in record { node = g.0; there = g.1 }
 
--- numbers keep their keys where a node does
+-- ids keep their keys where a node does
 pub names-written : (nodes new : Nodes) (i : ℕ) (old n : Node) → slab.get nodes i ≡ Some old → slab.Updates nodes new i (Some n) → n.key ≡ old.key → (id : Id) → key_in new id ≡ key_in nodes id
 names-written nodes new i old n at change name id = pick (cases_eq id.0 i)
   where
@@ -80,7 +80,7 @@ store-empty limits nodes es none is room bounded = subst (IsStore limits nodes) 
     vacant i n e = let missing : None ≡ Some n = sym (ap (λ (s : List (Option Node)). slice_index_or s i None) none) ∙ e in cc missing
 
 module _ (limits : Limits) (nodes : Nodes) (es : Numbers) (store : IsStore limits nodes es) where
-  -- a number is that of one key
+  -- an id is that of one key
   pub apart : (j k : Key) (id : Id) → number_of j es ≡ Some id → number_of k es ≡ Some id → same j k ≡ true
   apart j k id x y =
       let of = store.stored j id x in
@@ -93,7 +93,7 @@ module _ (limits : Limits) (nodes : Nodes) (es : Numbers) (store : IsStore limit
   pub missing : (key : Key) → number_of key es ≡ None → get key (collected nodes es) ≡ None
   missing key is = get-collected key nodes es ∙ ap (found nodes) is
 
-  -- a node that changes but keeps its key changes what is kept of that key alone
+  -- a node that changes but keeps its key changes the stored data of that key alone
   pub others-written : (new : Nodes) (i : ℕ) (old n : Node) → slab.get nodes i ≡ Some old → slab.Updates nodes new i (Some n) → n.key ≡ old.key → KeepsOthers nodes new i
   others-written new i old n at change name j g other is = same-names nodes (key_in new) (key_in nodes) g (store.live j g is) (λ id x. names-written nodes new i old n at change name id)
 
@@ -127,7 +127,7 @@ module _ (limits : Limits) (nodes : Nodes) (es : Numbers) (store : IsStore limit
           ∙ name ∙ store.named k i old e (ap (slab.get nodes) here ∙ at)
       keyed k i g e f (inr other) = store.named k i g e (sym (change.others i.0 other) ∙ f)
 
-  -- a node under a new number is linked to none that was there
+  -- a node under a new id is linked to none that was there
   pub others-added : (new : Nodes) (id : Id) (n : Node) → slab.get nodes id.0 ≡ None → slab.Updates nodes new id.0 (Some n) → KeepsOthers nodes new id.0
   others-added new id n vacant change j g other is = same-names nodes (key_in new) (key_in nodes) g (store.live j g is)
       (λ i x. ap key_at (change.others i.0 (λ e. absurd (cc (x.there, ap (slab.get nodes) e, vacant)))))
@@ -231,7 +231,7 @@ module _ (limits : Limits) (nodes : Nodes) (es : Numbers) (store : IsStore limit
           absurd (not_gone i n e (sym number))
       owner i n false x e = store.owned i n (left i n e)
 
-  -- a key is there exactly where it has a number
+  -- a key is there exactly where it has an id
   pub found-some : (key : Key) → is_some (get key (collected nodes es)) ≡ is_some (number_of key es)
   found-some key = ap is_some (get-collected key nodes es) ∙ go (number_of key es) refl
     where
@@ -239,7 +239,7 @@ module _ (limits : Limits) (nodes : Nodes) (es : Numbers) (store : IsStore limit
       go None is = refl
       go (Some id) is = let of = store.stored key id is in ap (λ (o : Option Node). is_some (option_map (kept_node nodes) o)) of.1
 
-  -- with more room alone
+  -- with more capacity alone
   pub store-slots : (new : Nodes) → new.slots ≡ nodes.slots → IsStore limits new es
   store-slots new same = record {
     stored = λ k i e. (let g = store.stored k i e in (g.0, ap (λ (s : List (Option Node)). slice_index_or s i.0 None) same ∙ g.1));
@@ -255,7 +255,7 @@ module _ (limits : Limits) (nodes : Nodes) (es : Numbers) (store : IsStore limit
     bounded = store.bounded;
   }
 
-  -- a key that is not there has no number
+  -- a key that is not there has no id
   pub number-none : (key : Key) → get key (collected nodes es) ≡ None → number_of key es ≡ None
   number-none key none = go (number_of key es) refl
     where

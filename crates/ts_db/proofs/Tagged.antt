@@ -1,4 +1,4 @@
--- The numbers of an index whose labels pass a test, and those of the keys, in the order of the keys.
+-- The selected ids of the index and the selected keys, in key order.
 use Rattle.std.proofs.Common.{◌≡◌, ℕ, Bool, true, false, List, [], ◌∷◌, refl, sym, ◌∙◌, ap, nat_cmp, ⊎_elim, Less}
 use Rattle.std.specs.Prelude.{Option, None, Some}
 use Rattle.std.specs.Option.{unwrap_or}
@@ -19,18 +19,18 @@ use Rattle.ts_db.specs.Store.{Numbers, number_of}
 use Rattle.ts_db.proofs.Permuted.{at, at-same, at-self, same-numbers}
 
 module _ (labels : ℕ → Option (List Label)) (name : Id → Key) where
-  -- the labels of each number, in the order of the keys
+  -- the labels of each id, in the order of the keys
   abbrev pub tagged : Numbers → Labelled
   tagged [] = []
   tagged (e ∷ es) = (e.1.0, unwrap_or (labels e.1.0) []) ∷ tagged es
 
-  -- a number has labels, and its key is this one
+  -- an id has labels, and its key is this one
   pub record IsKnown (e : Key × Id) : Type 0 where
     pub its : List Label
     pub has : labels e.1.0 ≡ Some its
     pub named : name e.1 ≡ e.0
 
-  -- The index has the labels of the numbers of all keys, and of no others.
+  -- The index has the labels of the ids of all keys, and of no others.
   pub record IsIndexOf (index : Labelled) (es : Numbers) : Type 0 where
     pub sorted : IsStrictlySortedBy (slice_cmp nat_cmp) (keys_of es)
     pub once : IsDistinct at (keys_of index)
@@ -87,6 +87,6 @@ module _ (labels : ℕ → Option (List Label)) (name : Id → Key) where
         go None e = e ∙ sym (missing i es e is.known)
         go (Some ls) e = e ∙ sym (there i ls (is.owned i ls e).0 es e (is.owned i ls e).1)
 
-    -- the numbers that the index tells of a test are those of the keys, in some order
+    -- the ids that the index tells of a test are those of the keys, in some order
     pub told : (test : List Label → Bool) → IsPermutation (numbers_where test index) (numbers_where test (tagged es))
     told test = same-numbers test index (tagged es) is.once (distinct es is.sorted is.known) same-labels

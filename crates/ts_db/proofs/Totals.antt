@@ -1,4 +1,4 @@
--- How many samples all keys show, on a walk over them.
+-- The number of samples in all series, counted one by one.
 use Rattle.std.proofs.Common.{◌≡◌, ◌+◌, ◌*◌, ◌^◌, ◌-◌, ◌≤◌, ◌<◌, ℕ, [], ◌∷◌, length, refl, ◌∙◌, ap, arith}
 use Rattle.std.proofs.Math.Nat.{mul-le-mul}
 use Rattle.std.specs.Prelude.{Option, Some, option_map, sum_by}
@@ -36,7 +36,7 @@ total-bound limits nodes (e ∷ es) each there =
     let split : samples_in (listing nodes (e ∷ es)) ≡ length (list_of there.0.0.series) + samples_in (listing nodes es) = total-next nodes e.0 e.1 there.0.0 (e ∷ es) es refl there.0.1 in
     omega (arith, one, rest, split)
 
--- so the number of all samples is one of 64 bits
+-- so the number of all samples fits 64 bits
 pub total-fits : (limits : Limits) (nodes : Nodes) (es : Numbers) → ((i : ℕ) (n : Node) → slab.get nodes i ≡ Some n → IsNode limits n) → HaveNodes nodes es
     → length es ≤ limits.keys → limits.keys < 2 ^ 32 → limits.samples < 2 ^ 32 → samples_in (listing nodes es) < 2 ^ 64
 total-fits limits nodes es each there few keys samples =
@@ -46,7 +46,7 @@ total-fits limits nodes es each there few keys samples =
 
 -- ---- how much of them is decoded
 
--- the reach of the series of these numbers, added up
+-- the reach of the series of these ids, added up
 abbrev pub reaches : Nodes → Numbers → ℕ
 reaches nodes [] = 0
 reaches nodes (e ∷ es) = node_reach (slab.get nodes e.1.0) + reaches nodes es

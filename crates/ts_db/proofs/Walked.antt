@@ -1,4 +1,4 @@
--- A walk over the keys that takes the numbers which are among ascending ones.
+-- Scanning all keys and keeping the ids in a sorted list.
 use Rattle.std.proofs.Common.{◌≡◌, ◌<◌, ℕ, ◌&&◌, Bool, true, false, List, [], ◌∷◌, length, refl, sym, ◌∙◌, ap, eq-eqb}
 use Rattle.std.specs.Prelude.{Option, Err, if◌then◌else◌}
 use Rattle.std.specs.Option.{unwrap_or}
@@ -18,7 +18,7 @@ use Rattle.ts_db.specs.Ordered.{among}
 use Rattle.ts_db.specs.Store.{Numbers}
 use Rattle.ts_db.proofs.Tagged.{tagged, IsKnown}
 
--- a search that finds a number
+-- a search that finds an id
 pub found-in : (xs : List Id) (p : ℕ) (i : Id) → AreAscending xs → p < length xs → HoldsAt (λ y. nat_cmp y.0 i.0 ≡ Equal) xs p → has_number i.0 xs ≡ true
 found-in xs p i o l found = sym (ap (has_number i.0) (already xs p i o l found)) ∙ has_number-with i xs i.0 ∙ rw (eq-eqb i.0 i.0 refl) refl
 
@@ -31,12 +31,12 @@ not-in xs p i o found = sym (ap (has_number i.0) (not_there xs p i o found)) ∙
     none false = refl
 
 module _ (labels : ℕ → Option (List Label)) (name : Id → Key) (test : List Label → Bool) (index : Labelled) (ordered : AreInOrder index) (indexed : (i : ℕ) → labels_of i index ≡ labels i) where
-  -- a number is among those whose labels pass, where the labels of its key pass
+  -- an id is among those whose labels pass, where the labels of its key pass
   one : (e : Key × Id) → IsKnown labels name e → has_number e.1.0 (numbers_where test index) ≡ test (unwrap_or (labels e.1.0) [])
   one e known =
       has_number-where test index ordered e.1.0 ∙ ap (pass test) (indexed e.1.0 ∙ known.has) ∙ ap (λ (o : Option (List Label)). test (unwrap_or o [])) (sym known.has)
 
-  -- The numbers that a walk over the keys takes are those whose labels pass, in the order of the keys.
+  -- The ids that a walk over the keys takes are those whose labels pass, in the order of the keys.
   pub walked : (es : Numbers) → AllByRecursion (IsKnown labels name) es → among (numbers_where test index) es ≡ numbers_where test (tagged labels name es)
   walked [] known = refl
   walked (e ∷ es) known =

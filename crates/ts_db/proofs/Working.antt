@@ -1,4 +1,4 @@
--- What is kept after work on a source: its node is another, and then the destinations of its rules are mended.
+-- The stored data after a change of a source: its node changes, then the destinations of its rules.
 use Rattle.std.proofs.Common.{◌≡◌, ℕ, List, [], ◌∷◌, map, refl, sym, ◌∙◌, ap, subst}
 use Rattle.std.specs.Prelude.{None}
 use Rattle.ts_spec.specs.Key.{Key}
@@ -13,8 +13,8 @@ use Rattle.ts_db.specs.declared.planning.DestinationPlan.{DestinationPlan}
 use Rattle.ts_db.specs.declared.fault.DbFault.{DbFault}
 use Rattle.ts_db.specs.declared.node.Node.{Node}
 use Rattle.ts_db.specs.declared.store.Store.{Store}
-use Rattle.ts_db.specs.declared.work.Work.{Work}
-use Rattle.ts_db.specs.declared.work.Work.TheVariants.{Write, Delete}
+use Rattle.ts_db.specs.declared.planning.Work.{Work}
+use Rattle.ts_db.specs.declared.planning.Work.TheVariants.{Write, Delete}
 use Rattle.ts_db.specs.Feeding.{Rows, Gone, keep_fed}
 use Rattle.ts_db.specs.Planning.{changed_by, gone_by, rows_by_work, AllTake, AreChanged, AreFedBy, first_full, IsUnplanned, AreDestinationPlans}
 use Rattle.ts_db.specs.Store.{rules_by, key_in, stock_of, contents_of, Contents, HasNode, AreLive, HaveGrids, IsDb, Holds}
@@ -24,7 +24,7 @@ use Rattle.ts_db.proofs.Known.{links, none-own, distinct}
 
 -- ---- the rules of the source
 
--- rules that change, by what is kept of them
+-- rules that change, by the stored data of them
 pub changed-rules : (names : Id → Key) (change : KeptRule → KeptRule) (rs xs : List Rule) → AreChanged change rs xs → rules_by names xs ≡ map change (rules_by names rs)
 changed-rules names change [] [] c = refl
 changed-rules names change [] (x ∷ xs) c = absurd c
@@ -91,7 +91,7 @@ module _ (s : Store) (db : IsDb s) (key : Key) (id : Id) (n : Node) (holds : Hol
     distinct = distinct s n.rules.items (links s db key id n holds).apart;
   }
 
-  -- what is kept after both
+  -- the stored data after both
   pub worked : (rows : Rows) (gone : Gone) (d : Kept) (new : Contents) → contents_of mid ≡ record (contents_of s) { keys = with_key key d (stock_of s).keys }
       → new ≡ record (contents_of mid) { keys = keep_fed rows gone (rules_by (key_in mid.nodes) n.rules.items) (stock_of mid).keys }
       → new ≡ record (contents_of s) { keys = keep_fed rows gone (rules_by (key_in s.nodes) n.rules.items) (with_key key d (stock_of s).keys) }
@@ -99,7 +99,7 @@ module _ (s : Store) (db : IsDb s) (key : Key) (id : Id) (n : Node) (holds : Hol
       fed ∙ ap (λ (f : Id → Key). record (contents_of mid) { keys = keep_fed rows gone (rules_by f n.rules.items) (stock_of mid).keys }) (names-same s mid id else)
       ∙ ap (λ (x : Contents). record x { keys = keep_fed rows gone (rules_by (key_in s.nodes) n.rules.items) x.keys }) applied
 
--- a deletion asks no room of the rules
+-- a deletion needs no capacity in the rules
 pub takes-deleted : (from to : ℕ) (h : History) (rs : List Rule) → AllTake (Delete from to) h rs
 takes-deleted from to h [] = tt
 takes-deleted from to h (r ∷ rs) = (tt, takes-deleted from to h rs)

@@ -1,4 +1,4 @@
--- A write to the series of a number that is done: what it needs of the plans, and what is kept then.
+-- A successful write: what it needs of the plans, and the stored data afterwards.
 use Rattle.std.proofs.Common.{◌≡◌, ℕ, ℤ, List, refl, sym, ◌∙◌, ap, subst}
 use Rattle.std.specs.Prelude.{Vec, None, Some, Ok}
 use Rattle.std.specs.declared.alloc.Global.{Global}
@@ -20,8 +20,8 @@ use Rattle.ts_rules.specs.declared.rule.Rule.{Rule}
 use Rattle.ts_db.specs.declared.planning.DestinationPlan.{DestinationPlan}
 use Rattle.ts_db.specs.declared.node.Node.{Node}
 use Rattle.ts_db.specs.declared.store.Store.{Store}
-use Rattle.ts_db.specs.declared.work.Work.{Work}
-use Rattle.ts_db.specs.declared.work.Work.TheVariants.{Write}
+use Rattle.ts_db.specs.declared.planning.Work.{Work}
+use Rattle.ts_db.specs.declared.planning.Work.TheVariants.{Write}
 use Rattle.ts_db.specs.Held.{Stock}
 use Rattle.ts_db.specs.Feeding.{Rows, Gone, keep_fed}
 use Rattle.ts_db.specs.Growing.{StaysOpen, HaveRoom, kept_grown}
@@ -54,7 +54,7 @@ module _ (s : Store) (db : IsDb s) (id : Id) (n : Node) (at : slab.get s.nodes i
   fits : IsNode s.limits n
   fits = db.store.each id.0 n at
 
-  -- the rules have room for a sample
+  -- the rules have capacity for a sample
   pub room : (p : Point) (rs : List Rule) → rs ≡ n.rules.items → AllTake (Write p) n.series rs
   room p rs items = subst (AllTake (Write p) n.series) (sym items) (takes s db key id n holds p)
 
@@ -80,7 +80,7 @@ module _ (s : Store) (db : IsDb s) (id : Id) (n : Node) (at : slab.get s.nodes i
       abbrev gone : Gone
       gone = gone_by work n.series
 
-      -- what is kept is so after the write
+      -- this is the stored data after the write
       stored : (d : Kept) (new : Store) → d ≡ kept_with t w.value (kept_node s.nodes n) → first_full s.limits.samples s.nodes rows gone n.rules.items ≡ None
           → contents_of new ≡ record (contents_of s) { keys = keep_fed rows gone (rules_by (key_in s.nodes) n.rules.items) (with_key key d stock.keys) }
           → KeptNumber stock (kept_write_merged s.limits stock.keys key t what) (Ok t) (stock_of new)

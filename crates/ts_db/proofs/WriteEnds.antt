@@ -1,4 +1,4 @@
--- How a write to the series of a number ends: what it answers, whose fault it tells, and how much is decoded.
+-- The outcomes of a write: its result, the series that an error names, and its cost.
 use Rattle.std.proofs.Common.{◌≡◌, ◌<◌, ◌≤◌, ◌+◌, ◌*◌, ℕ, ℤ, List, length, refl, sym, ◌∙◌, ap, subst, arith}
 use Rattle.std.specs.Prelude.{None, Some, Result, Ok, Err, IfErr}
 use Rattle.slab.specs.Slab as slab
@@ -22,7 +22,7 @@ use Rattle.ts_rules.specs.declared.rule.Rule.{Rule}
 use Rattle.ts_db.specs.declared.fault.DbFault.{DbFault}
 use Rattle.ts_db.specs.declared.node.Node.{Node}
 use Rattle.ts_db.specs.declared.store.Store.{Store}
-use Rattle.ts_db.specs.declared.work.Work.TheVariants.{Write}
+use Rattle.ts_db.specs.declared.planning.Work.TheVariants.{Write}
 use Rattle.ts_db.specs.Faults.{refusal_of, IsFaultAt}
 use Rattle.ts_db.specs.Held.{Stock, IsOwn}
 use Rattle.ts_db.specs.Planning.{gone_by, rows_by_work, first_full, IsUnplanned, shares_of, AreEasyOf}
@@ -44,7 +44,7 @@ pub record Ends (s : Store) (id : Id) (how : Merge) (t : ℕ) (v : ℤ) (result 
   pub steps : Takes from to (write_steps (stock_of s) (key_in s.nodes id) t)
   pub easy : (key : Key) → number_of key s.keys.entries ≡ Some id → IsEasyAppend (stock_of s) key t → to ≡ from
 
--- a plan that writes nothing leaves what is kept
+-- a plan that writes nothing leaves the stored data
 keeps : (plan : Plan) (what : Merged) (limits : Limits) (m : Keeping) (key : Key) (t : ℕ) (h : History) → PutAnswers what limits.samples t h (Ok plan) → None ≡ first_of plan.wrote
     → kept_write_merged limits m key t what ≡ record { keys = m; response = Count t }
 keeps plan (Refuse r) limits m key t h a none = absurd a
@@ -71,7 +71,7 @@ module _ (s : Store) (db : IsDb s) (id : Id) (n : Node) (at : slab.get s.nodes i
     abbrev what : Merged
     what = met how t v n.series
 
-    -- what holds of the node and of its key holds of each that the number has
+    -- what holds of the node and of its key holds of each that the id has
     ended : (result : Result ℕ DbFault) (new : Stock) (from to : ℕ) → KeptNumber stock (kept_write_merged s.limits stock.keys key t what) result new → IfErr result (IsOwn stock key)
         → Takes from to (write_steps stock key t) → (IsEasyAppend stock key t → to ≡ from) → Ends s id how t v result new from to
     ended result new from to written own steps easy = record {
@@ -129,7 +129,7 @@ module _ (s : Store) (db : IsDb s) (id : Id) (n : Node) (at : slab.get s.nodes i
             more_spared (subst (AreEasyOf s.limits.samples s.nodes (Write p) n.series) (sym items) (easy-rules s db key id n holds p (subst (IsEasyAppend stock key) (sym time) e)))
             ∙ easy_alone e
 
-        -- a destination refuses it, or there is no memory
+        -- a destination refuses it, or memory runs out
         pub unplanned : (fault : DbFault) → IsUnplanned (first_full s.limits.samples s.nodes (rows_by_work (Write p) n.series) (gone_by (Write p) n.series) rs) fault → Ends s id how t v (Err fault) stock from to
         unplanned fault is =
             let sample : Point = sample_of t fitting.value n.series in

@@ -1,4 +1,4 @@
--- How a write to a series answers, by what it comes to.
+-- The result of a write to a series, case by case.
 use Rattle.std.proofs.Common.{◌≡◌, ◌≤◌, ℕ, ℤ, Bool, true, false, map, length, refl, sym, ◌∙◌, ap, subst, le-ltb, lt-ltb}
 use Rattle.std.specs.Prelude.{nat_lt, if◌then◌else◌, Vec, Option, None, Some, option_map, Ok, Err}
 use Rattle.std.specs.declared.alloc.Global.{Global}
@@ -26,7 +26,7 @@ use Rattle.ts_rules.specs.declared.rule.Rule.{Rule}
 use Rattle.ts_db.specs.declared.fault.DbFault.{DbFault}
 use Rattle.ts_db.specs.declared.node.Node.{Node}
 use Rattle.ts_db.specs.declared.store.Store.{Store}
-use Rattle.ts_db.specs.declared.work.Work.TheVariants.{Write}
+use Rattle.ts_db.specs.declared.planning.Work.TheVariants.{Write}
 use Rattle.ts_db.specs.Faults.{refusal_of}
 use Rattle.ts_db.specs.Feeding.{Rows, Gone, keep_fed}
 use Rattle.ts_db.specs.Planning.{changed_by, gone_by, rows_by_work, AreChanged, first_full, IsUnplanned}
@@ -83,7 +83,7 @@ module _ (s : Store) (db : IsDb s) (key : Key) (id : Id) (n : Node) (holds : Hol
       ∙ ap (λ (o : KeptOutcome). if nat_lt s.limits.samples (length (kept_with t v (kept_node s.nodes n)).list) then kept_refused (stock_of s).keys refusal.SamplesFull else o)
       (destinations-tested s db.store key id n holds (links s db key id n holds) (rows t v) (gone t v) (kept_with t v (kept_node s.nodes n)) done)
 
-  -- where the key itself has room
+  -- where the key itself has capacity
   write-fits : (t : ℕ) (v : ℤ) → length (list_after (sample_of t v n.series) n.series) ≤ s.limits.samples
       → kept_write_merged s.limits (stock_of s).keys key t (To v) ≡ kept_unless_full (stock_of s).keys (option_map (key_in s.nodes) (full_by t v)) (record { keys = after_keys t v; response = Count t })
   write-fits t v few =
@@ -110,7 +110,7 @@ module _ (s : Store) (db : IsDb s) (key : Key) (id : Id) (n : Node) (holds : Hol
       (sym (ap (λ (x : Contents). x.keys) is
       ∙ ap (λ (x : Kept). keep_fed (rows t v) (gone t v) (rules_by (key_in s.nodes) n.rules.items) (with_key key x (stock_of s).keys)) same))
 
-  -- one that a destination refuses, or for which there was no memory and that no destination refuses
+  -- a destination refuses it, or no destination does and memory ran out
   pub unplanned-answers : (fault : DbFault) (t : ℕ) (v : ℤ) → Fits s.limits.samples (sample_of t v n.series) n.series → IsUnplanned (full_by t v) fault
       → IsKeptAnswer (refusal_of (stock_of s).ids fault) (stock_of s).keys (kept_write_merged s.limits (stock_of s).keys key t (To v))
   unplanned-answers fault t v few x =
@@ -119,7 +119,7 @@ module _ (s : Store) (db : IsDb s) (key : Key) (id : Id) (n : Node) (holds : Hol
       (destination-refused s db.store n.rules.items (rows t v) (gone t v) (db.store.live id.0 n holds.node).rules fault done
       (λ none. none-full-yields (key_in s.nodes) (stock_of s).keys (full_by t v) done none tt) x)
 
-  -- a write that was not planned, and not for want of memory
+  -- a write that could not be planned, for another reason than memory
   pub refused-answers : (fault : PutFault) (o : Option Refusal) (what : Merged) (t : ℕ) → unwritten_of fault ≡ None → o ≡ put_refusal fault → PutAnswers what s.limits.samples t n.series (Err fault)
       → IsKeptAnswer o (stock_of s).keys (kept_write_merged s.limits (stock_of s).keys key t what)
   refused-answers fault o (Refuse r) t other is a = subst (λ (x : Option Refusal). IsKeptAnswer x (stock_of s).keys (kept_refused (stock_of s).keys r)) (sym (is ∙ a)) refl
@@ -139,7 +139,7 @@ module _ (s : Store) (db : IsDb s) (key : Key) (id : Id) (n : Node) (holds : Hol
       full (Unwritten p) none x = absurd (cc none)
       full (Memory e) none x = absurd x
 
--- what a write comes to that is not ignored, by what is kept and by the series
+-- what a write comes to that is not ignored, by the stored data and by the series
 pub write-met : (m : Keeping) (s : Store) (key : Key) (n : Node) (how : Merge) (t : ℕ) (v : ℤ) → kept_ignored (kept_node s.nodes n) t v ≡ None
     → kept_write s.limits m key (kept_node s.nodes n) how t v ≡ kept_write_merged s.limits m key t (met how t v n.series)
 write-met m s key n how t v none =

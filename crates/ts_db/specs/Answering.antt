@@ -1,4 +1,4 @@
--- How the calls of a store answer: by the functions of what is kept.
+-- How operations on the store answer, in terms of stored data.
 use Rattle.std.specs.Prelude.{◌≡◌, ◌≢◌, ◌≤◌, ℕ, List, length, Vec, Option, None, Some, Result, Ok, Err}
 use Rattle.std.specs.Option.{unwrap_or}
 use Rattle.std.specs.declared.alloc.Global.{Global}
@@ -21,22 +21,22 @@ use Rattle.ts_db.specs.Faults.{refusal_of}
 use Rattle.ts_db.specs.Held.{Stock, YieldsToMemory}
 use Rattle.ts_db.specs.Store.{key_in, kept_node, stock_of, contents_of, AreLive, HaveGrids, Holds}
 
--- a refusal is the step's answer; want of memory is told only where the step refuses nothing
+-- an error is the step's refusal; out of memory is allowed only if the step refuses nothing
 abbrev pub IsKeptAnswer : Option Refusal → Keeping → KeptOutcome → Type 0
 IsKeptAnswer None m step = YieldsToMemory step.response
 IsKeptAnswer (Some refusal) m step = step ≡ kept_refused m refusal
 
--- An answer is that of the step over what is kept, and so is what is kept then; or it is the step's refusal, or want of memory where the
--- step refuses nothing, and nothing has changed.
+-- A success has the response and the stored data of the step. An error is the step's refusal, or out of memory if the
+-- step refuses nothing; then nothing has changed.
 abbrev pub KeptAnswers : {T : Type 0} → (T → Response) → (old : Stock) → KeptOutcome → Result T DbFault → (new : Stock) → Type 0
 KeptAnswers response old step (Ok x) new = (step ≡ record { keys = new.keys; response = response x }) × (new.limits ≡ old.limits)
 KeptAnswers response old step (Err fault) new = IsKeptAnswer (refusal_of old.ids fault) old.keys step × (new ≡ old)
 
--- a node after a plan of its series, with these labels and these rules, where they are given
+-- a node after a plan for its series, with the labels and the rules that are given
 abbrev pub node_after : Plan → Option (List Label) → Option (Vec Rule Global) → Node → Node
 node_after plan labels rules n = record n { series = after plan n.series; labels = unwrap_or labels n.labels; rules = unwrap_or rules n.rules }
 
--- A plan was made for the series of a number, and leaves it within the limits, as these labels are. The rules lead to series.
+-- The plan fits the series and keeps it within the limits, and so do the labels. Rules lead to series that exist.
 pub record IsReady (s : Store) (id : Id) (plan : Plan) (labels : Option (List Label)) (rules : Option (Vec Rule Global)) : Type 0 where
   pub key : Key
   pub node : Node
@@ -47,19 +47,19 @@ pub record IsReady (s : Store) (id : Id) (plan : Plan) (labels : Option (List La
   pub live : AreLive s.nodes (unwrap_or rules node.rules).items
   pub grids : HaveGrids (unwrap_or rules node.rules).items
 
--- what is kept of the key of a number is that after the plan, and all else is as it was
+-- the key of `id` stores the node after the plan; all else is unchanged
 abbrev pub IsApplied : (old : Store) → Id → Plan → Option (List Label) → Option (Vec Rule Global) → (new : Store) → Type 0
 IsApplied old id plan labels rules new =
     (key : Key) (n : Node) → Holds old key id n → contents_of new ≡ record (contents_of old) { keys = with_key key (kept_node old.nodes (node_after plan labels rules n)) (stock_of old).keys }
 
--- the other nodes stay, and all keys
+-- other nodes and all keys are unchanged
 pub record IsElsewhere (old new : Store) (id : Id) : Type 0 where
   pub limits : new.limits ≡ old.limits
   pub entries : new.keys.entries ≡ old.keys.entries
   pub others : (i : ℕ) → i ≢ id.0 → slab.get new.nodes i ≡ slab.get old.nodes i
   pub names : (i : Id) → key_in new.nodes i ≡ key_in old.nodes i
 
--- a call that answers nothing, and one that answers a time, or how many
+-- an operation that returns nothing, and one that returns a time or a count
 abbrev pub KeptDone : (old : Stock) → KeptOutcome → Result (Unit {0}) DbFault → (new : Stock) → Type 0
 KeptDone old step result new = KeptAnswers (λ x. Done) old step result new
 

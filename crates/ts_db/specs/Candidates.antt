@@ -1,4 +1,4 @@
--- Which numbers may be those of the keys that filters select.
+-- Candidates of a query.
 use Rattle.std.specs.Prelude.{if◌then◌else◌, List, [], ◌∷◌}
 use Rattle.std.specs.List.Sorted.{IsPermutation}
 use Rattle.ts_spec.specs.Filter.{Filter, all_hold}
@@ -9,11 +9,11 @@ use Rattle.ts_spec.specs.KeptQuestions.{kept_labels_at, kept_selection}
 use Rattle.ts_sample.specs.declared.id.Id.{Id}
 use Rattle.ts_db.specs.Held.{Stock, AreNumbersOf}
 
--- those of these keys whose labels pass all filters
+-- the keys among these whose labels pass all filters
 abbrev pub passing : Keeping → List Filter → List Key → List Key
 passing m fs [] = []
 passing m fs (k ∷ ks) = if all_hold fs (kept_labels_at (get k m)) then k ∷ passing m fs ks else passing m fs ks
 
--- of the keys of these numbers, those whose labels pass all filters are the keys that the filters select, in some order
+-- the candidates that pass all filters are exactly the selected keys, in some order
 abbrev pub Covers : Stock → List Filter → List Id → Type 0
 Covers stock fs ids = (keys : List Key) → AreNumbersOf stock.ids keys ids → IsPermutation (kept_selection stock.keys fs) (passing stock.keys fs keys)

@@ -1,10 +1,10 @@
--- What Debug prints of faults.
+-- How Debug prints errors.
 use Rattle.std.specs.Prelude.{ℕ, Bool, true, false, List, ◌++◌, codes}
 use Rattle.std.specs.Fmt.{decimal}
 use Rattle.ts_db.specs.declared.fault.DbFault.{DbFault}
 use Rattle.ts_db.specs.declared.fault.DbFault.TheVariants.{KeyExists, NoKey, KeysFull, LabelsFull, TooOld, Duplicate, OutOfRange, BeforeLast, SamplesFull, DeleteBeyondRetention, SameKey, SourceIsDest, DestIsSource, DestHasSource, RulesSpent, RulesFull, NoRule, Memory}
 
--- the name of a fault
+-- the name of an error
 abbrev pub name_of : DbFault → List ℕ
 name_of KeyExists = codes "KeyExists"
 name_of NoKey = codes "NoKey"
@@ -30,7 +30,7 @@ abbrev pub series_name_of : (written : Bool) → List ℕ
 series_name_of true = codes "written"
 series_name_of false = codes "destination"
 
--- the name of a fault, and where samples are too many the number of the series, and which it is
+-- the name of an error; for a full series also its id and which one it is
 abbrev pub debug_of : DbFault → List ℕ
 debug_of (SamplesFull id written) = codes "SamplesFull(Id(" ++ decimal id.0 ++ codes "), " ++ series_name_of written ++ codes ")"
 debug_of fault = name_of fault

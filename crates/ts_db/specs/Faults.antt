@@ -1,4 +1,4 @@
--- What the faults of the database stand for.
+-- Errors of the database as ts_spec defines them.
 use Rattle.std.specs.Prelude.{◌≡◌, ℕ, Bool, true, false, ◌==◌, if◌then◌else◌, ⊤, List, [], ◌∷◌, Option, None, Some}
 use Rattle.ts_spec.specs.Key.{Key}
 use Rattle.ts_spec.specs.Keyed.{Entry, Keyed}
@@ -8,21 +8,21 @@ use Rattle.ts_sample.specs.declared.id.Id.{Id}
 use Rattle.ts_db.specs.declared.fault.DbFault.{DbFault}
 use Rattle.ts_db.specs.declared.fault.DbFault.TheVariants.{KeyExists, NoKey, KeysFull, LabelsFull, TooOld, Duplicate, OutOfRange, BeforeLast, SamplesFull, DeleteBeyondRetention, SameKey, SourceIsDest, DestIsSource, DestHasSource, RulesSpent, RulesFull, NoRule, Memory}
 
--- the key that has a number, among keys with their numbers
+-- the key with this id in a list of keys and ids
 abbrev pub key_among : ℕ → List (Entry Id) → Key
 key_among number [] = []
 key_among number (e ∷ es) = if e.value.0 == number then e.key else key_among number es
 
--- the key that has this number
+-- the key with this id
 abbrev pub key_with : Keyed Id → Id → Key
 key_with ids id = key_among id.0 ids.entries
 
--- the refusal where samples would be too many: those of the key to be written, or those of a destination
+-- the refusal for too many samples, in the written series or in a destination
 abbrev pub full_refusal : (written : Bool) → Key → Refusal
 full_refusal true key = refusal.SamplesFull
 full_refusal false key = refusal.DestinationFull key
 
--- the refusal that a fault stands for, by the numbers of keys; want of memory is none
+-- the refusal that an error represents; out of memory represents none
 abbrev pub refusal_of : Keyed Id → DbFault → Option Refusal
 refusal_of ids KeyExists = Some refusal.KeyExists
 refusal_of ids NoKey = Some refusal.NoKey
@@ -43,17 +43,17 @@ refusal_of ids RulesFull = Some refusal.RulesFull
 refusal_of ids NoRule = Some refusal.NoRule
 refusal_of ids (Memory e) = None
 
--- where the samples of a series are full, it is the one of this number, and the one to be written
+-- if the error is a full series, it is the written series, with this id
 abbrev pub IsFaultAt : Id → DbFault → Type 0
 IsFaultAt id (SamplesFull full written) = (written ≡ true) × (full ≡ id)
 IsFaultAt id other = ⊤
 
--- a refusal, and not want of memory
+-- an error other than out of memory
 abbrev pub IsRefusal : DbFault → Type 0
 IsRefusal (Memory e) = ⊥
 IsRefusal other = ⊤
 
--- want of memory
+-- out of memory
 abbrev pub IsMemory : DbFault → Type 0
 IsMemory (Memory e) = ⊤
 IsMemory other = ⊥

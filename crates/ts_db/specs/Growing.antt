@@ -1,4 +1,4 @@
--- An append that stays in the open bucket of each rule: it is counted there, and no destination changes.
+-- An append inside the open bucket of each rule: it is counted there and changes no destination.
 use Rattle.std.specs.Prelude.{◌≡◌, ◌^◌, ◌<◌, true, ⊤, List, [], ◌∷◌, map, None, Some}
 use Rattle.ts_spec.specs.Sample.{Point}
 use Rattle.ts_spec.specs.Bucket.{start}
@@ -16,21 +16,21 @@ use Rattle.ts_db.specs.Answering.{node_after}
 abbrev pub grown : Point → KeptRule → KeptRule
 grown p q = record q { running = push q.running p }
 
--- the sample lies in the open bucket of each of these rules
+-- the sample falls into the open bucket of each rule
 abbrev pub AreOpenAt : Point → List Rule → Type 0
 AreOpenAt p [] = ⊤
 AreOpenAt p (r ∷ rs) = (r.current ≡ Some (start r.grid p.time)) × AreOpenAt p rs
 
--- it is appended to the source, and lies there
+-- the sample is an append to the source and falls into the open bucket of each rule
 pub record StaysOpen (source : History) (p : Point) (rs : List Rule) : Type 0 where
   pub append : is_append p.time source.high ≡ true
   pub at : AreOpenAt p rs
 
--- the open bucket of each of these rules takes one more sample
+-- the open bucket of each rule can count one more sample
 abbrev pub HaveRoom : List Rule → Type 0
 HaveRoom [] = ⊤
 HaveRoom (r ∷ rs) = (r.running.count < 10 ^ 14) × HaveRoom rs
 
--- what is kept of a node after a plan of its series, with the sample in the open bucket of each rule
+-- the stored data of a node after a plan for its series, with the sample counted in each open bucket
 abbrev pub kept_grown : Nodes → Plan → Point → Node → Kept
 kept_grown nodes plan p n = record (kept_node nodes (node_after plan None None n)) { rules = map (grown p) (kept_node nodes n).rules }

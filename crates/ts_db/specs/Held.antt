@@ -1,4 +1,4 @@
--- What contracts see of a database, the states that it stands for, and how its answers follow from those of the definitions.
+-- What contracts see of a database, the states that it represents, and how its answers relate to the steps of ts_spec.
 use Rattle.std.specs.Prelude.{◌≡◌, ◌≤◌, ℕ, Bool, true, false, ⊤, if◌then◌else◌, List, [], ◌∷◌, Option, None, Some, is_some, Result, Ok, Err}
 use Rattle.std.specs.Option.{unwrap_or}
 use Rattle.ts_spec.specs.Sample.{Point, MAX_TIME, last_of, later_or}
@@ -17,13 +17,13 @@ use Rattle.ts_db.specs.declared.fault.DbFault.{DbFault}
 use Rattle.ts_db.specs.declared.fault.DbFault.TheVariants.{NoKey, SamplesFull}
 use Rattle.ts_db.specs.Faults.{refusal_of, IsMemory}
 
--- the limits of a database, and its state
+-- a state with the limits of the database
 pub record Held : Type 0 where
   pub limits : Limits
   pub state : State
 
--- what contracts see of a database: its limits, what it keeps of each key, the number of each key, the reach of its series, and of each
--- of its chunks the samples and the limit
+-- The view of a database: its limits, the stored data and the id of each key, the reach of each series, and the
+-- samples and the capacity of each chunk.
 pub record Stock : Type 0 where
   pub limits : Limits
   pub keys : Keeping
@@ -32,94 +32,95 @@ pub record Stock : Type 0 where
   pub pieces : Keyed (List (List Point))
   pub sizes : Keyed (List ℕ)
 
--- the reach of the series of a key, 0 where the key is missing
+-- the reach of a key's series; 0 if the key does not exist
 abbrev pub reach_at : Stock → Key → ℕ
 reach_at stock key = unwrap_or (get key stock.reaches) 0
 
--- the samples of each chunk of a key, none where the key is missing
+-- the samples of each chunk of a key; none if the key does not exist
 abbrev pub pieces_at : Stock → Key → List (List Point)
 pieces_at stock key = unwrap_or (get key stock.pieces) []
 
--- a state that it stands for, under its limits
+-- the database represents this state
 pub record Stands (stock : Stock) (held : Held) : Type 0 where
   pub limits : held.limits ≡ stock.limits
   pub state : StandsFor stock.limits stock.keys held.state
 
--- it stands for a state of which P holds
+-- the database represents a state for which P holds
 pub record Leads (stock : Stock) (P : Held → Type 0) : Type 0 where
   pub to : Held
   pub done : P to
   pub stands : Stands stock to
 
--- from each state that it stood for it came to one so
+-- for each state represented before, P relates it to one represented after
 abbrev pub Carries : (old new : Stock) → (Held → Held → Type 0) → Type 0
 Carries old new P = (from : Held) → Stands old from → Leads new (P from)
 
--- want of memory may be told in the place of this answer: it is no refusal
+-- an operation with this response may also run out of memory: the response is no refusal
 abbrev pub YieldsToMemory : Response → Type 0
 YieldsToMemory (Refused refusal) = ⊥
 YieldsToMemory response = ⊤
 
--- a refusal is the step's answer; want of memory is told only where the step refuses nothing
+-- an error is the step's refusal; out of memory is allowed only if the step refuses nothing
 abbrev pub IsAnswer : Option Refusal → State → Outcome → Type 0
 IsAnswer None m step = YieldsToMemory step.response
 IsAnswer (Some refusal) m step = step ≡ refused m refusal
 
--- the step answers so, and the database stands for the state after it
+-- the step has this response, and the database represents the state after the step
 pub record IsDone (response : Response) (limits : Limits) (step : Outcome) (new : Stock) : Type 0 where
   pub says : step.response ≡ response
   pub stands : Stands new (record { limits = limits; state = step.state })
 
--- For each state that the database stood for: an answer is that of the step, after which it stands for the step's state; or it is the
--- step's refusal, or want of memory where the step refuses nothing, and nothing has changed.
+-- For each represented state: a success has the response of the step, and the database then represents the state after
+-- it. An error is the step's refusal, or out of memory if the step refuses nothing; then nothing has changed.
 abbrev pub Answers : {T : Type 0} → (T → Response) → (old : Stock) → (Held → Outcome) → Result T DbFault → (new : Stock) → Type 0
 Answers response old step (Ok x) new = (from : Held) → Stands old from → IsDone (response x) from.limits (step from) new
 Answers response old step (Err fault) new = ((from : Held) → Stands old from → IsAnswer (refusal_of old.ids fault) from.state (step from)) × (new ≡ old)
 
--- a call that answers nothing, and one that answers a time, or how many
+-- an operation that returns nothing, and one that returns a time or a count
 abbrev pub AnswersDone : (old : Stock) → (Held → Outcome) → Result (Unit {0}) DbFault → (new : Stock) → Type 0
 AnswersDone old step result new = Answers (λ x. Done) old step result new
 
 abbrev pub AnswersNumber : (old : Stock) → (Held → Outcome) → Result ℕ DbFault → (new : Stock) → Type 0
 AnswersNumber old step result new = Answers (λ t. Count t) old step result new
 
--- The number is that of a key.
+-- The id belongs to a key.
 pub record IsLive (ids : Keyed Id) (id : Id) : Type 0 where
   pub key : Key
   pub is : get key ids ≡ Some id
 
--- samples would be too many of the key to be written, which has this number, or of a destination, which is a key
+-- the full series: the written key has this id, or a destination has it
 abbrev pub IsFullAt : Keyed Id → Key → Id → (written : Bool) → Type 0
 IsFullAt ids key id true = get key ids ≡ Some id
 IsFullAt ids key id false = IsLive ids id
 
--- where the samples of a series are full, its number is told
+-- an error for a full series names the right series
 abbrev pub IsOwn : Stock → Key → DbFault → Type 0
 IsOwn stock key (SamplesFull id written) = IsFullAt stock.ids key id written
 IsOwn stock key other = ⊤
 
--- whether a key was there; it is gone then
+-- `was` tells whether the key existed; now it does not
 pub record Drops (key : Key) (was : Bool) (from : Held) (new : Stock) : Type 0 where
   pub there : was ≡ is_some (get key from.state)
   pub stands : Stands new (record { limits = from.limits; state = if was then dropped key from.state else from.state })
 
--- A question about what a key has is refused where it has nothing; else such an answer is given, or there is no memory.
+-- A query for a missing key fails with NoKey. For an existing key it succeeds with a correct result or runs out of
+-- memory.
 abbrev pub Finds : {X T : Type 0} → Option X → (T → Type 0) → Result T DbFault → Type 0
 Finds None what (Ok x) = ⊥
 Finds None what (Err fault) = fault ≡ NoKey
 Finds (Some d) what (Ok x) = what x
 Finds (Some d) what (Err fault) = IsMemory fault
 
--- the times of the first and of the last sample, if there are any
+-- the times of the first and the last sample, if there are any
 abbrev pub ends_of : List Point → Option (ℕ × ℕ)
 ends_of [] = None
 ends_of (p ∷ ps) = Some (p.time, (later_or p (last_of ps)).time)
 
--- both are times
+-- both are valid times
 abbrev pub AreTimes : ℕ × ℕ → Type 0
 AreTimes ends = (ends.0 ≤ MAX_TIME) × (ends.1 ≤ MAX_TIME)
 
--- these are the numbers of the keys, in their order
+-- the ids of these keys, in the same order
 abbrev pub AreNumbersOf : Keyed Id → List Key → List Id → Type 0
 AreNumbersOf ids [] [] = ⊤
 AreNumbersOf ids [] (n ∷ ns) = ⊥

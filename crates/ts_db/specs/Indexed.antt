@@ -1,9 +1,9 @@
--- How the index of labels stands to the nodes.
+-- The label index and the nodes.
 use Rattle.std.specs.Prelude.{◌≡◌, ℕ, option_map}
 use Rattle.slab.specs.Slab as slab
 use Rattle.ts_index.specs.Index.{Labelled, labels_of}
 use Rattle.ts_db.specs.declared.node.Node.{Node}
 
--- the index has the labels of each node under its number, and of no other number
+-- the index has exactly the labels of each node
 abbrev pub IsIndexed : slab.Slab Node → Labelled → Type 0
 IsIndexed nodes index = (i : ℕ) → labels_of i index ≡ option_map (λ n. n.labels) (slab.get nodes i)

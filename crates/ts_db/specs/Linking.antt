@@ -1,4 +1,4 @@
--- What a link between two series is, once it is made or ended, of what is kept and of its nodes.
+-- Links between series: how creating and deleting a rule changes stored data and nodes.
 use Rattle.std.specs.Prelude.{◌≡◌, ℕ, ◌+◌, ◌-◌, ◌^◌, ◌<◌, Bool, true, false, not, ◌==◌, List, [], ◌∷◌, ◌++◌, filter, length, Option, None, Some, is_some, nat_le, if◌then◌else◌}
 use Rattle.std.specs.List.{list_any}
 use Rattle.ts_spec.specs.declared.limits.Limits.{Limits}
@@ -20,13 +20,13 @@ use Rattle.ts_db.specs.declared.fault.DbFault.{DbFault}
 use Rattle.ts_db.specs.Faults.{refusal_of}
 use Rattle.ts_db.specs.Store.{key_in, stock_of, contents_of}
 
--- ---- of what is kept
+-- ---- in stored data
 
--- of the key of a number what f makes is kept, and all else is as it was
+-- the data stored for the key of `id` changes by f; all else is unchanged
 abbrev pub IsKeptBy : (old : Store) → Id → (Kept → Kept) → (new : Store) → Type 0
 IsKeptBy old id f new = contents_of new ≡ record (contents_of old) { keys = keep_changed (key_in old.nodes id) f (stock_of old).keys }
 
--- a key without the rules to another
+-- a key without its rules to `dest`
 abbrev pub kept_unruled : Key → Kept → Kept
 kept_unruled dest d = record d { rules = filter (λ q. not (same q.dest dest)) d.rules }
 
@@ -34,52 +34,52 @@ kept_unruled dest d = record d { rules = filter (λ q. not (same q.dest dest)) d
 abbrev pub kept_ruleless : Kept → Kept
 kept_ruleless d = record d { rules = [] }
 
--- a key with this source, or without one
+-- a key with this rule source, or without one
 abbrev pub kept_sourced : Option Key → Kept → Kept
 kept_sourced source d = record d { source = source }
 
--- what is kept once the destination of each rule has no source
+-- the stored data after the rule source of each destination is cleared
 abbrev pub keep_freed : List KeptRule → Keeping → Keeping
 keep_freed [] m = m
 keep_freed (q ∷ qs) m = keep_freed qs (keep_changed q.dest (kept_sourced None) m)
 
--- what is kept once the rule to a key has ended, from this source, if there is one
+-- the stored data after the rule from this source to a key is deleted, if there is a source
 abbrev pub keep_unled : Option Key → Key → Keeping → Keeping
 keep_unled None key m = m
 keep_unled (Some source) key m = keep_changed source (kept_unruled key) m
 
--- No rule leads to the key, and it is no source.
+-- No rule leads to the key, and it is no rule source.
 pub record IsFreeOf (key : Key) (d : Kept) : Type 0 where
   pub rules : kept_rule_to key d.rules ≡ None
   pub source : (d.source ≡ Some key) → ⊥
 
--- so it is with each other key
+-- the same for each other key
 abbrev pub AreFreeOf : Key → Keeping → Type 0
 AreFreeOf key m = (k : Key) (d : Kept) → get k m ≡ Some d → same key k ≡ false → IsFreeOf key d
 
--- each rule from the key of a number or to it has ended, and but for the key itself all is as it was
+-- all rules from the key and to it are deleted; apart from the key itself nothing else has changed
 pub record IsAlone (old new : Store) (key : Key) : Type 0 where
   pub keys : without_key key (stock_of new).keys ≡ keep_dropped key (stock_of old).keys
   pub limits : new.limits ≡ old.limits
   pub ids : (stock_of new).ids ≡ (stock_of old).ids
 
--- the numbers and the keys stay
+-- ids and keys are unchanged
 pub record KeepsNames (old new : Store) : Type 0 where
   pub entries : new.keys.entries ≡ old.keys.entries
   pub names : (i : Id) → key_in new.nodes i ≡ key_in old.nodes i
 
--- ---- of nodes
+-- ---- in nodes
 
--- whether there is a rule
+-- whether there is any rule
 abbrev pub any_rule : List Rule → Bool
 any_rule [] = false
 any_rule (r ∷ rs) = true
 
--- whether one of the rules leads to this number
+-- whether one of the rules leads to this id
 abbrev pub any_to : ℕ → List Rule → Bool
 any_to i rs = list_any (λ r. r.dest.0 == i) rs
 
--- the refusal of a rule from one series to another, if there is one
+-- the refusal of a rule between these series, if it is not allowed
 abbrev pub barred_by : Limits → (source dest : Node) → Option Refusal
 barred_by limits s d =
     if is_some s.source then Some SourceIsDest
@@ -88,17 +88,17 @@ barred_by limits s d =
     else (if nat_le limits.born s.series.born then Some RulesSpent
     else (if nat_le limits.rules (length s.rules.items) then Some RulesFull else None))))
 
--- Fewer rules were made on a series than may be.
+-- The series may have one more rule in its lifetime.
 pub record IsUnspent (limits : Limits) (n : Node) : Type 0 where
   pub within : n.series.born < limits.born
   pub counts : n.series.born < 2 ^ 32 - 1
 
--- a fault stands for the refusal of a rule, and where there is none the rule can be made
+-- the error represents the refusal of the rule; without an error the rule is allowed
 abbrev pub IsReason : Limits → (source dest : Node) → Option DbFault → Type 0
 IsReason limits s d None = (barred_by limits s d ≡ None) × IsUnspent limits s
 IsReason limits s d (Some fault) = (ids : Keyed Id) → refusal_of ids fault ≡ barred_by limits s d
 
--- A node has one more rule, without an open bucket, and counts it.
+-- The node has one more rule, without an open bucket, and counts it.
 pub record HasMore (dest : Id) (agg : Aggregator) (grid : Grid) (old new : Node) : Type 0 where
   pub rule : Rule
   pub leads : rule.dest ≡ dest
@@ -106,7 +106,7 @@ pub record HasMore (dest : Id) (agg : Aggregator) (grid : Grid) (old new : Node)
   pub rules : new.rules.items ≡ old.rules.items ++ rule ∷ []
   pub rest : new ≡ record old { series = record old.series { born = old.series.born + 1 }; rules = new.rules }
 
--- A node has these rules in place of its own.
+-- The node has these rules instead of its own.
 pub record HasRules (rs : List Rule) (old new : Node) : Type 0 where
   pub rules : new.rules.items ≡ rs
   pub rest : new ≡ record old { rules = new.rules }

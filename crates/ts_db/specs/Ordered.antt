@@ -1,10 +1,10 @@
--- The numbers of keys in the order of these.
+-- Ids in key order.
 use Rattle.std.specs.Prelude.{if◌then◌else◌, List, [], ◌∷◌}
 use Rattle.ts_sample.specs.declared.id.Id.{Id}
 use Rattle.ts_index.specs.Numbers.{has_number}
 use Rattle.ts_db.specs.Store.{Numbers}
 
--- the numbers of all keys that are among these
+-- the ids of the list that belong to a key, in key order
 abbrev pub among : List Id → Numbers → List Id
 among ids [] = []
 among ids (e ∷ es) = if has_number e.1.0 ids then e.1 ∷ among ids es else among ids es

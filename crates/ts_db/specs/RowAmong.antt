@@ -1,38 +1,38 @@
--- A visitor that takes a row among the samples of a list.
+-- A visitor that merges a row into ascending samples.
 use Rattle.std.specs.Prelude.{ℕ, ◌+◌, ◌-◌, ◌≤◌, Bool, true, false, nat_lt, if◌then◌else◌, Option, None, Some}
 use Rattle.std.proofs.Common.{arith}
 use Rattle.ts_spec.specs.Sample.{Point}
-use Rattle.ts_db.specs.declared.row_among.RowAmong.{RowAmong}
+use Rattle.ts_db.specs.declared.among.RowAmong.{RowAmong}
 
--- what a sample makes of the visitor behind, before which a row that waits comes unless the sample is before it
+-- the inner visitor after one sample, and after the row if it comes first; the row replaces a sample at its time
 abbrev pub taken : {V : Type 0} → (V → Point → V) → Option Point → V → Point → V
 taken step None v p = step v p
 taken step (Some row) v p = if nat_lt p.time row.time then step v p else (if nat_lt row.time p.time then step (step v row) p else step v row)
 
--- a row waits as long as the samples are before it
+-- the row still pending after this sample
 abbrev pub waits : Option Point → Point → Option Point
 waits None p = None
 waits (Some row) p = if nat_lt p.time row.time then Some row else None
 
--- with one sample more
+-- the visitor after one more sample
 abbrev pub with_sample : {V : Type 0} → (V → Point → V) → RowAmong V → Point → RowAmong V
 with_sample step w p = record w { visit = record w.visit { now = taken step w.row w.visit.now p }; row = waits w.row p }
 
--- the visitor behind with the row that waits, if one does
+-- the inner visitor after the pending row, if there is one
 abbrev pub with_last : {V : Type 0} → (V → Point → V) → Option Point → V → V
 with_last step None v = v
 with_last step (Some row) v = step v row
 
--- after all samples
+-- the visitor after all samples
 abbrev pub finished : {V : Type 0} → (V → Point → V) → RowAmong V → RowAmong V
 finished step w = record w { visit = record w.visit { now = with_last step w.row w.visit.now }; row = None }
 
--- the room of the visitor behind, but for the place of a row that waits
+-- the capacity of the inner visitor that is left if a pending row takes one place
 abbrev pub room_beside : (room : ℕ) → Option Point → ℕ
 room_beside room None = room
 room_beside room (Some row) = room - 1
 
--- one sample takes at most one place of the room
+-- one sample uses at most one place of that capacity
 pub lowered : {V : Type 0} (step : V → Point → V) (room : V → ℕ) → ((v : V) (p : Point) → room v ≤ room (step v p) + 1) → (w : RowAmong V) (p : Point)
     → room_beside (room w.visit.now) w.row ≤ room_beside (room (taken step w.row w.visit.now p)) (waits w.row p) + 1
 lowered {V} step room lowers w p = go w.row w.visit.now

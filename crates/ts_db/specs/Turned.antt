@@ -1,4 +1,4 @@
--- How the nodes change: one of them, a new one, or one that goes.
+-- How nodes change: one changes, one is added or one is removed.
 use Rattle.std.specs.Prelude.{◌≡◌, ◌+◌, List, Vec, Option, None, Some, Result, IfOk, IfErr}
 use Rattle.std.specs.declared.alloc.Global.{Global}
 use Rattle.std.specs.declared.alloc.AllocError.{AllocError}
@@ -18,13 +18,13 @@ use Rattle.ts_db.specs.Linking.{HasMore, HasRules}
 use Rattle.ts_db.specs.Planning.{AreChanged}
 use Rattle.ts_db.specs.Store.{Nodes}
 
--- A number has a node of which P holds.
+-- The id has a node for which P holds.
 pub record HasSuch (nodes : Nodes) (id : Id) (P : Node → Type 0) : Type 0 where
   pub node : Node
   pub there : slab.get nodes id.0 ≡ Some node
   pub holds : P node
 
--- The node of a number changes by a relation, and all else of the nodes is as it was.
+-- The node of an id changes by this relation; all other nodes are unchanged.
 pub record IsTurned (old new : Nodes) (id : Id) (by : (was now : Node) → Type 0) : Type 0 where
   pub was : Node
   pub now : Node
@@ -32,26 +32,26 @@ pub record IsTurned (old new : Nodes) (id : Id) (by : (was now : Node) → Type 
   pub turned : new ≡ slab.with_value old id.0 now
   pub so : by was now
 
--- A node has a number that had none, and all others are as they were.
+-- A fresh id has this node; all other nodes are unchanged.
 pub record IsAdded (old new : Nodes) (id : Id) (node : Node) : Type 0 where
   pub vacant : slab.get old id.0 ≡ None
   pub updates : slab.Updates old new id.0 (Some node)
   pub one_more : slab.slab_len new ≡ slab.slab_len old + 1
 
--- A plan of its series is done, and these labels and these rules are its own, where they are given.
+-- The plan for the series is committed, and the labels and the rules that are given replace the old ones.
 pub record IsAfter (plan : Plan) (labels : Option (List Label)) (rules : Option (Vec Rule Global)) (was now : Node) : Type 0 where
   pub kept : IsKept now.series
   pub done : now.series ≡ record (after plan was.series) { held = now.series.held }
   pub rest : now ≡ record (node_after plan labels rules was) { series = now.series }
 
--- A plan of its series is done, and the open bucket of each rule has the sample.
+-- The plan for the series is committed, and the open bucket of each rule counts the sample.
 pub record IsGrown (plan : Plan) (p : Point) (was now : Node) : Type 0 where
   pub kept : IsKept now.series
   pub done : now.series ≡ record (after plan was.series) { held = now.series.held }
   pub rules : AreChanged (grown p) was.rules.items now.rules.items
   pub rest : now ≡ record was { series = now.series; rules = now.rules }
 
--- It has one more rule, or there is no memory and it has those that it had.
+-- The node has one more rule; or memory ran out and its rules are unchanged.
 pub record TakesRule (dest : Id) (agg : Aggregator) (grid : Grid) (result : Result (Unit {0}) AllocError) (was now : Node) : Type 0 where
   pub added : IfOk result (λ _. HasMore dest agg grid was now)
   pub kept : IfOk result (λ _. IsKept now.series)

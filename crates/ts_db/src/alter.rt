@@ -1,4 +1,4 @@
-// TS.ALTER on the store: new options and labels, and what a new retention comes to for rules and destinations.
+// TS.ALTER: new options and labels, and the effect of a new retention on rules and destinations.
 ghost use Rattle.std.specs.Prelude.{◌≡◌, None, IfOk, IfErr, OnErr, ◌*◌};
 ghost use Rattle.ts_spec.specs.KeptStep.{kept_alter};
 ghost use Rattle.ts_sample.specs.Steps.{Takes};
@@ -18,7 +18,7 @@ use ts_sample::{Id, Steps};
 use ts_series::SeriesPlan;
 
 impl Store {
-    // Gives a series new options and labels, where they are given. Samples before its new edge are dropped.
+    // Changes the options and labels that are given. Deletes samples that a new retention expires.
     pub(crate) fn alter<L: Ledger>(
         &mut self,
         key: &Word,
@@ -26,7 +26,9 @@ impl Store {
         steps: &mut Steps<L>,
     ) -> Result<(), DbFault>
         requires { IsInOrder self.old }
-        ensures altered { KeptDone (stock_of self.old) (kept_alter self.old.limits (stock_of self.old).keys key.now (change_of change)) result (stock_of self.new) }
+        ensures altered { KeptDone (stock_of self.old)
+            (kept_alter self.old.limits (stock_of self.old).keys key.now (change_of change)) result
+            (stock_of self.new) }
         ensures own { IfErr result (IsOwn (stock_of self.old) key.now) }
         ensures store { IsInOrder self.new }
         ensures steps { Takes steps.old steps.new (2 * reach_at (stock_of self.old) key.now) }
@@ -53,7 +55,7 @@ impl Store {
         }
     }
 
-    // Does what was planned for the series of a number, and puts these labels in place of its own, where they are given.
+    // Commits a plan for series `id` and replaces its labels if given.
     fn relabel(
         &mut self,
         id: Id,

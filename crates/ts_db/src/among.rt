@@ -1,4 +1,4 @@
-// A row among the samples of a series, in the place of one of its time.
+// Merges the row of an open bucket into the samples of a series.
 ghost use Rattle.std.specs.Prelude.{◌≡◌, ◌≤◌, ◌+◌, ◌*◌, nat_lt, List, length, Some};
 ghost use Rattle.ts_spec.specs.Sample.{Point, IsAscending, at_times, between, first_of, last_of, put, put_all};
 ghost use Rattle.ts_sample.specs.Visit.{visited};
@@ -7,12 +7,60 @@ ghost use Rattle.ts_series.specs.History.{list_of, reach};
 ghost use Rattle.ts_series.specs.Seams.{IsSeamed};
 ghost use Rattle.ts_rules.specs.Rules.{one_of};
 
-use crate::row_among::RowAmong;
 use std::sync::ledger::Ledger;
 use ts_sample::{Sample, Steps, Visit};
 use ts_series::Series;
 
-// The row, if it is before a time.
+// A visitor that passes samples on to another visitor and inserts the row at its time. The row replaces a sample at
+// the same time.
+#[derive(Drop)]
+pub(crate) struct RowAmong<'a, V: Visit> {
+    pub(crate) visit: &'a mut V,
+    pub(crate) row: Option<Sample>,
+}
+
+impl<V: Visit> Visit for RowAmong<'_, V> {
+    ghost use Rattle.ts_db.specs.RowAmong.{room_beside, with_sample, lowered};
+
+    ghost step = { with_sample V.step };
+
+    ghost room = { λ w. room_beside (V.room w.visit.now) w.row };
+
+    fn sample(&mut self, sample: &Sample) {
+        let Some(row) = self.row else {
+            self.visit.sample(sample);
+            return;
+        };
+        if sample.time < row.time {
+            self.visit.sample(sample);
+            return;
+        }
+        self.row = None;
+        self.visit.sample(&row);
+        if row.time < sample.time {
+            self.visit.sample(sample);
+        }
+    }
+
+    ghost lowers = { lowered V.step V.room V.lowers };
+}
+
+impl<V: Visit> RowAmong<'_, V> {
+    ghost use Rattle.ts_db.specs.RowAmong.{finished};
+
+    // Passes the row on if no sample came after it.
+    pub(crate) fn finish(&mut self)
+        requires { (row : Point) → self.old.row ≡ Some row → 1 ≤ V.room self.old.visit.now }
+        ensures { self.new ≡ finished V.step self.old }
+    {
+        if let Some(row) = self.row {
+            self.row = None;
+            self.visit.sample(&row);
+        }
+    }
+}
+
+// The row, if it is before `t`.
 pub(crate) fn row_before(t: u64, row: Option<Sample>) -> Option<Sample>
     ensures { one_of result ≡ at_times (λ u. nat_lt u t) (one_of row) }
 {
@@ -20,7 +68,7 @@ pub(crate) fn row_before(t: u64, row: Option<Sample>) -> Option<Sample>
     if row.time < t { Some(row) } else { None }
 }
 
-// The row, if it is between two times, both included.
+// The row, if it is within `from..=to`.
 fn row_within(from: u64, to: u64, row: Option<Sample>) -> Option<Sample>
     ensures { one_of result ≡ between from to (one_of row) }
 {
@@ -32,7 +80,7 @@ fn row_within(from: u64, to: u64, row: Option<Sample>) -> Option<Sample>
     }
 }
 
-// The first sample of an ascending list with the row.
+// The first sample of an ascending list after the row is merged in.
 pub(crate) fn first_with(row: Option<Sample>, first: Option<Sample>) -> Option<Sample>
     ensures { (ps : List Point) → IsAscending ps → first ≡ first_of ps → result ≡ first_of (put_all (one_of row) ps) }
 {
@@ -49,7 +97,7 @@ pub(crate) fn first_with(row: Option<Sample>, first: Option<Sample>) -> Option<S
     }
 }
 
-// The last sample of an ascending list with the row.
+// The last sample of an ascending list after the row is merged in.
 pub(crate) fn last_with(row: Option<Sample>, last: Option<Sample>) -> Option<Sample>
     ensures { (ps : List Point) → IsAscending ps → last ≡ last_of ps → result ≡ last_of (put_all (one_of row) ps) }
 {
@@ -66,7 +114,7 @@ pub(crate) fn last_with(row: Option<Sample>, last: Option<Sample>) -> Option<Sam
     }
 }
 
-// Takes a visitor over the samples of a series between two times, both included, with a row among them, if there is one.
+// Passes the samples of a series within `from..=to` to a visitor, merging the row in if there is one.
 pub(crate) fn scan_shown<V: Visit, L: Ledger>(
     series: &Series,
     from: u64,
@@ -76,7 +124,8 @@ pub(crate) fn scan_shown<V: Visit, L: Ledger>(
     steps: &mut Steps<L>,
 )
     requires room { length (between from to (list_of series.now)) + 1 ≤ V.room visit.old }
-    ensures visited { visit.new ≡ visited V.step visit.old (between from to (put_all (one_of row) (list_of series.now))) }
+    ensures visited { visit.new ≡ visited V.step visit.old
+        (between from to (put_all (one_of row) (list_of series.now))) }
     ensures steps { Takes steps.old steps.new (length (between from to (list_of series.now)) + 2 * reach series.now) }
     ensures seams { IsSeamed series.now.held.pieces from to steps.old steps.new }
 {
@@ -87,7 +136,7 @@ pub(crate) fn scan_shown<V: Visit, L: Ledger>(
     }
 }
 
-// Takes a visitor over the samples of a series between two times, both included, with a row among them.
+// Passes the samples of a series within `from..=to` to a visitor, with the row merged in.
 fn scan_with<V: Visit, L: Ledger>(
     series: &Series,
     from: u64,
@@ -108,8 +157,7 @@ fn scan_with<V: Visit, L: Ledger>(
     walk_among(series, from, to, &mut among, steps);
 }
 
-// Takes a visitor and the row that it hands on among the samples over those of a series between two times, both
-// included.
+// Scans a series within `from..=to` with a visitor that merges the row in.
 fn walk_among<V: Visit, L: Ledger>(
     series: &Series,
     from: u64,

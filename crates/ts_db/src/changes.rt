@@ -1,4 +1,4 @@
-// The public changes of a database's samples and options, each with the clauses that its callers see.
+// The public operations that change series.
 ghost use Rattle.std.specs.Prelude.{◌≡◌, ◌≤◌, is_some, IfOk, IfErr, ◌*◌};
 ghost use Rattle.ts_spec.specs.Sample.{MAX_TIME};
 ghost use Rattle.ts_spec.specs.Keyed.{get};
@@ -20,7 +20,7 @@ use ts_sample::{Steps, Units};
 use ts_spec::{Aggregator, Policy};
 
 impl Db {
-    /// Makes a series without samples under a new key.
+    /// Creates an empty series (TS.CREATE). Fails if the key exists.
     pub fn create(&mut self, key: Word, spec: Spec) -> Result<(), DbFault>
         ensures created { AnswersDone self.old (λ h. create h.limits h.state key (spec_of spec)) result self.new }
         ensures limits { self.new.limits ≡ self.old.limits }
@@ -29,14 +29,15 @@ impl Db {
         self.store.create(key, spec)
     }
 
-    /// Gives a series new options and labels, where they are given. Samples before its new edge are dropped.
+    /// Changes the options and labels that are given (TS.ALTER). Deletes samples that a new retention expires.
     pub fn alter<L: Ledger>(
         &mut self,
         key: &Word,
         change: Change,
         steps: &mut Steps<L>,
     ) -> Result<(), DbFault>
-        ensures altered { AnswersDone self.old (λ h. alter h.limits h.state key.now (change_of change)) result self.new }
+        ensures altered { AnswersDone self.old (λ h. alter h.limits h.state key.now (change_of change)) result
+            self.new }
         ensures limits { self.new.limits ≡ self.old.limits }
         ensures own { IfErr result (IsOwn self.old key.now) }
         ensures steps { Takes steps.old steps.new (2 * reach_at self.old key.now) }
@@ -44,9 +45,12 @@ impl Db {
         self.store.alter(key, change, steps)
     }
 
-    /// Adds a sample to the series of a key, by this policy or else its own where the time has one. Where
-    /// the key is missing it begins with the sample. Answers the time, or that of the last sample where this one is
-    /// ignored: it is close to it, the series' own policy is `Last`, and no rule leads to the series.
+    /// Adds a sample (TS.ADD). Creates the series with `spec` if the key does not exist. If the series already has a
+    /// sample at `time`, resolves the conflict by `on`, or by the series' duplicate policy if `on` is `None`.
+    ///
+    /// Returns the sample's time, or the last sample's time if the write was ignored (IGNORE). A write is ignored if
+    /// it is close enough to the last sample, the duplicate policy is `Last` and the series is no destination of a
+    /// rule.
     pub fn add<L: Ledger>(
         &mut self,
         key: Word,
@@ -57,7 +61,8 @@ impl Db {
         steps: &mut Steps<L>,
     ) -> Result<u64, DbFault>
         requires time { time ≤ MAX_TIME }
-        ensures added { AnswersNumber self.old (λ h. add h.limits h.state key time value on (spec_of spec)) result self.new }
+        ensures added { AnswersNumber self.old (λ h. add h.limits h.state key time value on (spec_of spec)) result
+            self.new }
         ensures bounded { IfOk result (λ t. t ≤ MAX_TIME) }
         ensures limits { self.new.limits ≡ self.old.limits }
         ensures own { IfErr result (IsOwn self.old key) }
@@ -68,9 +73,9 @@ impl Db {
         self.store.add(key, time, value, on, spec, steps)
     }
 
-    /// Adds a sample with the last value and a change, or changes the last sample where it has the time.
-    /// Where the key is missing it begins with the change. Answers the time, or that of the last sample where the new
-    /// one is ignored.
+    /// Adds `change` to the last value and stores the sum at `time` (TS.INCRBY, TS.DECRBY). Overwrites the last sample
+    /// if it has that time. Creates the series with `spec` and the value `change` if the key does not exist. Returns
+    /// the sample's time, or the last sample's time if the write was ignored (IGNORE).
     pub fn incr<L: Ledger>(
         &mut self,
         key: Word,
@@ -80,7 +85,8 @@ impl Db {
         steps: &mut Steps<L>,
     ) -> Result<u64, DbFault>
         requires time { time ≤ MAX_TIME }
-        ensures changed { AnswersNumber self.old (λ h. incr h.limits h.state key change time (spec_of spec)) result self.new }
+        ensures changed { AnswersNumber self.old (λ h. incr h.limits h.state key change time (spec_of spec)) result
+            self.new }
         ensures bounded { IfOk result (λ t. t ≤ MAX_TIME) }
         ensures limits { self.new.limits ≡ self.old.limits }
         ensures own { IfErr result (IsOwn self.old key) }
@@ -91,8 +97,8 @@ impl Db {
         self.store.incr(key, change, time, spec, steps)
     }
 
-    /// Adds a sample to the series of a key, by its own policy where the time has one. Answers the time, or that of
-    /// the last sample where this one is ignored.
+    /// Adds a sample to an existing series. If the series already has a sample at `time`, its duplicate policy
+    /// decides. Returns the sample's time, or the last sample's time if the write was ignored (IGNORE).
     pub fn put<L: Ledger>(
         &mut self,
         key: &Word,
@@ -113,8 +119,8 @@ impl Db {
         self.put_near(&mut hints, key, time, value, None, steps)
     }
 
-    /// Takes the samples between two times, in milliseconds, both included, out of the series of a key. Answers
-    /// how many they were: none where `from` is above `to`.
+    /// Deletes the samples from `from` to `to`, in milliseconds and inclusive (TS.DEL). Returns how many it deleted; 0
+    /// if `from` is above `to`.
     pub fn delete_range<L: Ledger>(
         &mut self,
         key: &Word,
@@ -132,8 +138,8 @@ impl Db {
         self.store.delete_range(key, from, to, steps)
     }
 
-    /// Makes a rule from one key, its source, to another, its destination: each bucket of the grid gives the
-    /// destination one sample, told by this aggregator, once the bucket is closed.
+    /// Creates a compaction rule from a source to a destination (TS.CREATERULE). When a bucket of the grid closes, its
+    /// aggregate is written to the destination as one sample.
     pub fn create_rule(
         &mut self,
         source: &Word,
@@ -141,13 +147,14 @@ impl Db {
         agg: Aggregator,
         grid: Grid,
     ) -> Result<(), DbFault>
-        ensures ruled { AnswersDone self.old (λ h. create_rule h.limits h.state source.now dest.now agg grid) result self.new }
+        ensures ruled { AnswersDone self.old (λ h. create_rule h.limits h.state source.now dest.now agg grid) result
+            self.new }
         ensures limits { self.new.limits ≡ self.old.limits }
     {
         self.store.create_rule(source, dest, agg, grid)
     }
 
-    /// Ends the rule from one key to another, without memory. What the destination shows stays.
+    /// Deletes a compaction rule (TS.DELETERULE). The destination keeps its samples. Allocates nothing.
     pub fn delete_rule(&mut self, source: &Word, dest: &Word) -> Result<(), DbFault>
         ensures ended { AnswersDone self.old (λ h. delete_rule h.state source.now dest.now) result self.new }
         ensures limits { self.new.limits ≡ self.old.limits }
@@ -156,8 +163,8 @@ impl Db {
         self.store.delete_rule(source, dest)
     }
 
-    /// Takes a key away, with its series, and ends the rules from it and to it, without memory. Answers whether it
-    /// was there.
+    /// Deletes a key with its series and all rules from and to it (DEL). Returns whether the key existed. Allocates
+    /// nothing.
     pub fn drop_key(&mut self, key: &Word) -> bool
         ensures there { result ≡ is_some (get key.now self.old.keys) }
         ensures dropped { (from : Held) → Stands self.old from → Drops key.now result from self.new }

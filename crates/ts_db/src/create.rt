@@ -1,4 +1,4 @@
-// New keys, without samples or with their first one.
+// Creates series, empty or with a first sample.
 ghost use Rattle.std.specs.Prelude.{◌≡◌, ◌≤◌, ◌<◌, [], ◌∷◌, length, None, Some, IfOk, IfErr};
 ghost use Rattle.ts_spec.specs.Sample.{MAX_TIME};
 ghost use Rattle.ts_spec.specs.Keyed.{get, with_key, count_keys};
@@ -23,10 +23,11 @@ use ts_series::{PutFault, Series};
 use ts_spec::{Merge, Options};
 
 impl Store {
-    // Makes a series without samples under a new key.
+    // Creates an empty series.
     pub(crate) fn create(&mut self, key: Word, spec: Spec) -> Result<(), DbFault>
         requires { IsInOrder self.old }
-        ensures created { KeptDone (stock_of self.old) (kept_create self.old.limits (stock_of self.old).keys key (spec_of spec)) result (stock_of self.new) }
+        ensures created { KeptDone (stock_of self.old)
+            (kept_create self.old.limits (stock_of self.old).keys key (spec_of spec)) result (stock_of self.new) }
         ensures store { IsInOrder self.new }
         ensures own { IfErr result (IsOwn (stock_of self.old) key) }
     {
@@ -43,7 +44,7 @@ impl Store {
         self.insert(key, series, spec.labels)
     }
 
-    // Puts a series with labels under a new key.
+    // Stores a series with its labels under a new key.
     fn insert(&mut self, key: Word, series: Series, labels: Labels) -> Result<(), DbFault>
         requires store { IsInOrder self.old }
         requires absent { get key (stock_of self.old).keys ≡ None }
@@ -52,7 +53,8 @@ impl Store {
         requires within { length (list_of series) ≤ self.old.limits.samples }
         requires born { series.born ≤ self.old.limits.born }
         requires labels { length labels ≤ self.old.limits.labels }
-        ensures added { IfOk result (λ _. (stock_of self.new).keys ≡ with_key key (kept_series labels series) (stock_of self.old).keys) }
+        ensures added { IfOk result (λ _. (stock_of self.new).keys
+            ≡ with_key key (kept_series labels series) (stock_of self.old).keys) }
         ensures limits { self.new.limits ≡ self.old.limits }
         ensures memory { IfErr result IsMemory }
         ensures unchanged { IfErr result (λ _. stock_of self.new ≡ stock_of self.old) }
@@ -75,7 +77,7 @@ impl Store {
         }
     }
 
-    // Begins a series with one sample under a new key.
+    // Creates a series with one sample under a new key.
     pub(crate) fn begin<L: Ledger>(
         &mut self,
         key: Word,
@@ -87,7 +89,9 @@ impl Store {
         requires time { time ≤ MAX_TIME }
         requires store { IsInOrder self.old }
         requires absent { get key (stock_of self.old).keys ≡ None }
-        ensures begun { KeptNumber (stock_of self.old) (kept_create_with self.old.limits (stock_of self.old).keys key (spec_of spec) time value) result (stock_of self.new) }
+        ensures begun { KeptNumber (stock_of self.old)
+            (kept_create_with self.old.limits (stock_of self.old).keys key (spec_of spec) time value) result
+            (stock_of self.new) }
         ensures bounded { IfOk result (λ t. t ≤ MAX_TIME) }
         ensures own { IfErr result (IsOwn (stock_of self.old) key) }
         ensures store { IsInOrder self.new }
@@ -119,7 +123,9 @@ fn begun<L: Ledger>(
     steps: &mut Steps<L>,
 ) -> Result<Series, AllocError>
     requires time { time ≤ MAX_TIME }
-    ensures begun { IfOk result (λ series. kept_series [] series ≡ kept_fresh (record { options = options; labels = [] }) (record { time = time; value = value; made = 0 } ∷ []) (Some time)) }
+    ensures begun { IfOk result (λ series. kept_series [] series
+        ≡ kept_fresh (record { options = options; labels = [] }) (record { time = time; value = value; made = 0 } ∷ [])
+        (Some time)) }
     ensures kept { IfOk result (λ series. IsKept series) }
     ensures counted { steps.old ≤ steps.new }
     ensures steps { steps.new ≡ steps.old }

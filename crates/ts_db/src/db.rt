@@ -1,4 +1,4 @@
-// The database as its callers see it.
+// The database.
 ghost use Rattle.std.specs.Prelude.{◌≡◌, ◌≤◌, ⊤, nat_le, is_some};
 ghost use Rattle.ts_spec.specs.Keyed.{none, get, count_keys};
 ghost use Rattle.ts_spec.specs.State.{empty};
@@ -12,7 +12,7 @@ use std::marker::Model;
 use ts_resp::Word;
 use ts_spec::Limits;
 
-/// Series under their keys.
+/// A database: time series by key.
 #[derive(Drop)]
 pub struct Db {
     pub(crate) store: Store,
@@ -30,7 +30,7 @@ impl Model for Db {
 }
 
 impl Db {
-    /// A database without keys.
+    /// An empty database.
     pub fn new(alloc: Global, limits: Limits) -> Db
         requires { 1 ≤ limits.samples }
         ensures limits { result.limits ≡ limits }
@@ -48,7 +48,7 @@ impl Db {
         }
     }
 
-    /// Whether the key is there.
+    /// Whether the key exists.
     pub fn has(&self, key: &Word) -> bool
         ensures there { result ≡ is_some (get key.now self.now.keys) }
         ensures each { (held : Held) → Stands self.now held → result ≡ is_some (get key.now held.state) }
@@ -56,7 +56,7 @@ impl Db {
         self.store.has(key)
     }
 
-    /// How many keys there are.
+    /// The number of keys.
     pub fn count(&self) -> u32
         ensures keys { result ≡ count_keys self.now.keys }
         ensures each { (held : Held) → Stands self.now held → result ≡ count_keys held.state }
@@ -64,7 +64,7 @@ impl Db {
         self.store.keys.len().min(self.store.limits.keys as usize) as u32
     }
 
-    /// Whether there are as many keys as there may be. Takes no memory.
+    /// Whether the database holds as many keys as its limits allow. Allocates nothing.
     pub fn is_full(&self) -> bool
         ensures full { result ≡ nat_le self.now.limits.keys (count_keys self.now.keys) }
         ensures each { (held : Held) → Stands self.now held → result ≡ nat_le held.limits.keys (count_keys held.state) }
@@ -72,7 +72,7 @@ impl Db {
         self.store.is_full()
     }
 
-    /// How much it may hold. There is a state that it stands for.
+    /// The limits. The contract also tells callers that the database represents some state.
     pub fn limits(&self) -> Limits
         ensures limits { result ≡ self.now.limits }
         ensures stands { Leads self.now (λ held. ⊤) }
@@ -80,13 +80,13 @@ impl Db {
         self.store.limits
     }
 
-    /// Where it takes memory.
+    /// The allocator.
     pub fn alloc(&self) -> Global {
         self.store.alloc
     }
 }
 
-// A database is this field and no other: a further one, such as a copy of samples, does not compile here.
+// Lists all fields: adding one, such as a copy of the samples, does not compile.
 fn fields(it: &Db) {
     let Db { store: _ } = it;
 }

@@ -1,4 +1,4 @@
-// TS.DEL on the store: samples are taken out, and the destinations of rules are mended.
+// TS.DEL: deletes samples and updates the destinations of rules.
 ghost use Rattle.std.specs.Prelude.{◌≡◌, ◌≤◌, [], length, Some, IfOk, IfErr};
 ghost use Rattle.ts_spec.specs.Key.{Key};
 ghost use Rattle.ts_spec.specs.Mending.{keep_deleted};
@@ -14,16 +14,15 @@ ghost use Rattle.ts_db.specs.Answering.{KeptNumber};
 ghost use Rattle.ts_db.specs.Bounds.{deletion_steps};
 
 use crate::fault::DbFault;
+use crate::planning::Work;
 use crate::store::Store;
-use crate::work::Work;
 use std::sync::ledger::Ledger;
 use ts_resp::Word;
 use ts_rules::Rule;
 use ts_sample::{Id, Steps};
 
 impl Store {
-    // Takes the samples between two times, in milliseconds, both included, out of the series of a key. Answers
-    // how many they were: none where `from` is above `to`.
+    // Deletes the samples of a key within `from..=to`. Returns how many it deleted; 0 if `from` is above `to`.
     pub(crate) fn delete_range<L: Ledger>(
         &mut self,
         key: &Word,
@@ -33,7 +32,8 @@ impl Store {
     ) -> Result<u64, DbFault>
         requires time { from ≤ MAX_TIME }
         requires db { IsDb self.old }
-        ensures deleted { KeptNumber (stock_of self.old) (kept_delete self.old.limits (stock_of self.old).keys key.now from to) result (stock_of self.new) }
+        ensures deleted { KeptNumber (stock_of self.old)
+            (kept_delete self.old.limits (stock_of self.old).keys key.now from to) result (stock_of self.new) }
         ensures bounded { IfOk result (λ n. n ≤ MAX_TIME) }
         ensures own { IfErr result (IsOwn (stock_of self.old) key.now) }
         ensures store { IsInOrder self.new }
@@ -52,8 +52,8 @@ impl Store {
         self.delete(id, from, to, steps)
     }
 
-    // Takes an interval out of the series of a number, and has the destinations of its rules mended. Answers how many
-    // samples were in it.
+    // Deletes the samples of series `id` within `from..=to` and updates the destinations of its rules. Returns how
+    // many it deleted.
     fn delete<L: Ledger>(
         &mut self,
         id: Id,
@@ -64,12 +64,15 @@ impl Store {
         requires db { IsDb self.old }
         requires there { IsThere self.old id }
         ensures deleted { (key : Key) (n : TheNode) → Holds self.old key id n → KeptNumber (stock_of self.old)
-            (kept_within_destinations self.old.limits (stock_of self.old).keys key (record { keys = keep_deleted key from to (stock_of self.old).keys; response = Count (length (between from to (list_of n.series))) }))
+            (kept_within_destinations self.old.limits (stock_of self.old).keys key
+            (record { keys = keep_deleted key from to (stock_of self.old).keys; response = Count (length (between from to (list_of n.series))) }))
             result (stock_of self.new) }
         ensures bounded { IfOk result (λ n. n ≤ MAX_TIME) }
-        ensures own { (key : Key) → number_of key self.old.keys.entries ≡ Some id → IfErr result (IsOwn (stock_of self.old) key) }
+        ensures own { (key : Key) → number_of key self.old.keys.entries ≡ Some id
+            → IfErr result (IsOwn (stock_of self.old) key) }
         ensures store { IsInOrder self.new }
-        ensures steps { Takes steps.old steps.new (deletion_steps (stock_of self.old) (key_in self.old.nodes id) from to) }
+        ensures steps { Takes steps.old steps.new
+            (deletion_steps (stock_of self.old) (key_in self.old.nodes id) from to) }
     {
         let node = self.nodes.node(id);
         let work = Work::Delete(from, to);
@@ -88,7 +91,7 @@ impl Store {
     }
 }
 
-// Whether the bucket of a time, by one of these rules, begins before this edge of their source.
+// Whether the bucket of `from` starts before the retention edge, for any of these rules.
 fn meet_expired(rules: &[Rule], from: u64, edge: u64) -> bool
     requires { from ≤ MAX_TIME }
     ensures { result ≡ kept_meets_expired from edge (rules_by (λ id. []) rules.now) }

@@ -1,23 +1,25 @@
-// How keys go, and with them the rules from them and to them.
+// Deletes keys with their rules.
 ghost use Rattle.std.specs.Prelude.{◌≡◌, None, is_some, if◌then◌else◌, option_map};
 ghost use Rattle.ts_spec.specs.Key.{Key};
 ghost use Rattle.ts_spec.specs.Keyed.{get, without_key};
 ghost use Rattle.ts_spec.specs.Keeping.{keep_dropped};
 ghost use Rattle.ts_db.specs.declared.node.Node.{Node as TheNode};
 ghost use Rattle.ts_db.specs.Linking.{keep_unled, AreFreeOf, IsAlone, KeepsNames};
-ghost use Rattle.ts_db.specs.Store.{key_in, stock_of, contents_of, number_of, IsInOrder, IsDb, HasNode, IsLiveSource, IsThere, Holds};
+ghost use Rattle.ts_db.specs.Store.{key_in, stock_of, contents_of, number_of, IsInOrder, IsDb, HasNode, IsLiveSource};
+ghost use Rattle.ts_db.specs.Store.{IsThere, Holds};
 
 use crate::store::Store;
 use ts_resp::Word;
 use ts_sample::Id;
 
 impl Store {
-    // Takes a key away, with its series, and ends the rules from it and to it, without memory. Answers whether it
-    // was there.
+    // Deletes a key with its series and all rules from and to it. Returns whether the key existed. Allocates nothing.
     pub(crate) fn drop_key(&mut self, key: &Word) -> bool
         requires { IsDb self.old }
         ensures there { result ≡ is_some (get key.now (stock_of self.old).keys) }
-        ensures keys { (stock_of self.new).keys ≡ (if is_some (get key.now (stock_of self.old).keys) then keep_dropped key.now (stock_of self.old).keys else (stock_of self.old).keys) }
+        ensures keys { (stock_of self.new).keys
+            ≡ (if is_some (get key.now (stock_of self.old).keys) then keep_dropped key.now (stock_of self.old).keys
+            else (stock_of self.old).keys) }
         ensures limits { self.new.limits ≡ self.old.limits }
         ensures store { IsInOrder self.new }
     {
@@ -29,7 +31,7 @@ impl Store {
         true
     }
 
-    // Ends each rule from a series and the one to it.
+    // Deletes the rules from a series and the rule to it.
     fn end_rules(&mut self, id: Id)
         requires db { IsDb self.old }
         requires there { IsThere self.old id }
@@ -43,13 +45,14 @@ impl Store {
         self.free(rules);
     }
 
-    // Ends the rule to a series, from this source, if there is one.
+    // Deletes the rule from `source` to series `id`, if there is a source.
     fn end_source(&mut self, source: Option<Id>, id: Id)
         requires store { IsInOrder self.old }
         requires live { HasNode self.old.nodes id }
         requires source { IsLiveSource self.old.nodes source }
         ensures store { IsInOrder self.new }
-        ensures ended { contents_of self.new ≡ record (contents_of self.old) { keys = keep_unled (option_map (key_in self.old.nodes) source) (key_in self.old.nodes id) (stock_of self.old).keys } }
+        ensures ended { contents_of self.new
+            ≡ record (contents_of self.old) { keys = keep_unled (option_map (key_in self.old.nodes) source) (key_in self.old.nodes id) (stock_of self.old).keys } }
         ensures names { KeepsNames self.old self.new }
     {
         match source {
@@ -58,7 +61,7 @@ impl Store {
         }
     }
 
-    // Takes a key away, with its series, to which no other is linked.
+    // Deletes a key and its series, which must have no rules from or to it.
     fn remove_key(&mut self, key: &Word)
         requires store { IsInOrder self.old }
         requires there { number_of key.now self.old.keys.entries ≡ None → ⊥ }

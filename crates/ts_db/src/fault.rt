@@ -1,4 +1,4 @@
-// Why a call of the database is refused.
+// Errors of the database.
 ghost use Rattle.std.specs.Prelude.{◌≡◌, Some};
 ghost use Rattle.ts_spec.specs.Keyed.{Keyed};
 ghost use Rattle.ts_sample.specs.declared.id.Id.{Id as TheId};
@@ -12,68 +12,68 @@ use thiserror::Error;
 use ts_sample::Id;
 use ts_series::PutFault;
 
-/// Why the database refuses a command. It is then as it was.
+/// Why an operation failed. The database is then unchanged.
 #[derive(Drop, Error)]
 pub enum DbFault {
-    /// The key is there already.
+    /// The key already exists.
     #[error("key already exists")]
     KeyExists,
-    /// There is no such key.
+    /// The key does not exist.
     #[error("no such key")]
     NoKey,
-    /// There are as many keys as there may be.
+    /// The database holds as many keys as its limits allow.
     #[error("too many keys")]
     KeysFull,
-    /// There are more labels than a series may have.
+    /// The series would have more labels than the limits allow.
     #[error("too many labels")]
     LabelsFull,
-    /// The time is before the edge of the series.
+    /// The time is before the series' retention edge.
     #[error("the time is before the retention")]
     TooOld,
-    /// The time has a sample, and the policy refuses another one.
+    /// The series has a sample at this time, and the duplicate policy is `BLOCK`.
     #[error("duplicate sample")]
     Duplicate,
     /// The value is out of range.
     #[error("value out of range")]
     OutOfRange,
-    /// The time is before that of the last sample.
+    /// The time is before the last sample's time (TS.INCRBY, TS.DECRBY).
     #[error("the time is before the last sample")]
     BeforeLast,
-    /// The series would show too many samples. It is the one to be written where `written` is true, and
-    /// else a destination.
+    /// The series `id` would have more samples than the limits allow: the series being written if `written` is `true`,
+    /// or else a destination of one of its rules.
     #[error("too many samples")]
     SamplesFull { id: Id, written: bool },
-    /// The interval of a deletion meets a bucket of a rule whose samples have expired in part.
+    /// The deleted interval touches a bucket of a rule whose samples have partly expired.
     #[error("the interval meets an expired bucket")]
     DeleteBeyondRetention,
-    /// The source of a rule and its destination are one key.
+    /// The source and the destination of the rule are the same key.
     #[error("the source and the destination are the same")]
     SameKey,
-    /// The source of a rule is a destination already.
+    /// The source of the rule is already a destination.
     #[error("the source is a destination")]
     SourceIsDest,
-    /// The destination of a rule is a source already.
+    /// The destination of the rule is already a source.
     #[error("the destination is a source")]
     DestIsSource,
-    /// The destination of a rule has a source already.
+    /// The destination of the rule already has a source.
     #[error("the destination has a source")]
     DestHasSource,
-    /// As many rules were made on the source in its life as may be.
+    /// The source has had as many rules in its lifetime as the limits allow.
     #[error("too many rules made")]
     RulesSpent,
-    /// The source has as many rules as it may have.
+    /// The source has as many rules as the limits allow.
     #[error("too many rules")]
     RulesFull,
     /// There is no such rule.
     #[error("no such rule")]
     NoRule,
-    /// There was no memory.
+    /// Out of memory.
     #[error(transparent)]
     Memory(AllocError),
 }
 
 impl DbFault {
-    // The name of the variant, and want of memory with its cause.
+    // The variant's name. `Memory` includes its cause.
     fn name(&self) -> &'static str
         ensures { result.now ≡ name_of self.now }
     {
@@ -121,7 +121,7 @@ fn series_name(written: bool) -> &'static str
     if written { "written" } else { "destination" }
 }
 
-// The same fault of the series with this number.
+// The same error, for series `id`.
 pub(crate) fn fault_at(id: Id, fault: PutFault) -> DbFault
     ensures refusal { (ids : Keyed TheId) → refusal_of ids result ≡ put_refusal fault }
     ensures own { IsFaultAt id result }

@@ -1,4 +1,4 @@
-// An append that stays in the open bucket of each rule: it is counted there, and no destination changes.
+// The fast path of a write: an append inside the open buckets of all rules, which changes no destination.
 ghost use Rattle.std.specs.Prelude.{◌≡◌, IsTrue};
 ghost use Rattle.ts_spec.specs.Keyed.{with_key};
 ghost use Rattle.ts_spec.specs.Key.{Key};
@@ -14,21 +14,22 @@ use ts_sample::{Id, Sample};
 use ts_series::{Append, Series};
 
 impl Store {
-    // Appends a sample to a series, and counts the sample in the open bucket of
-    // each of its rules. It can't fail, and takes no memory.
+    // Appends a sample and counts it in the open bucket of each rule. Can't fail and allocates nothing.
     pub(crate) fn grow(&mut self, id: Id, plan: Append, wrote: &Sample)
         requires store { IsInOrder self.old }
         requires ready { IsReady self.old id plan None None }
         requires room { (key : Key) (n : TheNode) → Holds self.old key id n → HaveRoom n.rules.items }
         ensures store { IsInOrder self.new }
-        ensures grown { (key : Key) (n : TheNode) → Holds self.old key id n → contents_of self.new ≡ record (contents_of self.old) { keys = with_key key (kept_grown self.old.nodes plan wrote.now n) (stock_of self.old).keys } }
+        ensures grown { (key : Key) (n : TheNode) → Holds self.old key id n
+            → contents_of self.new
+            ≡ record (contents_of self.old) { keys = with_key key (kept_grown self.old.nodes plan wrote.now n) (stock_of self.old).keys } }
         ensures elsewhere { IsElsewhere self.old self.new id }
     {
         self.nodes.grow(id, plan, wrote);
     }
 }
 
-// Counts a sample in the open bucket of each of these rules.
+// Counts a sample in the open bucket of each rule.
 pub(crate) fn count_in_all(rules: &mut Vec<Rule>, wrote: &Sample)
     requires { HaveRoom rules.old.items }
     ensures { AreChanged (grown wrote.now) rules.old.items rules.new.items }
@@ -38,7 +39,7 @@ pub(crate) fn count_in_all(rules: &mut Vec<Rule>, wrote: &Sample)
     }
 }
 
-// Whether a sample that is written to the source of these rules is appended, and lies in the open bucket of each.
+// Whether the sample is an append and falls into the open bucket of each rule.
 pub(crate) fn stays_open(rules: &[Rule], source: &Series, wrote: &Sample) -> bool
     ensures { IsTrue result → StaysOpen source.now wrote.now rules.now }
 {
@@ -48,7 +49,7 @@ pub(crate) fn stays_open(rules: &[Rule], source: &Series, wrote: &Sample) -> boo
     }
 }
 
-// Whether a sample lies in the open bucket of each of these rules.
+// Whether the sample falls into the open bucket of each rule.
 fn are_open_at(rules: &[Rule], wrote: &Sample) -> bool
     ensures { IsTrue result → AreOpenAt wrote.now rules.now }
 {

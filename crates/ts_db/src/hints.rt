@@ -1,24 +1,39 @@
-// Where the number of a key stood when it was last written to. Nothing but speed depends on what is kept here: a number is
-// taken only where its node has the key.
-use std::alloc::Global;
-use ts_resp::Word;
-use ts_sample::Id;
+// Caches ids of recently written keys. An id is used only if its node has the key, so hints affect speed alone.
+ghost use Rattle.std.specs.Prelude.{◌≡◌, ◌≤◌, IfOk, IfErr};
+ghost use Rattle.ts_spec.specs.Sample.{MAX_TIME};
+ghost use Rattle.ts_spec.specs.Keyed.{get};
+ghost use Rattle.ts_sample.specs.Steps.{Takes};
+ghost use Rattle.ts_db.specs.Held.{AnswersNumber, IsOwn};
+ghost use Rattle.ts_db.specs.Store.{stock_of, number_of, IsInOrder, IsDb};
+ghost use Rattle.ts_db.specs.Answering.{KeptNumber};
+ghost use Rattle.ts_db.specs.PutBy.{put_by, kept_put_by};
+ghost use Rattle.ts_db.specs.Bounds.{write_steps, IsEasyAppend, IsIgnored};
 
-// How many places there are.
+use crate::db::Db;
+use crate::fault::DbFault;
+use crate::store::Store;
+use crate::write::merge_by;
+use std::alloc::Global;
+use std::sync::ledger::Ledger;
+use ts_resp::Word;
+use ts_sample::{Id, Steps, Units};
+use ts_spec::Policy;
+
+// The number of slots.
 const PLACES: usize = 4096;
 
-/// The numbers that keys had when they were last written to. Who writes to the same keys again and again keeps them, and
-/// hands them to each write: they make it sooner done, and change nothing that it does or answers.
+/// A cache of ids of recently written keys. A caller that writes the same keys repeatedly passes it to each write,
+/// which then skips the key lookup. Results do not depend on it.
 #[derive(Drop)]
 pub struct Hints {
-    // how many places there may be
+    // The number of slots to allocate on first use.
     places: usize,
-    // a number at each place, once there is one
+    // The id in each slot. Empty until first use.
     ids: Vec<Id>,
 }
 
 impl Hints {
-    /// None so far. Takes no memory.
+    /// An empty cache. Allocates nothing until first use.
     pub fn new(alloc: Global) -> Hints {
         Hints {
             places: PLACES,
@@ -26,7 +41,7 @@ impl Hints {
         }
     }
 
-    /// None at any time: nothing is kept in them. Takes no memory.
+    /// A cache that never stores anything. Never allocates.
     pub fn none(alloc: Global) -> Hints {
         Hints {
             places: 0,
@@ -34,12 +49,12 @@ impl Hints {
         }
     }
 
-    // The number at a place.
+    // The id in a slot.
     pub(crate) fn at(&self, place: usize) -> Option<Id> {
         self.ids.get(place).copied()
     }
 
-    // Keeps a number at a place, if there is memory for it.
+    // Stores an id in a slot. Does nothing if memory runs out.
     pub(crate) fn keep(&mut self, place: usize, id: Id) {
         if self.ids.is_empty() && self.ids.resize(self.places, id).is_err() {
             return;
@@ -50,11 +65,83 @@ impl Hints {
     }
 }
 
-// The place of a key.
+// The slot of a key.
 pub(crate) fn place_of(key: &Word) -> usize {
     let mut sum: usize = 0;
     for byte in key.bytes() {
         sum = sum.wrapping_mul(435).wrapping_add(*byte as usize);
     }
     sum % PLACES
+}
+
+impl Db {
+    /// Adds a sample to an existing series, looking its id up in the hints first. If the series already has a sample
+    /// at `time`, resolves the conflict by `on`, or by the series' duplicate policy if `on` is `None`. Returns the
+    /// sample's time, or the last sample's time if the write was ignored (IGNORE).
+    pub fn put_near<L: Ledger>(
+        &mut self,
+        hints: &mut Hints,
+        key: &Word,
+        time: u64,
+        value: Units,
+        on: Option<Policy>,
+        steps: &mut Steps<L>,
+    ) -> Result<u64, DbFault>
+        requires time { time ≤ MAX_TIME }
+        ensures put { AnswersNumber self.old (λ h. put_by h.limits h.state key.now time value on) result self.new }
+        ensures bounded { IfOk result (λ t. t ≤ MAX_TIME) }
+        ensures limits { self.new.limits ≡ self.old.limits }
+        ensures own { IfErr result (IsOwn self.old key.now) }
+        ensures steps { Takes steps.old steps.new (write_steps self.old key.now time) }
+        ensures easy { IsEasyAppend self.old key.now time → steps.new ≡ steps.old }
+        ensures spared { IsIgnored self.old key.now time value → steps.new ≡ steps.old }
+    {
+        self.store.put_near(hints, key, time, value, on, steps)
+    }
+}
+
+impl Store {
+    // Adds a sample to an existing series, looking its id up in the hints first.
+    pub(crate) fn put_near<L: Ledger>(
+        &mut self,
+        hints: &mut Hints,
+        key: &Word,
+        time: u64,
+        value: Units,
+        on: Option<Policy>,
+        steps: &mut Steps<L>,
+    ) -> Result<u64, DbFault>
+        requires time { time ≤ MAX_TIME }
+        requires db { IsDb self.old }
+        ensures put { KeptNumber (stock_of self.old)
+            (kept_put_by self.old.limits (stock_of self.old).keys key.now time value on) result (stock_of self.new) }
+        ensures bounded { IfOk result (λ t. t ≤ MAX_TIME) }
+        ensures own { IfErr result (IsOwn (stock_of self.old) key.now) }
+        ensures store { IsInOrder self.new }
+        ensures steps { Takes steps.old steps.new (write_steps (stock_of self.old) key.now time) }
+        ensures easy { IsEasyAppend (stock_of self.old) key.now time → steps.new ≡ steps.old }
+        ensures spared { IsIgnored (stock_of self.old) key.now time value → steps.new ≡ steps.old }
+    {
+        let place = place_of(key);
+        let Some(id) = self.number_near(hints, key, place) else {
+            return Err(DbFault::NoKey);
+        };
+        let answer = self.write(id, merge_by(on), time, value, steps);
+        hints.keep(place, id);
+        answer
+    }
+
+    // The id of a key, if it exists: the hinted one if its node has the key.
+    fn number_near(&self, hints: &Hints, key: &Word, place: usize) -> Option<Id>
+        requires { IsInOrder self.now }
+        ensures { result ≡ number_of key.now self.now.keys.entries }
+    {
+        if let Some(id) = hints.at(place)
+            && let Some(node) = self.nodes.get(id.0)
+            && node.key == *key
+        {
+            return Some(id);
+        }
+        self.keys.get(key).copied()
+    }
 }

@@ -1,4 +1,4 @@
-// TS.INCRBY and TS.DECRBY on the store: a write of the last value and a change.
+// TS.INCRBY and TS.DECRBY: write the last value plus a change.
 ghost use Rattle.std.specs.Prelude.{◌≡◌, ◌≤◌, IfOk, IfErr};
 ghost use Rattle.ts_spec.specs.Sample.{MAX_TIME, last_of};
 ghost use Rattle.ts_spec.specs.Rules.{within_bound};
@@ -23,9 +23,8 @@ use ts_series::Series;
 use ts_spec::Merge;
 
 impl Store {
-    // Adds a sample with the last value and a change, or changes the last sample where it has the time. Where
-    // the key is missing it begins with the change. Answers the time, or that of the last sample where the new one is
-    // ignored.
+    // Adds `change` to the last value and stores the sum at `time`. Creates the series if the key does not exist.
+    // Returns the sample's time, or the last sample's time if the write was ignored (IGNORE).
     pub(crate) fn incr<L: Ledger>(
         &mut self,
         key: Word,
@@ -36,7 +35,9 @@ impl Store {
     ) -> Result<u64, DbFault>
         requires time { time ≤ MAX_TIME }
         requires db { IsDb self.old }
-        ensures changed { KeptNumber (stock_of self.old) (kept_incr self.old.limits (stock_of self.old).keys key change time (spec_of spec)) result (stock_of self.new) }
+        ensures changed { KeptNumber (stock_of self.old)
+            (kept_incr self.old.limits (stock_of self.old).keys key change time (spec_of spec)) result
+            (stock_of self.new) }
         ensures bounded { IfOk result (λ t. t ≤ MAX_TIME) }
         ensures own { IfErr result (IsOwn (stock_of self.old) key) }
         ensures store { IsInOrder self.new }
@@ -61,7 +62,7 @@ impl Store {
     }
 }
 
-// Whether the time is before that of the last sample.
+// Whether the time is before the last sample.
 fn is_before(series: &Series, time: u64) -> bool
     ensures { result ≡ is_before_last time (last_of (list_of series.now)) }
 {
@@ -71,7 +72,7 @@ fn is_before(series: &Series, time: u64) -> bool
     }
 }
 
-// The last value with a change, or the change alone, where it is in range.
+// The last value (0 if there is none) plus the change, if it is in range.
 fn changed(series: &Series, change: Units) -> Option<Units>
     ensures { IsChanged (within_bound (changed_value change (last_of (list_of series.now)))) result }
 {

@@ -1,4 +1,4 @@
-// What is told of a series and of how it is kept.
+// The facts about a series that TS.INFO reports.
 ghost use Rattle.std.specs.Prelude.{◌≡◌, map, option_map, Some, IfOk, ◌*◌};
 ghost use Rattle.ts_spec.specs.KeptQuestions.{kept_rule_info, kept_info_response};
 ghost use Rattle.ts_spec.specs.Questions.{time_or_0};
@@ -7,7 +7,8 @@ ghost use Rattle.ts_sample.specs.Steps.{Takes};
 ghost use Rattle.ts_series.specs.History.{reach};
 ghost use Rattle.ts_rules.specs.Rules.{kept_with_dest};
 ghost use Rattle.ts_db.specs.Information.{rule_info_of, info_of};
-ghost use Rattle.ts_db.specs.Store.{rules_by, key_in, kept_node, HasNode, AreLive, IsLiveSource, HasLiveLinks, IsInOrder};
+ghost use Rattle.ts_db.specs.Store.{rules_by, key_in, kept_node, HasNode, AreLive, IsLiveSource, HasLiveLinks};
+ghost use Rattle.ts_db.specs.Store.{IsInOrder};
 
 use crate::node::Node;
 use crate::store::Store;
@@ -20,24 +21,24 @@ use ts_rules::Rule;
 use ts_sample::{Id, Sample, Steps};
 use ts_spec::{Aggregator, Options};
 
-/// What TS.INFO tells of a series.
+/// What TS.INFO reports about a series.
 #[derive(Drop)]
 pub struct Info {
-    /// How many samples it shows.
+    /// The number of samples.
     pub total: u64,
-    /// The time of its first sample, in milliseconds; 0 where it has none.
+    /// The first sample's time in milliseconds; 0 if there is none.
     pub first: u64,
-    /// The time of its last sample, in milliseconds; 0 where it has none.
+    /// The last sample's time in milliseconds; 0 if there is none.
     pub last: u64,
     pub options: Options,
     pub labels: Labels,
-    /// The series whose rule leads to it.
+    /// The source of the rule whose destination this series is.
     pub source: Option<Word>,
-    /// Its rules, in the order of their making.
+    /// The rules from this series, in order of creation.
     pub rules: Vec<RuleInfo>,
 }
 
-/// What TS.INFO tells of a rule.
+/// What TS.INFO reports about a rule.
 #[derive(Drop)]
 pub struct RuleInfo {
     pub dest: Word,
@@ -46,7 +47,7 @@ pub struct RuleInfo {
 }
 
 impl Store {
-    // What TS.INFO tells of the key of a node.
+    // The facts about the series of a node.
     pub(crate) fn info_of<L: Ledger>(
         &self,
         node: &Node,
@@ -54,7 +55,8 @@ impl Store {
     ) -> Result<Info, AllocError>
         requires store { IsInOrder self.now }
         requires links { HasLiveLinks self.now.nodes node.now }
-        ensures info { IfOk result (λ info. Told (info_of info) ≡ kept_info_response (Some (kept_node self.now.nodes node.now))) }
+        ensures info { IfOk result (λ info. Told (info_of info)
+            ≡ kept_info_response (Some (kept_node self.now.nodes node.now))) }
         ensures steps { Takes steps.old steps.new (2 * reach node.now.series) }
     {
         let first = node.series.first(steps);
@@ -70,7 +72,7 @@ impl Store {
         })
     }
 
-    // A copy of the key of a source, where there is one.
+    // A copy of the source's key, if there is a source.
     fn source_key(&self, source: Option<Id>) -> Result<Option<Word>, AllocError>
         requires store { IsInOrder self.now }
         requires live { IsLiveSource self.now.nodes source }
@@ -82,11 +84,12 @@ impl Store {
         }
     }
 
-    // What is told of rules, in their order.
+    // The facts about the rules, in order.
     fn rule_infos(&self, rules: &[Rule]) -> Result<Vec<RuleInfo>, AllocError>
         requires store { IsInOrder self.now }
         requires live { AreLive self.now.nodes rules.now }
-        ensures { IfOk result (λ infos. map rule_info_of infos.items ≡ map kept_rule_info (rules_by (key_in self.now.nodes) rules.now)) }
+        ensures { IfOk result (λ infos. map rule_info_of infos.items
+            ≡ map kept_rule_info (rules_by (key_in self.now.nodes) rules.now)) }
     {
         let mut infos = Vec::with_capacity(self.alloc, rules.len())?;
         for rule in rules {
@@ -95,11 +98,12 @@ impl Store {
         Ok(infos)
     }
 
-    // What is told of a rule.
+    // The facts about a rule.
     fn rule_info(&self, rule: &Rule) -> Result<RuleInfo, AllocError>
         requires store { IsInOrder self.now }
         requires live { HasNode self.now.nodes rule.now.dest }
-        ensures { IfOk result (λ info. rule_info_of info ≡ kept_rule_info (kept_with_dest (key_in self.now.nodes rule.now.dest) rule.now)) }
+        ensures { IfOk result (λ info. rule_info_of info
+            ≡ kept_rule_info (kept_with_dest (key_in self.now.nodes rule.now.dest) rule.now)) }
     {
         Ok(RuleInfo {
             dest: self.copied_key(rule.dest)?,
@@ -108,7 +112,7 @@ impl Store {
         })
     }
 
-    // A copy of the key of a number.
+    // A copy of the key of series `id`.
     fn copied_key(&self, id: Id) -> Result<Word, AllocError>
         requires store { IsInOrder self.now }
         requires live { HasNode self.now.nodes id }
@@ -118,7 +122,7 @@ impl Store {
     }
 }
 
-// The time of a sample, in milliseconds; 0 where there is none.
+// The sample's time in milliseconds; 0 if there is none.
 fn time_or_0(sample: Option<Sample>) -> u64
     ensures { result ≡ time_or_0 sample }
 {

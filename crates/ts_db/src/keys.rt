@@ -1,23 +1,26 @@
-// The keys of a database: their numbers, those whose labels pass filters, and how many samples all show.
+// Finds series by key and by labels, and counts samples.
 ghost use Rattle.std.specs.Prelude.{◌≡◌, ◌≤◌, ◌+◌, length, is_some, IfOk, OnErr};
 ghost use Rattle.ts_spec.specs.Filter.{all_hold, selection};
 ghost use Rattle.ts_spec.specs.Keyed.{get};
 ghost use Rattle.ts_spec.specs.KeptQuestions.{kept_selection};
 ghost use Rattle.ts_spec.specs.Totals.{total_shown};
 ghost use Rattle.ts_sample.specs.Steps.{Takes};
-ghost use Rattle.ts_db.specs.Held.{Held, Stands, AreNumbersOf};
-ghost use Rattle.ts_db.specs.Bounds.{reach_of_all, selection_steps};
+ghost use Rattle.ts_db.specs.Held.{Held, Stands, AreNumbersOf, IsLive};
+ghost use Rattle.ts_db.specs.Bounds.{reach_of_all, selection_steps, fewest};
+ghost use Rattle.std.specs.List.{All};
+ghost use Rattle.ts_db.specs.Candidates.{Covers};
 
 use crate::db::Db;
 use crate::ordered::walked_if_many;
 use std::alloc::AllocError;
 use std::sync::ledger::Ledger;
+use ts_index::Candidates;
 use ts_labels::{Filter, Labels};
 use ts_resp::Word;
 use ts_sample::{Id, Steps};
 
 impl Db {
-    /// The number of a key, if the key is there. Takes no memory.
+    /// The id of a key's series, if the key exists. Allocates nothing.
     pub fn id_of(&self, key: &Word) -> Option<Id>
         ensures id { result ≡ get key.now self.now.ids }
         ensures there { is_some result ≡ is_some (get key.now self.now.keys) }
@@ -25,14 +28,14 @@ impl Db {
         self.store.keys.get(key).copied()
     }
 
-    /// The numbers of the keys whose labels pass all filters, in ascending order of the bytes of the keys. An Err comes
-    /// before a filter is tried.
+    /// The ids of the series that pass all filters, sorted by key. Fails only before it tests any filter.
     pub fn select<L: Ledger>(
         &self,
         filters: &[Filter],
         steps: &mut Steps<L>,
     ) -> Result<Vec<Id>, AllocError>
-        ensures numbers { IfOk result (λ ids. AreNumbersOf self.now.ids (kept_selection self.now.keys filters.now) ids.items) }
+        ensures numbers { IfOk result
+            (λ ids. AreNumbersOf self.now.ids (kept_selection self.now.keys filters.now) ids.items) }
         ensures each { (held : Held) → Stands self.now held
             → IfOk result (λ ids. AreNumbersOf self.now.ids (selection held.state filters.now) ids.items) }
         ensures unspent { OnErr result (steps.new ≡ steps.old) }
@@ -46,7 +49,7 @@ impl Db {
         Ok(ids)
     }
 
-    /// How many samples all keys show together. Takes no memory.
+    /// The number of samples in all series. Allocates nothing.
     pub fn total<L: Ledger>(&self, steps: &mut Steps<L>) -> u64
         ensures each { (held : Held) → Stands self.now held → result ≡ total_shown held.state }
         ensures steps { Takes steps.old steps.new (reach_of_all self.now) }
@@ -59,9 +62,19 @@ impl Db {
         }
         total
     }
+
+    /// Candidate ids for a query: includes every series that passes all filters. The caller tests each one. Allocates
+    /// nothing.
+    pub fn candidates<'a>(&'a self, filters: &'a [Filter]) -> Candidates<'a>
+        ensures live { All (IsLive self.now.ids) result }
+        ensures covers { Covers self.now filters.now result }
+        ensures few { length result ≤ fewest self.now filters.now }
+    {
+        self.store.index().candidates(filters)
+    }
 }
 
-// Whether labels pass all filters.
+// Whether the labels pass all filters.
 pub(crate) fn pass<L: Ledger>(labels: &Labels, filters: &[Filter], steps: &mut Steps<L>) -> bool
     ensures pass { result ≡ all_hold filters.now labels.now }
     ensures steps { steps.new ≤ steps.old + length filters.now }

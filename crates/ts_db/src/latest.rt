@@ -1,4 +1,4 @@
-// The row of the open bucket of the rule that leads to a series.
+// The row of a destination's open bucket, which LATEST adds to its samples.
 ghost use Rattle.std.specs.Prelude.{◌≡◌, true, [], Some};
 ghost use Rattle.ts_spec.specs.Key.{Key};
 ghost use Rattle.ts_spec.specs.Keyed.{get};
@@ -18,8 +18,8 @@ use ts_sample::{Id, Sample};
 use ts_series::Series;
 
 impl Db {
-    // The row of the open bucket of the rule that leads to the series of a number, where that is asked for. The series
-    // shows it in the place of an own sample.
+    // The row of the open bucket of the rule to series `id`, if `latest` asks for it. It replaces a sample at the same
+    // time.
     pub(crate) fn asked_row(&self, id: Id, latest: bool) -> Option<Sample>
         requires { IsLive self.now.ids id }
         ensures { (key : Key) (n : TheNode) → get key self.now.ids ≡ Some id → Shows self.now key n
@@ -28,7 +28,7 @@ impl Db {
         if latest { self.latest_row(id) } else { None }
     }
 
-    // The row of the open bucket of the rule that leads to the series of a number.
+    // The row of the open bucket of the rule to series `id`, if there is one.
     fn latest_row(&self, id: Id) -> Option<Sample>
         requires { IsLive self.now.ids id }
         ensures { (key : Key) → get key self.now.ids ≡ Some id
@@ -41,7 +41,7 @@ impl Db {
     }
 }
 
-// The rule of these that leads to a number.
+// The rule to series `id`.
 fn rule_to(rules: &[Rule], id: Id) -> Option<Rule>
     ensures { result ≡ rule_among id.0 rules.now }
 {
@@ -53,7 +53,7 @@ fn rule_to(rules: &[Rule], id: Id) -> Option<Rule>
     None
 }
 
-// The row of the open bucket of a rule for its destination; none before the edge of that.
+// The row of the rule's open bucket. `None` if it is before the destination's retention edge.
 fn row_for(rule: &Rule, dest: &Series) -> Option<Sample>
     ensures { one_of result ≡ open_row (low dest.now) dest.now.born (kept_with_dest [] rule.now) rule.now.current }
 {

@@ -1,39 +1,31 @@
-//! The database: series under their keys, and what each command makes of them.
+//! The database: time series by key, and the effect of each command on them.
 #![tactic(auto)]
 
 mod alter;
 mod among;
-mod candidates;
 mod changes;
 mod create;
 mod db;
 mod deletion;
 mod dropping;
 mod fault;
-mod feeding;
 mod growing;
 mod hints;
-mod ignored;
 mod increase;
 mod info;
 mod keys;
 mod latest;
-mod linked;
-mod linking;
-mod near;
 mod node;
 mod nodes;
 mod numbered;
 mod ordered;
 mod planning;
 mod questions;
-mod row_among;
 mod ruling;
 mod store;
 mod turning;
 mod unplanned;
 mod walks;
-mod work;
 mod write;
 
 pub use db::Db;

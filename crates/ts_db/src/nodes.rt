@@ -1,4 +1,4 @@
-// Nodes by their numbers, and the index of their labels.
+// Nodes by id, with the label index.
 ghost use Rattle.std.specs.Prelude.{◌≡◌, ◌+◌, [], length, None, Some, IfOk, OnOk, OnErr, cond};
 ghost use Rattle.std.specs.Option.{option_copied};
 ghost use Rattle.slab.specs.Slab as slab;
@@ -16,7 +16,7 @@ use ts_index::Index;
 use ts_resp::Word;
 use ts_sample::Id;
 
-// Nodes by their numbers, and the labels of each in the index.
+// Nodes by id, with an index over their labels.
 #[derive(Drop)]
 pub(crate) struct Nodes {
     pub(crate) slab: Slab<Node>,
@@ -36,7 +36,7 @@ impl Model for Nodes {
 }
 
 impl Nodes {
-    // No nodes. Takes no memory.
+    // No nodes. Allocates nothing.
     pub(crate) fn new(alloc: Global) -> Nodes
         ensures { result.slots ≡ [] }
     {
@@ -46,14 +46,14 @@ impl Nodes {
         }
     }
 
-    // The node of a number, if there is one.
+    // The node with this id, if there is one.
     pub(crate) fn get(&self, number: usize) -> Option<&Node>
         ensures { option_copied result ≡ slab.get self.now number }
     {
         self.slab.get(number)
     }
 
-    // The node of a number that has one.
+    // The node with this id, which must exist.
     pub(crate) fn node(&self, id: Id) -> &Node
         requires { slab.ContainsKey self.now id.0 }
         ensures { slab.get self.now id.0 ≡ Some result.now }
@@ -61,15 +61,14 @@ impl Nodes {
         &self.slab[id.0]
     }
 
-    // The labels of the nodes by their numbers.
+    // The label index.
     pub(crate) fn index(&self) -> &Index
         ensures { IsIndexed self.now result.now }
     {
         &self.index
     }
 
-    // Puts a node under a number that has none, and that under a new key. Where there is no memory nothing has changed but the
-    // room.
+    // Stores a node under a fresh id, and the id under a new key. Out of memory leaves both unchanged.
     pub(crate) fn insert(
         &mut self,
         keys: &mut BTreeMap<Word, Id>,
@@ -78,7 +77,8 @@ impl Nodes {
     ) -> Result<Id, AllocError>
         requires { number_of key keys.old.entries ≡ None }
         ensures added { IfOk result (λ id. IsAdded self.old self.new id node) }
-        ensures numbered { IfOk result (λ id. (q : Key) → number_of q keys.new.entries ≡ cond (has_key key q) (Some id) (number_of q keys.old.entries)) }
+        ensures numbered { IfOk result (λ id. (q : Key)
+            → number_of q keys.new.entries ≡ cond (has_key key q) (Some id) (number_of q keys.old.entries)) }
         ensures len { OnOk result (length keys.new.entries ≡ length keys.old.entries + 1) }
         ensures unchanged { OnErr result (self.new.slots ≡ self.old.slots) }
         ensures entries { OnErr result (keys.new.entries ≡ keys.old.entries) }
@@ -98,7 +98,7 @@ impl Nodes {
         Ok(id)
     }
 
-    // Takes the node of a number away. Takes no memory.
+    // Removes a node. Allocates nothing.
     pub(crate) fn remove(&mut self, id: Id)
         requires { slab.ContainsKey self.old id.0 }
         ensures updates { slab.Updates self.old self.new id.0 None }
@@ -109,7 +109,7 @@ impl Nodes {
     }
 }
 
-// Nodes are these fields and no others: a further one, such as a copy of samples, does not compile here.
+// Lists all fields: adding one, such as a copy of the samples, does not compile.
 fn fields(it: &Nodes) {
     let Nodes { slab: _, index: _ } = it;
 }

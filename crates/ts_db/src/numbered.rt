@@ -1,4 +1,4 @@
-// What is kept under the number of a key.
+// Looks up series by id.
 ghost use Rattle.std.specs.Prelude.{◌≡◌, ◌≤◌, nat_lt, length, Some, ◌+◌};
 ghost use Rattle.std.specs.Option.{ForSome};
 ghost use Rattle.ts_spec.specs.Filter.{all_hold};
@@ -25,7 +25,7 @@ use ts_sample::{Id, Sample, Steps};
 use ts_series::Series;
 
 impl Db {
-    // The node of a number.
+    // The node of series `id`.
     pub(crate) fn node(&self, id: Id) -> &Node
         requires { IsLive self.now.ids id }
         ensures numbered { get (key_with self.now.ids id) self.now.ids ≡ Some id }
@@ -37,7 +37,7 @@ impl Db {
         self.store.nodes.node(id)
     }
 
-    /// The key of a number, which is the only one that has it. Takes no memory.
+    /// The key of series `id`. Allocates nothing.
     pub fn key_of(&self, id: Id) -> &Word
         requires { IsLive self.now.ids id }
         ensures key { result.now ≡ key_with self.now.ids id }
@@ -47,17 +47,18 @@ impl Db {
         &self.node(id).key
     }
 
-    /// The labels of the key of a number. Takes no memory.
+    /// The labels of series `id`. Allocates nothing.
     pub fn labels_of(&self, id: Id) -> &Labels
         requires { IsLive self.now.ids id }
-        ensures labels { (key : Key) → get key self.now.ids ≡ Some id → result.now ≡ kept_labels_at (get key self.now.keys) }
+        ensures labels { (key : Key) → get key self.now.ids ≡ Some id
+            → result.now ≡ kept_labels_at (get key self.now.keys) }
         ensures each { (held : Held) → Stands self.now held → (key : Key) → get key self.now.ids ≡ Some id
             → result.now ≡ labels_at (get key held.state) }
     {
         &self.node(id).labels
     }
 
-    /// Whether the labels of the key of a number pass all filters. Takes no memory.
+    /// Whether the labels of series `id` pass all filters. Allocates nothing.
     pub fn passes<L: Ledger>(&self, id: Id, filters: &[Filter], steps: &mut Steps<L>) -> bool
         requires { IsLive self.now.ids id }
         ensures passes { (key : Key) → get key self.now.ids ≡ Some id
@@ -69,11 +70,12 @@ impl Db {
         pass(self.labels_of(id), filters, steps)
     }
 
-    /// The last sample of the key of a number, if it has one; with `latest` also that of an open bucket. Takes no
-    /// memory.
+    /// The last sample of series `id`, if there is one. With `latest`, includes the row of an open bucket. Allocates
+    /// nothing.
     pub fn last_of<L: Ledger>(&self, id: Id, latest: bool, steps: &mut Steps<L>) -> Option<Sample>
         requires { IsLive self.now.ids id }
-        ensures last { (key : Key) → get key self.now.ids ≡ Some id → result ≡ last_of (kept_asked self.now.keys latest key) }
+        ensures last { (key : Key) → get key self.now.ids ≡ Some id
+            → result ≡ last_of (kept_asked self.now.keys latest key) }
         ensures counted { steps.old ≤ steps.new }
         ensures steps { steps.new ≡ steps.old }
     {
@@ -81,8 +83,8 @@ impl Db {
         last_with(row, self.node(id).series.last())
     }
 
-    /// The last sample of the key of a number before a time, in milliseconds, if it has one; with `latest` that of
-    /// an open bucket counts too. Takes no memory.
+    /// The last sample of series `id` before `t` (milliseconds), if there is one. With `latest`, includes the row of
+    /// an open bucket. Allocates nothing.
     pub fn before_of<L: Ledger>(
         &self,
         id: Id,
@@ -100,8 +102,8 @@ impl Db {
         last_with(row, self.node(id).series.before(t, steps))
     }
 
-    /// The times of the first and of the last sample of the key of a number, in milliseconds, if it has any; with
-    /// `latest` that of an open bucket counts too. Takes no memory.
+    /// The times of the first and the last sample of series `id` in milliseconds, if there are any. With `latest`,
+    /// includes the row of an open bucket. Allocates nothing.
     pub fn ends_of<L: Ledger>(
         &self,
         id: Id,
@@ -109,7 +111,8 @@ impl Db {
         steps: &mut Steps<L>,
     ) -> Option<(u64, u64)>
         requires { IsLive self.now.ids id }
-        ensures ends { (key : Key) → get key self.now.ids ≡ Some id → result ≡ ends_of (kept_asked self.now.keys latest key) }
+        ensures ends { (key : Key) → get key self.now.ids ≡ Some id
+            → result ≡ ends_of (kept_asked self.now.keys latest key) }
         ensures bounded { ForSome result AreTimes }
         ensures counted { steps.old ≤ steps.new }
         ensures steps { (key : Key) → get key self.now.ids ≡ Some id → steps.new ≤ steps.old + reach_at self.now key }
@@ -118,7 +121,7 @@ impl Db {
     }
 }
 
-// The times of the first and of the last sample of a series with a row.
+// The times of the first and the last sample after the row is merged in.
 fn ends<L: Ledger>(series: &Series, row: Option<Sample>, steps: &mut Steps<L>) -> Option<(u64, u64)>
     requires { IsKept series.now }
     ensures ends { result ≡ ends_of (put_all (one_of row) (list_of series.now)) }

@@ -1,4 +1,4 @@
-// Numbers in the order of their keys.
+// Sorts ids by their keys.
 ghost use Rattle.std.specs.Prelude.{◌≡◌, IfOk, IfSome};
 ghost use Rattle.std.specs.Cmp.Lexicographic.{slice_cmp};
 ghost use Rattle.std.specs.List.Sorted.{IsPermutation, IsSortedByKey};
@@ -13,10 +13,11 @@ use std::collections::BTreeMap;
 use ts_resp::Word;
 use ts_sample::Id;
 
-// Where so many keys stand for each number or more, a sort is sooner done than a walk over all keys.
+// From this many keys per selected id, sorting the ids is faster than scanning all keys.
 const KEYS_A_NUMBER: usize = 8;
 
-// Ascending numbers that are many, in the order of their keys. None: they are few beside all keys, or there is no memory.
+// Sorts many ids by key, by scanning all keys. Returns `None` if the ids are few or memory runs out; the caller then
+// sorts in place.
 pub(crate) fn walked_if_many(
     alloc: Global,
     keys: &BTreeMap<Word, Id>,
@@ -31,7 +32,7 @@ pub(crate) fn walked_if_many(
     walked(alloc, keys, ids).ok()
 }
 
-// The numbers of all keys that are among these, in the order of the keys.
+// The given ids in key order, collected by scanning all keys.
 fn walked(alloc: Global, keys: &BTreeMap<Word, Id>, ids: &[Id]) -> Result<Vec<Id>, AllocError>
     requires { AreAscending ids.now }
     ensures { IfOk result (λ found. found.items ≡ among ids.now keys.now.entries) }
@@ -45,7 +46,7 @@ fn walked(alloc: Global, keys: &BTreeMap<Word, Id>, ids: &[Id]) -> Result<Vec<Id
     Ok(found)
 }
 
-// Whether a number is one of these. Where none below it is missing it stands at its own place.
+// Whether the list contains the id. Tries the index `id` first: without gaps that is where it is.
 fn is_among(id: Id, ids: &[Id]) -> bool
     requires { AreAscending ids.now }
     ensures { result ≡ has_number id.0 ids.now }
@@ -62,7 +63,7 @@ fn is_among(id: Id, ids: &[Id]) -> bool
 }
 
 impl Nodes {
-    // The bytes of the key of a number, none where it has no node.
+    // The key of an id, or no bytes if there is no node.
     fn key_at(&self, id: Id) -> &[u8]
         ensures { result.now ≡ key_in self.now id }
     {
@@ -72,7 +73,7 @@ impl Nodes {
         }
     }
 
-    // Puts numbers into the order of their keys. Takes no memory.
+    // Sorts ids by key in place. Allocates nothing.
     pub(crate) fn sort_by_key(&self, ids: &mut Vec<Id>)
         ensures moved { IsPermutation ids.old.items ids.new.items }
         ensures sorted { IsSortedByKey (key_in self.now) (slice_cmp nat_cmp) ids.new.items }

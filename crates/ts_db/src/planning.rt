@@ -1,4 +1,4 @@
-// The plans for all rules of a source, which are made before anything is changed.
+// Plans the effects of a change on all rules of a source before anything is changed.
 ghost use Rattle.std.specs.Prelude.{◌≡◌, ◌≤◌, ◌+◌, ◌++◌, [], ◌∷◌, ℕ, suc, None, length, vec_len, IfOk, IfErr};
 ghost use Rattle.ts_sample.specs.Steps.{Takes};
 ghost use Rattle.slab.specs.Slab as slab;
@@ -6,27 +6,36 @@ ghost use Rattle.ts_series.specs.History.{list_of};
 ghost use Rattle.ts_rules.specs.Rules.{kept_with_dest, IsChanged};
 ghost use Rattle.ts_rules.specs.Plans.{IsPlanned as IsPlannedSo};
 ghost use Rattle.ts_spec.specs.Key.{Key};
-ghost use Rattle.ts_db.specs.Planning.{changed_by, gone_by, rows_by_work, TakesWork, AllTake, IsSharedOf, AreChanged, for_destination, IsFedBy, AreFedBy, first_full, IsRuleUnplanned, IsUnplanned, share_of, share_at, shares_of, HasRoomForRules, IsEasyOf, IsEasyAt, AreEasyOf};
+ghost use Rattle.ts_db.specs.Planning.{changed_by, gone_by, rows_by_work, TakesWork, AllTake, IsSharedOf, AreChanged};
+ghost use Rattle.ts_db.specs.Planning.{for_destination, IsFedBy, AreFedBy, first_full, IsRuleUnplanned, IsUnplanned};
+ghost use Rattle.ts_db.specs.Planning.{share_of, share_at, shares_of, HasRoomForRules, IsEasyOf, IsEasyAt, AreEasyOf};
 ghost use Rattle.ts_db.specs.Store.{IsInOrder, HasNode, AreLive};
 
 use crate::fault::DbFault;
 use crate::store::Store;
 use crate::unplanned::full_at;
-use crate::work::Work;
 use std::alloc::{AllocError, Global};
 use std::sync::ledger::Ledger;
 use ts_rules::{Rule, RuleFault, RulePlan, SharedBucket, plan_delete, plan_put_shared};
-use ts_sample::{Id, Steps};
+use ts_sample::{Id, Sample, Steps};
 use ts_series::{Series, SeriesPlan};
 
-// What work on a source comes to for the destination of a rule: this change, or none.
+// A change of a source's samples: one sample written, or all samples from one time to another deleted (both
+// inclusive).
+#[derive(Clone, Copy, PartialEq, Eq)]
+pub(crate) enum Work {
+    Write(Sample),
+    Delete(u64, u64),
+}
+
+// The planned change of one destination; `None` if it does not change.
 #[derive(Drop)]
 pub(crate) struct DestinationPlan {
     pub(crate) dest: Id,
     pub(crate) change: Option<SeriesPlan>,
 }
 
-// The rules of a source after work on it, and the plans for their destinations.
+// The rules of a source after the change, and the plans for their destinations.
 #[derive(Drop)]
 pub(crate) struct Planned {
     pub(crate) rules: Vec<Rule>,
@@ -34,7 +43,7 @@ pub(crate) struct Planned {
 }
 
 impl Planned {
-    // Nothing so far, with room for what so many rules come to.
+    // No plans yet, with capacity for `count` rules.
     fn with_room(alloc: Global, count: usize) -> Result<Planned, AllocError>
         ensures rules { IfOk result (λ planned. planned.rules.items ≡ []) }
         ensures plans { IfOk result (λ planned. planned.plans.items ≡ []) }
@@ -47,7 +56,7 @@ impl Planned {
         })
     }
 
-    // Takes what one more rule comes to.
+    // Adds the plan for one more rule.
     fn push(&mut self, plan: RulePlan)
         requires room { HasRoomForRules 1 self.old }
         ensures rules { self.new.rules.items ≡ self.old.rules.items ++ plan.rule ∷ [] }
@@ -65,8 +74,8 @@ impl Planned {
 }
 
 impl Store {
-    // Plans what work on a source comes to for its rules, in the order of their making, and for their destinations. The
-    // first of these that would be full is told before want of memory.
+    // Plans the effects of a change on all rules, in order of creation, and on their destinations. If a destination
+    // would be full, reports the first one, even if memory also ran out.
     pub(crate) fn plan_rules<L: Ledger>(
         &self,
         rules: &[Rule],
@@ -77,12 +86,21 @@ impl Store {
         requires store { IsInOrder self.now }
         requires live { AreLive self.now.nodes rules.now }
         requires room { AllTake work.now source.now rules.now }
-        ensures rules { IfOk result (λ planned. AreChanged (changed_by work.now source.now) rules.now planned.rules.items) }
-        ensures fed { IfOk result (λ planned. AreFedBy self.now.limits.samples self.now.nodes (rows_by_work work.now source.now) (gone_by work.now source.now) rules.now planned.plans.items) }
-        ensures fit { IfOk result (λ planned. first_full self.now.limits.samples self.now.nodes (rows_by_work work.now source.now) (gone_by work.now source.now) rules.now ≡ None) }
-        ensures refused { IfErr result (IsUnplanned (first_full self.now.limits.samples self.now.nodes (rows_by_work work.now source.now) (gone_by work.now source.now) rules.now)) }
+        ensures rules { IfOk result
+            (λ planned. AreChanged (changed_by work.now source.now) rules.now planned.rules.items) }
+        ensures fed { IfOk result
+            (λ planned. AreFedBy self.now.limits.samples self.now.nodes (rows_by_work work.now source.now)
+            (gone_by work.now source.now) rules.now planned.plans.items) }
+        ensures fit { IfOk result
+            (λ planned. first_full self.now.limits.samples self.now.nodes (rows_by_work work.now source.now)
+            (gone_by work.now source.now) rules.now ≡ None) }
+        ensures refused { IfErr result
+            (IsUnplanned
+            (first_full self.now.limits.samples self.now.nodes (rows_by_work work.now source.now)
+            (gone_by work.now source.now) rules.now)) }
         ensures steps { Takes steps.old steps.new (shares_of self.now.nodes work.now source.now rules.now) }
-        ensures easy { AreEasyOf self.now.limits.samples self.now.nodes work.now source.now rules.now → steps.new ≡ steps.old }
+        ensures easy { AreEasyOf self.now.limits.samples self.now.nodes work.now source.now rules.now
+            → steps.new ≡ steps.old }
     {
         let mut planned = match Planned::with_room(self.alloc, rules.len()) {
             Ok(planned) => planned,
@@ -102,7 +120,7 @@ impl Store {
         Ok(planned)
     }
 
-    // Plans what work on a source comes to for a rule of it and for the rule's destination.
+    // Plans the effects of a change on one rule and its destination.
     pub(crate) fn plan_rule<L: Ledger>(
         &self,
         rule: &Rule,
@@ -114,17 +132,26 @@ impl Store {
         requires live { HasNode self.now.nodes rule.now.dest }
         requires room { TakesWork work source.now rule.now }
         ensures changed { IfOk result (λ plan. IsChanged (changed_by work source.now) rule.now plan.rule) }
-        ensures fed { IfOk result (λ plan. IsFedBy self.now.limits.samples self.now.nodes (rows_by_work work source.now) (gone_by work source.now) rule.now (for_destination plan)) }
-        ensures fits { IfOk result (λ _. first_full self.now.limits.samples self.now.nodes (rows_by_work work source.now) (gone_by work source.now) (rule.now ∷ []) ≡ None) }
-        ensures refused { IfErr result (IsRuleUnplanned rule.now (first_full self.now.limits.samples self.now.nodes (rows_by_work work source.now) (gone_by work source.now) (rule.now ∷ []))) }
-        ensures steps { Takes steps.old steps.new (share_at work source.now rule.now (slab.get self.now.nodes rule.now.dest.0)) }
-        ensures easy { IsEasyAt self.now.limits.samples work source.now rule.now (slab.get self.now.nodes rule.now.dest.0) → steps.new ≡ steps.old }
+        ensures fed { IfOk result
+            (λ plan. IsFedBy self.now.limits.samples self.now.nodes (rows_by_work work source.now)
+            (gone_by work source.now) rule.now (for_destination plan)) }
+        ensures fits { IfOk result
+            (λ _. first_full self.now.limits.samples self.now.nodes (rows_by_work work source.now)
+            (gone_by work source.now) (rule.now ∷ []) ≡ None) }
+        ensures refused { IfErr result
+            (IsRuleUnplanned rule.now
+            (first_full self.now.limits.samples self.now.nodes (rows_by_work work source.now) (gone_by work source.now)
+            (rule.now ∷ []))) }
+        ensures steps { Takes steps.old steps.new
+            (share_at work source.now rule.now (slab.get self.now.nodes rule.now.dest.0)) }
+        ensures easy { IsEasyAt self.now.limits.samples work source.now rule.now
+            (slab.get self.now.nodes rule.now.dest.0) → steps.new ≡ steps.old }
     {
         let mut shared = SharedBucket::new();
         self.plan_next(rule, source, work, &mut shared, steps)
     }
 
-    // The same for one rule of the source after another, where `shared` goes from each to the next.
+    // Plans for one rule after another. `shared` caches the bucket that the rules have in common.
     fn plan_next<L: Ledger>(
         &self,
         rule: &Rule,
@@ -138,12 +165,21 @@ impl Store {
         requires room { TakesWork work source.now rule.now }
         requires shared { IsSharedOf work source.now shared.old }
         ensures changed { IfOk result (λ plan. IsChanged (changed_by work source.now) rule.now plan.rule) }
-        ensures fed { IfOk result (λ plan. IsFedBy self.now.limits.samples self.now.nodes (rows_by_work work source.now) (gone_by work source.now) rule.now (for_destination plan)) }
-        ensures fits { IfOk result (λ _. first_full self.now.limits.samples self.now.nodes (rows_by_work work source.now) (gone_by work source.now) (rule.now ∷ []) ≡ None) }
-        ensures refused { IfErr result (IsRuleUnplanned rule.now (first_full self.now.limits.samples self.now.nodes (rows_by_work work source.now) (gone_by work source.now) (rule.now ∷ []))) }
+        ensures fed { IfOk result
+            (λ plan. IsFedBy self.now.limits.samples self.now.nodes (rows_by_work work source.now)
+            (gone_by work source.now) rule.now (for_destination plan)) }
+        ensures fits { IfOk result
+            (λ _. first_full self.now.limits.samples self.now.nodes (rows_by_work work source.now)
+            (gone_by work source.now) (rule.now ∷ []) ≡ None) }
+        ensures refused { IfErr result
+            (IsRuleUnplanned rule.now
+            (first_full self.now.limits.samples self.now.nodes (rows_by_work work source.now) (gone_by work source.now)
+            (rule.now ∷ []))) }
         ensures shared { IsSharedOf work source.now shared.new }
-        ensures steps { Takes steps.old steps.new (share_at work source.now rule.now (slab.get self.now.nodes rule.now.dest.0)) }
-        ensures easy { IsEasyAt self.now.limits.samples work source.now rule.now (slab.get self.now.nodes rule.now.dest.0) → steps.new ≡ steps.old }
+        ensures steps { Takes steps.old steps.new
+            (share_at work source.now rule.now (slab.get self.now.nodes rule.now.dest.0)) }
+        ensures easy { IsEasyAt self.now.limits.samples work source.now rule.now
+            (slab.get self.now.nodes rule.now.dest.0) → steps.new ≡ steps.old }
     {
         let dest = self.nodes.node(rule.dest);
         made_plan(
@@ -159,7 +195,7 @@ impl Store {
     }
 }
 
-// Plans what work on a source comes to for a rule of it and for the rule's destination.
+// Plans the effects of a change on one rule and its destination.
 fn made_plan<L: Ledger>(
     alloc: Global,
     work: Work,
@@ -173,7 +209,9 @@ fn made_plan<L: Ledger>(
     requires room { TakesWork work source.now rule.now }
     requires fits { length (list_of dest.now) ≤ limit }
     requires shared { IsSharedOf work source.now shared.old }
-    ensures planned { (k : Key) → IsPlannedSo limit (changed_by work source.now) (gone_by work source.now (kept_with_dest k rule.now)) (rows_by_work work source.now dest.now.born (kept_with_dest k rule.now)) rule.now dest.now result }
+    ensures planned { (k : Key) → IsPlannedSo limit (changed_by work source.now)
+        (gone_by work source.now (kept_with_dest k rule.now))
+        (rows_by_work work source.now dest.now.born (kept_with_dest k rule.now)) rule.now dest.now result }
     ensures shared { IsSharedOf work source.now shared.new }
     ensures steps { Takes steps.old steps.new (share_of work source.now rule.now dest.now) }
     ensures easy { IsEasyOf limit work source.now rule.now dest.now → steps.new ≡ steps.old }

@@ -1,4 +1,4 @@
-// The public questions of a database, each with the clauses that its callers see.
+// Queries by key.
 ghost use Rattle.std.specs.Prelude.{◌≡◌, ◌≤◌, nat_lt, IfOk, IfErr, ◌*◌};
 ghost use Rattle.std.specs.Option.{ForSome};
 ghost use Rattle.ts_spec.specs.Keyed.{get};
@@ -19,15 +19,16 @@ use ts_resp::Word;
 use ts_sample::{Gathered, Sample, Steps};
 
 impl Db {
-    /// The last sample of a key, if it has one; with `latest` also that of an open bucket. It takes no memory:
-    /// only a missing key refuses it.
+    /// The last sample of a key, if there is one (TS.GET). With `latest`, includes the row of an open bucket. Fails
+    /// only if the key does not exist; allocates nothing.
     pub fn last<L: Ledger>(
         &self,
         key: &Word,
         latest: bool,
         steps: &mut Steps<L>,
     ) -> Result<Option<Sample>, DbFault>
-        ensures last { (held : Held) → Stands self.now held → Finds (get key.now held.state) (λ last. last ≡ last_of (asked held.state latest key.now)) result }
+        ensures last { (held : Held) → Stands self.now held
+            → Finds (get key.now held.state) (λ last. last ≡ last_of (asked held.state latest key.now)) result }
         ensures refused { IfErr result (λ fault. fault ≡ DbFault.NoKey) }
         ensures counted { steps.old ≤ steps.new }
         ensures steps { steps.new ≡ steps.old }
@@ -38,8 +39,8 @@ impl Db {
         Ok(self.last_of(id, latest, steps))
     }
 
-    /// The samples of a key between two times, in milliseconds, both included, in their order; with `latest`
-    /// also that of an open bucket.
+    /// The samples of a key from `from` to `to`, in milliseconds and inclusive, in ascending order. With `latest`,
+    /// includes the row of an open bucket.
     pub fn samples<L: Ledger>(
         &self,
         key: &Word,
@@ -48,7 +49,9 @@ impl Db {
         latest: bool,
         steps: &mut Steps<L>,
     ) -> Result<Vec<Sample>, DbFault>
-        ensures samples { (held : Held) → Stands self.now held → Finds (get key.now held.state) (λ samples. samples.items ≡ between from to (asked held.state latest key.now)) result }
+        ensures samples { (held : Held) → Stands self.now held
+            → Finds (get key.now held.state) (λ samples. samples.items
+            ≡ between from to (asked held.state latest key.now)) result }
         ensures ascending { IfOk result (λ samples. IsAscending samples.items) }
         ensures within { IfOk result (λ samples. between from to samples.items ≡ samples.items) }
         ensures steps { Takes steps.old steps.new (walk_steps self.now key.now from to) }
@@ -67,8 +70,8 @@ impl Db {
         Ok(gathered.into_samples())
     }
 
-    /// The last sample of a key before a time, in milliseconds, if it has one; with `latest` that of an open bucket
-    /// counts too. It takes no memory: only a missing key refuses it.
+    /// The last sample of a key before `t` (milliseconds), if there is one. With `latest`, includes the row of an open
+    /// bucket. Fails only if the key does not exist; allocates nothing.
     pub fn before<L: Ledger>(
         &self,
         key: &Word,
@@ -76,7 +79,9 @@ impl Db {
         latest: bool,
         steps: &mut Steps<L>,
     ) -> Result<Option<Sample>, DbFault>
-        ensures before { (held : Held) → Stands self.now held → Finds (get key.now held.state) (λ before. before ≡ last_of (at_times (λ u. nat_lt u t) (asked held.state latest key.now))) result }
+        ensures before { (held : Held) → Stands self.now held
+            → Finds (get key.now held.state) (λ before. before
+            ≡ last_of (at_times (λ u. nat_lt u t) (asked held.state latest key.now))) result }
         ensures refused { IfErr result (λ fault. fault ≡ DbFault.NoKey) }
         ensures steps { Takes steps.old steps.new (reach_at self.now key.now) }
     {
@@ -86,15 +91,16 @@ impl Db {
         Ok(self.before_of(id, t, latest, steps))
     }
 
-    /// The times of the first and of the last sample of a key, in milliseconds, if it has any; with `latest` that of
-    /// an open bucket counts too. It takes no memory: only a missing key refuses it.
+    /// The times of a key's first and last sample in milliseconds, if there are any. With `latest`, includes the row
+    /// of an open bucket. Fails only if the key does not exist; allocates nothing.
     pub fn ends<L: Ledger>(
         &self,
         key: &Word,
         latest: bool,
         steps: &mut Steps<L>,
     ) -> Result<Option<(u64, u64)>, DbFault>
-        ensures ends { (held : Held) → Stands self.now held → Finds (get key.now held.state) (λ ends. ends ≡ ends_of (asked held.state latest key.now)) result }
+        ensures ends { (held : Held) → Stands self.now held
+            → Finds (get key.now held.state) (λ ends. ends ≡ ends_of (asked held.state latest key.now)) result }
         ensures bounded { IfOk result (λ ends. ForSome ends AreTimes) }
         ensures refused { IfErr result (λ fault. fault ≡ DbFault.NoKey) }
         ensures steps { Takes steps.old steps.new (reach_at self.now key.now) }
@@ -105,9 +111,11 @@ impl Db {
         Ok(self.ends_of(id, latest, steps))
     }
 
-    /// What TS.INFO tells of a key. It is refused for a missing key, and for want of memory.
+    /// The facts about a key that TS.INFO reports. Fails if the key does not exist or memory runs out.
     pub fn info<L: Ledger>(&self, key: &Word, steps: &mut Steps<L>) -> Result<Info, DbFault>
-        ensures info { (held : Held) → Stands self.now held → Finds (get key.now held.state) (λ info. Told (info_of info) ≡ info_response held.state key.now (get key.now held.state)) result }
+        ensures info { (held : Held) → Stands self.now held
+            → Finds (get key.now held.state) (λ info. Told (info_of info)
+            ≡ info_response held.state key.now (get key.now held.state)) result }
         ensures steps { Takes steps.old steps.new (2 * reach_at self.now key.now) }
     {
         let Some(id) = self.id_of(key) else {

@@ -1,23 +1,28 @@
-// The rules of a store: how they are made, and how they end.
-ghost use Rattle.std.specs.Prelude.{◌≡◌, Some, IfErr};
+// Creates and deletes rules.
+ghost use Rattle.std.specs.Prelude.{◌≡◌, Some, IfErr, option_map, IfOk};
 ghost use Rattle.slab.specs.Slab as slab;
 ghost use Rattle.ts_spec.specs.KeptStep.{kept_create_rule, kept_delete_rule};
-ghost use Rattle.ts_db.specs.Answering.{KeptDone};
+ghost use Rattle.ts_db.specs.Answering.{KeptDone, IsElsewhere};
 ghost use Rattle.ts_db.specs.Faults.{IsRefusal};
 ghost use Rattle.ts_db.specs.declared.node.Node.{Node as TheNode};
-ghost use Rattle.ts_db.specs.Linking.{any_to, IsReason};
-ghost use Rattle.ts_db.specs.Store.{stock_of, IsInOrder, IsDb, HasNode};
+ghost use Rattle.ts_db.specs.Linking.{any_to, IsReason, kept_unruled, kept_ruleless, kept_sourced, keep_freed};
+ghost use Rattle.ts_db.specs.Linking.{IsKeptBy, IsUnspent};
+ghost use Rattle.ts_db.specs.Store.{stock_of, IsInOrder, IsDb, HasNode, rules_by, key_in, contents_of, AreLive};
+ghost use Rattle.ts_db.specs.Store.{IsLiveSource};
+ghost use Rattle.ts_spec.specs.Keeping.{kept_with_rule};
 
 use crate::fault::DbFault;
-use crate::linked::barred;
+use crate::node::barred;
 use crate::store::Store;
+use std::alloc::AllocError;
 use ts_bucket::Grid;
 use ts_resp::Word;
+use ts_rules::Rule;
 use ts_sample::Id;
 use ts_spec::Aggregator;
 
 impl Store {
-    // Makes a rule from one key to another.
+    // Creates a rule between two keys.
     pub(crate) fn create_rule(
         &mut self,
         source: &Word,
@@ -26,7 +31,9 @@ impl Store {
         grid: Grid,
     ) -> Result<(), DbFault>
         requires { IsDb self.old }
-        ensures ruled { KeptDone (stock_of self.old) (kept_create_rule self.old.limits (stock_of self.old).keys source.now dest.now agg grid) result (stock_of self.new) }
+        ensures ruled { KeptDone (stock_of self.old)
+            (kept_create_rule self.old.limits (stock_of self.old).keys source.now dest.now agg grid) result
+            (stock_of self.new) }
         ensures store { IsInOrder self.new }
     {
         if source == dest {
@@ -49,19 +56,21 @@ impl Store {
         Ok(())
     }
 
-    // Why there can be no rule from one series to another, if there is a reason.
+    // Why a rule from `id` to `dest` is not allowed, or `None` if it is.
     fn barred(&self, id: Id, dest: Id) -> Option<DbFault>
         requires live { HasNode self.now.nodes id }
         requires dest { HasNode self.now.nodes dest }
-        ensures barred { (n d : TheNode) → slab.get self.now.nodes id.0 ≡ Some n → slab.get self.now.nodes dest.0 ≡ Some d → IsReason self.now.limits n d result }
+        ensures barred { (n d : TheNode) → slab.get self.now.nodes id.0 ≡ Some n
+            → slab.get self.now.nodes dest.0 ≡ Some d → IsReason self.now.limits n d result }
     {
         barred(&self.limits, self.nodes.node(id), self.nodes.node(dest))
     }
 
-    // Ends the rule from one key to another, without memory.
+    // Deletes the rule between two keys. Allocates nothing.
     pub(crate) fn delete_rule(&mut self, source: &Word, dest: &Word) -> Result<(), DbFault>
         requires { IsDb self.old }
-        ensures ended { KeptDone (stock_of self.old) (kept_delete_rule (stock_of self.old).keys source.now dest.now) result (stock_of self.new) }
+        ensures ended { KeptDone (stock_of self.old) (kept_delete_rule (stock_of self.old).keys source.now dest.now)
+            result (stock_of self.new) }
         ensures refused { IfErr result IsRefusal }
         ensures store { IsInOrder self.new }
     {
@@ -79,11 +88,82 @@ impl Store {
         Ok(())
     }
 
-    // Whether a rule leads from one series to another.
+    // Whether there is a rule from `id` to `dest`.
     fn has_rule(&self, id: Id, dest: Id) -> bool
         requires { HasNode self.now.nodes id }
         ensures { (n : TheNode) → slab.get self.now.nodes id.0 ≡ Some n → result ≡ any_to dest.0 n.rules.items }
     {
         self.nodes.node(id).has_rule(dest)
+    }
+
+    // Adds a rule to series `id`.
+    pub(crate) fn add_rule(
+        &mut self,
+        id: Id,
+        dest: Id,
+        agg: Aggregator,
+        grid: Grid,
+    ) -> Result<(), AllocError>
+        requires store { IsInOrder self.old }
+        requires live { HasNode self.old.nodes id }
+        requires dest { HasNode self.old.nodes dest }
+        requires born { (n : TheNode) → slab.get self.old.nodes id.0 ≡ Some n → IsUnspent self.old.limits n }
+        ensures store { IsInOrder self.new }
+        ensures added { IfOk result
+            (λ _. IsKeptBy self.old id (kept_with_rule (key_in self.old.nodes dest) agg grid) self.new) }
+        ensures unchanged { IfErr result (λ _. stock_of self.new ≡ stock_of self.old) }
+        ensures elsewhere { IsElsewhere self.old self.new id }
+    {
+        grid.known();
+        self.nodes.add_rule(id, dest, agg, grid)
+    }
+
+    // Deletes the rule from `id` to `dest`.
+    pub(crate) fn remove_rule(&mut self, id: Id, dest: Id)
+        requires store { IsInOrder self.old }
+        requires live { HasNode self.old.nodes id }
+        requires dest { HasNode self.old.nodes dest }
+        ensures store { IsInOrder self.new }
+        ensures removed { IsKeptBy self.old id (kept_unruled (key_in self.old.nodes dest)) self.new }
+        ensures elsewhere { IsElsewhere self.old self.new id }
+    {
+        self.nodes.remove_rule(id, dest);
+    }
+
+    // Moves the rules of a series out.
+    pub(crate) fn take_rules(&mut self, id: Id) -> Vec<Rule>
+        requires store { IsInOrder self.old }
+        requires live { HasNode self.old.nodes id }
+        ensures rules { (n : TheNode) → slab.get self.old.nodes id.0 ≡ Some n → result.items ≡ n.rules.items }
+        ensures store { IsInOrder self.new }
+        ensures taken { IsKeptBy self.old id kept_ruleless self.new }
+        ensures elsewhere { IsElsewhere self.old self.new id }
+    {
+        self.nodes.take_rules(id, self.alloc)
+    }
+
+    // Sets or clears the rule source of a series.
+    pub(crate) fn set_source(&mut self, id: Id, source: Option<Id>)
+        requires store { IsInOrder self.old }
+        requires live { HasNode self.old.nodes id }
+        requires source { IsLiveSource self.old.nodes source }
+        ensures store { IsInOrder self.new }
+        ensures set { IsKeptBy self.old id (kept_sourced (option_map (key_in self.old.nodes) source)) self.new }
+        ensures elsewhere { IsElsewhere self.old self.new id }
+    {
+        self.nodes.set_source(id, source);
+    }
+
+    // Clears the rule source of each rule's destination.
+    pub(crate) fn free(&mut self, rules: Vec<Rule>)
+        requires store { IsInOrder self.old }
+        requires live { AreLive self.old.nodes rules.items }
+        ensures store { IsInOrder self.new }
+        ensures freed { contents_of self.new
+            ≡ record (contents_of self.old) { keys = keep_freed (rules_by (key_in self.old.nodes) rules.items) (stock_of self.old).keys } }
+    {
+        for rule in rules {
+            self.set_source(rule.dest, None);
+        }
     }
 }

@@ -1,4 +1,4 @@
-// Changes of the node of one number. None but `alter` touches its labels.
+// Changes of a single node. Only `alter` changes labels.
 ghost use Rattle.std.specs.Prelude.{◌≡◌, ◌<◌, ◌-◌, ◌^◌, ◌==◌, [], not, filter, None, Some, IfOk, OnOk, OnErr};
 ghost use Rattle.std.specs.Option.{unwrap_or};
 ghost use Rattle.slab.specs.Slab as slab;
@@ -21,7 +21,7 @@ use ts_series::{Append, SeriesPlan};
 use ts_spec::Aggregator;
 
 impl Nodes {
-    // Does what was planned for a series, and puts these rules in place of its own, where they are given.
+    // Commits a plan for a series and replaces its rules if given.
     pub(crate) fn apply(&mut self, id: Id, plan: SeriesPlan, rules: Option<Vec<Rule>>)
         requires { HasSuch self.old id (λ n. IsFor plan n.series) }
         ensures { IsTurned self.old self.new id (IsAfter plan None rules) }
@@ -31,8 +31,7 @@ impl Nodes {
         node.change(None, rules);
     }
 
-    // Puts these labels in place of those of a series, where they are given, and does what was planned for it.
-    // Where there is no memory nothing has changed.
+    // Commits a plan for a series and replaces its labels if given. Out of memory leaves everything unchanged.
     pub(crate) fn alter(
         &mut self,
         id: Id,
@@ -50,7 +49,7 @@ impl Nodes {
         Ok(())
     }
 
-    // Appends to a series what was planned, and counts the sample in the open bucket of each of its rules.
+    // Commits an append and counts the sample in the open bucket of each rule.
     pub(crate) fn grow(&mut self, id: Id, plan: Append, wrote: &Sample)
         requires ready { HasSuch self.old id (λ n. IsFor plan n.series) }
         requires room { (n : TheNode) → slab.get self.old id.0 ≡ Some n → HaveRoom n.rules.items }
@@ -61,7 +60,7 @@ impl Nodes {
         count_in_all(&mut node.rules, wrote);
     }
 
-    // Adds a rule to those of a series. It alone takes memory.
+    // Adds a rule.
     pub(crate) fn add_rule(
         &mut self,
         id: Id,
@@ -76,16 +75,17 @@ impl Nodes {
         node.add_rule(dest, agg, grid)
     }
 
-    // Ends the rule from a series to another.
+    // Deletes the rule to `dest`.
     pub(crate) fn remove_rule(&mut self, id: Id, dest: Id)
         requires { slab.ContainsKey self.old id.0 }
-        ensures { IsTurned self.old self.new id (λ n m. HasRules (filter (λ r. not (r.dest.0 == dest.0)) n.rules.items) n m) }
+        ensures { IsTurned self.old self.new id
+            (λ n m. HasRules (filter (λ r. not (r.dest.0 == dest.0)) n.rules.items) n m) }
     {
         let node = &mut self.slab[id.0];
         node.remove_rule(dest);
     }
 
-    // Takes its rules from a series.
+    // Moves all rules out.
     pub(crate) fn take_rules(&mut self, id: Id, alloc: Global) -> Vec<Rule>
         requires { slab.ContainsKey self.old id.0 }
         ensures { IsTurned self.old self.new id (λ n m. (result.items ≡ n.rules.items) × HasRules [] n m) }
@@ -94,7 +94,7 @@ impl Nodes {
         node.take_rules(alloc)
     }
 
-    // Gives a series this source, or none.
+    // Sets or clears the rule source.
     pub(crate) fn set_source(&mut self, id: Id, source: Option<Id>)
         requires { slab.ContainsKey self.old id.0 }
         ensures { IsTurned self.old self.new id (λ n m. m ≡ record n { source = source }) }
@@ -104,7 +104,7 @@ impl Nodes {
     }
 }
 
-// Gives a number these labels in the place of those that it has, where they are given.
+// Replaces the labels of an id in the index if new ones are given.
 fn take_up(index: &mut Index, id: Id, old: &Labels, new: &Option<Labels>) -> Result<(), AllocError>
     requires { labels_of id.0 index.old ≡ Some old.now }
     ensures ok { OnOk result (Relabels id (Some (unwrap_or new.now old.now)) index.old index.new) }

@@ -1,14 +1,15 @@
-// Work for which there was no memory: whether the destination of a rule would be full is told all the same.
+// The error for a change that could not be planned.
 ghost use Rattle.std.specs.Prelude.{◌≡◌, false, nat_lt, length};
 ghost use Rattle.ts_sample.specs.Steps.{Takes};
 ghost use Rattle.slab.specs.Slab as slab;
 ghost use Rattle.ts_db.specs.declared.fault.DbFault.TheVariants.{SamplesFull};
-ghost use Rattle.ts_db.specs.Planning.{gone_by, rows_by_work, TakesWork, AllTake, fed_list, first_full, IsUnplanned, share_at, shares_of, IsEasyAt, AreEasyOf};
+ghost use Rattle.ts_db.specs.Planning.{gone_by, rows_by_work, TakesWork, AllTake, fed_list, first_full, IsUnplanned};
+ghost use Rattle.ts_db.specs.Planning.{share_at, shares_of, IsEasyAt, AreEasyOf};
 ghost use Rattle.ts_db.specs.Store.{IsInOrder, HasNode, AreLive};
 
 use crate::fault::DbFault;
+use crate::planning::Work;
 use crate::store::Store;
-use crate::work::Work;
 use std::alloc::AllocError;
 use std::sync::ledger::Ledger;
 use ts_rules::{Rule, RuleFault};
@@ -16,8 +17,9 @@ use ts_sample::Steps;
 use ts_series::Series;
 
 impl Store {
-    // What is told of work for which there was no memory: that the destination of the first of these rules that would be
-    // full is, or else want of memory. What is planned to find this out is let go.
+    // The error for a change whose planning ran out of memory. Reports the first destination that would be full, or
+    // else out of memory: a command that would fail anyway fails with its own error. Plans each rule again to find
+    // out, and discards the plans.
     pub(crate) fn unplanned<L: Ledger>(
         &self,
         rules: &[Rule],
@@ -28,9 +30,12 @@ impl Store {
         requires store { IsInOrder self.now }
         requires live { AreLive self.now.nodes rules.now }
         requires room { AllTake work.now source.now rules.now }
-        ensures refused { IsUnplanned (first_full self.now.limits.samples self.now.nodes (rows_by_work work.now source.now) (gone_by work.now source.now) rules.now) result }
+        ensures refused { IsUnplanned
+            (first_full self.now.limits.samples self.now.nodes (rows_by_work work.now source.now)
+            (gone_by work.now source.now) rules.now) result }
         ensures steps { Takes steps.old steps.new (shares_of self.now.nodes work.now source.now rules.now) }
-        ensures easy { AreEasyOf self.now.limits.samples self.now.nodes work.now source.now rules.now → steps.new ≡ steps.old }
+        ensures easy { AreEasyOf self.now.limits.samples self.now.nodes work.now source.now rules.now
+            → steps.new ≡ steps.old }
     {
         for rule in rules {
             if self.overfills(rule, source, work, steps) {
@@ -40,7 +45,7 @@ impl Store {
         DbFault::Memory(AllocError)
     }
 
-    // Whether the destination of a rule would be full after work on the rule's source.
+    // Whether the rule's destination would be full after the change.
     fn overfills<L: Ledger>(
         &self,
         rule: &Rule,
@@ -51,9 +56,13 @@ impl Store {
         requires store { IsInOrder self.now }
         requires live { HasNode self.now.nodes rule.now.dest }
         requires room { TakesWork work.now source.now rule.now }
-        ensures full { result ≡ nat_lt self.now.limits.samples (length (fed_list self.now.nodes (rows_by_work work.now source.now) (gone_by work.now source.now) rule.now)) }
-        ensures steps { Takes steps.old steps.new (share_at work.now source.now rule.now (slab.get self.now.nodes rule.now.dest.0)) }
-        ensures easy { IsEasyAt self.now.limits.samples work.now source.now rule.now (slab.get self.now.nodes rule.now.dest.0) → steps.new ≡ steps.old }
+        ensures full { result ≡ nat_lt self.now.limits.samples
+            (length (fed_list self.now.nodes (rows_by_work work.now source.now) (gone_by work.now source.now)
+            rule.now)) }
+        ensures steps { Takes steps.old steps.new
+            (share_at work.now source.now rule.now (slab.get self.now.nodes rule.now.dest.0)) }
+        ensures easy { IsEasyAt self.now.limits.samples work.now source.now rule.now
+            (slab.get self.now.nodes rule.now.dest.0) → steps.new ≡ steps.old }
     {
         match self.plan_rule(rule, source, *work, steps) {
             Ok(_) => false,
@@ -63,7 +72,7 @@ impl Store {
     }
 }
 
-// The destination of a rule would be full.
+// The error for a full destination.
 pub(crate) fn full_at(rule: &Rule) -> DbFault
     ensures { result ≡ SamplesFull rule.now.dest false }
 {

@@ -1,4 +1,4 @@
-// Walks over the samples of a key by its number, reads of them one after another, and the times at which they can be cut.
+// Scans of a series by id, and times at which a scan can be split.
 ghost use Rattle.std.specs.Prelude.{◌≡◌, ◌≤◌, ◌^◌, ◌⊎◌, ℕ, suc, nat_le, false, length, ◌+◌};
 ghost use Rattle.ts_sample.specs.Visit.{visited};
 ghost use Rattle.ts_spec.specs.KeptQuestions.{kept_asked};
@@ -15,8 +15,8 @@ use ts_sample::{Id, Steps, Visit};
 use ts_series::Cursor;
 
 impl Db {
-    /// Takes a visitor over the samples of the key of a number between two times, in milliseconds, both included, in
-    /// their order; with `latest` also over that of an open bucket. Takes no memory.
+    /// Passes the samples of series `id` from `from` to `to` (milliseconds, inclusive) to a visitor, in ascending
+    /// order. With `latest`, includes the row of an open bucket. Allocates nothing.
     pub fn visit_of<V: Visit, L: Ledger>(
         &self,
         id: Id,
@@ -28,19 +28,20 @@ impl Db {
     )
         requires live { IsLive self.now.ids id }
         requires room { 2 ^ 32 ≤ V.room visit.old }
-        ensures visited { visit.new ≡ visited V.step visit.old (between from to (kept_asked self.now.keys latest (key_with self.now.ids id))) }
+        ensures visited { visit.new ≡ visited V.step visit.old
+            (between from to (kept_asked self.now.keys latest (key_with self.now.ids id))) }
         ensures counted { steps.old ≤ steps.new }
         ensures steps { steps.new ≤ steps.old + walk_steps self.now (key_with self.now.ids id) from to }
         ensures seams { IsSeamed (pieces_at self.now (key_with self.now.ids id)) from to steps.old steps.new }
     {
-        // It does nothing: it tells a bound that the limit has.
+        // No effect at run time: its contract gives the prover a bound on the sample limit.
         let _limit = self.limits().samples;
         let row = self.asked_row(id, latest);
         scan_shown(&self.node(id).series, from, to, row, visit, steps);
     }
 
-    /// Begins to read the samples of the key of a number from a time on, in milliseconds. The sample of an open bucket is
-    /// not among them. Takes no memory.
+    /// A cursor over the samples of series `id` from `from` (milliseconds) on. Does not include the row of an open
+    /// bucket. Allocates nothing.
     pub fn read_of<L: Ledger>(&self, id: Id, from: u64, steps: &mut Steps<L>) -> Cursor<'_>
         requires { IsLive self.now.ids id }
         ensures left { result ≡ at_times (nat_le from) (kept_asked self.now.keys false (key_with self.now.ids id)) }
@@ -50,38 +51,42 @@ impl Db {
         self.node(id).series.read_from(from, steps)
     }
 
-    /// A time from one to another, in milliseconds, up to which the key of a number has so many samples; the later
-    /// one where it has fewer. The sample of an open bucket does not count. Takes no memory, and looks at few samples.
+    /// An end time for a scan that starts at `from` (milliseconds) and needs at least `count` samples; `to` if there
+    /// are fewer. Does not count the row of an open bucket. Decodes few samples and allocates nothing.
     pub fn time_for(&self, id: Id, from: u64, to: u64, count: u64) -> u64
         requires live { IsLive self.now.ids id }
         requires ordered { from ≤ to }
         ensures within { (from ≤ result) × (result ≤ to) }
-        ensures reach { (result ≡ to) ⊎ (count ≤ length (between from result (kept_asked self.now.keys false (key_with self.now.ids id)))) }
+        ensures reach { (result ≡ to)
+            ⊎ (count ≤ length (between from result (kept_asked self.now.keys false (key_with self.now.ids id)))) }
         ensures seam { (result ≡ to) ⊎ IsSeam (result + 1) (pieces_at self.now (key_with self.now.ids id)) }
     {
         self.node(id).series.time_for(from, to, count)
     }
 
-    /// A time from one to another, in milliseconds, from which on, up to the later one, the key of a number has so many
-    /// samples; the earlier one where it has fewer. The sample of an open bucket does not count. Takes no memory, and
-    /// looks at few samples.
+    /// A start time for a scan that ends at `to` (milliseconds) and needs at least `count` samples; `from` if there
+    /// are fewer. Does not count the row of an open bucket. Decodes few samples and allocates nothing.
     pub fn time_from(&self, id: Id, from: u64, to: u64, count: u64) -> u64
         requires live { IsLive self.now.ids id }
         requires ordered { from ≤ to }
         ensures within { (from ≤ result) × (result ≤ to) }
-        ensures reach { (result ≡ from) ⊎ (count ≤ length (between result to (kept_asked self.now.keys false (key_with self.now.ids id)))) }
+        ensures reach { (result ≡ from)
+            ⊎ (count ≤ length (between result to (kept_asked self.now.keys false (key_with self.now.ids id)))) }
         ensures seam { (result ≡ from) ⊎ IsSeam result (pieces_at self.now (key_with self.now.ids id)) }
     {
         self.node(id).series.time_from(from, to, count)
     }
 
-    /// How many samples a new chunk of the key of a number has room for at most. Between one time and the next at most one
-    /// chunk is cut, and near each interval there are times that cut none.
+    /// The most samples that a new chunk of series `id` can hold. The contract also bounds the cost of a split scan:
+    /// splitting between two times cuts at most one chunk, and near each interval there are times that cut none.
     pub fn chunk_reach_of(&self, id: Id) -> u64
         requires live { IsLive self.now.ids id }
         ensures within { result ≤ reach_at self.now (key_with self.now.ids id) }
-        ensures around { (from to : ℕ) → Around from to (walk_steps self.now (key_with self.now.ids id) from to) (pieces_at self.now (key_with self.now.ids id)) }
-        ensures cuts { (t : ℕ) → Around (suc t) t (reach_at self.now (key_with self.now.ids id)) (pieces_at self.now (key_with self.now.ids id)) }
+        ensures around { (from to : ℕ)
+            → Around from to (walk_steps self.now (key_with self.now.ids id) from to)
+            (pieces_at self.now (key_with self.now.ids id)) }
+        ensures cuts { (t : ℕ) → Around (suc t) t (reach_at self.now (key_with self.now.ids id))
+            (pieces_at self.now (key_with self.now.ids id)) }
     {
         let series = &self.node(id).series;
         series.seams();

@@ -1,4 +1,4 @@
-// Writes of one sample on the store, by which destinations are mended too.
+// Writes of one sample, including the updates of destinations.
 ghost use Rattle.std.specs.Prelude.{◌≡◌, ◌≤◌, Some, option_map, IfOk, IfErr};
 ghost use Rattle.ts_spec.specs.declared.series.Merge.TheVariants.{By};
 ghost use Rattle.ts_spec.specs.Sample.{MAX_TIME};
@@ -13,12 +13,13 @@ ghost use Rattle.ts_db.specs.Store.{key_in, stock_of, number_of, IsInOrder, IsDb
 ghost use Rattle.ts_db.specs.Answering.{KeptNumber};
 ghost use Rattle.ts_db.specs.PutBy.{kept_merge};
 ghost use Rattle.ts_db.specs.Bounds.{write_steps, IsEasyAppend, IsIgnored};
+ghost use Rattle.ts_db.specs.Writes.{ignored_by};
 
 use crate::fault::{DbFault, fault_at};
 use crate::growing::stays_open;
-use crate::ignored::ignored;
+use crate::node::Node;
+use crate::planning::Work;
 use crate::store::Store;
-use crate::work::Work;
 use std::sync::ledger::Ledger;
 use ts_labels::Spec;
 use ts_resp::Word;
@@ -26,8 +27,8 @@ use ts_sample::{Id, Steps, Units};
 use ts_spec::{Merge, Policy};
 
 impl Store {
-    // Adds a sample to the series of a key, by this policy or else its own where the time has one. Where the key
-    // is missing it begins with the sample. Answers the time, or that of the last sample where this one is ignored.
+    // Adds a sample. Creates the series if the key does not exist. Returns the sample's time, or the last sample's
+    // time if the write was ignored (IGNORE).
     pub(crate) fn add<L: Ledger>(
         &mut self,
         key: Word,
@@ -39,7 +40,9 @@ impl Store {
     ) -> Result<u64, DbFault>
         requires time { time ≤ MAX_TIME }
         requires db { IsDb self.old }
-        ensures added { KeptNumber (stock_of self.old) (kept_add self.old.limits (stock_of self.old).keys key time value on (spec_of spec)) result (stock_of self.new) }
+        ensures added { KeptNumber (stock_of self.old)
+            (kept_add self.old.limits (stock_of self.old).keys key time value on (spec_of spec)) result
+            (stock_of self.new) }
         ensures bounded { IfOk result (λ t. t ≤ MAX_TIME) }
         ensures own { IfErr result (IsOwn (stock_of self.old) key) }
         ensures store { IsInOrder self.new }
@@ -53,8 +56,9 @@ impl Store {
         self.write(id, merge_by(on), time, value, steps)
     }
 
-    // Writes to the series of the key of a number, by this merge, or else by its own policy, where the time has a sample. Answers the
-    // time, or that of the last sample where this one is ignored.
+    // Writes a sample to series `id`. If the series already has a sample at `time`, merges the two by `how`, or by the
+    // series' duplicate policy if `how` is `None`. Returns the sample's time, or the last sample's time if the write
+    // was ignored (IGNORE).
     pub(crate) fn write<L: Ledger>(
         &mut self,
         id: Id,
@@ -67,13 +71,17 @@ impl Store {
         requires db { IsDb self.old }
         requires there { IsThere self.old id }
         ensures written { (key : Key) → number_of key self.old.keys.entries ≡ Some id
-            → KeptNumber (stock_of self.old) (kept_merge self.old.limits (stock_of self.old).keys key time value how) result (stock_of self.new) }
+            → KeptNumber (stock_of self.old) (kept_merge self.old.limits (stock_of self.old).keys key time value how)
+            result (stock_of self.new) }
         ensures bounded { IfOk result (λ t. t ≤ MAX_TIME) }
-        ensures own { (key : Key) → number_of key self.old.keys.entries ≡ Some id → IfErr result (IsOwn (stock_of self.old) key) }
+        ensures own { (key : Key) → number_of key self.old.keys.entries ≡ Some id
+            → IfErr result (IsOwn (stock_of self.old) key) }
         ensures store { IsInOrder self.new }
         ensures steps { Takes steps.old steps.new (write_steps (stock_of self.old) (key_in self.old.nodes id) time) }
-        ensures easy { (key : Key) → number_of key self.old.keys.entries ≡ Some id → IsEasyAppend (stock_of self.old) key time → steps.new ≡ steps.old }
-        ensures spared { (key : Key) → number_of key self.old.keys.entries ≡ Some id → IsIgnored (stock_of self.old) key time value → steps.new ≡ steps.old }
+        ensures easy { (key : Key) → number_of key self.old.keys.entries ≡ Some id
+            → IsEasyAppend (stock_of self.old) key time → steps.new ≡ steps.old }
+        ensures spared { (key : Key) → number_of key self.old.keys.entries ≡ Some id
+            → IsIgnored (stock_of self.old) key time value → steps.new ≡ steps.old }
     {
         let node = self.nodes.node(id);
         if let Some(last) = ignored(node, time, value) {
@@ -90,8 +98,8 @@ impl Store {
         self.write_planned(id, how, time, value, steps)
     }
 
-    // Writes a sample that is not ignored to the series of a number by a plan for it, and has the destinations of its rules
-    // mended. Answers the time.
+    // Writes a sample that is not ignored, and updates the destinations of the series' rules. Plans all changes before
+    // it makes any. Returns the time.
     fn write_planned<L: Ledger>(
         &mut self,
         id: Id,
@@ -103,12 +111,17 @@ impl Store {
         requires time { time ≤ MAX_TIME }
         requires db { IsDb self.old }
         requires there { IsThere self.old id }
-        ensures written { (key : Key) (n : TheNode) → Holds self.old key id n → KeptNumber (stock_of self.old) (kept_write_merged self.old.limits (stock_of self.old).keys key time (met how time value n.series)) result (stock_of self.new) }
+        ensures written { (key : Key) (n : TheNode) → Holds self.old key id n
+            → KeptNumber (stock_of self.old)
+            (kept_write_merged self.old.limits (stock_of self.old).keys key time (met how time value n.series)) result
+            (stock_of self.new) }
         ensures time { IfOk result (λ t. t ≡ time) }
-        ensures own { (key : Key) → number_of key self.old.keys.entries ≡ Some id → IfErr result (IsOwn (stock_of self.old) key) }
+        ensures own { (key : Key) → number_of key self.old.keys.entries ≡ Some id
+            → IfErr result (IsOwn (stock_of self.old) key) }
         ensures store { IsInOrder self.new }
         ensures steps { Takes steps.old steps.new (write_steps (stock_of self.old) (key_in self.old.nodes id) time) }
-        ensures easy { (key : Key) → number_of key self.old.keys.entries ≡ Some id → IsEasyAppend (stock_of self.old) key time → steps.new ≡ steps.old }
+        ensures easy { (key : Key) → number_of key self.old.keys.entries ≡ Some id
+            → IsEasyAppend (stock_of self.old) key time → steps.new ≡ steps.old }
     {
         let node = self.nodes.node(id);
         let limit = self.limits.samples;
@@ -136,12 +149,26 @@ impl Store {
     }
 }
 
-// By this policy, if it is given.
+// The merge for this duplicate policy, if one is given.
 pub(crate) fn merge_by(on: Option<Policy>) -> Option<Merge>
     ensures { result ≡ option_map By on }
 {
     match on {
         Some(policy) => Some(Merge::By(policy)),
         None => None,
+    }
+}
+
+// The last sample's time if the series ignores this sample (IGNORE). A destination of a rule ignores nothing.
+pub(crate) fn ignored(node: &Node, time: u64, value: Units) -> Option<u64>
+    ensures { result ≡ ignored_by node.now time value }
+{
+    let Some(last) = node.series.ignored(time, value) else {
+        return None;
+    };
+    if node.source.is_some() {
+        None
+    } else {
+        Some(last)
     }
 }

@@ -6,7 +6,7 @@ use Rattle.ts_spec.specs.Answer.{Row}
 use Rattle.ts_spec.specs.Questions.{labels_shown}
 use Rattle.ts_spec.specs.Replies.{aggregator_name}
 use Rattle.ts_spec.specs.Response as spec
-use Rattle.ts_labels.specs.declared.show.Show.{Show}
+use Rattle.ts_labels.specs.declared.labels.Show.{Show}
 use Rattle.ts_labels.specs.Show.{show_of}
 use Rattle.ts_multi.specs.Members.{member_showing}
 use Rattle.ts_group.specs.declared.labels.GroupLabels.{GroupLabels}

@@ -5,7 +5,7 @@ ghost use Rattle.ts_spec.specs.Aggregate.{aggregator_of};
 ghost use Rattle.ts_spec.specs.Filter.{value_of};
 ghost use Rattle.ts_spec.specs.Questions.{picked_label};
 ghost use Rattle.ts_spec.specs.Replies.{aggregator_name};
-ghost use Rattle.ts_labels.specs.declared.show.Show.TheVariants as which;
+ghost use Rattle.ts_labels.specs.declared.labels.Show.TheVariants as which;
 ghost use Rattle.ts_multi.specs.Members.{label_of};
 ghost use Rattle.ts_group.specs.Labels.{labels_of, shown_of};
 

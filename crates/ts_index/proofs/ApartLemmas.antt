@@ -1,4 +1,4 @@
--- Numbers of which none is there twice: how many they are at most, and what they are in another order.
+-- Lists of distinct ids: their length, and their reorderings.
 use Rattle.std.proofs.Common.{◌≡◌, ℕ, ◌≤◌, ◌==◌, ◌||◌, Bool, true, false, List, [], ◌∷◌, map, length, refl, sym, ◌∙◌, ap, subst}
 use Rattle.std.proofs.lemmas.Bool.{false≢true}
 use Rattle.std.proofs.lemmas.List.{length-map}
@@ -54,7 +54,7 @@ unfolding IsDistinct
 apart [] a = tt
 apart (i ∷ is) a = (alike_none i.0 is a.0, apart is a.1)
 
--- numbers that are there, and none twice, are at most as many as all
+-- ids that are there, and none twice, are at most as many as all
 pub length-apart : (es : Labelled) (is : List Id) → AreApart is → AreLive es is → length is ≤ length es
 length-apart es is a live =
     subst (λ n. n ≤ length es) (length-map is (λ i. i.0))

@@ -1,4 +1,4 @@
--- The numbers that have one of some values: which they are, that none is there twice, and how many there are at most.
+-- The ids that have one of several values: which they are, that they are distinct, and how many.
 use Rattle.std.proofs.Common.{◌≡◌, ℕ, ◌≤◌, ◌==◌, ◌||◌, ◌&&◌, not, Bool, true, false, List, [], ◌∷◌, ◌++◌, length, Option, None, Some, refl, sym, ◌∙◌, ap, arith, if◌then◌else◌, eq-eqb, length-append}
 use Rattle.std.proofs.lemmas.Bool.{false≢true}
 use Rattle.std.proofs.lemmas.List.Folds.{list_any-append}
@@ -105,7 +105,7 @@ apart_append (x ∷ xs) ys a b h = (
     later true b e = refl
     later false b e = e
 
--- a number that has a value is in no list of those after it
+-- an id that has a value is in no list of those after it
 parted : (label v : List ℕ) (seen vs : List Key) (labels : Option (List Label)) (b : Bool)
     → (if b then false else pass (has_pair label v) labels) ≡ true → pass (has_unseen label (seen ++ v ∷ []) vs) labels ≡ false
 parted label v seen vs labels true h = absurd (false≢true h)

@@ -1,4 +1,4 @@
--- The numbers that can pass filters, by the narrowest filter or without one.
+-- Candidates, from the most selective filter or from all series.
 use Rattle.std.proofs.Common.{◌≡◌, ℕ, ◌≤◌, ◌&&◌, not, Bool, true, false, List, [], ◌∷◌, map, length, Option, None, Some, IsSome, refl, sym, ◌∙◌, ap, subst, arith}
 use Rattle.std.proofs.lemmas.Bool.{false≢true}
 use Rattle.std.proofs.lemmas.List.{length-map}
@@ -17,7 +17,7 @@ use Rattle.ts_index.proofs.CandidateLemmas.{has_unseen, has_number-listed_by, li
 use Rattle.ts_index.proofs.ApartLemmas.{length-apart}
 use Rattle.ts_index.proofs.NumberLemmas.{has_number-where, AreAscending-where}
 
--- What is asked of numbers that can pass filters.
+-- What is asked of ids that can pass filters.
 pub record AreCandidates (es : Labelled) (fs : List Filter) (is : List Id) : Type 0 where
   pub live : AreLive es is
   pub once : AreApart is
@@ -29,7 +29,7 @@ there : (test : List Label → Bool) (labels : Option (List Label)) → pass tes
 there test None h = absurd (false≢true h)
 there test (Some labels) h = refl
 
--- labels that pass a filter have one of the values that it wants
+-- labels that pass a filter have one of the values that it requires
 wanted : (f : Filter) (labels : List Label) → is_positive f ≡ true → holds f labels ≡ true → has_unseen (label_of f) [] (values_wanted f) labels ≡ true
 wanted (Among label values) labels p h = by (value_of label labels) h
   where
@@ -65,7 +65,7 @@ narrowed es fs f o n =
           omega arith;
     }
 
--- the keys of the map are all numbers
+-- the keys of the map are all ids
 all-numbers : (es : Labelled) → map as_id (keys_of es) ≡ numbers_where (λ labels. true) es
 all-numbers [] = refl
 all-numbers (e ∷ es) = ap (λ is. as_id e.0 ∷ is) (all-numbers es)

@@ -1,4 +1,4 @@
--- The lists of an index, after a number came, went or got other labels.
+-- Posting lists after an id is added, removed or relabelled.
 use Rattle.std.proofs.Common.{◌≡◌, ℕ, ◌==◌, ◌||◌, ◌&&◌, not, Bool, true, false, List, Option, Vec, refl, sym, ◌∙◌, ap, subst, eq-eqb, eqb-true, ne_eqb, take, length}
 use Rattle.std.proofs.lemmas.Bool.{false≢true}
 use Rattle.std.proofs.Math.Seq.{take-length}
@@ -22,7 +22,7 @@ or-none true = refl
 or-none false = refl
 
 module _ {Z : Type 0} where
-  -- which numbers are listed
+  -- which ids are listed
   pub listed-where : (es : Labelled) (lists : BTreeMap (List ℕ) (BTreeMap (List ℕ) (Vec Id Z))) → AreInOrder es → ArePosted es lists
       → (l v : List ℕ) (q : ℕ) → has_number q (posting_in l v lists) ≡ pass (has_pair l v) (labels_of q es)
   listed-where es lists o posted l v q = ap (has_number q) (posted l v) ∙ has_number-where (has_pair l v) es o q
@@ -31,14 +31,14 @@ module _ {Z : Type 0} where
       → (l v : List ℕ) → AreAscending (posting_in l v lists)
   ascending-where es lists o posted l v = subst AreAscending (sym (posted l v)) (AreAscending-where (has_pair l v) es o)
 
-  -- the same numbers are listed
+  -- the same ids are listed
   pub posted-same : (es : Labelled) (lists after : BTreeMap (List ℕ) (BTreeMap (List ℕ) (Vec Id Z))) → AreInOrder es → ArePosted es lists
       → ((l v : List ℕ) → AreAscending (posting_in l v after))
       → ((l v : List ℕ) (q : ℕ) → has_number q (posting_in l v after) ≡ has_number q (posting_in l v lists)) → ArePosted es after
   posted-same es lists after o posted up same l v =
       same_numbers (posting_in l v after) (posting_in l v lists) (up l v) (ascending-where es lists o posted l v) (same l v) ∙ posted l v
 
-  -- one number has other labels
+  -- one id has other labels
   pub posted-after : (es new : Labelled) (after : BTreeMap (List ℕ) (BTreeMap (List ℕ) (Vec Id Z))) (id : Id) (labels : Option (List Label))
       → AreInOrder new → Relabels id labels es new → ((l v : List ℕ) → AreAscending (posting_in l v after))
       → ((l v : List ℕ) → has_number id.0 (posting_in l v after) ≡ pass (has_pair l v) labels)
@@ -54,7 +54,7 @@ module _ {Z : Type 0} where
           ap (λ n. has_number n (posting_in l v after)) same ∙ here l v ∙ ap (pass (has_pair l v)) (sym (ap (λ n. labels_of n new) same ∙ gives.here))
       by q false p = others l v q p ∙ ap (pass (has_pair l v)) (sym (gives.others q (λ e. absurd (false≢true (sym p ∙ eq-eqb q id.0 e)))))
 
--- ---- what is listed of a number that came, went, or got other labels
+-- ---- what is listed of an id that came, went, or got other labels
 
 pub came : (n : ℕ) (h before : Bool) → before ≡ false → (((n == n) && (h && true)) || before) ≡ h
 came n h before e = rw (eq-eqb n n refl, e) (or-none (h && true) ∙ none_own h)
@@ -81,7 +81,7 @@ other-put x own before e = rw e refl
 pub other-take : (x own before : Bool) → x ≡ false → (before && not (x && own)) ≡ before
 other-take x own before e = rw e (none_own before)
 
--- what a map has after a change at one number
+-- what a map has after a change at one id
 pub gives-updated : (id : Id) (labels : Option (List Label)) (es new : Labelled)
     → labels_of id.0 new ≡ labels → ((q : ℕ) → is_at (nat_cmp id.0) q ≡ false → labels_of q new ≡ labels_of q es) → Relabels id labels es new
 gives-updated id labels es new h g = record {
@@ -89,6 +89,6 @@ gives-updated id labels es new h g = record {
   others = λ q ne. g q (is_at-number id.0 q ∙ ne_eqb id.0 q (λ e. ne (sym e)));
 }
 
--- the labels up to their number
+-- the first n labels are all labels
 pub whole : (labels : List Label) (n : ℕ) → n ≡ length labels → take n labels ≡ labels
 whole labels n e = ap (λ k. take k labels) e ∙ take-length labels

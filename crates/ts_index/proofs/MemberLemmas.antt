@@ -1,11 +1,11 @@
--- Which numbers are in ascending lists, after one came or went.
+-- The members of sorted lists after an id is added or removed.
 use Rattle.std.proofs.Common.{◌≡◌, ℕ, ◌<◌, ◌==◌, ◌||◌, ◌&&◌, not, nat_lt, Bool, true, false, List, [], ◌∷◌, refl, sym, ◌∙◌, ap, inl, inr, arith, if◌then◌else◌, eq-eqb, ne_eqb, eqb-true, lt-ltb, le-ltb}
 use Rattle.std.proofs.lemmas.Bool.{cases_order, false≢true}
 use Rattle.std.specs.List.{AllByRecursion}
 use Rattle.ts_sample.specs.declared.id.Id.{Id}
 use Rattle.ts_index.specs.Numbers.{AreAscending, has_number, with_number, without_number}
 
--- a number less than all is not there
+-- an id less than all is not there
 pub none_in : (n : ℕ) (xs : List Id) → AllByRecursion (λ j. n < j.0) xs → has_number n xs ≡ false
 none_in n [] h = refl
 none_in n (x ∷ xs) h =
@@ -90,7 +90,7 @@ has_number-without i (x ∷ xs) q h = by (x.0 == i.0) refl (has_number-without i
     by true e ih = rw (sym (eqb-true x.0 i.0 e)) (gone (q == x.0) (has_number q xs) (λ s. ap (λ n. has_number n xs) (eqb-true q x.0 s) ∙ none_in x.0 xs h.0))
     by false e ih = ap (λ r. (q == x.0) || r) ih ∙ stays (q == x.0) (has_number q xs) (q == i.0) (λ s. ap (λ n. n == i.0) (eqb-true q x.0 s) ∙ e)
 
--- ascending lists with the same numbers are the same
+-- ascending lists with the same ids are the same
 pub same_numbers : (xs ys : List Id) → AreAscending xs → AreAscending ys → ((q : ℕ) → has_number q xs ≡ has_number q ys) → xs ≡ ys
 same_numbers [] [] a b h = refl
 same_numbers [] (y ∷ ys) a b h = absurd (false≢true (h y.0 ∙ rw (eq-eqb y.0 y.0 refl) refl))

@@ -1,4 +1,4 @@
--- The fewest candidates of filters, one filter after another.
+-- The fewest candidates, one filter after another.
 use Rattle.std.proofs.Common.{◌≡◌, ℕ, ◌≤◌, ◌<◌, ◌+◌, ◌||◌, ◌⊎◌, inl, inr, Bool, true, false, List, [], ◌∷◌, ◌++◌, length, refl, sym, ◌∙◌, ap, subst, arith, if◌then◌else◌, suc, drop, get_or}
 use Rattle.std.proofs.Math.Nat.{min-eq_left, min_comm}
 use Rattle.std.proofs.Math.Seq.{drop-cons}
@@ -163,7 +163,7 @@ module _ (es : Labelled) (fs : List Filter) (f : Filter) where
   pub best-fewer : (best : Filter × ℕ) (count : ℕ) → is_positive f ≡ true → count ≡ weight es f → count < best.1 → IsBest es fs (Some best) → IsBest es (fs ++ f ∷ []) (Some (f, count))
   best-fewer best count asks is fewer was = better count asks is (omega (arith, is, fewer, was.1))
 
--- ---- where filters are lent
+-- ---- borrowed filters
 
 module _ (es : Labelled) (fs : List Filter) where
   pub none-best : {X : Type 0} (f : X → Filter × ℕ) (o : Option X) → ((x : X) → o ≡ Some x → ⊥) → IsBest es fs (option_map f o) → has_positive fs ≡ false

@@ -1,4 +1,4 @@
--- The numbers whose labels pass a test: which they are, and their order.
+-- The ids whose labels pass a test: which they are, and their order.
 use Rattle.std.proofs.Common.{◌≡◌, ℕ, suc, ◌<◌, ◌==◌, Bool, true, false, List, [], ◌∷◌, None, Some, refl, sym, ◌∙◌, ap, arith, if◌then◌else◌, ne_eqb, eqb-true}
 use Rattle.std.proofs.lemmas.Cmp.{ranked}
 use Rattle.std.specs.Cmp.{unsigned_tied, on_equiv, nat_eq_equiv}
@@ -15,21 +15,21 @@ use Rattle.ts_sample.specs.declared.id.Id.{Id}
 use Rattle.ts_index.specs.Index.{Labelled, labels_of, numbers_where}
 use Rattle.ts_index.specs.Numbers.{AreInOrder, AreAscending, has_number, pass}
 
--- the map finds equal numbers
+-- the map finds equal ids
 pub is_at-number : (q k : ℕ) → is_at (nat_cmp q) k ≡ (q == k)
 is_at-number q k = unsigned_tied q k
 
 pub less-number : (q k : ℕ) → nat_cmp q k ≡ Less → q < k
 less-number q k h = ranked q k Less (sym h)
 
--- a number before all others is not found among them
+-- an id before all others is not found among them
 none_before : (q : ℕ) (es : Labelled) → AllByRecursion (λ f. q < f.0) es → labels_of q es ≡ None
 none_before q [] h = refl
 none_before q (e ∷ es) h =
     let less : q < e.0 = h.0 in
     rw (is_at-number q e.0, ne_eqb q e.0 (λ d. absurd (omega arith))) (none_before q es h.1)
 
--- a number is among those whose labels pass, where it has labels that pass
+-- an id is among those whose labels pass, where it has labels that pass
 pub has_number-where : (test : List Label → Bool) (es : Labelled) → AreInOrder es → (q : ℕ) → has_number q (numbers_where test es) ≡ pass test (labels_of q es)
 has_number-where test [] o q = refl
 has_number-where test (e ∷ es) o q = rw (is_at-number q e.0) (by (q == e.0) (test e.1) refl refl (has_number-where test es o.1 q))
@@ -44,7 +44,7 @@ has_number-where test (e ∷ es) o q = rw (is_at-number q e.0) (by (q == e.0) (t
     by false true p s ih = rw (p) ih
     by false false p s ih = ih
 
--- numbers after one stay after it
+-- ids after one stay after it
 all_after : (test : List Label → Bool) (i : ℕ) (es : Labelled) → AllByRecursion (λ f. i < f.0) es → AllByRecursion (λ j. i < j.0) (numbers_where test es)
 all_after test i [] h = tt
 all_after test i (e ∷ es) h = by (test e.1) (all_after test i es h.1)
@@ -78,7 +78,7 @@ AreInOrder-by_keys (e ∷ es) s = (lower e.0 es (All-after_first nat_cmp e.0 (ke
 equal_ids : (x y : Id) → (x.0 == y.0) ≡ true → x ≡ y
 equal_ids x y h = ap (λ n. record { 0 = n }) (eqb-true x.0 y.0 h)
 
--- a number that is one of these is found among them
+-- an id that is one of these is found among them
 pub has_number-from_Contains : (is : List Id) (i : Id) → Contains is i → has_number i.0 is ≡ true
 has_number-from_Contains is i h = list_any-from_Contains (on_equiv (λ (x : Id). x.0) nat_eq_equiv) i is h
 

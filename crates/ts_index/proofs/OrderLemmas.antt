@@ -1,4 +1,4 @@
--- Sorted numbers of which none is there twice.
+-- Sorted lists of distinct ids.
 use Rattle.std.proofs.Common.{◌≡◌, ℕ, suc, ◌<◌, ◌≤◌, ◌==◌, false, List, [], ◌∷◌, refl, sym, ◌∙◌, arith, eq-eqb}
 use native.Mathlib.Numerals.{unary_clauses}
 use Rattle.std.proofs.lemmas.Bool.{false≢true}

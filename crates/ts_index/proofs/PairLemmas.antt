@@ -1,4 +1,4 @@
--- Pairs of labels and values, one after another.
+-- Pairs of label and value, one after another.
 use Rattle.std.proofs.Common.{◌≡◌, ℕ, zero, suc, ◌+◌, ◌==◌, add-one, subst, ◌||◌, ◌&&◌, not, Bool, true, false, List, [], ◌∷◌, take, slice_get, Some, None, option_map, refl, sym, ◌∙◌, ap, if◌then◌else◌}
 use Rattle.std.proofs.lemmas.Bool.{false≢true, and_parts}
 use Rattle.std.proofs.lemmas.Map.Text.{is_eq-slice_cmp}

@@ -1,4 +1,4 @@
--- Numbers at their places in ascending lists.
+-- Ids at their indexes in sorted lists.
 use Rattle.std.proofs.Common.{◌≡◌, ℕ, zero, suc, ◌<◌, ◌≤◌, List, [], ◌∷◌, ◌++◌, length, take, drop, get_or, refl, sym, ap, arith, eq-eqb, ne_eqb, lt-ltb, le-ltb}
 use native.Mathlib.Numerals.{unary_clauses}
 use Rattle.std.specs.List.{AllByRecursion, HoldsAt, remove, insert}
@@ -11,13 +11,13 @@ use Rattle.std.specs.declared.cmp.Ordering.TheVariants.{Less, Equal, Greater}
 use Rattle.ts_sample.specs.declared.id.Id.{Id}
 use Rattle.ts_index.specs.Numbers.{AreAscending, with_number, without_number}
 
--- what holds of each holds at each place
+-- what holds of each holds at each index
 at : (P : Id → Type 0) (xs : List Id) (k : ℕ) (d : Id) → AllByRecursion P xs → k < length xs → P (get_or xs k d)
 at P [] k d h l = absurd (omega arith)
 at P (x ∷ xs) zero d h l = h.0
 at P (x ∷ xs) (suc k) d h l = at P xs k d h.1 (omega arith)
 
--- ascending numbers are sorted
+-- ascending ids are sorted
 sorted_numbers : (xs : List Id) → AreAscending xs → IsSortedBy (λ a b. is_lt (nat_cmp a.0 b.0)) xs
 sorted_numbers [] h k d l m = absurd (omega arith)
 sorted_numbers (x ∷ []) h k d l m = absurd (omega arith)
@@ -30,7 +30,7 @@ sorted_numbers (x ∷ y ∷ xs) h (suc k) d l m =
 
 -- ---- where it is not there
 
--- those before a place are less, and those from it on greater
+-- those before an index are less, and those from it on greater
 record Gap (xs : List Id) (p : ℕ) (i : Id) : Type 0 where
   pub below : (k : ℕ) (d : Id) → k < p → (get_or xs k d).0 < i.0
   pub above : (k : ℕ) (d : Id) → p ≤ k → k < length xs → i.0 < (get_or xs k d).0

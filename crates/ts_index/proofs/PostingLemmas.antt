@@ -1,4 +1,4 @@
--- Lists by value and by label, after one of them has changed.
+-- Posting lists by value and by label after one of them changes.
 use Rattle.std.proofs.Common.{◌≡◌, ℕ, ◌&&◌, Bool, true, false, List, [], None, Some, Vec, refl, sym, ◌∙◌, ap, if◌then◌else◌, cond}
 use Rattle.std.specs.BTreeMap.{BTreeMap, get_by, is_at, UpdatesBy}
 use Rattle.std.specs.Cmp.Lexicographic.{slice_cmp}
@@ -37,7 +37,7 @@ module _ {Z : Type 0} where
       by true p = e ∙ ap (λ w. f (by_value w m)) (alike-same value v p)
       by false p = refl
 
-  -- one list is there with the same numbers
+  -- one list is there with the same ids
   pub value-same : (m n : BTreeMap (List ℕ) (Vec Id Z)) (value : List ℕ) (list : Vec Id Z)
       → UpdatesBy (slice_cmp nat_cmp) (slice_cmp nat_cmp value) m n (Some list) → list.items ≡ by_value value m
       → (v : List ℕ) → by_value v n ≡ by_value v m
@@ -69,7 +69,7 @@ module _ {Z : Type 0} where
       by true p = e v ∙ ap (λ k. if alike value v then f (posting_in k v m) else posting_in k v m) (alike-same label l p)
       by false p = refl
 
-  -- the lists of one label are there as they were
+  -- the lists of one label are there unchanged
   pub label-same : (m n : BTreeMap (List ℕ) (BTreeMap (List ℕ) (Vec Id Z))) (label : List ℕ) (values : BTreeMap (List ℕ) (Vec Id Z))
       → UpdatesBy (slice_cmp nat_cmp) (slice_cmp nat_cmp label) m n (Some values)
       → ((v : List ℕ) → by_value v values ≡ posting_in label v m)

@@ -1,4 +1,4 @@
--- Of the numbers that can pass filters, those that do.
+-- The candidates that pass the filters.
 use Rattle.std.proofs.Common.{◌≡◌, ℕ, ◌+◌, ◌*◌, ◌≤◌, ◌==◌, ◌||◌, ◌&&◌, not, Bool, true, false, List, [], ◌∷◌, ◌++◌, length, Option, None, Some, refl, sym, ◌∙◌, ap, subst, arith, if◌then◌else◌, eqb-true, append-nil}
 use Rattle.std.proofs.Math.Nat.{mul-le-mul_left}
 use Rattle.std.proofs.lemmas.Bool.{false≢true}
@@ -53,7 +53,7 @@ apart-chosen test es (i ∷ is) a = by (pass test (labels_of i.0 es)) (apart-cho
     by true rest = (has_number-chosen test es is i.0 ∙ ap (λ b. b && pass test (labels_of i.0 es)) a.0, rest)
     by false rest = rest
 
--- of numbers among which all are that pass
+-- of ids among which all are that pass
 pub selected-of : (fs : List Filter) (es : Labelled) (is : List Id) → AreApart is → Covers es fs is → AreSelected (all_hold fs) es (chosen (all_hold fs) es is)
 selected-of fs es is a covers = record {
   once = apart-chosen (all_hold fs) es is a;
@@ -89,13 +89,13 @@ pub selected-start : (fs : List Filter) (es : Labelled) (ids is rest : List Id) 
     → AreSelected (all_hold fs) es (ids ++ chosen (all_hold fs) es rest)
 selected-start fs es ids is rest e r a covers = rw (e, r) (selected-of fs es is a covers)
 
--- there is room for no more than the fewest
+-- there is capacity for no more than the fewest
 pub room-start : (held : ℕ) (is : List Id) (fewest room : ℕ) → held ≡ 0 → length is ≤ fewest → fewest ≤ room → held + length is ≤ room
 room-start held is fewest room e few enough = omega (arith, e, few, enough)
 
--- ---- by a filter that asks for a value
+-- ---- by a filter that requires a value
 
--- labels pass it exactly where they have one of the values that it wants
+-- labels pass it exactly where they have one of the values that it requires
 pass-wanted : (f : Filter) (labels : List Label) → is_positive f ≡ true → has_unseen (label_of f) [] (values_wanted f) labels ≡ all_hold (f ∷ []) labels
 pass-wanted (Among label values) labels p = by (value_of label labels)
   where
@@ -117,7 +117,7 @@ selected-wanted f es o p = record {
     at None = refl
     at (Some labels) = pass-wanted f labels p
 
--- it is the narrowest one
+-- it is the most selective one
 only-narrowest : (f : Filter) (es : Labelled) → is_positive f ≡ true → IsNarrowest es (f ∷ []) f
 only-narrowest f es p = record { positive = p; among = λ labels h. first (holds f labels) h; few = rw (p) refl }
   where

@@ -1,4 +1,4 @@
--- Values of a filter, one after another.
+-- The values of a filter, one after another.
 use Rattle.std.proofs.Common.{◌≡◌, ◌<◌, Bool, true, false, length, get_or, arith, ℕ, zero, suc, ◌+◌, add-one, List, [], ◌∷◌, ◌++◌, take, drop, slice_get, Some, refl, ap, if◌then◌else◌}
 use Rattle.ts_spec.specs.Key.{Key}
 use Rattle.ts_spec.specs.Filter.{is_among}
@@ -26,7 +26,7 @@ pub listed_by-next : (label : List ℕ) (vs : List Key) (k : ℕ) (v : Key) (es 
 listed_by-next label vs k v es e =
     rw (add-one, so_far vs k v e) (ap (λ r. listed_by label (take k vs) r es) (rest_of vs k v e))
 
--- the value at a place
+-- the value at an index
 pub value_at : (vs : List Key) (k : ℕ) (v d : Key) → slice_get vs k ≡ Some v → get_or vs k d ≡ v
 value_at [] k v d e = cc
 value_at (x ∷ vs) zero v d e = cc

@@ -1,35 +1,35 @@
--- Lists of numbers: which are there, and their order.
+-- Sorted lists of ids.
 use Rattle.std.specs.Prelude.{ℕ, ◌<◌, ◌==◌, nat_lt, if◌then◌else◌, ⊤, Bool, false, List, [], ◌∷◌, Option, None, Some}
 use Rattle.std.specs.List.{AllByRecursion, list_any}
 use Rattle.ts_spec.specs.State.{Label}
 use Rattle.ts_sample.specs.declared.id.Id.{Id}
 use Rattle.ts_index.specs.Index.{Labelled}
 
--- each number stands before those after it
+-- the ids are in ascending order
 abbrev pub AreInOrder : Labelled → Type 0
 AreInOrder [] = ⊤
 AreInOrder (e ∷ es) = AllByRecursion (λ f. e.0 < f.0) es × AreInOrder es
 
--- each number is less than those after it
+-- each id is below all that follow
 abbrev pub AreAscending : List Id → Type 0
 AreAscending [] = ⊤
 AreAscending (i ∷ is) = AllByRecursion (λ j. i.0 < j.0) is × AreAscending is
 
--- whether a number is one of these
+-- whether the list contains an id
 abbrev pub has_number : ℕ → List Id → Bool
 has_number q is = list_any (λ i. q == i.0) is
 
--- whether there are labels, and they pass a test
+-- whether there are labels and they pass a test
 abbrev pub pass : (List Label → Bool) → Option (List Label) → Bool
 pass test None = false
 pass test (Some labels) = test labels
 
--- the numbers with one more, in its place
+-- the list with an id inserted in order
 abbrev pub with_number : Id → List Id → List Id
 with_number i [] = i ∷ []
 with_number i (x ∷ xs) = if nat_lt x.0 i.0 then x ∷ with_number i xs else if x.0 == i.0 then x ∷ xs else i ∷ x ∷ xs
 
--- the numbers without one
+-- the list without an id
 abbrev pub without_number : Id → List Id → List Id
 without_number i [] = []
 without_number i (x ∷ xs) = if x.0 == i.0 then xs else x ∷ without_number i xs

@@ -1,4 +1,4 @@
--- What a selection gives.
+-- The result of a selection.
 use Rattle.std.specs.Prelude.{◌≡◌, ℕ, Bool, List}
 use Rattle.ts_spec.specs.State.{Label}
 use Rattle.ts_sample.specs.declared.id.Id.{Id}
@@ -6,7 +6,7 @@ use Rattle.ts_index.specs.Candidates.{AreApart}
 use Rattle.ts_index.specs.Index.{Labelled, labels_of}
 use Rattle.ts_index.specs.Numbers.{has_number, pass}
 
--- These are the numbers whose labels pass a test, none of them twice, in some order.
+-- The ids whose labels pass a test, without repetition, in any order.
 pub record AreSelected (test : List Label → Bool) (es : Labelled) (is : List Id) : Type 0 where
   pub once : AreApart is
   pub which : (q : ℕ) → has_number q is ≡ pass test (labels_of q es)

@@ -1,14 +1,14 @@
--- Numbers that can pass filters, by where they are from.
+-- The remaining candidates.
 use Rattle.std.specs.Prelude.{ℕ, List, map}
 use Rattle.ts_sample.specs.declared.id.Id.{Id}
 use Rattle.ts_index.specs.declared.candidates.Source.{Source}
 use Rattle.ts_index.specs.declared.candidates.Source.TheVariants.{All, ByValue}
 
--- a number of the map, as that of a series
+-- a key of the map as a series id
 abbrev pub as_id : ℕ → Id
 as_id n = record { 0 = n }
 
--- the numbers that are left
+-- the remaining ids
 abbrev pub numbers_left : Source → List Id
 numbers_left (All numbers) = map as_id numbers
 numbers_left (ByValue numbers) = numbers

@@ -1,4 +1,4 @@
-// The numbers that can pass filters.
+// The series that might pass a query's filters.
 ghost use Rattle.std.specs.Prelude.{◌≡◌, ◌≤◌, [], length, map};
 ghost use Rattle.std.specs.Iterator.{YieldsFirst, item_count};
 ghost use Rattle.std.specs.Map.{keys_of};
@@ -14,16 +14,16 @@ use std::marker::Model;
 use ts_labels::{Filter, Labels};
 use ts_sample::Id;
 
-// Where the numbers are from.
+// Where the candidates come from.
 #[derive(Drop)]
 enum Source<'a> {
-    // All that there are.
+    // All series.
     All(Keys<'a, usize, Labels>),
-    // Those that have one of the values that a filter wants.
+    // The series that have one of the values that a filter requires.
     ByValue(Listed<'a>),
 }
 
-/// Numbers that can pass filters, one after another. Seen as the list of those that are left.
+/// An iterator over candidate series ids. Contracts see it as the list of the remaining ids.
 #[derive(Drop)]
 pub struct Candidates<'a> {
     source: Source<'a>,
@@ -59,8 +59,8 @@ impl<'a> Iterator for Candidates<'a> {
 }
 
 impl Index {
-    /// The numbers that can pass all filters: those that have a value that one of the filters wants, or all numbers,
-    /// where no filter asks for a value. Takes no memory.
+    /// The series that might pass all filters: the posting lists of the most selective filter that requires a value,
+    /// or all series if no filter does. Allocates nothing.
     pub fn candidates<'a>(&'a self, filters: &'a [Filter]) -> Candidates<'a>
         ensures live { AreLive self.now result }
         ensures once { AreApart result }
@@ -75,7 +75,7 @@ impl Index {
     }
 }
 
-// The numbers that have one of the values that a filter wants.
+// The series that have one of the values that the filter requires.
 pub(crate) fn by_value<'a>(index: &'a Index, filter: &'a Filter) -> Candidates<'a>
     ensures { result ≡ listed_by (label_of filter.now) [] (values_wanted filter.now) index.now }
 {
@@ -84,7 +84,7 @@ pub(crate) fn by_value<'a>(index: &'a Index, filter: &'a Filter) -> Candidates<'
     }
 }
 
-// All numbers.
+// All series.
 fn all(index: &Index) -> Candidates<'_>
     ensures { result ≡ map as_id (keys_of index.now) }
 {

@@ -1,4 +1,4 @@
-// The index, and how it changes.
+// The index and its updates.
 ghost use Rattle.std.specs.Prelude.{◌≡◌, [], None, Some, IsSome, OnOk, OnErr};
 ghost use Rattle.ts_index.specs.Index.{Relabels, labels_of, numbers_where, has_pair};
 ghost use Rattle.ts_index.specs.Numbers.{AreInOrder};
@@ -12,7 +12,7 @@ use ts_labels::Labels;
 use ts_resp::Word;
 use ts_sample::Id;
 
-/// The labels of series by the numbers of these.
+/// An inverted index: the labels of each series id, and a posting list for each pair of label and value.
 #[derive(Drop)]
 pub struct Index {
     pub(crate) alloc: Global,
@@ -33,7 +33,7 @@ impl Model for Index {
 }
 
 impl Index {
-    /// An index without numbers. Takes no memory.
+    /// An empty index. Allocates nothing.
     pub fn new(alloc: Global) -> Index
         ensures { result ≡ [] }
     {
@@ -44,14 +44,14 @@ impl Index {
         }
     }
 
-    /// The numbers are kept in ascending order.
+    /// Lemma for callers: the ids are in ascending order. Does nothing.
     pub fn known(&self)
         ensures { AreInOrder self.now }
     {
         let _len = self.labels.len();
     }
 
-    /// Takes up a number that is not there, with these labels.
+    /// Adds a new id with these labels. On error the index is unchanged.
     pub fn insert(&mut self, id: Id, labels: &Labels) -> Result<(), AllocError>
         requires absent { labels_of id.0 self.old ≡ None }
         ensures ok { OnOk result (Relabels id (Some labels.now) self.old self.new) }
@@ -70,7 +70,7 @@ impl Index {
         }
     }
 
-    /// Takes a number away that has these labels. Takes no memory.
+    /// Removes an id that has these labels. Allocates nothing.
     pub fn remove(&mut self, id: Id, labels: &Labels)
         requires there { labels_of id.0 self.old ≡ Some labels.now }
         ensures { Relabels id None self.old self.new }
@@ -81,7 +81,7 @@ impl Index {
         let _labels = self.labels.remove(&id.0);
     }
 
-    /// Gives a number new labels in the place of those that it has.
+    /// Replaces the labels of an id. On error the index is unchanged.
     pub fn replace(&mut self, id: Id, old: &Labels, new: &Labels) -> Result<(), AllocError>
         requires there { labels_of id.0 self.old ≡ Some old.now }
         ensures ok { OnOk result (Relabels id (Some new.now) self.old self.new) }
@@ -95,7 +95,7 @@ impl Index {
         Ok(())
     }
 
-    /// The numbers that have a label with this value, ascending. Takes no memory.
+    /// The posting list of a label and value: the ids in ascending order. Allocates nothing.
     pub fn posting(&self, label: &Word, value: &Word) -> &[Id]
         ensures { result.now ≡ numbers_where (has_pair label.now value.now) self.now }
     {
@@ -103,7 +103,7 @@ impl Index {
     }
 }
 
-// Puts labels in the place of those that a number has.
+// Replaces the labels stored for an id.
 fn swap(labels: &mut BTreeMap<usize, Labels>, id: Id, new: Labels)
     requires there { IsSome (labels_of id.0 labels.old.entries) }
     ensures gives { Relabels id (Some new) labels.old.entries labels.new.entries }

@@ -1,15 +1,13 @@
-//! The labels of series by their numbers, and the numbers that filters select.
+//! An inverted index over labels: finds the series that match filters.
 #![tactic(auto)]
 
 mod candidates;
 mod index;
-mod list;
 mod listed;
 mod lists;
 mod narrowest;
 mod pairs;
 mod select;
-mod values;
 
 pub use candidates::Candidates;
 pub use index::Index;

@@ -1,5 +1,6 @@
-// The numbers that have one of some values, one after another.
-ghost use Rattle.std.specs.Prelude.{◌≡◌, ◌<◌, ◌≤◌, [], ◌∷◌, ◌++◌, Some, List, ℕ, length, take, drop, slice_get, if◌then◌else◌};
+// An iterator over the posting lists of several values.
+ghost use Rattle.std.specs.Prelude.{◌≡◌, ◌<◌, ◌≤◌, [], ◌∷◌, ◌++◌, Some, List, ℕ, length, take, drop, slice_get};
+ghost use Rattle.std.specs.Prelude.{if◌then◌else◌};
 ghost use Rattle.std.specs.Iterator.{YieldsFirst};
 ghost use Rattle.ts_spec.specs.Filter.{is_among};
 ghost use Rattle.ts_labels.specs.Filter.{label_of, values_wanted};
@@ -12,15 +13,15 @@ use ts_labels::Filter;
 use ts_resp::Word;
 use ts_sample::Id;
 
-// The numbers whose label has one of some values.
+// The ids of the series whose label has one of these values.
 #[derive(Drop)]
 pub(crate) struct Listed<'a> {
     index: &'a Index,
     label: &'a Word,
     values: &'a [Word],
-    // How many values were passed.
+    // How many values have been visited.
     passed: usize,
-    // What is left of the list of the last of them.
+    // The rest of the posting list of the last visited value.
     list: &'a [Id],
 }
 
@@ -31,13 +32,14 @@ impl<'a> Model for Listed<'a> {
 
     ghost Value = { List Number };
 
-    ghost view = { λ l. l.list.now ++ listed_by l.label.now (take l.passed l.values.now) (drop l.passed l.values.now) l.index.now };
+    ghost view = { λ l. l.list.now
+        ++ listed_by l.label.now (take l.passed l.values.now) (drop l.passed l.values.now) l.index.now };
 
     ghost invariant = { λ l. l.passed ≤ length l.values.now };
 }
 
 impl<'a> Listed<'a> {
-    // The numbers that have one of the values that a filter wants.
+    // The series that have one of the values that the filter requires.
     pub(crate) fn new(index: &'a Index, filter: &'a Filter) -> Listed<'a>
         ensures { result ≡ listed_by (label_of filter.now) [] (values_wanted filter.now) index.now }
     {
@@ -50,7 +52,7 @@ impl<'a> Listed<'a> {
         }
     }
 
-    // The next of them.
+    // The next id.
     pub(crate) fn next(&mut self) -> Option<Id>
         ensures { YieldsFirst (λ l. l) self.old result self.new }
     {
@@ -71,7 +73,7 @@ impl<'a> Listed<'a> {
     }
 }
 
-// A list, or where it has nothing left, the next one that has.
+// Returns `list` if it is not empty, or else the next posting list that is not empty.
 fn next_list<'a>(
     list: &'a [Id],
     index: &'a Index,
@@ -81,8 +83,10 @@ fn next_list<'a>(
 ) -> &'a [Id]
     requires passed { passed.old ≤ length values.now }
     ensures passed { passed.new ≤ length values.now }
-    ensures left { result.now ++ listed_by label.now (take passed.new values.now) (drop passed.new values.now) index.now ≡ list.now ++ listed_by label.now (take passed.old values.now) (drop passed.old values.now) index.now }
-    ensures all { result.now ≡ [] → listed_by label.now (take passed.new values.now) (drop passed.new values.now) index.now ≡ [] }
+    ensures left { result.now ++ listed_by label.now (take passed.new values.now) (drop passed.new values.now) index.now
+        ≡ list.now ++ listed_by label.now (take passed.old values.now) (drop passed.old values.now) index.now }
+    ensures all { result.now ≡ []
+        → listed_by label.now (take passed.new values.now) (drop passed.new values.now) index.now ≡ [] }
 {
     let mut found = list;
     while found.is_empty() && *passed < values.len() {
@@ -92,10 +96,12 @@ fn next_list<'a>(
     found
 }
 
-// The list of a value, unless that stood before.
+// The posting list of the value at index `at`, or an empty one if the value occurred before.
 fn fresh_list<'a>(index: &'a Index, label: &Word, values: &[Word], at: usize) -> &'a [Id]
     requires at { at < length values.now }
-    ensures { (v : List ℕ) → slice_get values.now at ≡ Some v → result.now ≡ (if is_among (take at values.now) v then [] else numbers_where (has_pair label.now v) index.now) }
+    ensures { (v : List ℕ) → slice_get values.now at ≡ Some v
+        → result.now
+        ≡ (if is_among (take at values.now) v then [] else numbers_where (has_pair label.now v) index.now) }
 {
     let value = &values[at];
     let list = index.posting(label, value);
@@ -108,7 +114,7 @@ fn fresh_list<'a>(index: &'a Index, label: &Word, values: &[Word], at: usize) ->
     list
 }
 
-// Whether a value is among these.
+// Whether `values` contains `value`.
 fn stood(values: &[Word], value: &Word) -> bool
     ensures { result ≡ is_among values.now value.now }
 {

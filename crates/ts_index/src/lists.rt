@@ -1,18 +1,17 @@
-// The numbers by label and value.
+// Posting lists by label and value.
 ghost use Rattle.std.specs.Prelude.{◌≡◌, [], ℕ, List, ◌&&◌, if◌then◌else◌, IsTrue, OnOk, OnErr};
 ghost use Rattle.ts_index.specs.Numbers.{AreAscending, with_number, without_number};
-ghost use Rattle.ts_index.specs.Postings.{alike, posting_in};
+ghost use Rattle.ts_index.specs.Postings.{alike, posting_in, by_value};
 
-use crate::values::{Values, put_value, take_value};
 use std::alloc::{AllocError, Global};
 use std::collections::BTreeMap;
 use ts_resp::Word;
 use ts_sample::Id;
 
-// For each label the numbers that have it, by its value.
+// The posting lists by label, then by value.
 pub(crate) type Lists = BTreeMap<Word, Values>;
 
-// The numbers that have a label with a value.
+// The posting list of a label and value.
 pub(crate) fn listed<'a>(lists: &'a Lists, label: &Word, value: &Word) -> &'a [Id]
     ensures { result.now ≡ posting_in label.now value.now lists.now }
 {
@@ -25,7 +24,7 @@ pub(crate) fn listed<'a>(lists: &'a Lists, label: &Word, value: &Word) -> &'a [I
     }
 }
 
-// Puts a number into the list of a label and a value.
+// Adds an id to the posting list of a label and value.
 pub(crate) fn put_pair(
     alloc: Global,
     lists: &mut Lists,
@@ -34,7 +33,10 @@ pub(crate) fn put_pair(
     id: Id,
 ) -> Result<(), AllocError>
     requires { AreAscending (posting_in label.now value.now lists.old) }
-    ensures ok { OnOk result ((l v : List ℕ) → posting_in l v lists.new ≡ (if alike label.now l && alike value.now v then with_number id (posting_in l v lists.old) else posting_in l v lists.old)) }
+    ensures ok { OnOk result ((l v : List ℕ)
+        → posting_in l v lists.new
+        ≡ (if alike label.now l && alike value.now v then with_number id (posting_in l v lists.old) else posting_in l v
+        lists.old)) }
     ensures err { OnErr result ((l v : List ℕ) → posting_in l v lists.new ≡ posting_in l v lists.old) }
 {
     match lists.get_mut(label) {
@@ -48,20 +50,26 @@ pub(crate) fn put_pair(
     }
 }
 
-// Takes a number out of the list of a label and a value. The lists of a label go with the last of them.
+// Removes an id from the posting list of a label and value. Drops the label once it has no posting lists left.
 pub(crate) fn take_pair(lists: &mut Lists, label: &Word, value: &Word, id: Id)
     requires { AreAscending (posting_in label.now value.now lists.old) }
-    ensures { (l v : List ℕ) → posting_in l v lists.new ≡ (if alike label.now l && alike value.now v then without_number id (posting_in l v lists.old) else posting_in l v lists.old) }
+    ensures { (l v : List ℕ)
+        → posting_in l v lists.new
+        ≡ (if alike label.now l && alike value.now v then without_number id (posting_in l v lists.old) else posting_in l
+        v lists.old) }
 {
     if take_labelled(lists, label, value, id) {
         let _empty = lists.remove(label);
     }
 }
 
-// Takes a number out of the list of a label and a value, and tells whether none is left under the label.
+// Removes an id from the posting list of a label and value. Returns `true` if the label has no posting lists left.
 fn take_labelled(lists: &mut Lists, label: &Word, value: &Word, id: Id) -> bool
     requires { AreAscending (posting_in label.now value.now lists.old) }
-    ensures lists { (l v : List ℕ) → posting_in l v lists.new ≡ (if alike label.now l && alike value.now v then without_number id (posting_in l v lists.old) else posting_in l v lists.old) }
+    ensures lists { (l v : List ℕ)
+        → posting_in l v lists.new
+        ≡ (if alike label.now l && alike value.now v then without_number id (posting_in l v lists.old) else posting_in l
+        v lists.old) }
     ensures empty { IsTrue result → (v : List ℕ) → posting_in label.now v lists.new ≡ [] }
 {
     match lists.get_mut(label) {
@@ -70,5 +78,84 @@ fn take_labelled(lists: &mut Lists, label: &Word, value: &Word, id: Id) -> bool
             values.is_empty()
         }
         None => false,
+    }
+}
+
+pub(crate) type Values = BTreeMap<Word, Vec<Id>>;
+
+// Adds an id to the posting list of a value.
+pub(crate) fn put_value(
+    alloc: Global,
+    values: &mut Values,
+    value: &Word,
+    id: Id,
+) -> Result<(), AllocError>
+    requires { AreAscending (by_value value.now values.old) }
+    ensures ok { OnOk result ((v : List ℕ)
+        → by_value v values.new
+        ≡ (if alike value.now v then with_number id (by_value v values.old) else by_value v values.old)) }
+    ensures err { OnErr result ((v : List ℕ) → by_value v values.new ≡ by_value v values.old) }
+{
+    match values.get_mut(value) {
+        Some(list) => put(list, id),
+        None => {
+            let mut list = Vec::new(alloc);
+            list.push(id)?;
+            values.insert(value.copy()?, list)?;
+            Ok(())
+        }
+    }
+}
+
+// Removes an id from the posting list of a value. Drops the list once it is empty.
+pub(crate) fn take_value(values: &mut Values, value: &Word, id: Id)
+    requires { AreAscending (by_value value.now values.old) }
+    ensures { (v : List ℕ)
+        → by_value v values.new
+        ≡ (if alike value.now v then without_number id (by_value v values.old) else by_value v values.old) }
+{
+    if take_listed(values, value, id) {
+        let _empty = values.remove(value);
+    }
+}
+
+// Removes an id from the posting list of a value. Returns `true` if the list is empty now.
+fn take_listed(values: &mut Values, value: &Word, id: Id) -> bool
+    requires { AreAscending (by_value value.now values.old) }
+    ensures lists { (v : List ℕ)
+        → by_value v values.new
+        ≡ (if alike value.now v then without_number id (by_value v values.old) else by_value v values.old) }
+    ensures empty { IsTrue result → by_value value.now values.new ≡ [] }
+{
+    match values.get_mut(value) {
+        Some(list) => {
+            take(list, id);
+            list.is_empty()
+        }
+        None => false,
+    }
+}
+
+// Inserts an id into a sorted list.
+#[tactic(auto, using(crate::proofs::PlaceLemmas::inserted, crate::proofs::PlaceLemmas::already))]
+pub(crate) fn put(list: &mut Vec<Id>, id: Id) -> Result<(), AllocError>
+    requires { AreAscending list.old.items }
+    ensures ok { OnOk result (list.new.items ≡ with_number id list.old.items) }
+    ensures err { OnErr result (list.new.items ≡ list.old.items) }
+{
+    if let Err(place) = list.binary_search(&id) {
+        list.insert(place, id)?;
+    }
+    Ok(())
+}
+
+// Removes an id from a sorted list.
+#[tactic(auto, using(crate::proofs::PlaceLemmas::removed, crate::proofs::PlaceLemmas::not_there))]
+pub(crate) fn take(list: &mut Vec<Id>, id: Id)
+    requires { AreAscending list.old.items }
+    ensures { list.new.items ≡ without_number id list.old.items }
+{
+    if let Ok(place) = list.binary_search(&id) {
+        let _id = list.remove(place);
     }
 }

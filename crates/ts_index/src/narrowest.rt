@@ -1,4 +1,4 @@
-// The filter that asks for a value, and of the fewest numbers.
+// Finds the most selective filter.
 ghost use Rattle.std.specs.Prelude.{◌≡◌, ◌+◌, ◌<◌, ◌^◌, ◌∷◌, ◌++◌, [], List, length, min, option_map, IfSome, IfNone};
 ghost use Rattle.ts_spec.specs.Filter.{Filter as Asked};
 ghost use Rattle.ts_index.specs.Bounds.{candidates, fewest};
@@ -8,7 +8,7 @@ use crate::index::Index;
 use ts_labels::Filter;
 
 impl Index {
-    // How many numbers there are.
+    // The number of series in the index.
     pub(crate) fn len(&self) -> usize
         ensures len { result ≡ length self.now }
         ensures small { result < 2 ^ 63 }
@@ -16,7 +16,7 @@ impl Index {
         self.labels.len()
     }
 
-    // How many candidates a filter has, counted up to all numbers.
+    // The number of candidates of a filter, capped at the number of series.
     fn weight(&self, filter: &Filter) -> usize
         ensures { result ≡ min (candidates self.now filter.now) (length self.now) }
     {
@@ -30,7 +30,7 @@ impl Index {
         count
     }
 
-    // The filter that asks for a value of the fewest numbers, if one asks for a value.
+    // The filter with the fewest candidates, among those that require a value.
     pub(crate) fn narrowest<'a>(&self, filters: &'a [Filter]) -> Option<&'a Filter>
         ensures narrowest { IfSome result (λ filter. IsNarrowest self.now filters.now filter.now) }
         ensures none { IfNone result (fewest self.now filters.now ≡ length self.now) }
@@ -45,7 +45,7 @@ impl Index {
         }
     }
 
-    // How many candidates the narrowest filter has, counted up to all numbers.
+    // The number of candidates of the most selective filter, capped at the number of series.
     pub(crate) fn fewest(&self, filters: &[Filter]) -> usize
         ensures { result ≡ fewest self.now filters.now }
     {
@@ -55,7 +55,7 @@ impl Index {
         }
     }
 
-    // The narrower one of the best filter so far and another, with how many candidates it has.
+    // The more selective of the best filter so far and another one, with its number of candidates.
     fn better<'a>(
         &self,
         best: Option<(&'a Filter, usize)>,
@@ -78,7 +78,7 @@ impl Index {
     }
 }
 
-// So many more, up to a bound.
+// The sum, capped at `most`.
 fn added(count: usize, more: usize, most: usize) -> usize
     ensures { result ≡ min (count + more) most }
 {

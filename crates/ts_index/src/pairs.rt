@@ -1,4 +1,4 @@
-// A number in the lists of all pairs of its labels.
+// Adds and removes an id in the posting lists of all its labels.
 ghost use Rattle.std.specs.Prelude.{◌≡◌, ◌≤◌, ◌==◌, ◌&&◌, ◌||◌, not, true, false, ℕ, List, length, take, OnOk, OnErr};
 ghost use Rattle.ts_index.specs.Index.{has_pair};
 ghost use Rattle.ts_index.specs.Numbers.{AreAscending, has_number};
@@ -11,8 +11,8 @@ use ts_labels::Labels;
 use ts_resp::Word;
 use ts_sample::Id;
 
-// Puts a number into the lists of those pairs of labels that others have not. Where memory is wanting, it is in no
-// more lists than before.
+// Adds an id to the posting lists of the labels that `others` does not have. On error it is in no more lists than
+// before.
 pub(crate) fn put_pairs(
     alloc: Global,
     lists: &mut Lists,
@@ -21,10 +21,14 @@ pub(crate) fn put_pairs(
     others: &Labels,
 ) -> Result<(), AllocError>
     requires ascending { (l v : List ℕ) → AreAscending (posting_in l v lists.old) }
-    requires absent { (l v : List ℕ) → is_own l v labels.now others.now ≡ true → has_number id.0 (posting_in l v lists.old) ≡ false }
+    requires absent { (l v : List ℕ) → is_own l v labels.now others.now ≡ true
+        → has_number id.0 (posting_in l v lists.old) ≡ false }
     ensures ascending { (l v : List ℕ) → AreAscending (posting_in l v lists.new) }
-    ensures ok { OnOk result ((l v : List ℕ) (q : ℕ) → has_number q (posting_in l v lists.new) ≡ (((q == id.0) && is_own l v labels.now others.now) || has_number q (posting_in l v lists.old))) }
-    ensures err { OnErr result ((l v : List ℕ) (q : ℕ) → has_number q (posting_in l v lists.new) ≡ has_number q (posting_in l v lists.old)) }
+    ensures ok { OnOk result ((l v : List ℕ) (q : ℕ)
+        → has_number q (posting_in l v lists.new)
+        ≡ (((q == id.0) && is_own l v labels.now others.now) || has_number q (posting_in l v lists.old))) }
+    ensures err { OnErr result ((l v : List ℕ) (q : ℕ)
+        → has_number q (posting_in l v lists.new) ≡ has_number q (posting_in l v lists.old)) }
 {
     labels.known();
     for i in 0..labels.len() {
@@ -43,7 +47,7 @@ pub(crate) fn put_pairs(
     Ok(())
 }
 
-// Puts a number into the list of a pair, unless others have it.
+// Adds an id to the posting list of a label and value, unless `others` has the pair.
 fn put_other(
     alloc: Global,
     lists: &mut Lists,
@@ -54,7 +58,10 @@ fn put_other(
 ) -> Result<(), AllocError>
     requires ascending { (l v : List ℕ) → AreAscending (posting_in l v lists.old) }
     ensures ascending { (l v : List ℕ) → AreAscending (posting_in l v lists.new) }
-    ensures ok { OnOk result ((l v : List ℕ) (q : ℕ) → has_number q (posting_in l v lists.new) ≡ (((q == id.0) && ((alike label.now l && alike value.now v) && not (has_pair l v others.now))) || has_number q (posting_in l v lists.old))) }
+    ensures ok { OnOk result ((l v : List ℕ) (q : ℕ)
+        → has_number q (posting_in l v lists.new)
+        ≡ (((q == id.0) && ((alike label.now l && alike value.now v) && not (has_pair l v others.now))) || has_number q
+        (posting_in l v lists.old))) }
     ensures err { OnErr result ((l v : List ℕ) → posting_in l v lists.new ≡ posting_in l v lists.old) }
 {
     if has_pair(others, label, value) {
@@ -63,12 +70,15 @@ fn put_other(
     put_pair(alloc, lists, label, value, id)
 }
 
-// Takes a number out of the lists of those among the first pairs of labels that others have not.
+// Removes an id from the posting lists of the first `count` labels, except those that `others` has.
 pub(crate) fn take_pairs(lists: &mut Lists, id: Id, labels: &Labels, count: usize, others: &Labels)
     requires count { count ≤ length labels.now }
     requires ascending { (l v : List ℕ) → AreAscending (posting_in l v lists.old) }
     ensures ascending { (l v : List ℕ) → AreAscending (posting_in l v lists.new) }
-    ensures lists { (l v : List ℕ) (q : ℕ) → has_number q (posting_in l v lists.new) ≡ (has_number q (posting_in l v lists.old) && not ((q == id.0) && is_own l v (take count labels.now) others.now)) }
+    ensures lists { (l v : List ℕ) (q : ℕ)
+        → has_number q (posting_in l v lists.new)
+        ≡ (has_number q (posting_in l v lists.old) && not
+        ((q == id.0) && is_own l v (take count labels.now) others.now)) }
 {
     labels.known();
     for i in 0..count {
@@ -76,11 +86,14 @@ pub(crate) fn take_pairs(lists: &mut Lists, id: Id, labels: &Labels, count: usiz
     }
 }
 
-// Takes a number out of the list of a pair, unless others have it.
+// Removes an id from the posting list of a label and value, unless `others` has the pair.
 fn take_other(lists: &mut Lists, id: Id, label: &Word, value: &Word, others: &Labels)
     requires ascending { (l v : List ℕ) → AreAscending (posting_in l v lists.old) }
     ensures ascending { (l v : List ℕ) → AreAscending (posting_in l v lists.new) }
-    ensures lists { (l v : List ℕ) (q : ℕ) → has_number q (posting_in l v lists.new) ≡ (has_number q (posting_in l v lists.old) && not ((q == id.0) && ((alike label.now l && alike value.now v) && not (has_pair l v others.now)))) }
+    ensures lists { (l v : List ℕ) (q : ℕ)
+        → has_number q (posting_in l v lists.new)
+        ≡ (has_number q (posting_in l v lists.old) && not
+        ((q == id.0) && ((alike label.now l && alike value.now v) && not (has_pair l v others.now)))) }
 {
     if has_pair(others, label, value) {
         return;
@@ -88,7 +101,7 @@ fn take_other(lists: &mut Lists, id: Id, label: &Word, value: &Word, others: &La
     take_pair(lists, label, value, id);
 }
 
-// Whether labels have this one with this value.
+// Whether the labels contain this label with this value.
 fn has_pair(labels: &Labels, label: &Word, value: &Word) -> bool
     ensures { result ≡ has_pair label.now value.now labels.now }
 {

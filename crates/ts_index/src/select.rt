@@ -1,5 +1,6 @@
-// Selections by filters.
-ghost use Rattle.std.specs.Prelude.{◌≡◌, ◌+◌, ◌*◌, ◌≤◌, true, [], ◌∷◌, length, vec_len, vec_capacity, IfOk, IfSome, OnErr};
+// Selects series by filters.
+ghost use Rattle.std.specs.Prelude.{◌≡◌, ◌+◌, ◌*◌, ◌≤◌, true, [], ◌∷◌, length, vec_len, vec_capacity, IfOk, IfSome};
+ghost use Rattle.std.specs.Prelude.{OnErr};
 ghost use Rattle.ts_spec.specs.Filter.{all_hold, is_positive};
 ghost use Rattle.ts_index.specs.Bounds.{fewest, selection_steps};
 ghost use Rattle.ts_index.specs.Index.{labels_of, numbers_where};
@@ -14,7 +15,7 @@ use ts_labels::{Filter, Labels};
 use ts_sample::{Id, Steps};
 
 impl Index {
-    /// The numbers whose labels pass all filters, in ascending order. An Err comes before a filter is tried.
+    /// The ids of the series that pass all filters, in ascending order. Fails only before it tests any filter.
     pub fn select<L: Ledger>(
         &self,
         filters: &[Filter],
@@ -31,7 +32,7 @@ impl Index {
         Ok(ids)
     }
 
-    // Takes the numbers whose labels pass all filters.
+    // Collects the ids of the series that pass all filters.
     fn take<L: Ledger>(&self, filters: &[Filter], ids: &mut Vec<Id>, steps: &mut Steps<L>)
         requires none { ids.old.items ≡ [] }
         requires len { vec_len ids.old ≡ 0 }
@@ -45,7 +46,7 @@ impl Index {
         }
     }
 
-    // Takes the numbers that have a value that a filter wants: they pass it.
+    // Collects the series that have a value that the filter requires. They pass without a test.
     fn take_wanted(&self, filter: &Filter, ids: &mut Vec<Id>)
         requires positive { is_positive filter.now ≡ true }
         requires none { ids.old.items ≡ [] }
@@ -59,7 +60,7 @@ impl Index {
         }
     }
 
-    // Takes the candidates that pass all filters.
+    // Collects the candidates that pass all filters.
     fn take_passing<L: Ledger>(&self, filters: &[Filter], ids: &mut Vec<Id>, steps: &mut Steps<L>)
         requires none { ids.old.items ≡ [] }
         requires len { vec_len ids.old ≡ 0 }
@@ -74,7 +75,7 @@ impl Index {
         }
     }
 
-    // Whether a number has labels that pass all filters.
+    // Whether the series with this id passes all filters.
     fn passes<L: Ledger>(&self, id: Id, filters: &[Filter], steps: &mut Steps<L>) -> bool
         ensures passes { result ≡ pass (all_hold filters.now) (labels_of id.0 self.now) }
         ensures steps { steps.new ≤ steps.old + length filters.now }
@@ -86,7 +87,7 @@ impl Index {
     }
 }
 
-// The only filter, if it asks for a value.
+// The only filter, if it requires a value.
 fn only(filters: &[Filter]) -> Option<&Filter>
     ensures alone { IfSome result (λ filter. filters.now ≡ filter.now ∷ []) }
     ensures positive { IfSome result (λ filter. is_positive filter.now ≡ true) }
@@ -97,7 +98,7 @@ fn only(filters: &[Filter]) -> Option<&Filter>
     }
 }
 
-// Whether labels pass all filters.
+// Whether the labels pass all filters.
 fn pass<L: Ledger>(labels: &Labels, filters: &[Filter], steps: &mut Steps<L>) -> bool
     ensures pass { result ≡ all_hold filters.now labels.now }
     ensures steps { steps.new ≤ steps.old + length filters.now }

@@ -1,4 +1,4 @@
--- Labels that are looked through one after another.
+-- Labels in a list that is searched linearly.
 use Rattle.std.proofs.Common.{◌≡◌, ℕ, zero, suc, ◌<◌, nat_eq, Bool, true, false, List, [], ◌∷◌, ◌++◌, length, drop, slice_get, slice_set, slice_index_or, option_map, Some, None, refl, sym, ap, ◌∙◌, if◌then◌else◌, arith}
 use Rattle.std.specs.Cmp.Lexicographic.{pointwise}
 use Rattle.ts_spec.specs.Key.{Key, same}
@@ -38,7 +38,7 @@ with_label-last name value (e ∷ es) h =
     let parts = not_first (same e.0 name) e.1 (value_of name (labels_in es)) h in
     rw parts.0 (ap (λ ls. labelled e.0 e.1 ∷ ls) (with_label-last name value es parts.1))
 
--- a label that is there keeps its place
+-- a label that is there keeps its position
 pub with_label-at : (name value : Key) (es : List (Key × Key)) (i : ℕ) → AreDistinct (labels_in es)
     → option_map (λ l. l.name) (slice_get (labels_in es) i) ≡ Some name
     → labels_in (slice_set es i (name, value)) ≡ with_label (labelled name value) (labels_in es)
@@ -49,7 +49,7 @@ with_label-at name value (e ∷ es) zero d h =
 with_label-at name value (e ∷ es) (suc i) d h =
     rw (same-sym e.0 name, apart e.0 name (labels_in es) i d.0 h) (ap (λ ls. labelled e.0 e.1 ∷ ls) (with_label-at name value es i d.1 h))
 
--- what stands at a place, by its name
+-- what stands at an index, by its name
 pub place-here : (name : Key) (es : List (Key × Key)) (i : ℕ) (p : Key × Key) → i < length es → p ≡ slice_index_or es i p → pointwise nat_eq p.0 name ≡ true
     → option_map (λ l. l.name) (slice_get (labels_in es) i) ≡ Some name
 place-here name [] i p l h e = absurd (omega (arith, l))

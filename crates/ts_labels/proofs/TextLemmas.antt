@@ -1,4 +1,4 @@
--- Texts that are cut.
+-- Splitting of texts.
 use Rattle.std.proofs.Common.{◌≡◌, ℕ, suc, ◌==◌, ◌<◌, Bool, true, false, List, [], ◌∷◌, ◌++◌, length, option_map, Option, Some, None, refl, sym, ap, ◌∙◌, if◌then◌else◌, arith}
 use Rattle.std.proofs.lemmas.Bool.Decides.{nat_tests}
 use Rattle.ts_spec.specs.FilterText.{before_cut, cut_at, before_last, onto_first, pieces, has_empty}

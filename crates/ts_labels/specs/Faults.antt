@@ -1,22 +1,22 @@
--- Faults of texts that are no filters.
+-- Errors of texts that are not valid filters.
 use Rattle.std.specs.Prelude.{◌≡◌, ⊤, ℕ, List, Result, Ok, Err, IsOk, if◌then◌else◌}
 use Rattle.ts_spec.specs.FilterText as spec
 use Rattle.ts_spec.specs.FilterText.{comma, pieces, has_empty}
 use Rattle.ts_labels.specs.declared.filter_text.FilterFault.{FilterFault}
 use Rattle.ts_labels.specs.declared.filter_text.FilterFault.TheVariants.{NoOperator, EmptyLabel, EmptyList, Memory}
 
--- a fault is the one that is wanted; want of memory may come where none is
+-- the error is the expected one; out of memory is allowed only if no other error is expected
 abbrev pub IsFaultOf : {Y : Type 0} → FilterFault → Result Y spec.FilterFault → Type 0
 IsFaultOf NoOperator wanted = wanted ≡ Err spec.NoOperator
 IsFaultOf EmptyLabel wanted = wanted ≡ Err spec.EmptyLabel
 IsFaultOf EmptyList wanted = wanted ≡ Err spec.EmptyList
 IsFaultOf (Memory error) wanted = IsOk wanted
 
--- want of memory
+-- out of memory
 abbrev pub IsMemory : FilterFault → Type 0
 IsMemory (Memory error) = ⊤
 IsMemory fault = ⊥
 
--- the values of a list that is cut at each comma, unless one has no bytes
+-- the values of a list, split at commas; an empty value is an error
 abbrev pub listed : List ℕ → Result (List (List ℕ)) spec.FilterFault
 listed text = if has_empty (pieces comma text) then Err spec.EmptyList else Ok (pieces comma text)

@@ -1,9 +1,9 @@
--- Which labels are shown, as the definitions have it.
+-- The labels that a reply shows, as ts_spec defines them.
 use Rattle.ts_spec.specs.Command as spec
-use Rattle.ts_labels.specs.declared.show.Show.{Show}
-use Rattle.ts_labels.specs.declared.show.Show.TheVariants.{Nothing, All, Selected}
+use Rattle.ts_labels.specs.declared.labels.Show.{Show}
+use Rattle.ts_labels.specs.declared.labels.Show.TheVariants.{Nothing, All, Selected}
 
--- none of them, all of them, or these
+-- none, all, or these
 abbrev pub show_of : Show → spec.Show
 show_of Nothing = spec.Nothing
 show_of All = spec.All

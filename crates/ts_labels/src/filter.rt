@@ -1,4 +1,4 @@
-// Filters by labels.
+// Label filters.
 ghost use Rattle.std.specs.Prelude.{◌≡◌, ◌+◌};
 ghost use Rattle.std.specs.Option.{option_copied};
 ghost use Rattle.ts_spec.specs.Filter.{holds, is_positive, has_positive, has_one_of};
@@ -11,19 +11,19 @@ use std::sync::ledger::Ledger;
 use ts_resp::Word;
 use ts_sample::Steps;
 
-// What a filter asks of its label.
+// The condition on the label.
 #[derive(Debug, Drop)]
 pub(crate) enum Asks {
-    // It has one of these values.
+    // The label has one of these values.
     Among(Vec<Word>),
-    // It is absent, or has none of these values.
+    // The label is missing, or has none of these values.
     NotAmong(Vec<Word>),
     Absent,
     Present,
 }
 
-/// A filter by a label: it asks for one of some values, for none of some values, or only whether the label is
-/// there.
+/// A label filter, as in `FILTER` of TS.MRANGE: the label has one of some values, has none of them, is present, or is
+/// missing.
 #[derive(Debug, Drop)]
 pub struct Filter {
     label: Word,
@@ -41,7 +41,7 @@ impl Model for Filter {
 }
 
 impl Filter {
-    // The filter by a label and these values. Without values it asks whether the label is there.
+    // Builds a filter. Without values it tests only whether the label is present (or missing, if `positive`).
     pub(crate) fn by(positive: bool, label: Word, values: Vec<Word>) -> Filter
         ensures { result ≡ filter_by positive label values.items }
     {
@@ -54,14 +54,14 @@ impl Filter {
         Filter { label, asks }
     }
 
-    /// The label that it asks about.
+    /// The label that the filter tests.
     pub fn label(&self) -> &Word
         ensures { result.now ≡ label_of self.now }
     {
         &self.label
     }
 
-    /// The values of which it wants one. A filter that wants none has none.
+    /// The accepted values. Empty for a filter that does not require a value.
     pub fn wanted(&self) -> &[Word]
         ensures { result.now ≡ values_wanted self.now }
     {
@@ -71,7 +71,7 @@ impl Filter {
         }
     }
 
-    /// Whether a series with these labels passes. Takes one step.
+    /// Whether a series with these labels passes the filter. Counts one step.
     pub fn holds<L: Ledger>(&self, labels: &Labels, steps: &mut Steps<L>) -> bool
         ensures holds { result ≡ holds self.now labels.now }
         ensures steps { steps.new ≡ steps.old + 1 }
@@ -86,7 +86,7 @@ impl Filter {
         }
     }
 
-    /// Whether it asks for a value of its label.
+    /// Whether the filter requires a value, as `label=value` does.
     pub fn is_positive(&self) -> bool
         ensures { result ≡ is_positive self.now }
     {
@@ -94,7 +94,7 @@ impl Filter {
     }
 }
 
-// Whether a label is there with one of these values.
+// Whether the label has one of these values.
 fn has_one_of(values: &[Word], value: Option<&Word>) -> bool
     ensures { result ≡ has_one_of values.now (option_copied value.entry) }
 {
@@ -104,7 +104,7 @@ fn has_one_of(values: &[Word], value: Option<&Word>) -> bool
     values.contains(value)
 }
 
-/// Whether one of the filters asks for a value. A selection needs one that does.
+/// Whether at least one filter requires a value. Queries without such a filter are rejected.
 pub fn has_positive(filters: &[Filter]) -> bool
     ensures { result ≡ has_positive filters.now }
 {

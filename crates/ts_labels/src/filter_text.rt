@@ -1,7 +1,8 @@
-// Filters as texts: `label=value`, `label!=value`, and lists of values.
+// Parses filters: `label=value`, `label!=value`, `label=(a,b)` and the like.
 ghost use Rattle.std.specs.Prelude.{◌≡◌, ⊤, [], ◌∷◌, ◌++◌, Some, Ok, option_map, IfOk, IfErr, OnOk};
 ghost use Rattle.std.specs.Option.{option_copied};
-ghost use Rattle.ts_spec.specs.FilterText.{filter_of, of_label, values_of, cut_at, before_last, comma, pieces, has_empty};
+ghost use Rattle.ts_spec.specs.FilterText.{filter_of, of_label, values_of, cut_at, before_last, comma, pieces};
+ghost use Rattle.ts_spec.specs.FilterText.{has_empty};
 ghost use Rattle.ts_labels.specs.FaultNames.{name_of};
 ghost use Rattle.ts_labels.specs.Faults.{IsFaultOf, IsMemory, listed};
 
@@ -11,19 +12,19 @@ use std::fmt;
 use thiserror::Error;
 use ts_resp::Word;
 
-/// Why a text is no filter.
+/// Why a text is not a valid filter.
 #[derive(Clone, Copy, PartialEq, Eq, Error)]
 pub enum FilterFault {
-    /// There is no `=` in it.
+    /// The text contains no `=`.
     #[error("a filter without `=`")]
     NoOperator,
-    /// There is no label before the `=` or `!=`.
+    /// There is no label before `=` or `!=`.
     #[error("a filter without a label")]
     EmptyLabel,
-    /// A value of its list is empty.
+    /// The list contains an empty value.
     #[error("an empty value in the list of a filter")]
     EmptyList,
-    /// There was no memory.
+    /// Out of memory.
     #[error(transparent)]
     Memory(AllocError),
 }
@@ -42,7 +43,7 @@ impl fmt::Debug for FilterFault {
 }
 
 impl Filter {
-    /// The filter that a text says.
+    /// Parses a filter.
     #[tactic(auto, unfolding(ts_spec::specs::FilterText::filter_of))]
     pub fn read(alloc: Global, text: &Word) -> Result<Filter, FilterFault>
         ensures ok { IfOk result (λ filter. filter_of text.now ≡ Ok filter) }
@@ -58,7 +59,7 @@ impl Filter {
     }
 }
 
-// The filter by a label, unless that has no bytes.
+// Builds the filter, unless the label is empty.
 fn of_label(
     alloc: Global,
     positive: bool,
@@ -75,7 +76,7 @@ fn of_label(
     Ok(Filter::by(positive, word(alloc, label)?, values))
 }
 
-// The values that a filter names: none, one, or a list in brackets.
+// The values after the operator: none, one, or a list in parentheses.
 fn values_of(alloc: Global, text: &[u8]) -> Result<Vec<Word>, FilterFault>
     ensures ok { IfOk result (λ values. values_of text.now ≡ Ok values.items) }
     ensures fault { IfErr result (λ fault. IsFaultOf fault (values_of text.now)) }
@@ -91,7 +92,7 @@ fn values_of(alloc: Global, text: &[u8]) -> Result<Vec<Word>, FilterFault>
     one_value(alloc, text)
 }
 
-// The text as the only value.
+// The whole text as one value.
 fn one_value(alloc: Global, text: &[u8]) -> Result<Vec<Word>, FilterFault>
     ensures ok { IfOk result (λ values. values.items ≡ text.now ∷ []) }
     ensures fault { IfErr result IsMemory }
@@ -101,7 +102,7 @@ fn one_value(alloc: Global, text: &[u8]) -> Result<Vec<Word>, FilterFault>
     Ok(values)
 }
 
-// The values of a list, cut at each comma, unless one of them is empty.
+// The values of a list, split at commas. An empty value is an error.
 fn listed(alloc: Global, list: &[u8]) -> Result<Vec<Word>, FilterFault>
     ensures ok { IfOk result (λ values. listed list.now ≡ Ok values.items) }
     ensures fault { IfErr result (λ fault. IsFaultOf fault (listed list.now)) }
@@ -112,7 +113,7 @@ fn listed(alloc: Global, list: &[u8]) -> Result<Vec<Word>, FilterFault>
     pieces_of(alloc, list)
 }
 
-// Whether a piece between the commas of a list has no bytes.
+// Whether a piece between commas is empty.
 fn has_empty_piece(list: &[u8]) -> bool
     ensures { result ≡ has_empty (pieces comma list.now) }
 {
@@ -126,7 +127,7 @@ fn has_empty_piece(list: &[u8]) -> bool
     rest.is_empty()
 }
 
-// The pieces between the commas of a list.
+// The pieces between commas.
 fn pieces_of(alloc: Global, list: &[u8]) -> Result<Vec<Word>, FilterFault>
     ensures ok { IfOk result (λ values. values.items ≡ pieces comma list.now) }
     ensures fault { IfErr result IsMemory }
@@ -161,7 +162,7 @@ fn word(alloc: Global, bytes: &[u8]) -> Result<Word, FilterFault>
     }
 }
 
-// What stands before the first of these bytes, and after it.
+// The bytes before and after the first occurrence of `byte`.
 fn cut_at(byte: u8, bytes: &[u8]) -> Option<(&[u8], &[u8])>
     ensures { option_map (λ parts. (parts.0.now, parts.1.now)) result ≡ cut_at byte bytes.now }
 {
@@ -173,7 +174,7 @@ fn cut_at(byte: u8, bytes: &[u8]) -> Option<(&[u8], &[u8])>
     None
 }
 
-// What stands before this byte at the end, if that is the last one.
+// The bytes before the last one, if the last one is `byte`.
 fn before_last(byte: u8, bytes: &[u8]) -> Option<&[u8]>
     ensures { option_copied result ≡ before_last byte bytes.now }
 {

@@ -1,5 +1,6 @@
 // The labels of a series.
-ghost use Rattle.std.specs.Prelude.{◌≡◌, ◌<◌, ◌^◌, ◌↔◌, [], length, slice_get, option_map, Some, IsTrue, IfOk, OnOk, OnErr};
+ghost use Rattle.std.specs.Prelude.{◌≡◌, ◌<◌, ◌^◌, ◌↔◌, [], length, slice_get, option_map, Some, IsTrue, IfOk, OnOk};
+ghost use Rattle.std.specs.Prelude.{OnErr};
 ghost use Rattle.std.specs.Option.{option_copied};
 ghost use Rattle.ts_spec.specs.Filter.{value_of};
 ghost use Rattle.ts_spec.specs.Labels.{with_label};
@@ -11,8 +12,8 @@ use std::marker::Model;
 use std::rc::Rc;
 use ts_resp::Word;
 
-/// Labels and their values, in the order in which the labels were first set. Each label is there once. Copies share
-/// them until one of the copies is changed.
+/// Labels and their values, in the order in which they were first set. Label names are unique. Copies share storage
+/// until one of them changes.
 #[derive(Debug, Drop)]
 pub struct Labels {
     alloc: Global,
@@ -30,14 +31,14 @@ impl Model for Labels {
 }
 
 impl Labels {
-    /// No labels. Takes no memory.
+    /// No labels. Allocates nothing.
     pub fn new(alloc: Global) -> Labels
         ensures { result ≡ [] }
     {
         Labels { alloc, pairs: None }
     }
 
-    /// No labels, with room for so many, if they are few.
+    /// No labels, with capacity for `labels` labels (at most a few are reserved).
     pub fn with_capacity(alloc: Global, labels: usize) -> Result<Labels, AllocError>
         ensures { IfOk result (λ labels. labels ≡ []) }
     {
@@ -51,7 +52,7 @@ impl Labels {
         })
     }
 
-    /// Gives a label this value. A label that is there keeps its place.
+    /// Sets the value of a label. An existing label keeps its position.
     pub fn set(&mut self, label: Word, value: Word) -> Result<(), AllocError>
         ensures ok { OnOk result (self.new ≡ with_label (labelled label value) self.old) }
         ensures err { OnErr result (self.new ≡ self.old) }
@@ -67,7 +68,7 @@ impl Labels {
         Ok(())
     }
 
-    // Copies that no one else holds.
+    // A copy that shares no storage.
     fn copied(&self) -> Result<Pairs, AllocError>
         ensures { IfOk result (λ pairs. pairs ≡ self.now) }
     {
@@ -83,7 +84,7 @@ impl Labels {
         Ok(copied)
     }
 
-    /// The same labels. Takes no memory: both share them. An Err tells that too many share them already.
+    /// A copy that shares storage. Allocates nothing. Fails if too many copies share it already.
     pub fn copy(&self) -> Result<Labels, AllocError>
         ensures { IfOk result (λ labels. labels ≡ self.now) }
     {
@@ -97,7 +98,7 @@ impl Labels {
         })
     }
 
-    /// The value of a label, if it is there.
+    /// The value of a label, if present.
     pub fn get(&self, label: &Word) -> Option<&Word>
         ensures { option_copied result ≡ value_of label.now self.now }
     {
@@ -107,7 +108,7 @@ impl Labels {
         }
     }
 
-    /// How many labels there are.
+    /// The number of labels.
     pub fn len(&self) -> usize
         ensures len { result ≡ length self.now }
         ensures small { result < 2 ^ 63 }
@@ -118,14 +119,14 @@ impl Labels {
         }
     }
 
-    /// Whether there are none.
+    /// Whether there are no labels.
     pub fn is_empty(&self) -> bool
         ensures { IsTrue result ↔ (self.now ≡ []) }
     {
         self.len() == 0
     }
 
-    /// The label at this place.
+    /// The name of the label at index `i`.
     pub fn label_at(&self, i: usize) -> &Word
         requires { i < length self.now }
         ensures { option_map (λ l. l.name) (slice_get self.now i) ≡ Some result.now }
@@ -133,7 +134,7 @@ impl Labels {
         self.pair_at(i).0
     }
 
-    /// The value of the label at this place.
+    /// The value of the label at index `i`.
     pub fn value_at(&self, i: usize) -> &Word
         requires { i < length self.now }
         ensures { option_map (λ l. l.value) (slice_get self.now i) ≡ Some result.now }
@@ -141,7 +142,7 @@ impl Labels {
         self.pair_at(i).1
     }
 
-    // The label at this place, with its value.
+    // The name and value of the label at index `i`.
     fn pair_at(&self, i: usize) -> (&Word, &Word)
         requires { i < length self.now }
         ensures { slice_get self.now i ≡ Some (labelled result.0.now result.1.now) }
@@ -152,7 +153,7 @@ impl Labels {
         }
     }
 
-    /// Each label is there once.
+    /// Lemma for callers: label names are unique. Does nothing.
     pub fn known(&self)
         ensures { AreDistinct self.now }
     {
@@ -160,4 +161,15 @@ impl Labels {
             let _len = pairs.len();
         }
     }
+}
+
+/// Which labels a reply over many series shows.
+#[derive(Debug, Drop)]
+pub enum Show {
+    /// No labels.
+    Nothing,
+    /// All labels of each series.
+    All,
+    /// These labels, even those that a series does not have (SELECTED_LABELS).
+    Selected(Vec<Word>),
 }

@@ -1,15 +1,13 @@
-//! Labels of series and filters by them, and what a new series is made with and a series gets anew.
+//! Labels of series, label filters, and the options and labels in TS.CREATE and TS.ALTER.
 #![tactic(auto)]
 
 mod filter;
 mod filter_text;
 mod labels;
 mod pairs;
-mod show;
 mod spec;
 
 pub use filter::{Filter, has_positive};
 pub use filter_text::FilterFault;
-pub use labels::Labels;
-pub use show::Show;
+pub use labels::{Labels, Show};
 pub use spec::{Change, Spec};

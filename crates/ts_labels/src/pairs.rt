@@ -1,5 +1,6 @@
-// Labels with their values in a place of their own.
-ghost use Rattle.std.specs.Prelude.{◌≡◌, ◌<◌, ◌^◌, [], length, slice_get, option_map, Some, IfOk, IfSome, IfNone, OnOk, OnErr, None};
+// Storage of labels and their values.
+ghost use Rattle.std.specs.Prelude.{◌≡◌, ◌<◌, ◌^◌, [], length, slice_get, option_map, Some, IfOk, IfSome, IfNone, OnOk};
+ghost use Rattle.std.specs.Prelude.{OnErr, None};
 ghost use Rattle.std.specs.Option.{option_copied};
 ghost use Rattle.ts_spec.specs.Filter.{value_of};
 ghost use Rattle.ts_spec.specs.Labels.{with_label};
@@ -11,17 +12,17 @@ use std::marker::Model;
 use std::mem::replace;
 use ts_resp::Word;
 
-// So many are looked through one after another.
+// Up to this many labels are stored in a list and searched linearly.
 const FEW: usize = 8;
 
-// Few are looked through one after another, more are found by a hash.
+// A list if there are few labels, a hash map otherwise.
 #[derive(Debug, Drop)]
 enum Storage {
     Few(Vec<(Word, Word)>),
     Many(IndexMap<Word, Word>),
 }
 
-// Labels and their values, in the order in which the labels were first set. Each label is there once.
+// Labels and their values, in the order in which they were first set. Label names are unique.
 #[derive(Debug, Drop)]
 pub(crate) struct Pairs {
     held: Storage,
@@ -41,7 +42,7 @@ impl Model for Pairs {
 }
 
 impl Pairs {
-    // None, with room for so many, if they are few.
+    // No labels, with capacity for `pairs` labels (at most `FEW` are reserved).
     pub(crate) fn with_capacity(alloc: Global, pairs: usize) -> Result<Pairs, AllocError>
         ensures { IfOk result (λ pairs. pairs ≡ []) }
     {
@@ -51,7 +52,7 @@ impl Pairs {
         })
     }
 
-    // Gives a label this value. A label that is there keeps its place.
+    // Sets the value of a label. An existing label keeps its position.
     #[tactic(auto, using(crate::proofs::LabelLemmas::inserted_label))]
     pub(crate) fn set(&mut self, alloc: Global, label: Word, value: Word) -> Result<(), AllocError>
         ensures ok { OnOk result (self.new ≡ with_label (labelled label value) self.old) }
@@ -73,7 +74,7 @@ impl Pairs {
         Ok(())
     }
 
-    // The value of a label, if it is there.
+    // The value of a label, if present.
     pub(crate) fn get(&self, label: &Word) -> Option<&Word>
         ensures { option_copied result ≡ value_of label.now self.now }
     {
@@ -86,7 +87,7 @@ impl Pairs {
         }
     }
 
-    // How many there are.
+    // The number of labels.
     pub(crate) fn len(&self) -> usize
         ensures len { result ≡ length self.now }
         ensures small { result < 2 ^ 63 }
@@ -98,7 +99,7 @@ impl Pairs {
         }
     }
 
-    // The label at this place, with its value.
+    // The name and value of the label at index `i`.
     pub(crate) fn pair_at(&self, i: usize) -> (&Word, &Word)
         requires { i < length self.now }
         ensures { slice_get self.now i ≡ Some (labelled result.0.now result.1.now) }
@@ -110,11 +111,12 @@ impl Pairs {
     }
 }
 
-// Where a label stands.
+// The index of a label in the list.
 fn place_of(pairs: &[(Word, Word)], label: &Word) -> Option<usize>
     ensures place { IfSome result (λ i. option_map (λ l. l.name) (slice_get (labels_in pairs.now) i) ≡ Some label.now) }
     ensures within { IfSome result (λ i. i < length pairs.now) }
-    ensures value { IfSome result (λ i. option_map (λ l. l.value) (slice_get (labels_in pairs.now) i) ≡ value_of label.now (labels_in pairs.now)) }
+    ensures value { IfSome result (λ i. option_map (λ l. l.value) (slice_get (labels_in pairs.now) i)
+        ≡ value_of label.now (labels_in pairs.now)) }
     ensures absent { IfNone result (value_of label.now (labels_in pairs.now) ≡ None) }
 {
     for (place, pair) in pairs.iter().enumerate() {
@@ -125,10 +127,11 @@ fn place_of(pairs: &[(Word, Word)], label: &Word) -> Option<usize>
     None
 }
 
-// Gives a label this value among few.
+// Sets the value of a label in the list.
 fn set_few(pairs: &mut Vec<(Word, Word)>, label: Word, value: Word) -> Result<(), AllocError>
     requires { AreDistinct (labels_in pairs.old.items) }
-    ensures ok { OnOk result (labels_in pairs.new.items ≡ with_label (labelled label value) (labels_in pairs.old.items)) }
+    ensures ok { OnOk result (labels_in pairs.new.items
+        ≡ with_label (labelled label value) (labels_in pairs.old.items)) }
     ensures err { OnErr result (pairs.new.items ≡ pairs.old.items) }
     ensures distinct { AreDistinct (labels_in pairs.new.items) }
 {
@@ -145,7 +148,7 @@ fn set_few(pairs: &mut Vec<(Word, Word)>, label: Word, value: Word) -> Result<()
     }
 }
 
-// Copies of these, which are found by a hash.
+// A hash map with copies of these labels.
 fn hashed(alloc: Global, pairs: &[(Word, Word)]) -> Result<IndexMap<Word, Word>, AllocError>
     requires { AreDistinct (labels_in pairs.now) }
     ensures { IfOk result (λ map. labels_in map.entries ≡ labels_in pairs.now) }

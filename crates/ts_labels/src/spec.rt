@@ -1,4 +1,4 @@
-// What a command says of the options and labels of a series.
+// The options and labels of a series, as a command gives them.
 ghost use Rattle.std.specs.Prelude.{◌≤◌};
 ghost use Rattle.std.specs.Option.{ForSome};
 ghost use Rattle.ts_spec.specs.Sample.{MAX_TIME};
@@ -7,7 +7,7 @@ ghost use Rattle.ts_spec.specs.SeriesOptions.{IsChunkSize};
 use crate::labels::Labels;
 use ts_spec::{Ignore, Options, Policy};
 
-/// What a new series is made with.
+/// The options and labels of a new series.
 #[derive(Debug, Drop)]
 pub struct Spec {
     pub options: Options,
@@ -17,16 +17,16 @@ pub struct Spec {
     ghost chunk_size_fits: { IsChunkSize options.chunk_size },
 }
 
-/// What a series gets anew, where it is given.
+/// The changes that TS.ALTER makes. `None` leaves a setting unchanged.
 #[derive(Debug, Drop)]
 pub struct Change {
-    /// In milliseconds; 0 keeps samples for ever.
+    /// In milliseconds; 0 keeps samples forever.
     pub retention: Option<u64>,
-    /// In bytes. It holds for chunks that are begun later.
+    /// In bytes. Applies to chunks that are started later.
     pub chunk_size: Option<u32>,
     pub policy: Option<Policy>,
     pub ignore: Option<Ignore>,
-    /// They take the place of all labels that it had.
+    /// Replaces all labels of the series.
     pub labels: Option<Labels>,
     ghost retention_fits: { ForSome retention (λ n. n ≤ MAX_TIME) },
     ghost ignore_fits: { ForSome ignore (λ i. i.time ≤ MAX_TIME) },

@@ -8,7 +8,7 @@ use Rattle.ts_spec.specs.Questions.{labels_shown}
 use Rattle.ts_spec.specs.Replies.{labels_reply}
 use Rattle.ts_spec.specs.Response as spec
 use Rattle.ts_spec.specs.Text.{Bulk, line_text, text}
-use Rattle.ts_labels.specs.declared.show.Show.{Show}
+use Rattle.ts_labels.specs.declared.labels.Show.{Show}
 use Rattle.ts_labels.specs.Show.{show_of}
 use Rattle.ts_range.specs.Query.{row_of}
 use Rattle.ts_multi.specs.declared.member.Member.{Member}

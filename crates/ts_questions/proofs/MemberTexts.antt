@@ -14,7 +14,7 @@ use Rattle.ts_spec.specs.Replies.{member_reply}
 use Rattle.ts_spec.specs.Response.{Member}
 use Rattle.ts_spec.specs.State.{Label}
 use Rattle.ts_spec.specs.Text.{text}
-use Rattle.ts_labels.specs.declared.show.Show.{Show}
+use Rattle.ts_labels.specs.declared.labels.Show.{Show}
 use Rattle.ts_labels.specs.Show.{show_of}
 use Rattle.ts_range.specs.declared.fault.RangeFault.{RangeFault}
 use Rattle.ts_multi.specs.Members.{member_with}

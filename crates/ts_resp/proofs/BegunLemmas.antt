@@ -1,4 +1,4 @@
--- Where the request at hand begins, one byte of its header at a time.
+-- Where the current request begins, one byte of its header at a time.
 use Rattle.std.proofs.Common.{◌≡◌, ℕ, suc, ◌+◌, ◌<◌, Bool, true, false, ◌==◌, if◌then◌else◌, List, [], ◌∷◌, length, drop, Some, refl, sym, ap, ◌∙◌, subst, arith}
 use Rattle.std.proofs.lemmas.List.{drop-drop}
 use Rattle.ts_spec.specs.declared.wire.Kind.TheVariants.{Multibulk, Crlf}

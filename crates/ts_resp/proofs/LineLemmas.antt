@@ -1,4 +1,4 @@
--- A line with a number, one byte at a time.
+-- Parsing a number line, one byte at a time.
 use Rattle.std.proofs.Common.{◌≡◌, ℕ, suc, ◌+◌, ◌<◌, ◌≤◌, Bool, if◌then◌else◌, List, length, drop, get_or, refl, sym, ap, ◌∙◌, subst, add_assoc, add-one, add-zero, zero-add, arith}
 use Rattle.std.proofs.lemmas.Bool.{ne_eqb}
 use Rattle.std.proofs.Math.Seq.{drop-cons}

@@ -1,4 +1,4 @@
--- Bytes that compare as the number that they spell.
+-- Bytes compare like their big-endian numbers.
 use Rattle.std.proofs.Common.{◌≡◌, ℕ, zero, suc, ◌+◌, ◌-◌, ◌*◌, ◌<◌, ◌≤◌, min, List, [], ◌∷◌, length, drop, slice_index_or, Fits, w8, refl, sym, ap, ◌∙◌, arith}
 use Rattle.std.proofs.lemmas.List.{drop-drop, length-drop}
 use Rattle.std.specs.declared.cmp.Ordering.{Ordering}

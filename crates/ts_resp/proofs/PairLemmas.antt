@@ -1,4 +1,4 @@
--- The text of a pair, in the block where it is put together.
+-- The text of a pair, assembled in a block.
 use Rattle.std.proofs.Common.{◌≡◌, ℕ, ◌+◌, ◌-◌, ◌≤◌, List, [], ◌∷◌, ◌++◌, length, take, drop, sym, ◌∙◌, ap, append_assoc, append-nil, arith}
 use Rattle.ts_spec.specs.Text.{CRLF, line_text}
 use Rattle.std.proofs.Math.Seq.{take-append-add}

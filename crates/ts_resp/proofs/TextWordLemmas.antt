@@ -1,4 +1,4 @@
--- The words of a text, one after another.
+-- The arguments of an inline request, one after another.
 use Rattle.std.proofs.Common.{◌≡◌, ℕ, zero, suc, ◌+◌, ◌<◌, ◌≤◌, Bool, true, false, cond, not, ◌==◌, List, [], ◌∷◌, length, take, drop, get_or, filter, position, Some, None, refl, sym, ap, ◌∙◌, subst, arith}
 use Rattle.std.proofs.lemmas.Bool.{ne_eqb, not-true, cond-true, true≢false}
 use Rattle.std.proofs.lemmas.List.{length-take-le, length-drop, get_or-drop}

@@ -1,4 +1,4 @@
--- What stands at the beginning of unread bytes, and what that makes of the stream, whatever follows.
+-- Header lines and arguments at the front of the unread bytes, and their meaning in the stream.
 use Rattle.std.specs.Prelude.{◌≡◌, ℕ, ◌+◌, ◌-◌, ◌<◌, ◌≤◌, ◌==◌, nat_lt, if◌then◌else◌, List, [], ◌∷◌, ◌++◌, length, drop, slice_range, Option, Some, None}
 use Rattle.ts_spec.specs.declared.wire.Kind.TheVariants.{Crlf}
 use Rattle.ts_spec.specs.declared.wire.WireLimits.{WireLimits}
@@ -10,12 +10,12 @@ use Rattle.ts_resp.specs.declared.header.FoundWord.{FoundWord}
 use Rattle.ts_resp.specs.declared.header.FoundWord.TheVariants as word
 use Rattle.ts_resp.specs.Reading.{begun_after, begun_on}
 
--- the stream of these bytes and no more, where they are not enough
+-- the stream if these bytes are all that arrives
 abbrev pub stopped : Mode → ℕ → List ℕ → Stream
 stopped mode begin [] = at_end mode begin
 stopped mode begin (byte ∷ bytes) = wire.Inside begin
 
--- The header at the beginning of the bytes, where this mode is on, and next is what its LF does.
+-- The header parsed from the bytes agrees with the stream in this mode. `next` is the effect of its LF.
 abbrev pub IsHeader : WireLimits → Mode → (ℕ → Move) → List ℕ → Header → Type 0
 IsHeader limits mode next bytes header.Open = (place begin : ℕ) → read_on limits place begin mode bytes ≡ stopped mode begin bytes
 IsHeader limits mode next bytes (header.Whole number feed) =
@@ -24,16 +24,16 @@ IsHeader limits mode next bytes (header.Whole number feed) =
 IsHeader limits mode next bytes (header.Broken kind at) =
     (place begin : ℕ) (more : List ℕ) → read_on limits place begin mode (bytes ++ more) ≡ wire.Broken kind (place + at)
 
--- the header of a request
+-- the header of a request: an argument count
 abbrev pub IsCount : WireLimits → List ℕ → Header → Type 0
 IsCount limits = IsHeader limits Start (after_count limits)
 
--- where a request begins whose header is not whole
+-- where an unfinished request begins whose header is incomplete
 abbrev pub begun_by : ℕ → List ℕ → Option ℕ
 begun_by begin [] = None
 begun_by begin (byte ∷ bytes) = Some begin
 
--- What the header of a request says of where the request at hand begins.
+-- The header of a request agrees on where the current request begins.
 abbrev pub IsBegun : WireLimits → List ℕ → Header → Type 0
 IsBegun limits bytes header.Open = (place begin : ℕ) → begun_on limits place begin Start bytes ≡ begun_by begin bytes
 IsBegun limits bytes (header.Whole number feed) =
@@ -41,35 +41,35 @@ IsBegun limits bytes (header.Whole number feed) =
     ≡ begun_after (after_count limits number) (place + feed) begin (λ from on. begun_on limits (place + feed + 1) from on (drop (feed + 1) bytes))
 IsBegun limits bytes (header.Broken kind at) = (place begin : ℕ) → begun_on limits place begin Start bytes ≡ Some begin
 
--- the header of a word
+-- the header of an argument: its length
 abbrev pub IsLength : WireLimits → Request → (later room : ℕ) → List ℕ → Header → Type 0
 IsLength limits words later room =
     IsHeader limits (Mark (record { words = words; later = later; room = room })) (λ n. Goto (after_length (record { words = words; later = later; room = room - n }) n))
 
--- the place that a header names is one of n
+-- the index that a header names is below n
 abbrev pub IsHeaderWithin : ℕ → Header → Type 0
 IsHeaderWithin n header.Open = Unit {0}
 IsHeaderWithin n (header.Whole number feed) = feed < n
 IsHeaderWithin n (header.Broken kind at) = at < n
 
--- the LF that ends a header, where these bytes come at its place
+-- the LF that ends a header, checked on the bytes at its index
 abbrev pub feed_at : (number at : ℕ) → List ℕ → Header
 feed_at number at [] = header.Open
 feed_at number at (byte ∷ bytes) = if byte == FEED then header.Whole number at else header.Broken Crlf at
 
--- its number, where it is whole, is this one, or at most this one
+-- a complete header has this number
 abbrev pub HasNumber : ℕ → Header → Type 0
 HasNumber n header.Open = Unit {0}
 HasNumber n (header.Whole number feed) = number ≡ n
 HasNumber n (header.Broken kind at) = Unit {0}
 
--- its number, where it is whole, is at most this one
+-- a complete header has at most this number
 abbrev pub HasAtMost : ℕ → Header → Type 0
 HasAtMost n header.Open = Unit {0}
 HasAtMost n (header.Whole number feed) = number ≤ n
 HasAtMost n (header.Broken kind at) = Unit {0}
 
--- The word at the beginning of the bytes, its header first.
+-- The argument parsed from the bytes, its header included, agrees with the stream.
 abbrev pub IsWord : WireLimits → Partial → List ℕ → FoundWord → Type 0
 IsWord limits so_far bytes word.Open = (place begin : ℕ) → read_on limits place begin (Mark so_far) bytes ≡ wire.Inside begin
 IsWord limits so_far bytes (word.Whole start end) =
@@ -79,19 +79,19 @@ IsWord limits so_far bytes (word.Whole start end) =
 IsWord limits so_far bytes (word.Broken kind at) =
     (place begin : ℕ) (more : List ℕ) → read_on limits place begin (Mark so_far) (bytes ++ more) ≡ wire.Broken kind (place + at)
 
--- the places that it names are among n, and a whole one is no longer than the room
+-- the indexes that it names are below n, and a complete argument has at most `room` bytes
 abbrev pub IsWordWithin : (n room : ℕ) → FoundWord → Type 0
 IsWordWithin n room word.Open = Unit {0}
 IsWordWithin n room (word.Whole start end) = (start ≤ end) × (end - start ≤ room) × (end + 1 < n)
 IsWordWithin n room (word.Broken kind at) = at < n
 
--- the CRLF that ends a word, where these bytes come at its place
+-- the CRLF that ends an argument, checked on the bytes at its index
 abbrev pub ended_by : (start end : ℕ) → List ℕ → FoundWord
 ended_by start end [] = word.Open
 ended_by start end (byte ∷ []) = if byte == RETURN then word.Open else word.Broken Crlf end
 ended_by start end (byte ∷ after ∷ bytes) =
     if byte == RETURN then (if after == FEED then word.Whole start end else word.Broken Crlf (end + 1)) else word.Broken Crlf end
 
--- a word of so many bytes, of which these and no more have come
+-- the argument of `len` bytes in the bytes received so far
 abbrev pub body_at : (start len : ℕ) → List ℕ → FoundWord
 body_at start len bytes = if nat_lt (length bytes) len then word.Open else ended_by start (start + len) (drop len bytes)

@@ -1,4 +1,4 @@
--- The reply of the definitions that a reply is.
+-- Replies as ts_spec defines them.
 use Rattle.std.specs.Prelude.{ℤ, List, [], ◌∷◌, map, Option, Some, None}
 use Rattle.ts_sample.specs.declared.cell.Cell.{Cell}
 use Rattle.ts_sample.specs.declared.cell.Cell.TheVariants as cell
@@ -6,17 +6,17 @@ use Rattle.ts_spec.specs.Text as text
 use Rattle.ts_resp.specs.declared.reply.Reply.{Reply, fold-Reply}
 use Rattle.ts_resp.specs.declared.reply.Reply.TheOpen.{Reply-F}
 
--- the millionths of a value, if there is one
+-- the value in millionths, if there is one
 abbrev pub value_of : Cell → Option ℤ
 value_of (cell.Number value) = Some value
 value_of cell.Nan = None
 
--- replies one after another, as the definitions have them
+-- a list of replies as ts_spec defines it
 abbrev pub replies_of : List text.Reply → text.Replies
 replies_of [] = text.Replies.Empty
 replies_of (reply ∷ replies) = text.Replies.Item reply (replies_of replies)
 
--- one level, where each reply inside is seen already
+-- one level of a reply whose items are already converted
 abbrev pub seen : Reply-F text.Reply → text.Reply
 seen (Reply-F.Simple words) = text.Reply.Simple words.now
 seen (Reply-F.Error words) = text.Reply.Error words.now
@@ -26,10 +26,10 @@ seen (Reply-F.Bulk word) = text.Reply.Bulk word
 seen Reply-F.Nil = text.Reply.Nil
 seen (Reply-F.Array replies) = text.Reply.Array (replies_of replies.items)
 
--- the reply of the definitions that a reply is
+-- a reply as ts_spec defines it
 abbrev pub reply_of : Reply → text.Reply
 reply_of = fold-Reply text.Reply seen
 
--- the same of a list of replies
+-- replies as ts_spec defines them
 abbrev pub all_of : List Reply → text.Replies
 all_of replies = replies_of (map reply_of replies)

@@ -1,7 +1,7 @@
--- The reply room.
+-- The reply buffer as contracts see it.
 use Rattle.std.specs.Prelude.{ℕ, List}
 
--- the bytes that stand in it, and how many more it takes without memory
+-- the bytes written, and how many more fit without allocating
 pub record Room : Type 0 where
   pub bytes : List ℕ
   pub spare : ℕ

@@ -1,11 +1,11 @@
--- What one step of a reader did.
+-- One step of a reader.
 use Rattle.std.specs.Prelude.{◌≡◌, ◌≢◌, ℕ, ◌<◌, ◌≤◌, List, [], length}
 use Rattle.ts_spec.specs.Wire.{Then, Broken}
 use Rattle.ts_resp.specs.declared.reader.Next.{Next}
 use Rattle.ts_resp.specs.Next.{IfRequest, UnlessRequest, OnNotYet, IfBroken}
 use Rattle.ts_resp.specs.Reading.{Reading, stream_of, fed, unfinished, ended_at}
 
--- fewer bytes are unread, and the stream is the same
+-- some bytes were consumed and the stream is unchanged
 pub record GoesOn (old new : Reading) : Type 0 where
   pub stream : (more : List ℕ) → stream_of new more ≡ stream_of old more
   pub shorter : length new.unread < length old.unread
@@ -15,7 +15,7 @@ pub record GoesOn (old new : Reading) : Type 0 where
   pub place : unfinished new ≡ unfinished old
   pub limits : new.limits ≡ old.limits
 
--- what is answered says how the stream goes on
+-- the result agrees with the stream
 pub record Gives (old new : Reading) (next : Next) : Type 0 where
   pub request : IfRequest next (λ words. (more : List ℕ) → stream_of old more ≡ Then words new.begin (stream_of new more))
   pub words : IfRequest next (λ words. words ≢ [])

@@ -1,13 +1,14 @@
-// The first lines of a request, and a whole word, as they stand at the beginning of unread bytes.
+// Parses the header lines and arguments of a RESP array from the front of the unread bytes.
 ghost use Rattle.std.specs.Prelude.{ℕ, ◌≡◌, ◌+◌, ◌-◌, ◌^◌, ◌<◌, ◌≤◌, drop, length, slice_index};
 ghost use Rattle.ts_spec.specs.declared.wire.Kind.TheVariants.{TooLarge};
 ghost use Rattle.ts_spec.specs.Wire.{Request};
-ghost use Rattle.ts_resp.specs.Headers.{IsCount, IsBegun, IsLength, IsWord, IsHeaderWithin, IsWordWithin, HasNumber, HasAtMost, feed_at, ended_by, body_at};
+ghost use Rattle.ts_resp.specs.Headers.{IsCount, IsBegun, IsLength, IsWord, IsHeaderWithin, IsWordWithin, HasNumber};
+ghost use Rattle.ts_resp.specs.Headers.{HasAtMost, feed_at, ended_by, body_at};
 
 use crate::line::{NumberLine, number_line, short_line};
 use ts_spec::{Kind, WireLimits};
 
-// A marker, a number and CRLF. The LF stands at `feed`.
+// A header line: a marker byte, a number and CRLF. `feed` is the index of its LF.
 #[derive(Clone, Copy)]
 pub(crate) enum Header {
     Open,
@@ -15,14 +16,14 @@ pub(crate) enum Header {
     Broken { kind: Kind, at: usize },
 }
 
-// A word with its length before it, from `start` to `end`, and CRLF.
+// An argument with its length line and the closing CRLF. Its bytes are `start..end`.
 pub(crate) enum FoundWord {
     Open,
     Whole { start: usize, end: usize },
     Broken { kind: Kind, at: usize },
 }
 
-// How many words the array has that begins with the bytes.
+// Parses the `*N` line that starts a request.
 pub(crate) fn count_header(bytes: &[u8], limits: &WireLimits) -> Header
     requires { 0 < length bytes.now → slice_index bytes.now 0 ≡ 42 }
     ensures meaning { IsCount limits.now bytes.now result }
@@ -48,7 +49,7 @@ pub(crate) fn count_header(bytes: &[u8], limits: &WireLimits) -> Header
     }
 }
 
-// How long the word is that begins with the bytes, where the request's words may take `room` more.
+// Parses the `$N` line of an argument. The request may hold `room` more bytes.
 fn length_header(bytes: &[u8], limits: &WireLimits, room: u32) -> Header
     ensures meaning { (words : Request) (later : ℕ)
         → IsLength limits.now words later room bytes.now result }
@@ -88,7 +89,7 @@ fn length_header(bytes: &[u8], limits: &WireLimits, room: u32) -> Header
     }
 }
 
-// The fault of a word that is too long, where the CR of its line stands at `len` after the marker.
+// The error for an argument that is too long. `len` is the index of the line's CR, counted after the marker.
 fn too_large(len: usize) -> Header
     requires { len + 1 < 2 ^ 64 }
     ensures { result ≡ Header.Broken TooLarge (len + 1) }
@@ -99,7 +100,7 @@ fn too_large(len: usize) -> Header
     }
 }
 
-// The LF of a line that stands after the marker, and whose CR stands at `len`.
+// Checks the LF of a header line. `len` is the index of the line's CR, counted after the marker.
 fn line_feed(line: &[u8], number: u32, len: usize) -> Header
     requires { len < length line.now }
     ensures line { result ≡ feed_at number (len + 2) (drop (len + 1) line.now) }
@@ -119,7 +120,7 @@ fn line_feed(line: &[u8], number: u32, len: usize) -> Header
     }
 }
 
-// The word that begins with its header, where the request's words may take `room` more bytes.
+// Parses one argument with its length line. The request may hold `room` more bytes.
 pub(crate) fn found_word(bytes: &[u8], limits: &WireLimits, room: u32) -> FoundWord
     ensures meaning { (words : Request) (later : ℕ)
         → IsWord limits.now (record { words = words; later = later; room = room }) bytes.now
@@ -133,7 +134,7 @@ pub(crate) fn found_word(bytes: &[u8], limits: &WireLimits, room: u32) -> FoundW
     }
 }
 
-// The word of `len` bytes that begins at `start`.
+// The argument of `len` bytes that starts at `start`.
 fn word_body(bytes: &[u8], start: usize, len: u32) -> FoundWord
     requires { start ≤ length bytes.now }
     ensures body { result ≡ body_at start len (drop start bytes.now) }
@@ -145,7 +146,7 @@ fn word_body(bytes: &[u8], start: usize, len: u32) -> FoundWord
     word_end(bytes, start, start + len as usize)
 }
 
-// The word from `start` to `end`, if CRLF follows.
+// The argument `start..end`, if CRLF follows it.
 fn word_end(bytes: &[u8], start: usize, end: usize) -> FoundWord
     requires { (start ≤ end) × (end ≤ length bytes.now) }
     ensures ended { result ≡ ended_by start end (drop end bytes.now) }

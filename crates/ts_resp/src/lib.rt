@@ -1,7 +1,6 @@
-//! RESP2: the requests of a stream of bytes, and the text of a reply.
+//! RESP2: parses requests from a byte stream and encodes replies.
 #![tactic(auto)]
 
-mod gap;
 mod header;
 mod line;
 mod order;
@@ -13,12 +12,10 @@ mod reader;
 mod reply;
 mod text;
 mod word;
-mod words;
 
-pub use gap::{GAP, close_array, open_array};
 pub use out::Out;
 pub use pair::{PAIR, put_pair};
-pub use parts::{encode_bulk, encode_count, reserve_items};
+pub use parts::{GAP, close_array, encode_bulk, encode_count, open_array, reserve_items};
 pub use protocol::Protocol;
 pub use reader::{Next, Reader};
 pub use reply::{Reply, begin_array, encode, put, size_of};

@@ -1,4 +1,4 @@
-// The line that says how many words a request has, or how many bytes a word has.
+// Parses the number in a header line: an argument count or a length in bytes.
 ghost use Rattle.std.specs.Prelude.{◌≡◌, ◌+◌, ◌<◌, length, drop, IfSome};
 ghost use Rattle.ts_spec.specs.Wire.{Goes, Number, line_step, with_digit};
 ghost use Rattle.ts_spec.specs.Wire.Line.{Blank};
@@ -7,7 +7,7 @@ ghost use Rattle.ts_resp.specs.declared.line.NumberLine.TheVariants.{Whole};
 ghost use Rattle.ts_resp.specs.Headers.{feed_at};
 ghost use Rattle.ts_resp.specs.Lines.{line_of, move_of, number_line as line_at, IsWithin};
 
-// How far such a line has come.
+// What has been parsed of the number so far.
 #[derive(Clone, Copy)]
 pub(crate) enum Line {
     Blank,
@@ -17,15 +17,14 @@ pub(crate) enum Line {
     MinusOne,
 }
 
-// What the next byte makes of it.
+// The effect of the next byte.
 pub(crate) enum LineMove {
     Goes(Line),
     Returns(u32),
     Wrong,
 }
 
-// What stands at the beginning of some bytes: a number up to the CR at `len`, or no number, which
-// shows at `at`.
+// The result of parsing a number line. `len` is the index of the CR; `at` is the index of the first wrong byte.
 pub(crate) enum NumberLine {
     Open,
     Whole { number: u32, len: usize },
@@ -76,7 +75,8 @@ fn one_more_digit(limit: u32, number: u32, byte: u8) -> LineMove
     LineMove::Goes(Line::Number(longer as u32))
 }
 
-// The number of a line of one or two digits and CRLF, as most are, and where its CR stands. None: see each byte.
+// Fast path for a number of one or two digits followed by CRLF: the number and the index of the CR. Returns `None` for
+// any other line; the caller then parses it byte by byte.
 #[inline]
 pub(crate) fn short_line(bytes: &[u8], limit: u32, negative: bool) -> Option<(u32, usize)>
     ensures line { IfSome result (λ p. Whole p.0 p.1 ≡ line_at limit negative Blank bytes.now) }
@@ -103,7 +103,7 @@ pub(crate) fn short_line(bytes: &[u8], limit: u32, negative: bool) -> Option<(u3
     Some((number, 2))
 }
 
-// The number that one digit makes, unless it is 0.
+// The value of a first digit. Returns `None` for 0.
 #[inline]
 fn one_digit(limit: u32, negative: bool, byte: u8) -> Option<u32>
     ensures { IfSome result (λ number. Goes (Number number) ≡ line_step limit negative Blank byte) }
@@ -114,7 +114,7 @@ fn one_digit(limit: u32, negative: bool, byte: u8) -> Option<u32>
     }
 }
 
-// The number that one more digit makes.
+// The number with one more digit appended.
 #[inline]
 fn second_digit(limit: u32, tens: u32, byte: u8) -> Option<u32>
     ensures { IfSome result (λ number. Goes (Number number) ≡ with_digit limit tens byte) }
@@ -125,7 +125,7 @@ fn second_digit(limit: u32, tens: u32, byte: u8) -> Option<u32>
     }
 }
 
-// The number at the beginning of the bytes, one byte at a time. Where `negative` is set, -1 stands for 0 too.
+// Parses a number byte by byte. With `negative`, `-1` also counts as 0.
 pub(crate) fn number_line(bytes: &[u8], limit: u32, negative: bool) -> NumberLine
     ensures line { result ≡ line_at limit negative Blank bytes.now }
     ensures within { IsWithin (length bytes.now) result }

@@ -1,4 +1,4 @@
-// The order of bytes, eight at a time.
+// Compares byte strings eight bytes at a time.
 ghost use Rattle.std.specs.Prelude.{◌≡◌, ◌+◌, ◌≤◌, min, length, drop};
 ghost use Rattle.std.specs.Ordering.{nat_cmp};
 ghost use Rattle.std.specs.Cmp.Lexicographic.{slice_cmp};
@@ -6,8 +6,7 @@ ghost use Rattle.ts_resp.specs.Words.{spelt};
 
 use std::cmp::Ordering;
 
-// What `a.cmp(b)` answers. Eight bytes compare as the number that they spell, the first byte the
-// greatest digit.
+// Same result as `a.cmp(b)`. Compares eight bytes as one big-endian number.
 #[inline]
 pub(crate) fn order(a: &[u8], b: &[u8]) -> Ordering
     ensures { result ≡ slice_cmp nat_cmp a.now b.now }
@@ -24,7 +23,7 @@ pub(crate) fn order(a: &[u8], b: &[u8]) -> Ordering
     order_from(a, b, at, both)
 }
 
-// The number that the eight bytes from `at` on spell.
+// Reads the eight bytes at `at` as a big-endian number.
 #[inline]
 fn eight(bytes: &[u8], at: usize) -> u64
     requires { at + 8 ≤ length bytes.now }
@@ -42,7 +41,7 @@ fn eight(bytes: &[u8], at: usize) -> u64
     ])
 }
 
-// The order of the bytes from `from` on, of which `both` has the fewer.
+// Compares the bytes from index `from` on. `both` is the length of the shorter one.
 #[inline]
 fn order_from(a: &[u8], b: &[u8], from: usize, both: usize) -> Ordering
     requires { (from ≤ both) × (both ≡ min (length a.now) (length b.now)) }

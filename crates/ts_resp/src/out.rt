@@ -1,20 +1,20 @@
-// The room that a reply is written into.
+// The buffer for replies.
 ghost use Rattle.std.specs.Prelude.{◌≡◌, ◌+◌, ◌<◌, ◌≤◌, [], ◌++◌, length, min, take, drop, IfOk, OnOk, OnErr};
 ghost use Rattle.ts_spec.specs.Text.{line_text};
 
-use crate::gap::write_line;
+use crate::parts::write_line;
 use bytes::BytesMut;
 use std::alloc::{AllocError, Global};
 use std::marker::Model;
 use std::mem;
 
-// Every error, every number and every short reply fits.
+// Initial capacity in bytes. Every error, integer and short reply fits.
 const FIRST_ROOM: usize = 128;
 
-// The most bytes for which room is kept from one reply to the next.
+// The largest capacity in bytes that is kept between replies.
 const MOST_SPARE: usize = 65_536;
 
-/// Bytes of replies, with room that was reserved for more.
+/// A growable buffer of reply bytes.
 #[derive(Drop)]
 pub struct Out {
     bytes: BytesMut,
@@ -29,7 +29,7 @@ impl Model for Out {
 }
 
 impl Out {
-    /// No bytes yet, and room for 128.
+    /// An empty buffer with capacity for 128 bytes.
     pub fn new(alloc: Global) -> Result<Out, AllocError>
         ensures empty { IfOk result (λ o. o.bytes ≡ []) }
         ensures room { IfOk result (λ o. 128 ≤ o.spare) }
@@ -38,7 +38,7 @@ impl Out {
         Ok(Out { bytes })
     }
 
-    /// Makes room for so many more bytes. After an Err the room is as before.
+    /// Reserves capacity for `more` more bytes. On error the buffer is unchanged.
     pub fn reserve(&mut self, more: usize) -> Result<(), AllocError>
         ensures bytes { self.new.bytes ≡ self.old.bytes }
         ensures room { OnOk result (more ≤ self.new.spare) }
@@ -49,7 +49,7 @@ impl Out {
         Ok(())
     }
 
-    /// Drops the bytes and keeps the room. Takes no memory.
+    /// Removes all bytes and keeps the capacity. Allocates nothing.
     pub fn clear(&mut self)
         ensures empty { self.new.bytes ≡ [] }
         ensures room { length self.old.bytes + self.old.spare ≤ self.new.spare }
@@ -57,8 +57,7 @@ impl Out {
         self.bytes.clear();
     }
 
-    /// Drops the bytes and keeps the room. Room for more than 65536 is given back for that of a new one, if there is memory
-    /// for that.
+    /// Removes all bytes. A capacity above 65,536 bytes is replaced by a small one, if memory allows.
     pub fn give_back(&mut self)
         ensures empty { self.new.bytes ≡ [] }
         ensures room { min 128 (length self.old.bytes + self.old.spare) ≤ self.new.spare }
@@ -73,21 +72,21 @@ impl Out {
         }
     }
 
-    /// The bytes so far. Takes no memory.
+    /// The bytes written so far. Allocates nothing.
     pub fn bytes(&self) -> &[u8]
         ensures { result.now ≡ self.now.bytes }
     {
         self.bytes.as_slice()
     }
 
-    /// How many more bytes there is room for. Takes no memory.
+    /// How many more bytes fit without allocating.
     pub fn spare(&self) -> usize
         ensures { result ≡ self.now.spare }
     {
         self.bytes.capacity() - self.bytes.len()
     }
 
-    /// The bytes with their room, in whose place none are left. Takes no memory.
+    /// Moves the buffer out and leaves an empty one. Allocates nothing.
     pub fn take(&mut self) -> Out
         ensures taken { result ≡ self.old }
         ensures left { self.new.bytes ≡ [] }
@@ -98,7 +97,7 @@ impl Out {
         }
     }
 
-    // Writes a line that ends where a gap at the front does, and drops what stands before it.
+    // Writes a line at the end of the gap at the front, and drops the bytes before it.
     pub(crate) fn end_gap(&mut self, gap: usize, first: u8, others: &[u8])
         requires line { length others.now + 3 ≤ gap }
         requires gap { gap ≤ length self.old.bytes }
@@ -109,7 +108,7 @@ impl Out {
         write_line(first, others, self.bytes.as_mut_slice());
     }
 
-    // Adds bytes for which there is room.
+    // Appends bytes that fit in the reserved capacity.
     pub(crate) fn add(&mut self, bytes: &[u8])
         requires { length bytes.now ≤ self.old.spare }
         ensures bytes { self.new.bytes ≡ self.old.bytes ++ bytes.now }
@@ -118,7 +117,7 @@ impl Out {
         self.bytes.extend_reserved(bytes);
     }
 
-    // Adds the first so many of bytes, for all of which there is room.
+    // Appends the first `len` of `bytes`. All of `bytes` must fit in the reserved capacity.
     #[inline]
     pub(crate) fn add_front(&mut self, bytes: &[u8], len: usize)
         requires room { length bytes.now ≤ self.old.spare }

@@ -1,4 +1,4 @@
-// The pair of a number and a value, as which a reply shows a sample.
+// Encodes a sample as a two-item array: `[time, value]`.
 ghost use Rattle.std.specs.Prelude.{◌≡◌, ◌+◌, ◌≤◌, ◌++◌, length, take, drop, pos, slice_range};
 ghost use Rattle.ts_spec.specs.Text.{CRLF, Int, Value, Array, Item, Empty, shown_cell, text};
 ghost use Rattle.ts_resp.specs.Replies.{value_of};
@@ -9,19 +9,20 @@ use std::ops::Range;
 use ts_decimal::put_value;
 use ts_sample::Cell;
 
-/// The most bytes that the text of a pair has.
+/// The maximum size of an encoded pair, in bytes.
 pub const PAIR: usize = 64;
 
-// The bytes of the block in which a pair's text is put together, with room for a copy of PAIR bytes from where it begins.
+// Size of the scratch block, in bytes. Large enough to copy `PAIR` bytes from any start.
 const BLOCK: usize = 128;
 
-// The place in the block where the whole part of the value ends.
+// The offset in the block at which the integer part of the value ends.
 const POINT: usize = 56;
 
-/// Writes the text of the reply `[number, value]` into room that was reserved for it. Takes no memory.
+/// Appends the array `[number, value]` to `out`. Needs `PAIR` bytes of reserved capacity. Allocates nothing.
 pub fn put_pair(number: u64, cell: Cell, out: &mut Out)
     requires { 64 ≤ out.old.spare }
-    ensures bytes { out.new.bytes ≡ out.old.bytes ++ text (Array (Item (Int (pos number)) (Item (Value (value_of cell)) Empty))) }
+    ensures bytes { out.new.bytes
+        ≡ out.old.bytes ++ text (Array (Item (Int (pos number)) (Item (Value (value_of cell)) Empty))) }
     ensures room { out.old.spare ≤ out.new.spare + 64 }
     ensures total { length out.new.bytes + out.new.spare ≡ length out.old.bytes + out.old.spare }
 {
@@ -31,11 +32,11 @@ pub fn put_pair(number: u64, cell: Cell, out: &mut Out)
     let start = put_before(b"\r\n+", value.start, &mut block);
     let start = write_digits(number, &mut block, start);
     let start = put_before(b"*2\r\n:", start, &mut block);
-    // (a copy of a fixed length takes a few moves)
+    // Copying a fixed number of bytes compiles to a few moves.
     out.add_front(&block[start..start + PAIR], value.end + 2 - start);
 }
 
-// Writes the text of a value, or `NaN` where there is none, and gives where it stands.
+// Writes a value, or `NaN` if there is none. Returns its range in the block.
 #[inline]
 fn put_cell(cell: Cell, block: &mut [u8; BLOCK]) -> Range<usize>
     ensures text { slice_range block.new result.start result.end ≡ shown_cell (value_of cell) }
@@ -50,7 +51,7 @@ fn put_cell(cell: Cell, block: &mut [u8; BLOCK]) -> Range<usize>
     }
 }
 
-// Writes the end of a line at the place.
+// Writes CRLF at offset `place`.
 #[inline]
 fn put_line_end(place: usize, block: &mut [u8; BLOCK])
     requires { place ≤ 126 }
@@ -60,7 +61,7 @@ fn put_line_end(place: usize, block: &mut [u8; BLOCK])
     block[place + 1] = b'\n';
 }
 
-// Writes bytes so that they end at the place, and gives where they start.
+// Writes bytes so that they end at offset `place`. Returns where they start.
 #[inline]
 fn put_before(bytes: &[u8], place: usize, block: &mut [u8; BLOCK]) -> usize
     requires from { length bytes.now ≤ place }

@@ -1,4 +1,4 @@
-// Where and why a stream of requests is broken, and what is answered then.
+// Protocol errors.
 ghost use Rattle.std.specs.Prelude.{◌≡◌, ◌++◌, Some, codes};
 ghost use Rattle.std.specs.Fmt.{decimal};
 ghost use Rattle.ts_spec.specs.Text.{fault_words};
@@ -6,16 +6,16 @@ ghost use Rattle.ts_spec.specs.Text.{fault_words};
 use std::fmt;
 use ts_spec::Kind;
 
-/// Where a stream of requests is broken, and why.
+/// A protocol error in a request stream.
 #[derive(Clone, Copy, PartialEq, Eq)]
 pub struct Protocol {
     pub kind: Kind,
-    /// The place of the byte that can't continue the stream, counted from 0.
+    /// The offset in the stream of the first invalid byte, counted from 0.
     pub place: u64,
 }
 
 impl Protocol {
-    /// The words of the error reply that answers the fault.
+    /// The text of the error reply.
     pub fn message(&self) -> &'static str
         ensures { result.now ≡ fault_words self.now.kind }
     {

@@ -1,4 +1,4 @@
-// The requests of a stream that comes in pieces.
+// Reads requests from a stream that arrives in pieces.
 ghost use Rattle.std.specs.Prelude.{◌≡◌, ◌≢◌, ℕ, ◌+◌, ◌^◌, ◌<◌, ◌≤◌, List, [], ◌++◌, length, OnOk, OnErr};
 ghost use Rattle.ts_spec.specs.Wire.{Then, Broken, stream_at};
 ghost use Rattle.ts_resp.specs.Reading.{stream_of, fed, unfinished, ended_at};
@@ -7,30 +7,29 @@ ghost use Rattle.ts_resp.specs.Next.{IfRequest, UnlessRequest, OnNotYet, IfBroke
 use crate::{Protocol, Word};
 use begin::first_begin;
 use bytes::BytesMut;
-use spare::{emptied, give_back_room};
 use std::alloc::{AllocError, Global};
 use std::marker::Model;
+use steps::{emptied, give_back_room};
 use ts_spec::WireLimits;
 
 mod begin;
 mod line_steps;
-mod spare;
 mod steps;
 
-/// What a reader answers.
+/// The result of reading a request.
 #[derive(Debug, Drop)]
 pub enum Next {
-    /// The words of the next request. There is at least one.
+    /// The arguments of the next request; at least one.
     Request(Vec<Word>),
-    /// The bytes fed so far hold no further whole request.
+    /// The bytes received so far hold no further complete request.
     NotYet,
-    /// The stream is broken. Each later call answers the same.
+    /// The stream has a protocol error. Every later call returns the same error.
     Broken(Protocol),
-    /// There was no memory for a word. A later call may have more.
+    /// Out of memory for an argument. A later call may succeed.
     Memory,
 }
 
-// A request of which some words are still to come.
+// A request whose arguments have only partly arrived.
 #[derive(Drop)]
 struct Unfinished {
     words: Vec<Word>,
@@ -46,19 +45,19 @@ impl Model for Unfinished {
     ghost view = { λ u. record { words = u.words.items; later = u.later; room = u.room } };
 }
 
-/// Reads requests from a stream that is fed in pieces, however it is cut.
+/// Reads requests from a stream that arrives in pieces, however it is split.
 #[derive(Drop)]
 pub struct Reader {
     alloc: Global,
     limits: WireLimits,
-    // where the request at hand begins, and the place of the first unread byte
+    // Offsets in the stream: the start of the current request, and the first unread byte.
     begin: u64,
     place: u64,
     so_far: Option<Unfinished>,
     unread: BytesMut,
-    // how many of the unread bytes are known to hold no LF: a line that comes in pieces is looked through once
+    // How many unread bytes are known to contain no LF. A line that arrives in pieces is scanned only once.
     scanned: usize,
-    // room for the words of the next request
+    // An empty vector kept for the next request, to reuse its capacity.
     spare: Vec<Word>,
 }
 
@@ -82,7 +81,7 @@ impl Model for Reader {
 }
 
 impl Reader {
-    /// A reader to which no byte was fed. Takes no memory.
+    /// A reader at the start of a stream. Allocates nothing.
     #[tactic(auto, unfolding(crate::specs::Reading::begun_on))]
     pub fn new(alloc: Global, limits: WireLimits) -> Reader
         requires words { 1 ≤ limits.words }
@@ -106,7 +105,7 @@ impl Reader {
         }
     }
 
-    /// Adds a piece of the stream. After an Err the reader is as before.
+    /// Adds a piece of the stream. On error the reader is unchanged.
     pub fn feed(&mut self, piece: &[u8]) -> Result<(), AllocError>
         requires { fed self.old + length piece.now < 2 ^ 64 }
         ensures ok { OnOk result ((more : List ℕ)
@@ -120,7 +119,7 @@ impl Reader {
         Ok(())
     }
 
-    /// The next request of the bytes fed so far. Requests without words are passed over.
+    /// Reads the next complete request. Skips requests without arguments.
     pub fn next(&mut self) -> Next
         ensures request { IfRequest result (λ words. (more : List ℕ)
             → stream_of self.old more ≡ Then words self.new.begin (stream_of self.new more)) }
@@ -147,9 +146,8 @@ impl Reader {
         }
     }
 
-    /// Takes back the vector of a request that was answered, so that the next request finds its room there. The words
-    /// that are left in it are dropped. Room for very many words goes back, and so does that for very many bytes where
-    /// none is unread.
+    /// Takes back the vector of an answered request and reuses its capacity. Drops the arguments left in it. Capacity
+    /// for more than 1,024 arguments is freed, and so is an empty input buffer above 65,536 bytes.
     pub fn give_back(&mut self, words: Vec<Word>)
         ensures { self.new ≡ self.old }
     {
@@ -161,16 +159,16 @@ impl Reader {
         }
     }
 
-    /// Where what was not given yet begins, counted in bytes from the start of the stream: after `next` gave a request, the
-    /// place after it. Takes no memory.
+    /// The offset in the stream at which the next request starts: after `next` returned a request, the offset just
+    /// past it. Allocates nothing.
     pub fn begin(&self) -> u64
         ensures { result ≡ self.now.begin }
     {
         self.begin
     }
 
-    /// Where an unfinished request begins, or None between requests. Requests without words are
-    /// passed over. Takes no memory.
+    /// The offset at which an unfinished request starts, or `None` between requests. Skips requests without arguments.
+    /// Allocates nothing.
     pub fn place(&self) -> Option<u64>
         ensures { result ≡ unfinished self.now }
     {

@@ -1,4 +1,4 @@
-// Replies and their text.
+// Replies and their encoding.
 ghost use Rattle.std.specs.Prelude.{◌≡◌, ◌+◌, ◌^◌, ◌<◌, ◌≤◌, ◌++◌, length, OnOk, OnErr};
 ghost use Rattle.std.specs.Option.{SomeIff};
 ghost use Rattle.std.specs.Fmt.{decimal};
@@ -11,10 +11,10 @@ use std::alloc::AllocError;
 use ts_decimal::print;
 use ts_sample::Cell;
 
-/// A reply. Its text is that of RESP2.
+/// A RESP2 reply.
 ///
-/// What goes through a reply calls itself for each array inside an array, so the stack that it takes
-/// grows with how deeply the arrays nest, and not with how many replies there are.
+/// Functions on replies recurse once per level of nesting. Their stack use depends on the depth, not on the number of
+/// items.
 #[derive(Debug, Drop)]
 pub enum Reply {
     /// A simple string: `+`, the text, CRLF. The text has no CR or LF.
@@ -23,17 +23,17 @@ pub enum Reply {
     Error(&'static str),
     /// An integer: `:`, the number in decimal, CRLF.
     Int(i64),
-    /// A value, as a simple string: its decimal text, or `NaN` where there is none.
+    /// A sample value as a simple string: a decimal number, or `NaN`.
     Value(Cell),
-    /// Bytes of any kind: `$`, their number, CRLF, the bytes, CRLF.
+    /// A bulk string of any bytes: `$`, the length, CRLF, the bytes, CRLF.
     Bulk(Word),
-    /// No value: `$-1`, CRLF.
+    /// The null bulk string: `$-1`, CRLF.
     Nil,
-    /// Replies one after another: `*`, their number, CRLF, and their texts.
+    /// An array: `*`, the number of items, CRLF, then the items.
     Array(Vec<Reply>),
 }
 
-/// The length of the reply's text in bytes, or None where it is above usize. Takes no memory.
+/// The encoded length in bytes, or `None` if it exceeds `usize`. Allocates nothing.
 #[cycle(size)]
 pub fn size_of(reply: &Reply) -> Option<usize>
     ensures { SomeIff result (length (text (reply_of reply.now)) < 2 ^ 64)
@@ -50,7 +50,7 @@ pub fn size_of(reply: &Reply) -> Option<usize>
     }
 }
 
-// The length of the text of an array of these replies.
+// The encoded length of an array.
 #[cycle(size)]
 fn array_len(replies: &[Reply]) -> Option<usize>
     ensures { SomeIff result (length (text (Array (all_of replies.now))) < 2 ^ 64)
@@ -63,7 +63,7 @@ fn array_len(replies: &[Reply]) -> Option<usize>
     Some(total)
 }
 
-// The text of a value, or `NaN` where there is none.
+// A value as text, or `NaN`.
 pub(crate) fn shown(cell: Cell, room: &mut [u8; 32]) -> &[u8]
     ensures text { result.now ≡ shown_cell (value_of cell) }
     ensures short { length result.now ≤ 27 }
@@ -74,7 +74,7 @@ pub(crate) fn shown(cell: Cell, room: &mut [u8; 32]) -> &[u8]
     }
 }
 
-// The length of a line: its first byte, so many others, and CRLF.
+// The length of a line: a type byte, `others` bytes and CRLF.
 fn line_len(others: usize) -> Option<usize>
     ensures { SomeIff result (others + 3 < 2 ^ 64) (others + 3) }
 {
@@ -89,7 +89,7 @@ pub(crate) fn count_len(count: usize) -> usize
     Buffer::new().format(count).len() + 3
 }
 
-// The length of the text of bytes.
+// The encoded length of a bulk string.
 pub(crate) fn bulk_len(bytes: &[u8]) -> Option<usize>
     ensures { SomeIff result (length (text (Bulk bytes.now)) < 2 ^ 64)
         (length (text (Bulk bytes.now))) }
@@ -97,7 +97,7 @@ pub(crate) fn bulk_len(bytes: &[u8]) -> Option<usize>
     bytes.len().checked_add(count_len(bytes.len()) + 2)
 }
 
-/// Writes the reply's text into room that was reserved for it. Takes no memory.
+/// Encodes a reply into reserved capacity. Allocates nothing.
 #[cycle(put)]
 pub fn put(reply: &Reply, out: &mut Out)
     requires { length (text (reply_of reply.now)) ≤ out.old.spare }
@@ -118,7 +118,7 @@ pub fn put(reply: &Reply, out: &mut Out)
     }
 }
 
-/// Reserves room for the reply's text and writes it. After an Err the bytes are as before.
+/// Encodes a reply, reserving the capacity it needs. On error the bytes are unchanged.
 pub fn encode(reply: &Reply, out: &mut Out) -> Result<(), AllocError>
     ensures ok { OnOk result (out.new.bytes ≡ out.old.bytes ++ text (reply_of reply.now)) }
     ensures err { OnErr result (out.new.bytes ≡ out.old.bytes) }
@@ -154,8 +154,7 @@ fn put_count(first: u8, count: usize, out: &mut Out)
     put_line(first, buffer.format(count).as_bytes(), out);
 }
 
-/// Writes what stands before the texts of so many replies in the text of their array, into room that was reserved
-/// for it. Takes no memory.
+/// Writes the header of an array of `count` items into reserved capacity. Allocates nothing.
 pub fn begin_array(count: usize, out: &mut Out)
     requires { length (line_text 42 (decimal count)) ≤ out.old.spare }
     ensures bytes { out.new.bytes ≡ out.old.bytes ++ line_text 42 (decimal count) }
@@ -174,7 +173,7 @@ pub(crate) fn put_bulk(bytes: &[u8], out: &mut Out)
     out.add(b"\r\n");
 }
 
-// Writes the texts of replies, with their count before them.
+// Encodes an array.
 #[cycle(put)]
 fn put_array(replies: &[Reply], out: &mut Out)
     requires { length (text (Array (all_of replies.now))) ≤ out.old.spare }

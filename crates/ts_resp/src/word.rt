@@ -1,9 +1,10 @@
-// A word of a request: bytes of any kind, which it owns.
+// An argument of a request: an owned byte string.
 ghost use Rattle.std.specs.Prelude.{◌≡◌, ◌<◌, ◌≤◌, length, take, slice_range, nat_eq, refl, Some, IfOk, IfSome, OnErr};
 ghost use Rattle.std.specs.Ordering.{nat_cmp};
 ghost use Rattle.std.specs.Fmt.{debug_list, decimal};
 ghost use Rattle.std.specs.Hash as fed;
-ghost use Rattle.std.specs.Cmp.Lexicographic.{pointwise, slice_cmp, nat_list_eq_equiv, nat_list_cmp_total, texts_ties, texts_po};
+ghost use Rattle.std.specs.Cmp.Lexicographic.{pointwise, slice_cmp, nat_list_eq_equiv, nat_list_cmp_total, texts_ties};
+ghost use Rattle.std.specs.Cmp.Lexicographic.{texts_po};
 ghost use Rattle.std.specs.Cmp.{partial_equiv_from_equiv};
 ghost use Rattle.std.specs.Cmp.Rules.{hashing};
 ghost use Rattle.std.proofs.Common.{rules};
@@ -15,13 +16,13 @@ use std::fmt;
 use std::hash::{Hash, Hasher};
 use std::marker::Model;
 
-// How many bytes fit into a word itself.
+// The longest argument stored inline, in bytes.
 const SHORT: usize = 30;
 
-// Few bytes lie in the word itself, more in an allocation.
+// Short arguments are stored inline, longer ones on the heap.
 #[derive(Drop)]
 enum Storage {
-    // The first `len` bytes of the array.
+    // The argument is the first `len` bytes of the array.
     Short {
         alloc: Global,
         len: u8,
@@ -30,7 +31,7 @@ enum Storage {
     Long(Vec<u8>),
 }
 
-/// A word of a request: bytes of any kind. Words are compared, ordered and hashed by their bytes.
+/// An argument of a request: a byte string. Compares, orders and hashes by its bytes.
 #[derive(Drop)]
 pub struct Word {
     held: Storage,
@@ -48,7 +49,7 @@ impl Model for Word {
 }
 
 impl Word {
-    /// A word of these bytes. One of up to 30 bytes takes no memory.
+    /// Copies bytes into an argument. Up to 30 bytes need no allocation.
     #[inline]
     pub fn from_slice(alloc: Global, bytes: &[u8]) -> Result<Word, AllocError>
         ensures bytes { IfOk result (λ w. w ≡ bytes.now) }
@@ -63,8 +64,8 @@ impl Word {
         })
     }
 
-    // A word of the bytes from `start` to `end`, if they are few and others follow. It takes all bytes that fit into
-    // it, and tells only its own: to move so many at once is quicker than to count them.
+    // Fast path for a short argument that is followed by more bytes: copies 30 bytes at once and keeps the length.
+    // That is faster than copying a variable number of bytes.
     #[inline]
     pub(crate) fn short_part(alloc: Global, bytes: &[u8], start: usize, end: usize) -> Option<Word>
         requires { (start ≤ end) × (end ≤ length bytes.now) }
@@ -78,7 +79,7 @@ impl Word {
         None
     }
 
-    // A word of the first bytes of some.
+    // The first `len` bytes of an inline array.
     #[inline]
     fn filled(alloc: Global, len: u8, bytes: [u8; SHORT]) -> Word
         requires { len ≤ 30 }
@@ -89,7 +90,7 @@ impl Word {
         }
     }
 
-    // A word of few bytes.
+    // An inline argument.
     #[inline]
     fn short(alloc: Global, bytes: &[u8]) -> Word
         requires { length bytes.now ≤ 30 }
@@ -100,7 +101,7 @@ impl Word {
         Word::filled(alloc, bytes.len() as u8, room)
     }
 
-    /// A word of the same bytes. One of up to 30 bytes takes no memory.
+    /// A copy. Up to 30 bytes need no allocation.
     pub fn copy(&self) -> Result<Word, AllocError>
         ensures bytes { IfOk result (λ w. w ≡ self.now) }
         ensures long { OnErr result (30 < length self.now) }
@@ -108,7 +109,7 @@ impl Word {
         Word::from_slice(self.allocator(), self.bytes())
     }
 
-    // Where it takes its memory.
+    // The allocator of this argument.
     fn allocator(&self) -> Global {
         match &self.held {
             Storage::Short { alloc, .. } => *alloc,
@@ -116,7 +117,7 @@ impl Word {
         }
     }
 
-    /// Its bytes.
+    /// The bytes.
     #[inline]
     pub fn bytes(&self) -> &[u8]
         ensures { result.now ≡ self.now }

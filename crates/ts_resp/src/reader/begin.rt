@@ -1,14 +1,14 @@
-// Where the request at hand begins, among bytes of which no request was read.
-ghost use Rattle.std.specs.Prelude.{ℕ, ◌≡◌, ◌≢◌, ◌+◌, ◌^◌, ◌<◌, ◌≤◌, length, drop, slice_index, Some, IfSome, MatchOption};
+// Finds where the current request starts in the unread bytes.
+ghost use Rattle.std.specs.Prelude.{ℕ, ◌≡◌, ◌≢◌, ◌+◌, ◌^◌, ◌<◌, ◌≤◌, length, drop, slice_index, Some, IfSome};
+ghost use Rattle.std.specs.Prelude.{MatchOption};
 ghost use Rattle.ts_spec.specs.Wire.{Start};
 ghost use Rattle.ts_resp.specs.Reading.{begun_on};
 
 use crate::header::{Header, count_header};
-use crate::text::{Text, begins_line, found_text};
-use crate::words::is_blank_line;
+use crate::text::{Text, begins_line, found_text, is_blank_line};
 use ts_spec::WireLimits;
 
-// Where the first request that has words begins, among bytes of which the first stands at `place`.
+// The offset of the first request that has arguments. `place` is the offset of the first byte.
 #[tactic(auto, unfolding(crate::specs::Reading::begun_on))]
 pub(super) fn first_begin(bytes: &[u8], limits: &WireLimits, place: u64, begin: u64) -> Option<u64>
     requires { place + length bytes.now < 2 ^ 64 }
@@ -28,7 +28,7 @@ pub(super) fn first_begin(bytes: &[u8], limits: &WireLimits, place: u64, begin: 
     None
 }
 
-// How many bytes the request takes that stands at the beginning of the bytes, if it is whole and has no words.
+// The length of a complete request without arguments at the front of the bytes.
 fn wordless(bytes: &[u8], limits: &WireLimits) -> Option<usize>
     requires { 0 < length bytes.now }
     ensures begun { MatchOption result
@@ -46,7 +46,7 @@ fn wordless(bytes: &[u8], limits: &WireLimits) -> Option<usize>
     }
 }
 
-// The same of a line.
+// The same for an inline request: a line of text.
 fn blank_line(bytes: &[u8], limits: &WireLimits) -> Option<usize>
     requires some { 0 < length bytes.now }
     requires line { slice_index bytes.now 0 ≢ 42 }

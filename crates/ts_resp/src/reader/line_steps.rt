@@ -1,16 +1,15 @@
-// One line at a time.
+// Reads inline requests: one line of text each.
 ghost use Rattle.std.specs.Prelude.{◌≡◌, ◌≢◌, ◌<◌, length, slice_index, None, MatchOption};
 ghost use Rattle.ts_resp.specs.Steps.{GoesOn, Gives};
 ghost use Rattle.ts_resp.specs.Texts.{IsText, IsTextBegun};
 
 use super::{Next, Reader};
-use crate::text::{Text, found_text};
-use crate::words::push_words;
+use crate::text::{Text, found_text, push_words};
 use std::mem;
 use ts_spec::Kind;
 
 impl Reader {
-    // Takes a line, or answers what `next` answers.
+    // Reads one inline request. Returns `None` if it had no arguments.
     pub(super) fn read_line(&mut self) -> Option<Next>
         requires between { self.old.so_far ≡ None }
         requires some { 0 < length self.old.unread }
@@ -30,7 +29,7 @@ impl Reader {
         }
     }
 
-    // Takes the words of a line whose LF stands at `feed`. Where memory is wanting, the line is left unread.
+    // Consumes the line whose LF is at index `feed`. Out of memory leaves the line unread.
     fn take_line(&mut self, feed: usize) -> Option<Next>
         requires between { self.old.so_far ≡ None }
         requires text { IsText self.old.limits self.old.unread (Text.Whole feed) }

@@ -1,5 +1,6 @@
-// One header or one word of an array at a time.
-ghost use Rattle.std.specs.Prelude.{◌≡◌, ◌+◌, ◌-◌, ◌<◌, ◌≤◌, [], ◌∷◌, ◌++◌, length, drop, slice_index, slice_range, Some, None, OnOk, OnErr, IfOk, IfErr, MatchOption};
+// Reads an array request: its header, then its arguments.
+ghost use Rattle.std.specs.Prelude.{◌≡◌, ◌+◌, ◌-◌, ◌<◌, ◌≤◌, [], ◌∷◌, ◌++◌, length, drop, slice_index, slice_range};
+ghost use Rattle.std.specs.Prelude.{Some, None, OnOk, OnErr, IfOk, IfErr, MatchOption, vec_capacity, IfSome};
 ghost use Rattle.ts_resp.specs.Headers.{IsCount, IsBegun, IsWord, IsWordWithin};
 ghost use Rattle.ts_resp.specs.Steps.{GoesOn, Gives};
 
@@ -7,15 +8,16 @@ use super::{Next, Reader, Unfinished};
 use crate::header::{FoundWord, Header, count_header, found_word};
 use crate::text::begins_line;
 use crate::{Protocol, Word};
+use bytes::BytesMut;
 use std::alloc::{AllocError, Global};
 use std::mem;
 use ts_spec::Kind;
 
-// Words that are made room for at once: a header may claim more words than ever come.
+// Capacity reserved for arguments at first. A header may announce more arguments than ever arrive.
 const FIRST_WORDS: u32 = 16;
 
 impl Reader {
-    // Takes the header of a request or its words, or answers what `next` answers.
+    // Reads one request. Returns `None` if it had no arguments.
     pub(super) fn step(&mut self) -> Option<Next>
         ensures { MatchOption result (GoesOn self.old self.new) (Gives self.old self.new) }
     {
@@ -47,7 +49,7 @@ impl Reader {
         }
     }
 
-    // After the header of a request, which takes `len` bytes.
+    // Starts a request of `number` arguments, whose header takes `len` bytes.
     fn begin_request(&mut self, number: u32, len: usize) -> Option<Next>
         requires between { self.old.so_far ≡ None }
         requires header { IsCount self.old.limits self.old.unread (Header.Whole number (len - 1)) }
@@ -74,7 +76,7 @@ impl Reader {
         }))
     }
 
-    // Reads the words that are still to come, as far as they have come.
+    // Reads the remaining arguments, as far as they have arrived.
     fn read_words(&mut self, so_far: Unfinished) -> Next
         requires { self.old.so_far ≡ None }
         ensures { Gives (record self.old { so_far = Some so_far }) self.new result }
@@ -108,7 +110,7 @@ impl Reader {
         }
     }
 
-    // Passes over unread bytes.
+    // Skips unread bytes.
     pub(super) fn pass(&mut self, len: usize)
         requires { len ≤ length self.old.unread }
         ensures { self.new ≡ record self.old
@@ -119,7 +121,7 @@ impl Reader {
         self.place += len as u64;
     }
 
-    // The fault of an unread byte.
+    // The protocol error at index `at` of the unread bytes.
     pub(super) fn fault(&self, kind: Kind, at: usize) -> Protocol
         requires { at < length self.now.unread }
         ensures { result ≡ record { kind = kind; place = self.now.place + at } }
@@ -131,7 +133,7 @@ impl Reader {
     }
 }
 
-// Adds a word of the bytes from `start` to `end`. After an Err the words are as before.
+// Appends the bytes `start..end` as an argument. On error the arguments are unchanged.
 fn push_word(
     alloc: Global,
     words: &mut Vec<Word>,
@@ -153,10 +155,42 @@ fn push_word(
     Ok(())
 }
 
-// The room that is left after a word of `len` bytes.
+// The remaining size limit of the request after an argument of `len` bytes.
 fn room_after(room: u32, len: usize) -> u32
     requires { len ≤ room }
     ensures { result ≡ room - len }
 {
     room - len as u32
+}
+
+// The largest capacity for arguments that is kept between requests.
+const MOST_SPARE: usize = 1024;
+
+// The largest capacity in bytes that an empty input buffer keeps.
+const MOST_ROOM: usize = 65_536;
+
+// Empties the vector for reuse. Returns `None` if its capacity is too large to keep.
+pub(super) fn emptied(words: Vec<Word>) -> Option<Vec<Word>>
+    ensures items { IfSome result (λ spare. spare.items ≡ []) }
+    ensures room { IfSome result (λ spare. vec_capacity spare ≤ 1024) }
+{
+    let mut words = words;
+    words.clear();
+    if words.capacity() <= MOST_SPARE {
+        Some(words)
+    } else {
+        None
+    }
+}
+
+// Frees the capacity of an empty input buffer if it is too large to keep.
+pub(super) fn give_back_room(bytes: &mut BytesMut)
+    requires { bytes.old.items ≡ [] }
+    ensures items { bytes.new.items ≡ [] }
+    ensures room { bytes.new.spare ≤ 65536 }
+{
+    bytes.clear();
+    if bytes.capacity() > MOST_ROOM {
+        *bytes = BytesMut::new(*bytes.allocator());
+    }
 }

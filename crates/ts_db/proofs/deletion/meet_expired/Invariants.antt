@@ -3,6 +3,6 @@ use Rattle.ts_spec.specs.KeptStep.{kept_meets_expired}
 use Rattle.ts_db.specs.Store.{rules_by}
 use Rattle.ts_db.proofs.deletion.meet_expired.Given as goal
 
--- the rules that are left meet an expired bucket exactly where all do
+-- all rules touch an expired bucket exactly if one of the remaining rules does
 abbrev pub invariant-loop-rule : goal.invariant-loop-rule
 invariant-loop-rule l = kept_meets_expired l.from l.edge (rules_by (λ id. []) (drop l.rule-index l.rules)) ≡ kept_meets_expired l.from l.edge (rules_by (λ id. []) l.rules)

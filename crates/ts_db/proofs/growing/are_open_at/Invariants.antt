@@ -2,6 +2,6 @@ use Rattle.std.proofs.Common.{drop}
 use Rattle.ts_db.specs.Growing.{AreOpenAt}
 use Rattle.ts_db.proofs.growing.are_open_at.Given as goal
 
--- the sample lies in the open buckets of all rules where it lies in those of the rules that are left
+-- the sample falls into all open buckets if it falls into those of the remaining rules
 abbrev pub invariant-loop-rule : goal.invariant-loop-rule
 invariant-loop-rule l = AreOpenAt l.wrote (drop l.rule-index l.rules) → AreOpenAt l.wrote l.rules

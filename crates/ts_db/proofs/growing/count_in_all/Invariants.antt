@@ -3,7 +3,7 @@ use Rattle.ts_db.specs.Growing.{grown, HaveRoom}
 use Rattle.ts_db.specs.Planning.{AreChanged}
 use Rattle.ts_db.proofs.growing.count_in_all.Given as goal
 
--- the rules so far have the sample, the others are as they were and have room for it
+-- the rules so far have counted the sample; the others are unchanged and can count it
 abbrev pub invariant-loop-rule : goal.invariant-loop-rule
 invariant-loop-rule l = record {
   done : AreChanged (grown l.wrote) (take l.rule-index l.initial.rule-items) (take l.rule-index l.rule-items);

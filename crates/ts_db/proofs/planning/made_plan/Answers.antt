@@ -1,7 +1,7 @@
 use Rattle.std.proofs.Common.{sym, subst}
 use Rattle.ts_rules.specs.Rules.{kept_with_dest}
 use Rattle.ts_rules.specs.Plans.{IsPlanned}
-use Rattle.ts_db.specs.declared.work.Work.{Work}
+use Rattle.ts_db.specs.declared.planning.Work.{Work}
 use Rattle.ts_db.specs.Planning.{changed_by, gone_by, rows_by_work}
 use Rattle.ts_db.proofs.Planned.{deletion-named}
 use Rattle.ts_db.proofs.planning.made_plan.Goals as goal

@@ -2,7 +2,7 @@ use Rattle.std.proofs.Common.{◌≡◌, ◌≤◌, ◌-◌, ◌++◌, length, t
 use Rattle.ts_index.specs.Candidates.{listed_by}
 use Rattle.ts_index.proofs.listed.next_list.Given as goal
 
--- nothing that was left is lost
+-- no remaining id is lost
 abbrev pub invariant-loop-found : goal.invariant-loop-found
 invariant-loop-found l = record {
   passed : l.passed ≤ length l.values;

@@ -4,7 +4,7 @@ use Rattle.ts_index.specs.Pairs.{is_own}
 use Rattle.ts_index.specs.Postings.{posting_in}
 use Rattle.ts_index.proofs.pairs.put_pairs.Given as goal
 
--- the number is in the lists of the pairs so far
+-- the id is in the posting lists of the pairs so far
 abbrev pub invariant-loop-i : goal.invariant-loop-i
 invariant-loop-i l = record {
   ascending : (p v : List ℕ) → AreAscending (posting_in p v l.lists);

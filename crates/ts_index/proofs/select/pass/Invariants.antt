@@ -2,7 +2,7 @@ use Rattle.std.proofs.Common.{◌≡◌, ◌+◌, drop}
 use Rattle.ts_spec.specs.Filter.{all_hold}
 use Rattle.ts_index.proofs.select.pass.Given as goal
 
--- the labels pass the filters that are left exactly where they pass all; each of the others took a step
+-- the labels pass all filters exactly if they pass the remaining ones; each filter so far took a step
 abbrev pub invariant-loop-filter : goal.invariant-loop-filter
 invariant-loop-filter g l = record {
   pass : all_hold (drop l.filter-index l.filters) l.labels ≡ all_hold l.filters l.labels;

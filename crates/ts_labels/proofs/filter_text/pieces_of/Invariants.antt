@@ -2,7 +2,7 @@ use Rattle.std.proofs.Common.{◌≡◌, ◌++◌, length}
 use Rattle.ts_spec.specs.FilterText.{comma, pieces}
 use Rattle.ts_labels.proofs.filter_text.pieces_of.Given as goal
 
--- those so far are the first pieces
+-- the values so far are the first pieces
 abbrev pub invariant-loop-piece : goal.invariant-loop-piece
 invariant-loop-piece l = l.values.items ++ pieces comma l.rest ≡ pieces comma l.list
 

@@ -3,7 +3,7 @@ use Rattle.ts_spec.specs.Text.{Array, text, texts}
 use Rattle.ts_resp.specs.Replies.{all_of}
 use Rattle.ts_resp.proofs.reply.+put.Given as goal
 
--- the texts that are left, after those that were written, are the text of all, and have their room
+-- the text written so far and the remaining texts make up the whole, and capacity suffices for the rest
 abbrev pub invariant-put_array-loop-reply : goal.invariant-put_array-loop-reply
 invariant-put_array-loop-reply l = record {
   bytes : l.out.bytes ++ texts (all_of (drop l.reply-index l.replies)) ≡ l.fn.out.bytes ++ text (Array (all_of l.replies));

@@ -22,7 +22,7 @@ use Rattle.ts_db.proofs.Laws.{told-law}
 use Rattle.ts_db.proofs.Reaches.{reach-held}
 use Rattle.ts_db.proofs.db.Db.info.Goals as goal
 
--- a node under the number that the key has
+-- a node under the id that the key has
 module _ (s : Store) (store : IsInOrder s) (stock : Stock) (view : stock_of s ≡ stock) (key : Key) (id : Id) (is : Some id ≡ get key stock.ids) where
   number : get key (stock_of s).ids ≡ Some id
   number = ap (λ (st : Stock). get key st.ids) view ∙ sym is

@@ -4,7 +4,7 @@ use Rattle.ts_db.proofs.Selecting.{HaveNodes, listing}
 use Rattle.ts_db.proofs.Totals.{reaches}
 use Rattle.ts_db.proofs.db.Db.total.Given as goal
 
--- the samples so far, and those of the keys that are left, are all of them; and so it is with the reach of their series
+-- the count so far and the samples of the remaining keys add up to all; likewise the reaches
 abbrev pub invariant-loop-key : goal.invariant-loop-key
 invariant-loop-key g l = record {
   sum : l.total + samples_in (listing l.self-inside.store.nodes l._key-iterator) ≡ samples_in (listing l.self-inside.store.nodes l.self-inside.store.keys.entries);

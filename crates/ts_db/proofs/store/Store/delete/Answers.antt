@@ -6,7 +6,7 @@ use Rattle.ts_series.specs.History.{list_of}
 use Rattle.ts_series.specs.Plan.{cuts, with_change}
 use Rattle.ts_series.proofs.Effects.{cuts-is}
 use Rattle.ts_db.specs.declared.node.Node.{Node}
-use Rattle.ts_db.specs.declared.work.Work.TheVariants.{Delete}
+use Rattle.ts_db.specs.declared.planning.Work.TheVariants.{Delete}
 use Rattle.ts_db.specs.Planning.{changed_by, gone_by, rows_by_work, shares_of}
 use Rattle.ts_db.specs.Store.{key_in, kept_node, contents_of, Contents, IsNode}
 use Rattle.ts_db.specs.Answering.{node_after}

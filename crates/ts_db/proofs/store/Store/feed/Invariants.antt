@@ -7,7 +7,7 @@ use Rattle.ts_db.specs.Store.{IsInOrder}
 use Rattle.ts_db.proofs.Feeds.{Feeding}
 use Rattle.ts_db.proofs.store.Store.feed.Given as goal
 
--- the plans that are left go on to what becomes of all of them
+-- the remaining plans lead to the result of all plans
 abbrev pub invariant-loop-plan : goal.invariant-loop-plan
 invariant-loop-plan l = record {
   store : IsInOrder l.self;

@@ -3,7 +3,7 @@ use Rattle.ts_db.specs.Store.{IsInOrder}
 use Rattle.ts_db.proofs.Freed.{Freeing}
 use Rattle.ts_db.proofs.store.Store.free.Given as goal
 
--- the rules that are left go on to what becomes of all of them
+-- the remaining rules lead to the result of all rules
 abbrev pub invariant-loop-rule : goal.invariant-loop-rule
 invariant-loop-rule l = record {
   store : IsInOrder l.self;

@@ -3,7 +3,7 @@ use Rattle.ts_db.specs.Planning.{changed_by, gone_by, rows_by_work, AllTake, IsS
 use Rattle.ts_db.specs.Store.{AreLive}
 use Rattle.ts_db.proofs.store.Store.plan_rules.Given as goal
 
--- the plans so far are those of the first rules, whose destinations have room, and there is room for as many plans as there are rules
+-- the plans so far are those of the first rules, whose destinations are not full, and capacity suffices for all rules
 abbrev pub invariant-loop-rule : goal.invariant-loop-rule
 invariant-loop-rule g l = record {
   changed : AreChanged (changed_by l.work l.source) (take l.rule-index l.rules) l.planned.rules.items;

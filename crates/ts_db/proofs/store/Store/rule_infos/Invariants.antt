@@ -4,7 +4,7 @@ use Rattle.ts_db.specs.Information.{rule_info_of}
 use Rattle.ts_db.specs.Store.{rules_by, key_in, AreLive}
 use Rattle.ts_db.proofs.store.Store.rule_infos.Given as goal
 
--- the first rules are told, and there is room for as many as there are rules
+-- the first rules are reported, and capacity suffices for all rules
 abbrev pub invariant-loop-rule : goal.invariant-loop-rule
 invariant-loop-rule l = record {
   so_far : map rule_info_of l.infos.items ≡ map kept_rule_info (rules_by (key_in l.self.nodes) (take l.rule-index l.rules));

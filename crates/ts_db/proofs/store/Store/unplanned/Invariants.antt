@@ -3,7 +3,7 @@ use Rattle.ts_db.specs.Planning.{gone_by, rows_by_work, AllTake, first_full, sha
 use Rattle.ts_db.specs.Store.{AreLive}
 use Rattle.ts_db.proofs.store.Store.unplanned.Given as goal
 
--- the destinations so far have room
+-- no destination so far is full
 abbrev pub invariant-loop-rule : goal.invariant-loop-rule
 invariant-loop-rule g l = record {
   fit : first_full l.self.limits.samples l.self.nodes (rows_by_work l.work l.source) (gone_by l.work l.source) (drop l.rule-index l.rules)

@@ -2,7 +2,7 @@ use Rattle.std.proofs.Common.{sym}
 use Rattle.std.specs.Prelude.{Ok, Err}
 use Rattle.ts_series.specs.Put.{met}
 use Rattle.ts_db.specs.declared.fault.DbFault.{DbFault}
-use Rattle.ts_db.specs.declared.work.Work.TheVariants.{Write}
+use Rattle.ts_db.specs.declared.planning.Work.TheVariants.{Write}
 use Rattle.ts_db.specs.Planning.{gone_by, rows_by_work, first_full, IsUnplanned}
 use Rattle.ts_db.specs.Store.{stock_of}
 use Rattle.ts_db.proofs.SamplesWritten.{IsWritten, IsUnwritten, written-sample, unwritten-sample, fits-written}
@@ -30,7 +30,7 @@ returns-in_default-clause-steps g c = (refusal g (goal.at.returns-in_default-cla
 pub returns-in_default-clause-easy : goal.returns-in_default-clause-easy
 returns-in_default-clause-easy g c = (refusal g (goal.at.returns-in_default-clause-easy g c).After-fault_at).easy
 
--- ---- there was no memory for a sample
+-- ---- memory ran out for a sample
 
 pub unplanned-requires-clause-room : goal.unplanned-requires-clause-room
 unplanned-requires-clause-room g c = room c.args.self.now c.requires.db c.args.id c.node-node.result.now c.node-node.ensures c.in-Some.lost c.deref.result.now c.deref.ensures.value
@@ -79,7 +79,7 @@ sample g c = written-sample c.in-Ok.plan (met c.args.how c.args.time c.args.valu
 fitting : (g : _) (c : After-plan_rules g) → IsUnwritten c.args.self.now.limits.samples (met c.args.how c.args.time c.args.value c.node-node.result.now.series) c.args.time c.node-node.result.now.series c.in-Some-wrote.wrote
 fitting g c = fits-written c.args.self.now.limits.samples (met c.args.how c.args.time c.args.value c.node-node.result.now.series) c.args.time c.node-node.result.now.series c.in-Some-wrote.wrote c.in-Ok.plan (sample g c)
 
--- a destination refuses, or there is no memory
+-- a destination refuses, or memory runs out
 barred : (g : _) (c : After-plan_rules g) (fault : DbFault) → IsUnplanned (first_full c.args.self.now.limits.samples c.args.self.now.nodes (rows_by_work (Write c.in-Some-wrote.wrote) c.node-node.result.now.series) (gone_by (Write c.in-Some-wrote.wrote) c.node-node.result.now.series) c.deref-2.result.now) fault
     → Ends c.args.self.now c.args.id c.args.how c.args.time c.args.value (Err fault) (stock_of c.args.self.now) c.args.steps.now c.plan_rules.new.steps
 barred g c = unplanned c.args.self.now c.requires.db c.args.id c.node-node.result.now c.node-node.ensures c.args.how c.args.time c.args.value c.args.steps.now c.put.new.steps c.put.ensures.steps c.put.ensures.easy c.in-Some-wrote.wrote (fitting g c) c.deref-2.result.now c.deref-2.ensures.value c.plan_rules.new.steps c.plan_rules.ensures.steps c.plan_rules.ensures.easy

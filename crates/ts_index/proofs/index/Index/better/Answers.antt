@@ -3,7 +3,7 @@ use Rattle.ts_spec.specs.Filter.{Filter}
 use Rattle.ts_index.proofs.NarrowLemmas.{best-pass, best-stays, best-first, best-fewer, none-best, some-best, best-some}
 use Rattle.ts_index.proofs.index.Index.better.Goals as goal
 
--- a filter that is lent, with a number
+-- a borrowed filter with its number of candidates
 abbrev lent : Bor Filter × ℕ → Filter × ℕ
 lent b = (b.0.now, b.1)
 

@@ -5,7 +5,7 @@ use Rattle.ts_index.specs.Selecting.{AreSelected}
 use Rattle.ts_index.proofs.SelectLemmas.{chosen}
 use Rattle.ts_index.proofs.index.Index.take_passing.Given as goal
 
--- The numbers so far, with those that pass of what is left, are all that pass. There is room for all that are left, and there are steps for them.
+-- The ids so far and the remaining ones that pass are all that pass. Capacity and steps suffice for the rest.
 abbrev pub invariant-loop-id : goal.invariant-loop-id
 invariant-loop-id g l = record {
   selected : AreSelected (all_hold l.filters) l.self (l.ids.items ++ chosen (all_hold l.filters) l.self l.id-iterator);

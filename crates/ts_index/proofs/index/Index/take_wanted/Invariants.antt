@@ -3,7 +3,7 @@ use Rattle.ts_spec.specs.Filter.{all_hold}
 use Rattle.ts_index.specs.Selecting.{AreSelected}
 use Rattle.ts_index.proofs.index.Index.take_wanted.Given as goal
 
--- The numbers so far, with what is left, are all that pass, and there is room for what is left.
+-- The ids so far and the remaining ones are all that pass. Capacity suffices for the rest.
 abbrev pub invariant-loop-id : goal.invariant-loop-id
 invariant-loop-id l = record {
   selected : AreSelected (all_hold (l.filter ∷ [])) l.self (l.ids.items ++ l.id-iterator);

@@ -4,7 +4,7 @@ use Rattle.ts_labels.specs.Filter.{label_of}
 use Rattle.ts_index.specs.Index.{numbers_where, has_pair}
 use Rattle.ts_index.proofs.index.Index.weight.Given as goal
 
--- with the numbers of the values that are left it comes to those of all
+-- the count so far and the ids of the remaining values add up to the count of all
 abbrev pub invariant-loop-value : goal.invariant-loop-value
 invariant-loop-value l = record {
   sum :

@@ -2,7 +2,7 @@ use Rattle.std.proofs.Common.{◌≡◌, ℕ, ◌≤◌, List, length}
 use Rattle.ts_resp.specs.Reading.{stream_of, fed, unfinished}
 use Rattle.ts_resp.proofs.reader.Reader.next.Given as goal
 
--- the reader stands for the same stream as when the loop began
+-- the reader represents the same stream as before the loop
 abbrev pub invariant-loop-next : goal.invariant-loop-next
 invariant-loop-next l = record {
   stream : (more : List ℕ) → stream_of l.self more ≡ stream_of l.initial.self more;

@@ -2,7 +2,7 @@ use Rattle.std.proofs.Common.{◌≡◌, ℕ, List, length, Some, None}
 use Rattle.ts_resp.specs.Reading.{stream_of, fed}
 use Rattle.ts_resp.proofs.reader.Reader.read_words.Given as goal
 
--- the reader, with the words so far, stands for the same stream as when the loop began
+-- the reader with the arguments so far represents the same stream as before the loop
 abbrev pub invariant-loop-so_far : goal.invariant-loop-so_far
 invariant-loop-so_far l = record {
   between : l.self.so_far ≡ None;

@@ -1,6 +1,6 @@
 use Rattle.std.proofs.Common.{sym}
 use Rattle.ts_index.proofs.PlaceLemmas.{not_there}
-use Rattle.ts_index.proofs.list.take.Goals as goal
+use Rattle.ts_index.proofs.lists.take.Goals as goal
 
 pub returns-in_default : goal.returns-in_default
 returns-in_default c =

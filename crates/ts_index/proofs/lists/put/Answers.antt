@@ -1,6 +1,6 @@
 use Rattle.std.proofs.Common.{◌∙◌, sym}
 use Rattle.ts_index.proofs.PlaceLemmas.{inserted, already}
-use Rattle.ts_index.proofs.list.put.Goals as goal
+use Rattle.ts_index.proofs.lists.put.Goals as goal
 
 pub returns-in_ok-insert-clause-ok : goal.returns-in_ok-insert-clause-ok
 returns-in_ok-insert-clause-ok c =

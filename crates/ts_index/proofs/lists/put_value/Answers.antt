@@ -2,7 +2,7 @@ use Rattle.std.proofs.Common.{◌≡◌, ◌∙◌, ap, sym, rules, [], ◌∷�
 use Rattle.ts_index.specs.Numbers.{with_number}
 use Rattle.ts_index.specs.Postings.{by_value, numbers_in}
 use Rattle.ts_index.proofs.PostingLemmas.{value-changed, value-same, on_ok, on_err}
-use Rattle.ts_index.proofs.values.put_value.Goals as goal
+use Rattle.ts_index.proofs.lists.put_value.Goals as goal
 
 pub returns-in-Some-clause-ok : goal.returns-in-Some-clause-ok
 returns-in-Some-clause-ok c =

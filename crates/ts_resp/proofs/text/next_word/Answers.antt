@@ -1,7 +1,7 @@
 use Rattle.std.proofs.Common.{◌≡◌, sym, subst, MatchOption, ◌∷◌, []}
 use Rattle.ts_spec.specs.Wire.{words_of}
 use Rattle.ts_resp.proofs.TextWordLemmas.{words-none, words-at, words-last}
-use Rattle.ts_resp.proofs.words.next_word.Goals as goal
+use Rattle.ts_resp.proofs.text.next_word.Goals as goal
 
 pub returns-in_err-text-clause-words : goal.returns-in_err-text-clause-words
 returns-in_err-text-clause-words c =

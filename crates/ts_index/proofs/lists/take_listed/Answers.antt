@@ -2,7 +2,7 @@ use Rattle.std.proofs.Common.{◌≡◌, ◌∙◌, ap, sym, refl, rules, []}
 use Rattle.ts_index.specs.Numbers.{without_number}
 use Rattle.ts_index.specs.Postings.{by_value, numbers_in}
 use Rattle.ts_index.proofs.PostingLemmas.{value-changed, value-none}
-use Rattle.ts_index.proofs.values.take_listed.Goals as goal
+use Rattle.ts_index.proofs.lists.take_listed.Goals as goal
 
 pub returns-in-Some-clause-lists : goal.returns-in-Some-clause-lists
 returns-in-Some-clause-lists c =

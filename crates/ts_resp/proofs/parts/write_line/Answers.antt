@@ -2,7 +2,7 @@ use Rattle.std.proofs.Common.{◌∷◌, List, ℕ, ◌+◌, ◌-◌, length, dr
 use Rattle.std.specs.Prelude.{slice_set}
 use Rattle.ts_spec.specs.Text.{CRLF}
 use Rattle.ts_resp.proofs.WrittenLines.{written}
-use Rattle.ts_resp.proofs.gap.write_line.Goals as goal
+use Rattle.ts_resp.proofs.parts.write_line.Goals as goal
 use borrow.Rule.Slice.PartMut.{put_mid}
 
 pub returns : goal.returns

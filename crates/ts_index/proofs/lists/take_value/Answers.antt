@@ -1,6 +1,6 @@
 use Rattle.std.proofs.Common.{◌∙◌, rules}
 use Rattle.ts_index.proofs.PostingLemmas.{value-gone}
-use Rattle.ts_index.proofs.values.take_value.Goals as goal
+use Rattle.ts_index.proofs.lists.take_value.Goals as goal
 
 pub returns-then-take_listed : goal.returns-then-take_listed
 returns-then-take_listed c = λ v.
