@@ -18,8 +18,8 @@ use Rattle.ts_spec.specs.Questions.{members_of, members_response, last_member}
 use Rattle.ts_labels.specs.Show.{show_of}
 use Rattle.ts_range.specs.Filters.{passes}
 use Rattle.ts_range.specs.Query.{query_of}
-use Rattle.ts_range.specs.declared.fault.RangeFault.{RangeFault}
-use Rattle.ts_range.specs.declared.fault.RangeFault.TheVariants.{EmptyRows, Memory}
+use Rattle.ts_range.specs.declared.query.RangeFault.{RangeFault}
+use Rattle.ts_range.specs.declared.query.RangeFault.TheVariants.{EmptyRows, Memory}
 use Rattle.ts_db.specs.Held.{Held, Stock}
 use Rattle.ts_questions.specs.declared.wanted.Wanted.{Wanted}
 use Rattle.ts_questions.specs.declared.wanted.Wanted.TheVariants as wanted

@@ -5,7 +5,7 @@ use Rattle.ts_spec.specs.declared.bucket.Aggregator.{Aggregator}
 use Rattle.ts_spec.specs.declared.bucket.Aggregator.TheVariants.{Sum, Count, Last}
 use Rattle.ts_spec.specs.Sample.{Point}
 use Rattle.ts_spec.specs.Answer.{Cell, Number, Nan, last_value}
-use Rattle.ts_range.specs.declared.row.Asked.{Asked}
+use Rattle.ts_range.specs.declared.query.Asked.{Asked}
 use Rattle.ts_range.specs.Walk.{last_before}
 
 -- what is known to be the last sample before a bucket, which may be the first one that is told

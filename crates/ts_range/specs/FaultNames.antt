@@ -1,7 +1,7 @@
 -- The names of faults, as Debug prints them.
 use Rattle.std.specs.Prelude.{ℕ, List, codes}
-use Rattle.ts_range.specs.declared.fault.RangeFault.{RangeFault}
-use Rattle.ts_range.specs.declared.fault.RangeFault.TheVariants.{EmptyRows, Memory}
+use Rattle.ts_range.specs.declared.query.RangeFault.{RangeFault}
+use Rattle.ts_range.specs.declared.query.RangeFault.TheVariants.{EmptyRows, Memory}
 
 -- the name of a fault
 abbrev pub name_of : RangeFault → List ℕ

@@ -6,7 +6,7 @@ use Rattle.ts_sample.specs.declared.cell.Cell.{Cell}
 use Rattle.ts_sample.specs.declared.cell.Cell.TheVariants as cell
 use Rattle.ts_range.specs.declared.query.Buckets.{Buckets}
 use Rattle.ts_range.specs.declared.query.Query.{Query}
-use Rattle.ts_range.specs.declared.row.Row.{Row}
+use Rattle.ts_range.specs.declared.query.Row.{Row}
 
 -- values from the first to the second
 abbrev pub span_of : ℤ × ℤ → spec.Span

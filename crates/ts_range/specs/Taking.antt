@@ -1,7 +1,7 @@
 -- What a taker of rows has taken.
 use Rattle.std.specs.Prelude.{◌≡◌, ℕ, ◌-◌, Bool, false, List, map, length, Option, None, Some}
 use Rattle.ts_spec.specs.Answer.{Row as TheRow, first_ones}
-use Rattle.ts_range.specs.declared.row.Row.{Row}
+use Rattle.ts_range.specs.declared.query.Row.{Row}
 use Rattle.ts_range.specs.Query.{row_of}
 use Rattle.ts_range.specs.Filling.{Filling}
 

@@ -4,7 +4,7 @@ use Rattle.std.specs.Option.{ForSome}
 use Rattle.ts_spec.specs.Sample.{Point, at_times, between, first_of, last_of}
 use Rattle.ts_spec.specs.Bucket.{Grid, start}
 use Rattle.ts_range.specs.declared.query.Query.{Query}
-use Rattle.ts_range.specs.declared.row.Asked.{Asked}
+use Rattle.ts_range.specs.declared.query.Asked.{Asked}
 
 -- the times of two samples, if both are there
 abbrev pub times_of : Option Point → Option Point → Option (ℕ × ℕ)

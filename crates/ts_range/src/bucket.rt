@@ -5,8 +5,7 @@ ghost use Rattle.ts_spec.specs.Bucket.{start as start_of, stamp};
 ghost use Rattle.ts_bucket.specs.Grid.{IsLastOf};
 ghost use Rattle.ts_range.specs.Spans.{IsSpan};
 
-use crate::query::Buckets;
-use crate::row::Row;
+use crate::query::{Buckets, Row};
 use crate::take::Take;
 use ts_agg::Tally;
 use ts_bucket::{Grid, Stamp};

@@ -6,8 +6,7 @@ ghost use Rattle.ts_range.specs.Query.{query_of};
 ghost use Rattle.ts_range.specs.Empty.{known_before};
 ghost use Rattle.ts_range.specs.Walk.{times_of};
 
-use crate::query::Query;
-use crate::row::Asked;
+use crate::query::{Asked, Query};
 use crate::starts::Starts;
 use ts_sample::{Sample, place_of};
 

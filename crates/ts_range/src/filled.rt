@@ -7,7 +7,7 @@ ghost use Rattle.ts_range.specs.Filling.{filling_of, filled_line, IsFilled, IsBe
 ghost use Rattle.ts_range.specs.Starts.{starts_of};
 
 use crate::filling::{Filling, Place};
-use crate::row::Row;
+use crate::query::Row;
 use crate::take::Take;
 use ts_sample::Cell;
 

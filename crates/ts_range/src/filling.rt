@@ -8,8 +8,7 @@ ghost use Rattle.ts_range.specs.Empty.{empty_cell_of};
 ghost use Rattle.ts_range.specs.Filling.{said_after, said_of, said_now};
 ghost use Rattle.ts_range.specs.Starts.{starts_of};
 
-use crate::query::Buckets;
-use crate::row::Row;
+use crate::query::{Buckets, Row};
 use crate::starts::Starts;
 use ts_agg::Aggregator;
 use ts_sample::{Cell, Sample, Units};

@@ -9,8 +9,7 @@ ghost use Rattle.ts_range.specs.Walking.{AreWalked, HasFew};
 
 use crate::cutter::Cutter;
 use crate::filters::Filters;
-use crate::query::Buckets;
-use crate::row::Row;
+use crate::query::{Buckets, Row};
 use crate::take::Take;
 use crate::trail::Trail;
 use std::marker::Model;

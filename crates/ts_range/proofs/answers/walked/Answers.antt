@@ -1,7 +1,7 @@
 use Rattle.std.proofs.Common.{◌∙◌, ap}
 use Rattle.ts_range.specs.Walking.{Walking}
 use Rattle.ts_range.proofs.Shown.{seen-visited, walk-handed}
-use Rattle.ts_range.proofs.walked.walked.Goals as goal
+use Rattle.ts_range.proofs.answers.walked.Goals as goal
 
 pub returns-clause-rows : goal.returns-clause-rows
 returns-clause-rows g c =

@@ -3,7 +3,7 @@ use Rattle.std.specs.Prelude.{Option}
 use Rattle.ts_spec.specs.Answer.{first_ones}
 use Rattle.ts_range.specs.Query.{row_of}
 use Rattle.ts_range.proofs.Reversed.{map-take}
-use Rattle.ts_range.proofs.walked.first.Goals as goal
+use Rattle.ts_range.proofs.answers.first.Goals as goal
 
 pub returns-in-Some : goal.returns-in-Some
 returns-in-Some c =

@@ -2,7 +2,7 @@ use Rattle.std.proofs.Common.{◌+◌, ap, drop, length, get_or, arith}
 use Rattle.std.proofs.Math.ListN.{drop_of_length-le}
 use Rattle.std.proofs.lemmas.List.{drop_more}
 use Rattle.ts_range.proofs.Shown.{shown-more, shown-whole}
-use Rattle.ts_range.proofs.walked.show_all.Goals as goal
+use Rattle.ts_range.proofs.answers.show_all.Goals as goal
 
 pub sample-requires : goal.sample-requires
 sample-requires g c =

@@ -8,8 +8,8 @@ use Rattle.ts_spec.specs.Sample.{Point}
 use Rattle.ts_range.specs.Query.{buckets_of, row_of}
 use Rattle.ts_range.specs.Filters.{passes}
 use Rattle.ts_range.specs.Walking.{lets, rows_chosen}
-use Rattle.ts_range.proofs.walked.walked_rows.Goals as goal
-use Rattle.ts_range.proofs.walked.walked_rows.Goals.{In_ok-rows}
+use Rattle.ts_range.proofs.answers.walked_rows.Goals as goal
+use Rattle.ts_range.proofs.answers.walked_rows.Goals.{In_ok-rows}
 
 -- the rows of the walk
 told : (c : In_ok-rows) (asked : List Point)

@@ -1,6 +1,6 @@
 use Rattle.std.proofs.Common.{drop}
 use Rattle.ts_range.proofs.Shown.{IsShown}
-use Rattle.ts_range.proofs.walked.show_all.Given as goal
+use Rattle.ts_range.proofs.answers.show_all.Given as goal
 
 -- the samples that are left will make of the visitor what all of them make
 abbrev pub invariant-loop-sample : goal.invariant-loop-sample
