@@ -3,7 +3,7 @@ use Rattle.std.specs.Prelude.{ℕ, false, List, map, flat_map}
 use Rattle.ts_spec.specs.Answer.{Row}
 use Rattle.ts_spec.specs.Groups.{Labelled, values, having}
 use Rattle.ts_range.specs.Query.{row_of}
-use Rattle.ts_multi.specs.declared.member.Member.{Member}
+use Rattle.ts_multi.specs.declared.replies.Member.{Member}
 use Rattle.ts_group.specs.Summaries.{Kept, summaries}
 use Rattle.ts_group.specs.Sources.{joining}
 use Rattle.ts_group.specs.declared.one_group.Group.{Group}

@@ -11,7 +11,7 @@ use Rattle.ts_spec.specs.Text.{Bulk, line_text, text}
 use Rattle.ts_labels.specs.declared.show.Show.{Show}
 use Rattle.ts_labels.specs.Show.{show_of}
 use Rattle.ts_range.specs.Query.{row_of}
-use Rattle.ts_multi.specs.declared.member.Member.{Member}
+use Rattle.ts_multi.specs.declared.replies.Member.{Member}
 use Rattle.ts_multi.specs.declared.shown.Shown.{Shown}
 
 -- a label that is shown

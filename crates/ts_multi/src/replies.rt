@@ -1,15 +1,25 @@
-// The replies to questions over many series.
+// Replies to queries over many series: the members, and the array of their replies.
 ghost use Rattle.std.specs.Prelude.{◌≡◌, All, map, IfOk};
 ghost use Rattle.ts_spec.specs.Replies.{array as array_of, member_reply as shown_member, last_member_reply as shown_last};
 ghost use Rattle.ts_resp.specs.Replies.{reply_of};
 ghost use Rattle.ts_multi.specs.Members.{members_of, HasAtMostOneRow};
 
-use crate::member::Member;
 use crate::member_replies::{array, last_member_reply, member_reply};
 use crate::shown::SeriesLabels;
 use std::alloc::{AllocError, Global};
-use ts_labels::Show;
-use ts_resp::Reply;
+use ts_labels::{Labels, Show};
+use ts_range::Row;
+use ts_resp::{Reply, Word};
+
+/// A series in the answer to a question over many.
+#[derive(Debug, Drop)]
+pub struct Member {
+    pub key: Word,
+    /// All its labels, of which an answer shows those that are asked for.
+    pub labels: Labels,
+    /// The rows that answer the question over this series.
+    pub rows: Vec<Row>,
+}
 
 /// The reply to TS.MRANGE and TS.MREVRANGE: for each member, in their order, an array of its key, an array of the
 /// labels that are asked for, and an array of its rows. A label is an array of its name and its value, or nil where

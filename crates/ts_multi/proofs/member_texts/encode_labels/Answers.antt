@@ -4,7 +4,7 @@ use Rattle.ts_spec.specs.Replies.{shown_label_reply}
 use Rattle.ts_multi.specs.Members.{label_of}
 use Rattle.ts_multi.proofs.LabelLists.{drop-next}
 use Rattle.ts_multi.proofs.Texts.{whole, goes-on}
-use Rattle.ts_multi.proofs.label_texts.encode_labels.Goals as goal
+use Rattle.ts_multi.proofs.member_texts.encode_labels.Goals as goal
 
 pub loop-place-init : goal.loop-place-init
 loop-place-init g c = record { texts = refl; room = omega arith }

@@ -6,7 +6,7 @@ use Rattle.ts_spec.specs.Text.{line_text}
 use Rattle.ts_range.specs.Query.{row_of}
 use Rattle.ts_spec.specs.Replies.{row_reply}
 use Rattle.ts_multi.proofs.Texts.{short-head, whole}
-use Rattle.ts_multi.proofs.row_texts.encode_rows.Goals as goal
+use Rattle.ts_multi.proofs.member_texts.encode_rows.Goals as goal
 
 pub begin_array-requires : goal.begin_array-requires
 begin_array-requires c = omega (arith, short-head (length c.args.rows.now) (c.in_ok-reserve_items.ensures.few), c.in_ok-reserve_items.ensures.room)

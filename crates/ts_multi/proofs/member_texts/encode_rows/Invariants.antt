@@ -2,7 +2,7 @@ use Rattle.std.proofs.Common.{◌+◌, ◌*◌, ◌≤◌, drop, length, map}
 use Rattle.ts_range.specs.Query.{row_of}
 use Rattle.ts_spec.specs.Replies.{row_reply}
 use Rattle.ts_multi.proofs.Texts.{GoesOn}
-use Rattle.ts_multi.proofs.row_texts.encode_rows.Given as goal
+use Rattle.ts_multi.proofs.member_texts.encode_rows.Given as goal
 
 -- the rows that are left, after those that were written, make the text of all, and have their room
 abbrev pub invariant-loop-row : goal.invariant-loop-row

@@ -1,7 +1,7 @@
 use Rattle.std.proofs.Common.{◌+◌, ◌≤◌, drop, length}
 use Rattle.ts_spec.specs.Replies.{shown_label_reply}
 use Rattle.ts_multi.proofs.Texts.{GoesOn}
-use Rattle.ts_multi.proofs.label_texts.encode_labels.Given as goal
+use Rattle.ts_multi.proofs.member_texts.encode_labels.Given as goal
 
 -- the labels that are left, after those that were written, make the text of all
 abbrev pub invariant-loop-place : goal.invariant-loop-place
