@@ -6,9 +6,8 @@ ghost use Rattle.ts_command.specs.Faults.{Says, SaysSame};
 ghost use Rattle.ts_command.specs.Given.{given_of};
 
 use crate::given::Given;
-use crate::number::number_of;
 use crate::word_fault::WordFault;
-use crate::words::value_word;
+use crate::words::{number_of, value_word};
 use ts_resp::Word;
 use ts_sample::Units;
 use ts_spec::Ignore;

@@ -3,8 +3,6 @@
 #![tactic(auto)]
 
 mod addition;
-mod bucket_words;
-mod clock;
 mod command;
 mod fault;
 mod forms;
@@ -12,14 +10,11 @@ mod given;
 mod group_by;
 mod ignore_option;
 mod labels_option;
-mod lists;
 mod many;
 mod names;
-mod number;
 mod option_word;
 mod options;
 mod own_words;
-mod range;
 mod range_given;
 mod range_options;
 mod request;

@@ -7,10 +7,9 @@ ghost use Rattle.ts_command.specs.Faults.{Says, SaysOr};
 ghost use Rattle.ts_command.specs.Reading.{command_of};
 
 use crate::command::Command;
-use crate::lists::read_filters;
 use crate::option_word::OptionSet;
 use crate::options::read_given;
-use crate::own_words::split_own;
+use crate::own_words::{read_filters, split_own};
 use crate::word_fault::{ReadFault, WordFault};
 use crate::words::end_word;
 use std::alloc::Global;

@@ -10,9 +10,8 @@ use crate::given::Given;
 use crate::group_by::add_group;
 use crate::ignore_option::add_ignore;
 use crate::labels_option::{count_pairs, read_labels};
-use crate::lists::{read_filters, read_names, read_times};
 use crate::option_word::{OptionSet, OptionWord};
-use crate::own_words::{own_word, own_words, split_own};
+use crate::own_words::{own_word, own_words, read_filters, read_names, read_times, split_own};
 use crate::range_options::{add_aggregation, add_align, add_stamp, add_values};
 use crate::word_fault::{ReadFault, WordFault};
 use crate::words::{

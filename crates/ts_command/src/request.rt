@@ -8,9 +8,8 @@ ghost use Rattle.ts_command.specs.Reading.{command_of};
 
 use crate::command::Command;
 use crate::fault::CommandFault;
-use crate::forms::{Sign, read_add, read_create, read_del_range, read_incr};
+use crate::forms::{Sign, read_add, read_create, read_del_range, read_incr, read_range};
 use crate::many::{read_last_of_many, read_many_ranges, read_query_index};
-use crate::range::read_range;
 use crate::rule::{read_create_rule, read_delete_rule};
 use crate::small::{read_drop, read_echo, read_exists, read_get, read_info, read_ping};
 use crate::triple::read_madd;

@@ -7,10 +7,9 @@ ghost use Rattle.ts_command.specs.Faults.{Says};
 ghost use Rattle.ts_command.specs.Reading.{command_of};
 ghost use Rattle.ts_command.specs.declared.word_fault.WordFault.TheVariants.{Arity};
 
-use crate::bucket_words::{aggregator_word, duration_word};
 use crate::command::Command;
 use crate::word_fault::WordFault;
-use crate::words::time_word;
+use crate::words::{aggregator_word, duration_word, time_word};
 use std::vec::IntoIter;
 use ts_agg::is_name;
 use ts_bucket::Grid;

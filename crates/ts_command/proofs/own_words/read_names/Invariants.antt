@@ -1,7 +1,7 @@
 use Rattle.std.proofs.Common.{◌≡◌, ◌≤◌, drop, length, vec_len, vec_capacity}
 use Rattle.ts_spec.specs.ManySeries.{names_of}
 use Rattle.ts_command.proofs.ListLemmas.{names_after}
-use Rattle.ts_command.proofs.lists.read_names.Given as goal
+use Rattle.ts_command.proofs.own_words.read_names.Given as goal
 
 -- the names so far go on to those of all words, and there is room for as many as there are words
 abbrev pub invariant-loop-word : goal.invariant-loop-word

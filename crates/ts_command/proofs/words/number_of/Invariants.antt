@@ -3,7 +3,7 @@ use Rattle.std.specs.List.{list_all}
 use Rattle.std.specs.Prelude.{fold}
 use Rattle.ts_spec.specs.Wire.{is_digit, digit_of}
 use Rattle.ts_spec.specs.Number.{digits_number}
-use Rattle.ts_command.proofs.number.number_of.Given as goal
+use Rattle.ts_command.proofs.words.number_of.Given as goal
 
 -- the number so far goes on to that of the whole word, and every byte so far is a digit
 abbrev pub invariant-loop-byte : goal.invariant-loop-byte

@@ -9,7 +9,7 @@ use Rattle.ts_command.specs.Reading.{command_of}
 use Rattle.ts_command.specs.declared.word_fault.WordFault.{WordFault}
 use Rattle.ts_command.proofs.AnswerLemmas.{word-fault-says}
 use Rattle.ts_command.proofs.RangeLemmas.{range-read, range-refused}
-use Rattle.ts_command.proofs.range.read_range.Goals as goal
+use Rattle.ts_command.proofs.forms.read_range.Goals as goal
 
 pub returns-clause-command : goal.returns-clause-command
 returns-clause-command c =

@@ -2,7 +2,7 @@ use Rattle.std.proofs.Common.{◌≡◌, ◌≤◌, All, drop, length, vec_len, 
 use Rattle.ts_spec.specs.Sample.{MAX_TIME}
 use Rattle.ts_spec.specs.Ranges.{times_of}
 use Rattle.ts_command.proofs.ListLemmas.{times_after}
-use Rattle.ts_command.proofs.lists.read_times.Given as goal
+use Rattle.ts_command.proofs.own_words.read_times.Given as goal
 
 -- the times so far go on to those of all words, and there is room for as many as there are words
 abbrev pub invariant-loop-word : goal.invariant-loop-word
