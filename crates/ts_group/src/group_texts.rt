@@ -1,23 +1,22 @@
-// The text of a group. After an Err there may be a part of it.
-ghost use Rattle.std.specs.Prelude.{◌≡◌, ◌+◌, ◌≤◌, ◌++◌, List, length, OnOk, IfOk};
-ghost use Rattle.ts_spec.specs.Groups as groups;
+// Writes a group as text. After an `Err` the output may end in part of a group.
+ghost use Rattle.std.specs.Prelude.{◌≡◌, ◌+◌, ◌≤◌, ◌++◌, List, length, OnOk, IfOk, map, OnErr};
 ghost use Rattle.ts_spec.specs.Groups.{Labelled};
-ghost use Rattle.ts_spec.specs.Replies as spec;
 ghost use Rattle.ts_spec.specs.Text.{text};
 ghost use Rattle.ts_labels.specs.Show.{show_of};
 ghost use Rattle.ts_command.specs.GroupBy.{group_of};
 ghost use Rattle.ts_group.specs.Grouped.{grouped};
 ghost use Rattle.ts_group.specs.Labels.{key_of, member_with};
+ghost use Rattle.ts_spec.specs.Groups as groups;
+ghost use Rattle.ts_spec.specs.Replies as spec;
 
 use crate::labels::{GroupLabels, LabelsShown};
 use crate::one_group::Group;
-use crate::row_texts::encode_group_rows;
 use crate::rows::GroupRows;
 use std::alloc::{AllocError, Global};
 use ts_command::GroupBy;
 use ts_labels::Show;
 use ts_multi::encode_head;
-use ts_resp::{Out, Word};
+use ts_resp::{Out, Word, begin_array, put_pair, reserve_items};
 
 /// Writes the text of the group of a value. Room is reserved on the way.
 pub fn encode_one<'a>(
@@ -68,4 +67,19 @@ pub(crate) fn group_key(alloc: Global, labels: &GroupLabels<'_>) -> Result<Vec<u
     key.push(b'=')?;
     key.extend_from_slice(labels.value)?;
     Ok(key)
+}
+
+/// Reserves room for the text of an array of the rows, and writes it. After an Err the bytes are as before.
+pub fn encode_group_rows(mut rows: GroupRows<'_>, out: &mut Out) -> Result<(), AllocError>
+    ensures ok { OnOk result (out.new.bytes ≡ out.old.bytes ++ text (spec.array (map spec.row_reply rows.entry))) }
+    ensures err { OnErr result (out.new.bytes ≡ out.old.bytes) }
+    ensures room { length out.old.bytes + out.old.spare ≤ length out.new.bytes + out.new.spare }
+{
+    let count = rows.len();
+    reserve_items(count, out)?;
+    begin_array(count, out);
+    while let Some(row) = rows.next() {
+        put_pair(row.time, row.value, out);
+    }
+    Ok(())
 }

@@ -1,7 +1,7 @@
 use Rattle.std.proofs.Common.{◌+◌, ◌*◌, ◌≤◌, length}
 use Rattle.ts_spec.specs.Replies.{row_reply}
 use Rattle.ts_multi.proofs.Texts.{GoesOn}
-use Rattle.ts_group.proofs.row_texts.encode_group_rows.Given as goal
+use Rattle.ts_group.proofs.group_texts.encode_group_rows.Given as goal
 
 -- the rows that are left, after those that were written, make the text of all, and have their room
 abbrev pub invariant-loop-row : goal.invariant-loop-row

@@ -3,7 +3,7 @@ use Rattle.std.specs.Fmt.{decimal}
 use Rattle.ts_spec.specs.Text.{line_text}
 use Rattle.ts_spec.specs.Replies.{row_reply}
 use Rattle.ts_multi.proofs.Texts.{short-head, whole}
-use Rattle.ts_group.proofs.row_texts.encode_group_rows.Goals as goal
+use Rattle.ts_group.proofs.group_texts.encode_group_rows.Goals as goal
 
 pub begin_array-requires : goal.begin_array-requires
 begin_array-requires c = omega (arith, short-head c.len-count.result c.in_ok-reserve_items.ensures.few, c.in_ok-reserve_items.ensures.room)
