@@ -1,16 +1,16 @@
-// The replies that refuse: what is said where the database refuses, and where there is no memory.
-ghost use Rattle.std.specs.Prelude.{◌≡◌};
+// Error replies: rejected by the database, too many rows, out of memory.
+ghost use Rattle.std.specs.Prelude.{◌≡◌, ◌⊎◌, ◌+◌, ◌<◌, ◌≤◌, [], length};
 ghost use Rattle.ts_spec.specs.Keyed.{Keyed};
 ghost use Rattle.ts_spec.specs.Refusal.{EmptyRows};
-ghost use Rattle.ts_spec.specs.Replies.{refusal_reply as shown_refusal};
-ghost use Rattle.ts_spec.specs.Text.{Error};
+ghost use Rattle.ts_spec.specs.Replies.{refusal_reply as shown_refusal, memory_reply};
+ghost use Rattle.ts_spec.specs.Text.{Error, text};
 ghost use Rattle.ts_sample.specs.declared.id.Id.{Id};
 ghost use Rattle.ts_resp.specs.Replies.{reply_of};
 ghost use Rattle.ts_db.specs.Faults.{refusal_of};
-ghost use Rattle.ts_questions.specs.Answering.{message_of, IsShort};
+ghost use Rattle.ts_questions.specs.Answering.{message_of, IsShort, lost_reply};
 
 use ts_db::DbFault;
-use ts_resp::Reply;
+use ts_resp::{Out, Reply, encode, put};
 
 /// The reply where the rows of a question are too many.
 pub(crate) fn too_many_rows() -> Reply
@@ -59,5 +59,42 @@ fn message(fault: DbFault) -> &'static str
         DbFault::RulesFull => "ERR TSDB: too many rules",
         DbFault::NoRule => "ERR TSDB: the rule does not exist",
         DbFault::Memory(_) => "OOM out of memory",
+    }
+}
+
+/// Writes that there is no memory, into the room that every error has.
+pub fn put_no_memory(out: &mut Out)
+    requires empty { out.old.bytes ≡ [] }
+    requires room { 128 ≤ length out.old.bytes + out.old.spare }
+    ensures bytes { out.new.bytes ≡ text memory_reply }
+    ensures room { 128 ≤ length out.new.bytes + out.new.spare }
+{
+    put(&Reply::Error("OOM out of memory"), out);
+}
+
+/// Says that rows are too many, or else that there is no memory for them, in the place of what was written.
+pub(crate) fn put_lost(are_too_many: bool, out: &mut Out)
+    requires room { 128 ≤ length out.old.bytes + out.old.spare }
+    ensures bytes { out.new.bytes ≡ text (lost_reply are_too_many) }
+    ensures room { 128 ≤ length out.new.bytes + out.new.spare }
+{
+    out.clear();
+    if are_too_many {
+        put(&too_many_rows(), out);
+        return;
+    }
+    put_no_memory(out);
+}
+
+/// Writes a reply into room that is taken for it, or says that there is no memory, where the room is too small.
+pub fn put_or_no_memory(reply: &Reply, out: &mut Out)
+    requires empty { out.old.bytes ≡ [] }
+    requires room { 128 ≤ out.old.spare }
+    ensures bytes { (out.new.bytes ≡ text (reply_of reply.now)) ⊎ ((out.old.spare < length (text (reply_of reply.now))) × (out.new.bytes ≡ text memory_reply)) }
+    ensures room { 128 ≤ length out.new.bytes + out.new.spare }
+{
+    match encode(reply, out) {
+        Ok(()) => {}
+        Err(_) => put_no_memory(out),
     }
 }

@@ -6,9 +6,8 @@ ghost use Rattle.ts_range.specs.Query.{row_of};
 ghost use Rattle.ts_series.specs.Seams.{IsSeamed};
 ghost use Rattle.ts_questions.specs.Asking.{pieces_asked, rows_asked};
 
-use crate::few_samples::last_alone;
+use crate::few_samples::{first_wanted, last_alone};
 use crate::last_rows::rows_between;
-use crate::narrowed::first_wanted;
 use crate::question::Question;
 use std::sync::ledger::Ledger;
 use ts_range::{Keep, Row, Take, turned};

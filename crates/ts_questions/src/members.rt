@@ -11,9 +11,8 @@ ghost use Rattle.ts_questions.specs.Answering.{IsReplyText};
 ghost use Rattle.ts_questions.specs.Bounds.{wanted_steps};
 ghost use Rattle.ts_questions.specs.Members.{reply_at, each_told, AreAsAsked, IsAddedOrLost, AreAddedOrLost, many_response};
 
-use crate::many::put_many;
 use crate::member::add_member;
-use crate::telling::Telling;
+use crate::telling::{Telling, put_many};
 use crate::wanted::Wanted;
 use std::sync::ledger::Ledger;
 use ts_db::{Db, Id};

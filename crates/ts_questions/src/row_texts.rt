@@ -1,7 +1,7 @@
 // A taker that writes rows.
 ghost use Rattle.std.specs.Prelude.{◌+◌, ◌≤◌, length};
 
-use crate::room::put_no_memory;
+use crate::faults::put_no_memory;
 use ts_range::{Keep, Row, Take};
 use ts_resp::{Out, PAIR, close_array, open_array, put_pair};
 

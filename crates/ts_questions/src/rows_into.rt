@@ -6,11 +6,10 @@ ghost use Rattle.ts_range.specs.Stretches.{IsStretchIn};
 ghost use Rattle.ts_series.specs.Seams.{IsSeamed};
 ghost use Rattle.ts_questions.specs.Asking.{samples_asked, pieces_asked, reach_asked, rows_asked, steps_beside, IsTold};
 
-use crate::few_samples::{few_into, few_wanted};
+use crate::few_samples::{few_into, few_wanted, last_wanted};
 use crate::filled::handed_filled;
 use crate::from_back::{hand_on, samples_back_into};
 use crate::last_rows::{last_rows, rows_between};
-use crate::narrowed::last_wanted;
 use crate::question::Question;
 use crate::told::Told;
 use crate::walked::handed;

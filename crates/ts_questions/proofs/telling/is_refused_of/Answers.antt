@@ -3,7 +3,7 @@ use Rattle.std.specs.Prelude.{◌&&◌, if◌then◌else◌}
 use Rattle.ts_spec.specs.Filter.{all_hold}
 use Rattle.ts_spec.specs.Keyed.{get}
 use Rattle.ts_spec.specs.KeptQuestions.{kept_labels_at}
-use Rattle.ts_questions.proofs.search.is_refused_of.Goals as goal
+use Rattle.ts_questions.proofs.telling.is_refused_of.Goals as goal
 
 -- after the filters come the steps of the key itself, where it is selected
 module _ (filters old mid new most : ℕ) (tried : mid ≤ old + filters) where

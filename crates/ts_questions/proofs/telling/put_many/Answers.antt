@@ -4,7 +4,7 @@ use Rattle.ts_spec.specs.KeptQuestions.{kept_selection}
 use Rattle.ts_db.specs.Held.{AreNumbersOf}
 use Rattle.ts_questions.proofs.ManyWritten.{written-lost}
 use Rattle.ts_questions.proofs.ManyTexts.{numbers-live}
-use Rattle.ts_questions.proofs.many.put_many.Goals as goal
+use Rattle.ts_questions.proofs.telling.put_many.Goals as goal
 
 pub put_all-requires-clause-live : goal.put_all-requires-clause-live
 put_all-requires-clause-live g c =

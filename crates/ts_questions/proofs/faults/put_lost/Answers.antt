@@ -3,7 +3,7 @@ use Rattle.ts_resp.specs.Replies.{reply_of}
 use Rattle.ts_spec.specs.Text.{text}
 use Rattle.ts_questions.specs.Answering.{lost_reply}
 use Rattle.ts_questions.proofs.ReplyTexts.{alone}
-use Rattle.ts_questions.proofs.room.put_lost.Goals as goal
+use Rattle.ts_questions.proofs.faults.put_lost.Goals as goal
 
 pub returns-then-are_too_many-clause-bytes : goal.returns-then-are_too_many-clause-bytes
 returns-then-are_too_many-clause-bytes c =

@@ -1,7 +1,7 @@
 use Rattle.std.proofs.Common.{sym}
 use Rattle.ts_spec.specs.KeptQuestions.{kept_selection}
 use Rattle.ts_questions.proofs.Searching.{none-of, search-begun, search-live, search-more, search-found, search-few, search-none, search-ended}
-use Rattle.ts_questions.proofs.search.is_one_refused.Goals as goal
+use Rattle.ts_questions.proofs.telling.is_one_refused.Goals as goal
 
 pub loop-id-init : goal.loop-id-init
 loop-id-init g c =

@@ -1,5 +1,5 @@
 use Rattle.ts_questions.proofs.Searching.{Searching}
-use Rattle.ts_questions.proofs.search.is_one_refused.Given as goal
+use Rattle.ts_questions.proofs.telling.is_one_refused.Given as goal
 
 -- of the keys so far there is something to tell, or they are not selected
 abbrev pub invariant-loop-id : goal.invariant-loop-id

@@ -11,7 +11,7 @@ use Rattle.ts_questions.specs.Bounds.{question_steps}
 use Rattle.ts_questions.specs.Grouping.{group_steps}
 use Rattle.ts_questions.proofs.Gathered.{groups-few, fewer-steps}
 use Rattle.ts_questions.proofs.GroupReplies.{groups-written}
-use Rattle.ts_questions.proofs.ranges.put_ranges.Goals as goal
+use Rattle.ts_questions.proofs.questions.put_ranges.Goals as goal
 
 pub returns-in-None-clause-reply : goal.returns-in-None-clause-reply
 returns-in-None-clause-reply g c = rw c.in-None.is c.put_members.ensures.reply

@@ -3,7 +3,7 @@ use Rattle.std.specs.Prelude.{option_map}
 use Rattle.ts_range.specs.Query.{buckets_of, query_of, span_of}
 use Rattle.ts_questions.specs.Asking.{samples_asked}
 use Rattle.ts_questions.proofs.Reaching.{rows-upto}
-use Rattle.ts_questions.proofs.narrowed.last_wanted.Goals as goal
+use Rattle.ts_questions.proofs.few_samples.last_wanted.Goals as goal
 
 pub returns-clause-rows : goal.returns-clause-rows
 returns-clause-rows c =
