@@ -10,9 +10,9 @@ ghost use Rattle.ts_command.specs.Faults.{SaysSame};
 use crate::names::{align_named, encoding_named, policy_named, stamp_named};
 use crate::word_fault::WordFault;
 use ts_agg::{AggFault, Aggregator, read_aggregator};
-use ts_bucket::{Stamp, LONGEST};
+use ts_bucket::{LONGEST, Stamp};
 use ts_decimal::parse;
-use ts_sample::{Units, MAX_TIME};
+use ts_sample::{MAX_TIME, Units};
 use ts_spec::{Align, At, Encoding, Policy};
 
 // The number that a word of a command stands for: 1 to 19 digits, at most `MAX_TIME`.

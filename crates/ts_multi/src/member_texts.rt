@@ -12,7 +12,9 @@ use crate::shown::{SeriesLabels, Shown, ShowsLabels};
 use std::alloc::AllocError;
 use ts_labels::{Labels, Show};
 use ts_range::Row;
-use ts_resp::{Out, Reply, Word, PAIR, begin_array, encode, encode_bulk, encode_count, put_pair, reserve_items};
+use ts_resp::{
+    Out, PAIR, Reply, Word, begin_array, encode, encode_bulk, encode_count, put_pair, reserve_items,
+};
 
 /// Writes the text of a member of the reply to TS.MRANGE and TS.MREVRANGE: an array of its key, an array of those
 /// of its labels that are asked for, and an array of its rows. Room is reserved on the way.

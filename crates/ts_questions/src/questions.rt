@@ -23,7 +23,7 @@ use crate::faults::{put_lost, put_no_memory, refusal_reply, too_many_rows};
 use crate::grouping::Grouping;
 use crate::members::put_members;
 use crate::question::Question;
-use crate::row_texts::{RowTexts, FIRST_ROOM};
+use crate::row_texts::{FIRST_ROOM, RowTexts};
 use crate::rows_into::rows_into;
 use crate::telling::put_many;
 use crate::told::{Told, has_too_many_rows, told_of};
