@@ -1,4 +1,4 @@
-// Answers a query from samples that were collected before.
+// // Answers a query from samples that were collected before.
 ghost use Rattle.std.specs.Prelude.{◌≡◌, ◌≢◌, ◌≤◌, ◌^◌, ℕ, List, [], length, map, Some, None, IfOk, IfErr, filter, reverse, option_map};
 ghost use Rattle.ts_spec.specs.Sample.{Point, IsAscending, between};
 ghost use Rattle.ts_range.specs.Filters.{passes};
@@ -20,8 +20,8 @@ use crate::walk::Walk;
 use std::alloc::{AllocError, Global};
 use ts_sample::{Sample, Visit, places_between};
 
-/// The rows of a question over a series, of what the series holds of it. `empty_rows` is the limit on the rows
-/// of a question that tells of empty buckets.
+/// /// Answers `query` from the collected samples `asked`. `empty_rows` limits the rows of a query with EMPTY. Fails
+/// with `EmptyRows` above that limit, and with `Memory` if memory runs out.
 pub fn answer(
     alloc: Global,
     query: &Query,
@@ -51,7 +51,7 @@ pub fn answer(
     }
 }
 
-// The rows, however many there are.
+// // All rows of the answer, without the limit on empty buckets.
 fn rows(alloc: Global, query: &Query, asked: &Asked) -> Result<Vec<Row>, AllocError>
     requires ascending { IsAscending asked.now.rows.items }
     requires within { between query.now.from query.now.to asked.now.rows.items ≡ asked.now.rows.items }
@@ -72,7 +72,7 @@ fn rows(alloc: Global, query: &Query, asked: &Asked) -> Result<Vec<Row>, AllocEr
     Ok(rows)
 }
 
-// The rows of a stretch of buckets, the first one first.
+// // The rows of a bucket range, oldest first.
 fn stretch_rows(
     alloc: Global,
     query: &Query,
@@ -104,7 +104,7 @@ fn stretch_rows(
         .into_rows()
 }
 
-// The taker of a line that has not begun, after all samples.
+// // Feeds all samples to a fresh `LastValues` and returns its sink.
 fn seen_by<T: Take>(samples: &[Sample], mut line: LastValues<'_, T>) -> T
     requires room { length samples.now ≤ 10 ^ 14 }
     requires none { line.seen ≡ [] }
@@ -114,10 +114,10 @@ fn seen_by<T: Take>(samples: &[Sample], mut line: LastValues<'_, T>) -> T
     line.finish()
 }
 
-// A walk takes no more samples. There is no memory for as many.
+// // The most samples that one scan accepts. No memory could hold as many.
 pub(crate) const MOST: usize = 100_000_000_000_000;
 
-// The rows of the samples that are let through, or of their buckets.
+// // The rows of the samples that pass the filters, or of their buckets.
 pub(crate) fn walked_rows(
     alloc: Global,
     query: &Query,
@@ -141,7 +141,7 @@ pub(crate) fn walked_rows(
     Ok(first(rows, query.count))
 }
 
-/// The last row first, and so many of them.
+/// /// Reverses the rows and keeps at most the first `count`.
 pub fn turned(mut rows: Vec<Row>, count: Option<u64>) -> Vec<Row>
     ensures { map row_of result.items ≡ spec.first_ones count (reverse (map row_of rows.items)) }
 {
@@ -149,7 +149,7 @@ pub fn turned(mut rows: Vec<Row>, count: Option<u64>) -> Vec<Row>
     first(rows, count)
 }
 
-// So many of the first rows.
+// // Keeps at most the first `count` rows.
 fn first(mut rows: Vec<Row>, count: Option<u64>) -> Vec<Row>
     ensures { map row_of result.items ≡ spec.first_ones count (map row_of rows.items) }
 {
@@ -159,7 +159,7 @@ fn first(mut rows: Vec<Row>, count: Option<u64>) -> Vec<Row>
     rows
 }
 
-// The taker of a walk that has not begun, after all samples.
+// // Feeds all samples to a fresh scan and returns its sink.
 pub(crate) fn walked<T: Take>(samples: &[Sample], mut walk: Walk<'_, T>) -> T
     requires ascending { IsAscending samples.now }
     requires room { length samples.now ≤ 10 ^ 14 }
@@ -171,7 +171,7 @@ pub(crate) fn walked<T: Take>(samples: &[Sample], mut walk: Walk<'_, T>) -> T
     walk.finish()
 }
 
-// Shows all samples to a visitor, in their order.
+// // Shows all samples to a visitor, in order.
 pub(crate) fn show_all<V: Visit>(samples: &[Sample], visit: &mut V)
     requires { length samples.now ≤ V.room visit.old }
     ensures { visit.new ≡ visited V.step visit.old samples.now }

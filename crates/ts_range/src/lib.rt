@@ -1,4 +1,4 @@
-//! The rows that answer a question over one series.
+//! //! Answers range queries over one series: filters samples, aggregates them into buckets, and fills empty buckets.
 #![tactic(auto)]
 
 mod answers;

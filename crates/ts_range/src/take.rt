@@ -1,4 +1,4 @@
-// Sinks that receive the rows of an answer: the traits, a list, and one with a limit.
+// // Sinks that receive the rows of an answer: the traits, a list, and one with a limit.
 ghost use Rattle.std.specs.Prelude.{◌≡◌, true, List, [], ◌∷◌, ◌++◌, ◌≤◌, false, map, IfOk, OnOk, None};
 ghost use Rattle.ts_spec.specs.Answer.{Row as TheRow, first_ones};
 ghost use Rattle.ts_range.specs.Query.{row_of, cell_of};
@@ -9,41 +9,42 @@ use crate::query::Row;
 use std::alloc::{AllocError, Global};
 use ts_sample::Cell;
 
-/// Takes the rows of an answer one after another. Where it finds no memory it remembers that, and takes no more.
+/// /// Receives the rows of an answer one by one. A sink that runs out of memory remembers that and ignores further
+/// rows.
 pub trait Take: Drop {
-    // Whether these are the rows that it took; any are, once it has found no memory.
+    // // Whether the sink has received these rows. Any list qualifies once memory has run out.
     ghost has: { Self → List TheRow → Type 0 };
 
-    // What limits the rows that it hands on: how many are wanted, the first ones, or the buckets that it fills in.
+    // // What limits the rows that it passes on: a maximum number, or the buckets whose gaps it fills.
     ghost limit: { Self → Limit };
 
-    /// Takes one row more.
+    /// /// Accepts the next row.
     fn row(&mut self, row: Row)
         ensures taken { (rows : List TheRow) → has self.old rows → has self.new (rows ++ row_of row ∷ []) }
         ensures limit { limit self.new ≡ limit self.old };
 
-    /// Whether more rows would change nothing of what it keeps.
+    /// /// Whether further rows would change nothing.
     fn is_full(&self) -> bool
         ensures { result ≡ true → (rows more : List TheRow) → has self.now rows → has self.now (rows ++ more) };
 }
 
-/// A taker that keeps rows, for which there may be no memory.
+/// /// A sink that stores rows, and so may run out of memory.
 pub trait Keep: Take {
-    /// Notes that there was no memory for some row.
+    /// /// Records that memory ran out for a row.
     fn lose(&mut self)
         ensures { (rows : List TheRow) → Self.has self.new rows };
 }
 
-/// The rows that it was handed, in their order.
+/// /// A list of the received rows, in order.
 #[derive(Drop)]
 pub struct RowList {
     rows: Vec<Row>,
-    // Whether there was no memory for a row.
+    // // Whether memory ran out for a row.
     lost: bool,
 }
 
 impl RowList {
-    /// No rows yet, and room for so many.
+    /// /// An empty list with capacity for `count` rows. Fails if there is no memory.
     pub fn with_room(alloc: Global, count: usize) -> Result<RowList, AllocError>
         ensures { IfOk result (λ t. IsListOf t.lost t.rows.items []) }
     {
@@ -53,7 +54,7 @@ impl RowList {
         })
     }
 
-    /// The rows that it took.
+    /// /// The received rows. Fails if memory ran out for one of them.
     pub fn into_rows(self) -> Result<Vec<Row>, AllocError>
         ensures { (rows : List TheRow) → IsListOf self.lost self.rows.items rows
             → IfOk result (λ taken. map row_of taken.items ≡ rows) }
@@ -92,7 +93,6 @@ impl Keep for RowList {
     }
 }
 
-// Adds a row.
 fn add(rows: &mut Vec<Row>, time: u64, value: Cell) -> Result<(), AllocError>
     requires { time ≤ MAX_TIME }
     ensures { OnOk result (map row_of rows.new.items ≡ map row_of rows.old.items ++ record { time = time; value = cell_of value } ∷ []) }
@@ -104,13 +104,13 @@ fn add(rows: &mut Vec<Row>, time: u64, value: Cell) -> Result<(), AllocError>
 #[derive(Drop)]
 pub struct Limited<T: Take> {
     taker: T,
-    // How many rows are wanted in all, and how many more, if there is a limit.
+    // // The maximum number of rows, and how many more it accepts.
     count: Option<u64>,
     left: Option<u64>,
 }
 
 impl<T: Take> Limited<T> {
-    /// Hands on so many rows, or all.
+    /// /// Passes on at most `count` rows, or all of them if `None`.
     pub fn new(taker: T, count: Option<u64>) -> Limited<T>
         requires { T.has taker [] }
         ensures taken { IsFirstOf (T.has result.taker) result.count result.left [] }
@@ -123,7 +123,7 @@ impl<T: Take> Limited<T> {
         }
     }
 
-    /// The taker that was handed them.
+    /// /// The inner sink.
     pub fn into_taker(self) -> T
         ensures { (rows : List TheRow) → IsFirstOf (T.has self.taker) self.count self.left rows → T.has result (first_ones self.count rows) }
     {
