@@ -1,4 +1,4 @@
-//! The answers over series in groups: what a group tells, reduced time by time.
+//! //! Groups series by the value of a label and reduces their rows, for TS.MRANGE and TS.MREVRANGE with GROUPBY.
 #![tactic(auto)]
 
 mod by_value;

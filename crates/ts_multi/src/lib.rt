@@ -1,4 +1,4 @@
-//! The replies to questions over many series.
+//! //! Builds the replies to TS.MRANGE, TS.MREVRANGE and TS.MGET.
 #![tactic(auto)]
 
 mod member_replies;
