@@ -1,5 +1,5 @@
-// Commands on one series. Each function gets the whole request, its name included, and parses it in place; the key is
-// moved out at the end. Requests without options take a short path that collects no option values.
+// // Commands on one series. Each function gets the whole request, its name included, and parses it in place; the key
+// is moved out at the end. Requests without options take a short path that collects no option values.
 ghost use Rattle.std.specs.Prelude.{◌≡◌, drop, IfOk, IsTrue};
 ghost use Rattle.ts_spec.specs.Grammar.{create, add, incr, del_range, range};
 ghost use Rattle.ts_spec.specs.SeriesOptions.{has_labels};
@@ -20,7 +20,7 @@ use ts_resp::Word;
 use ts_sample::Units;
 use ts_spec::At;
 
-// How a command changes the last value.
+// // Whether a command adds to the last value or subtracts from it.
 #[derive(Clone, Copy)]
 pub(crate) enum Sign {
     Plus,
@@ -104,7 +104,6 @@ pub(crate) fn read_del_range(mut words: Vec<Word>) -> Result<Command, WordFault>
     })
 }
 
-// The words are the whole request, with its name; the key is taken out of them at the end.
 pub(crate) fn read_range(reverse: bool, mut words: Vec<Word>) -> Result<Command, ReadFault>
     ensures command { SaysOr (IsTrue (has_list (drop 3 (drop 1 words.items)))) command_of result (range reverse (drop 1 words.items)) }
     ensures time { IfOk result HasTime }

@@ -1,5 +1,5 @@
-//! The words of a request as a command, or the first fault in them. Names, option words, policies and
-//! encodings are those of RedisTimeSeries' command reference, with letters in either case.
+//! //! Parses requests into commands, or finds their first error. Names and options follow the RedisTimeSeries
+//! command reference; letter case does not matter.
 #![tactic(auto)]
 
 mod addition;
