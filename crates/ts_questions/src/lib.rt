@@ -1,4 +1,4 @@
-//! Questions over the database: what each asks of one series or of many, and the text of its reply.
+//! //! Answers queries from the database: reads one series or many, and writes the text of the reply.
 #![tactic(auto)]
 
 mod by_value;

@@ -1,4 +1,4 @@
-// Replies over many series: what a reply writes for each, the reply itself, and the search for a series with too
+// // Replies over many series: what a reply writes for each, the reply itself, and the search for a series with too
 // many rows when memory runs out.
 ghost use Rattle.std.specs.Prelude.{◌≡◌, ◌+◌, ◌≤◌, ℕ, Bool, true, false, All, List, [], length, sum_by, Some, IfOk, IfErr};
 ghost use Rattle.std.specs.List.{list_any};
@@ -22,30 +22,30 @@ use ts_range::RangeFault;
 use ts_resp::Out;
 use ts_sample::Steps;
 
-/// What is told of each of many series, by what it is too much of.
+/// /// What a reply over many series writes for each of them.
 pub(crate) trait Telling {
-    // Whether it is too much of a key, and how many steps it takes at most to tell it.
+    // // Whether a series has too many rows, and the most steps it takes to write its part.
     ghost is_too_much: { Self → Stock → Key → Bool };
 
     ghost most: { Self → Stock → Key → ℕ };
 
-    // What holds of it before it is told, and the response over keys of which it is too much of none.
+    // // What must hold before writing, and the response over keys that all are within the limit.
     ghost is_ready: { Self → Type 0 };
 
     ghost response: { Self → Stock → List Key → Response };
 
-    /// Whether it can be too much of some series.
+    /// /// Whether a series can have too many rows.
     fn can_be_refused(&self) -> bool
         ensures { result ≡ false → (stock : Stock) (key : Key) → is_too_much self.now stock key ≡ false };
 
-    /// Whether it is too much of the key of a number. Takes no memory.
+    /// /// Whether a series has too many rows. Allocates nothing.
     fn is_refused<L: Ledger>(&self, db: &Db, id: Id, steps: &mut Steps<L>) -> bool
         requires { IsLive db.now.ids id }
         ensures refused { (key : Key) → get key db.now.ids ≡ Some id → result ≡ is_too_much self.now db.now key }
         ensures steps { (key : Key) → get key db.now.ids ≡ Some id → steps.new ≤ steps.old + most self.now db.now key };
 
-    /// Writes what is told of the keys of these numbers, unless it is too much of one. Answers whether memory was lost:
-    /// then there may be a part of it, as there may be after an Err.
+    /// /// Writes the reply over these series. Fails if one of them has too many rows. Returns whether memory ran
+    /// out. In both cases the output may end in part of the reply.
     fn put_all<L: Ledger>(
         &self,
         db: &Db,
@@ -64,8 +64,8 @@ pub(crate) trait Telling {
         ensures steps { (keys : List Key) → AreNumbersOf db.now.ids keys ids.now → steps.new ≤ steps.old + sum_by (most self.now db.now) keys };
 }
 
-/// Writes what is told of the series that pass filters, in the order of their keys. Where it is too much of one, that
-/// alone is said, also where there is no memory for the others.
+/// /// Writes the reply over the series that match the filters, in the order of their keys. If a series has too many
+/// rows, the reply is that error, even if memory ran out for others.
 pub(crate) fn put_many<T: Telling, L: Ledger>(
     db: &Db,
     filters: &[Filter],
@@ -92,7 +92,7 @@ pub(crate) fn put_many<T: Telling, L: Ledger>(
     }
 }
 
-/// Whether what is told of a series that passes filters is too much. Takes no memory.
+/// /// Whether a series that matches the filters has too many rows. Allocates nothing.
 pub(crate) fn is_one_refused<T: Telling, L: Ledger>(
     db: &Db,
     filters: &[Filter],
@@ -113,7 +113,7 @@ pub(crate) fn is_one_refused<T: Telling, L: Ledger>(
     false
 }
 
-// Whether the key of a number passes filters, and what is told of it is too much.
+// // Whether a series matches the filters and has too many rows.
 fn is_refused_of<T: Telling, L: Ledger>(
     db: &Db,
     id: Id,
