@@ -1,6 +1,7 @@
 // // Replies to queries over many series: the members, and the array of their replies.
 ghost use Rattle.std.specs.Prelude.{◌≡◌, All, map, IfOk};
-ghost use Rattle.ts_spec.specs.Replies.{array as array_of, member_reply as shown_member, last_member_reply as shown_last};
+ghost use Rattle.ts_spec.specs.Replies.{array as array_of, member_reply as shown_member};
+ghost use Rattle.ts_spec.specs.Replies.{last_member_reply as shown_last};
 ghost use Rattle.ts_resp.specs.Replies.{reply_of};
 ghost use Rattle.ts_multi.specs.Members.{members_of, HasAtMostOneRow};
 

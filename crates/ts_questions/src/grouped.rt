@@ -5,7 +5,8 @@ ghost use Rattle.std.specs.Result.{is_err};
 ghost use Rattle.ts_spec.specs.Replies.{array};
 ghost use Rattle.ts_spec.specs.Text.{text};
 ghost use Rattle.ts_db.specs.Faults.{key_with};
-ghost use Rattle.ts_questions.specs.Grouping.{IsGrouping, IsNumbered, group_reply, is_group_refused, group_steps, groups_of_numbers, is_too_long, number_steps, numbers_steps, refusals};
+ghost use Rattle.ts_questions.specs.Grouping.{IsGrouping, IsNumbered, group_reply, is_group_refused, group_steps};
+ghost use Rattle.ts_questions.specs.Grouping.{groups_of_numbers, is_too_long, number_steps, numbers_steps, refusals};
 
 use crate::by_value::by_value;
 use crate::gathering::gather;

@@ -4,7 +4,8 @@ ghost use Rattle.ts_spec.specs.Key.{Key};
 ghost use Rattle.ts_spec.specs.Keyed.{get};
 ghost use Rattle.ts_range.specs.Query.{query_of};
 ghost use Rattle.ts_db.specs.Held.{IsLive};
-ghost use Rattle.ts_questions.specs.Grouping.{IsGrouping, counted, has_label, is_group_refused, group_steps, kept_groups};
+ghost use Rattle.ts_questions.specs.Grouping.{IsGrouping, counted, has_label, is_group_refused, group_steps};
+ghost use Rattle.ts_questions.specs.Grouping.{kept_groups};
 
 use crate::by_value::known_numbers;
 use crate::grouped::add_groups;

@@ -1,5 +1,6 @@
 // // Writes one member of a reply over many series. After an `Err` the output may end in part of it.
-ghost use Rattle.std.specs.Prelude.{◌≡◌, ◌+◌, ◌≤◌, ◌++◌, length, map, is_none, None, Some, option_map, OnOk, IfErr, IfOk};
+ghost use Rattle.std.specs.Prelude.{◌≡◌, ◌+◌, ◌≤◌, ◌++◌, length, map, is_none, None, Some, option_map, OnOk, IfErr};
+ghost use Rattle.std.specs.Prelude.{IfOk};
 ghost use Rattle.std.specs.Option.{ForSome};
 ghost use Rattle.ts_spec.specs.Answer.{is_let_through, row_of as row_of_sample};
 ghost use Rattle.ts_spec.specs.Key.{Key};
@@ -13,7 +14,8 @@ ghost use Rattle.ts_range.specs.Filters.{passes};
 ghost use Rattle.ts_range.specs.Query.{row_of, query_of};
 ghost use Rattle.ts_series.specs.Seams.{IsSeamed};
 ghost use Rattle.ts_db.specs.Held.{IsLive};
-ghost use Rattle.ts_questions.specs.Asking.{key_asked, samples_asked, pieces_asked, rows_asked, answer_asked, steps_beside, IsTold};
+ghost use Rattle.ts_questions.specs.Asking.{key_asked, samples_asked, pieces_asked, rows_asked, answer_asked};
+ghost use Rattle.ts_questions.specs.Asking.{steps_beside, IsTold};
 ghost use Rattle.ts_questions.specs.Bounds.{question_steps, wanted_steps};
 ghost use Rattle.ts_questions.specs.Members.{reply_at, rows_at, AreAsAsked, IsAdded, in_memory, is_too_many};
 

@@ -1,5 +1,6 @@
 // // Writes the members of a reply over many series.
-ghost use Rattle.std.specs.Prelude.{◌≡◌, ◌+◌, ◌≤◌, ◌++◌, All, List, [], true, false, length, sum_by, None, Some, IfErr, IfOk};
+ghost use Rattle.std.specs.Prelude.{◌≡◌, ◌+◌, ◌≤◌, ◌++◌, All, List, [], true, false, length, sum_by, None, Some};
+ghost use Rattle.std.specs.Prelude.{IfErr, IfOk};
 ghost use Rattle.std.specs.Fmt.{decimal};
 ghost use Rattle.ts_spec.specs.Key.{Key};
 ghost use Rattle.ts_spec.specs.Keyed.{get};
@@ -9,7 +10,8 @@ ghost use Rattle.ts_db.specs.Bounds.{selection_steps};
 ghost use Rattle.ts_db.specs.Held.{Held, Stands, IsLive, AreNumbersOf};
 ghost use Rattle.ts_questions.specs.Answering.{IsReplyText};
 ghost use Rattle.ts_questions.specs.Bounds.{wanted_steps};
-ghost use Rattle.ts_questions.specs.Members.{reply_at, each_told, AreAsAsked, IsAddedOrLost, AreAddedOrLost, many_response};
+ghost use Rattle.ts_questions.specs.Members.{reply_at, each_told, AreAsAsked, IsAddedOrLost, AreAddedOrLost};
+ghost use Rattle.ts_questions.specs.Members.{many_response};
 
 use crate::member::add_member;
 use crate::telling::{Telling, put_many};

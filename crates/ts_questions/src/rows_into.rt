@@ -4,7 +4,8 @@ ghost use Rattle.ts_spec.specs.Answer.{tells_empty};
 ghost use Rattle.ts_range.specs.Query.{query_of, row_of};
 ghost use Rattle.ts_range.specs.Stretches.{IsStretchIn};
 ghost use Rattle.ts_series.specs.Seams.{IsSeamed};
-ghost use Rattle.ts_questions.specs.Asking.{samples_asked, pieces_asked, reach_asked, rows_asked, steps_beside, IsTold};
+ghost use Rattle.ts_questions.specs.Asking.{samples_asked, pieces_asked, reach_asked, rows_asked, steps_beside};
+ghost use Rattle.ts_questions.specs.Asking.{IsTold};
 
 use crate::few_samples::{few_into, few_wanted, last_wanted};
 use crate::filled::handed_filled;

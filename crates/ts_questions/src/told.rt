@@ -7,7 +7,8 @@ ghost use Rattle.ts_spec.specs.KeptQuestions.{kept_asked};
 ghost use Rattle.ts_range.specs.Query.{query_of};
 ghost use Rattle.ts_range.specs.Stretches.{IsFilledIn};
 ghost use Rattle.ts_db.specs.Held.{IsLive, reach_at};
-ghost use Rattle.ts_questions.specs.Asking.{samples_asked, reach_asked, rows_asked, answer_asked, steps_beside, IsTold};
+ghost use Rattle.ts_questions.specs.Asking.{samples_asked, reach_asked, rows_asked, answer_asked, steps_beside};
+ghost use Rattle.ts_questions.specs.Asking.{IsTold};
 
 use crate::question::Question;
 use std::sync::ledger::Ledger;

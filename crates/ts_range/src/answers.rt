@@ -1,5 +1,6 @@
 // // Answers a query from samples that were collected before.
-ghost use Rattle.std.specs.Prelude.{◌≡◌, ◌≢◌, ◌≤◌, ◌^◌, ℕ, List, [], length, map, Some, None, IfOk, IfErr, filter, reverse, option_map};
+ghost use Rattle.std.specs.Prelude.{◌≡◌, ◌≢◌, ◌≤◌, ◌^◌, ℕ, List, [], length, map, Some, None, IfOk, IfErr, filter};
+ghost use Rattle.std.specs.Prelude.{reverse, option_map};
 ghost use Rattle.ts_spec.specs.Sample.{Point, IsAscending, between};
 ghost use Rattle.ts_range.specs.Filters.{passes};
 ghost use Rattle.ts_range.specs.LastValues.{last_rows, IsLine};

@@ -1,5 +1,6 @@
 // // How to fill gaps: the buckets of an answer with EMPTY, and the values of the empty ones.
-ghost use Rattle.std.specs.Prelude.{◌≡◌, ◌≤◌, ◌<◌, ◌+◌, ◌^◌, IfNone, IfSome, Some, Option, length, option_map, slice_get};
+ghost use Rattle.std.specs.Prelude.{◌≡◌, ◌≤◌, ◌<◌, ◌+◌, ◌^◌, IfNone, IfSome, Some, Option, length, option_map};
+ghost use Rattle.std.specs.Prelude.{slice_get};
 ghost use Rattle.ts_spec.specs.Sample.{MAX_TIME};
 ghost use Rattle.ts_spec.specs.Answer.{Cell as TheCell};
 ghost use Rattle.ts_spec.specs.Bucket.{stamp};

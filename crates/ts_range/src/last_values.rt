@@ -1,10 +1,12 @@
 // // A visitor that emits the last value of each bucket. An empty bucket repeats the value of the last sample before
 // it.
-ghost use Rattle.std.specs.Prelude.{◌≡◌, ◌<◌, ◌+◌, ◌^◌, ◌++◌, ℕ, List, [], ◌∷◌, Some, if◌then◌else◌, take, length, option_map, slice_get};
+ghost use Rattle.std.specs.Prelude.{◌≡◌, ◌<◌, ◌+◌, ◌^◌, ◌++◌, ℕ, List, [], ◌∷◌, Some, if◌then◌else◌, take, length};
+ghost use Rattle.std.specs.Prelude.{option_map, slice_get};
 ghost use Rattle.ts_spec.specs.Answer.{Number};
 ghost use Rattle.ts_spec.specs.Sample.{Point};
 ghost use Rattle.ts_range.specs.Filling.{filling_of};
-ghost use Rattle.ts_range.specs.LastValues.{LastValues as Last, values_of, last_rows, IsLine, IsOpen, IsLasting, BeginsBy};
+ghost use Rattle.ts_range.specs.LastValues.{LastValues as Last, values_of, last_rows, IsLine, IsOpen, IsLasting};
+ghost use Rattle.ts_range.specs.LastValues.{BeginsBy};
 ghost use Rattle.ts_range.specs.Query.{cell_of};
 ghost use Rattle.ts_range.specs.Starts.{starts_of};
 
