@@ -1,4 +1,4 @@
-// // Errors in the words of a request, with their messages.
+// Errors in the words of a request, with their messages.
 ghost use Rattle.std.specs.Prelude.{◌≡◌, Some};
 ghost use Rattle.ts_command.specs.FaultNames.{name_of};
 ghost use Rattle.ts_command.specs.Faults.{message};
@@ -8,55 +8,55 @@ use std::fmt;
 use thiserror::Error;
 use ts_spec::ValueFault;
 
-/// /// Why a request is not a valid command.
+/// Why a request is not a valid command.
 #[derive(Clone, Copy, PartialEq, Eq, Error)]
 pub enum CommandFault {
-    /// /// The first word is not a command.
+    /// The first word is not a command.
     #[error("unknown command")]
     UnknownCommand,
-    /// /// The command does not accept this number of arguments.
+    /// The command does not accept this number of arguments.
     #[error("wrong number of arguments")]
     Arity,
-    /// /// A time is not a number of 1 to 19 digits, or is above `MAX_TIME`.
+    /// A time is not a number of 1 to 19 digits, or is above `MAX_TIME`.
     #[error("invalid timestamp")]
     BadTimestamp,
-    /// /// A value is not a decimal of 1 to 64 bytes, or is out of range.
+    /// A value is not a decimal of 1 to 64 bytes, or is out of range.
     #[error("invalid value")]
     BadValue(ValueFault),
-    /// /// A word is not an option of the command, or the arguments of an option are missing or malformed.
+    /// A word is not an option of the command, or the arguments of an option are missing or malformed.
     #[error("invalid option")]
     BadOption,
-    /// /// The same option appears twice.
+    /// The same option appears twice.
     #[error("option given twice")]
     RepeatedOption,
-    /// /// A label or its value is missing or empty.
+    /// A label or its value is missing or empty.
     #[error("invalid labels")]
     BadLabels,
-    /// /// The chunk size is not a multiple of 8 from 48 to 1048576 bytes.
+    /// The chunk size is not a multiple of 8 from 48 to 1048576 bytes.
     #[error("invalid chunk size")]
     BadChunkSize,
-    /// /// A word is not a duplicate policy.
+    /// A word is not a duplicate policy.
     #[error("invalid duplicate policy")]
     BadPolicy,
-    /// /// A word is not a chunk encoding.
+    /// A word is not a chunk encoding.
     #[error("invalid encoding")]
     BadEncoding,
-    /// /// A word is not an aggregator.
+    /// A word is not an aggregator.
     #[error("unknown aggregator")]
     UnknownAggregator,
-    /// /// An aggregator of RedisTimeSeries that this server does not support.
+    /// An aggregator of RedisTimeSeries that this server does not support.
     #[error("aggregator not supported")]
     AggregatorNotInProfile,
-    /// /// The bucket duration is not a number from 1 to 10^14 milliseconds.
+    /// The bucket duration is not a number from 1 to 10^14 milliseconds.
     #[error("invalid bucket duration")]
     BadDuration,
-    /// /// A word is not a filter.
+    /// A word is not a filter.
     #[error("invalid filter")]
     BadFilter,
-    /// /// No filter requires a value.
+    /// No filter requires a value.
     #[error("a filter with a wanted value is needed")]
     NoPositiveFilter,
-    /// /// There is no memory to parse the request.
+    /// There is no memory to parse the request.
     #[error(transparent)]
     Memory(AllocError),
 }
@@ -88,7 +88,7 @@ impl fmt::Debug for CommandFault {
 }
 
 impl CommandFault {
-    /// /// The text of the error reply.
+    /// The text of the error reply.
     pub fn message(self) -> &'static str
         ensures { result.now ≡ message self }
     {

@@ -1,5 +1,5 @@
-// // Commands on one series. Each function gets the whole request, its name included, and parses it in place; the key
-// is moved out at the end. Requests without options take a short path that collects no option values.
+// Commands on one series. Each function gets the whole request, its name included, and parses it in place; the key is
+// moved out at the end. Requests without options take a short path that collects no option values.
 ghost use Rattle.std.specs.Prelude.{◌≡◌, drop, IfOk, IsTrue};
 ghost use Rattle.ts_spec.specs.Grammar.{create, add, incr, del_range, range};
 ghost use Rattle.ts_spec.specs.SeriesOptions.{has_labels};
@@ -20,7 +20,7 @@ use ts_resp::Word;
 use ts_sample::Units;
 use ts_spec::At;
 
-// // Whether a command adds to the last value or subtracts from it.
+// Whether a command adds to the last value or subtracts from it.
 #[derive(Clone, Copy)]
 pub(crate) enum Sign {
     Plus,

@@ -1,4 +1,4 @@
-// // Parses IGNORE.
+// Parses IGNORE.
 ghost use Rattle.std.specs.Prelude.{◌≤◌, IfOk};
 ghost use Rattle.ts_spec.specs.Sample.{MAX_TIME};
 ghost use Rattle.ts_spec.specs.SeriesOptions.{ignore, ignore_time_word, ignore_value_word, from_zero};
@@ -12,8 +12,8 @@ use ts_resp::Word;
 use ts_sample::Units;
 use ts_spec::Ignore;
 
-// // Parses the greatest time difference, in milliseconds, and the greatest value difference at which a series
-// ignores a sample.
+// Parses the greatest time difference, in milliseconds, and the greatest value difference at which a series ignores a
+// sample.
 pub(crate) fn add_ignore(own: &[Word], given: &mut Given) -> Result<(), WordFault>
     ensures { Says (λ done. given_of given.new) result (ignore.says own.now (given_of given.old)) }
 {
@@ -41,7 +41,7 @@ fn ignore_value_word(word: &[u8]) -> Result<Units, WordFault>
     from_zero(value_word(word)?)
 }
 
-// // The value, unless it is below 0.
+// The value, unless it is below 0.
 fn from_zero(value: Units) -> Result<Units, WordFault>
     ensures { SaysSame result (from_zero value) }
 {

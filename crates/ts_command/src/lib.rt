@@ -1,5 +1,5 @@
-//! //! Parses requests into commands, or finds their first error. Names and options follow the RedisTimeSeries
-//! command reference; letter case does not matter.
+//! Parses requests into commands, or finds their first error. Names and options follow the RedisTimeSeries command
+//! reference; letter case does not matter.
 #![tactic(auto)]
 
 mod addition;

@@ -1,4 +1,4 @@
-// // Commands on many series.
+// Commands on many series.
 ghost use Rattle.std.specs.Prelude.{⊤, ◌∷◌, drop, IfOk};
 ghost use Rattle.ts_spec.specs.Grammar.{many_ranges, last_of_many, query_index};
 ghost use Rattle.ts_spec.specs.ManySeries.{selecting};
@@ -16,7 +16,7 @@ use std::alloc::Global;
 use ts_labels::{Filter, Show, has_positive};
 use ts_resp::Word;
 
-// // The filters, if at least one of them requires a value.
+// The filters, if at least one of them requires a value.
 fn selection(filters: Vec<Filter>) -> Result<Vec<Filter>, WordFault>
     ensures { Says (λ filters. filters.items) result (selecting filters.items) }
 {
@@ -27,7 +27,7 @@ fn selection(filters: Vec<Filter>) -> Result<Vec<Filter>, WordFault>
     }
 }
 
-// // Parses the interval and the options after it.
+// Parses the interval and the options after it.
 fn read_asked(
     alloc: Global,
     reverse: bool,
@@ -53,7 +53,7 @@ fn read_asked(
     })
 }
 
-// // Parses the whole request, its name included.
+// Parses the whole request, its name included.
 pub(crate) fn read_many_ranges(reverse: bool, words: &Vec<Word>) -> Result<Command, ReadFault>
     ensures command { SaysOr ⊤ command_of result (many_ranges reverse (drop 1 words.now.items)) }
     ensures time { IfOk result HasTime }

@@ -1,4 +1,4 @@
-// // Parses the options of a command, in any order.
+// Parses the options of a command, in any order.
 ghost use Rattle.std.specs.Prelude.{◌≡◌, IfOk, IsTrue};
 ghost use Rattle.ts_spec.specs.Names.{named};
 ghost use Rattle.ts_spec.specs.Settings.{nothing, new_setting, options, count_own, is_known};
@@ -22,7 +22,7 @@ use ts_labels::Show;
 use ts_resp::Word;
 
 impl OptionWord {
-    // // Whether the option already has a value.
+    // Whether the option already has a value.
     fn is_given(self, given: &Given) -> bool
         ensures { result ≡ (setting_of self).stood (given_of given.now) }
     {
@@ -49,7 +49,7 @@ impl OptionWord {
         }
     }
 
-    // // The number of arguments of the option among the words after it.
+    // The number of arguments of the option among the words after it.
     fn size(self, set: OptionSet, words: &[Word]) -> usize
         ensures { result ≡ (setting_of self).size (is_known (table_of set)) words.now }
     {
@@ -66,7 +66,7 @@ impl OptionWord {
     }
 }
 
-// // The number of words before the next option.
+// The number of words before the next option.
 fn count_own(set: OptionSet, words: &[Word]) -> usize
     ensures { result ≡ count_own (is_known (table_of set)) words.now }
 {
@@ -78,7 +78,7 @@ fn count_own(set: OptionSet, words: &[Word]) -> usize
     words.len()
 }
 
-// // The option that a word names. Fails if it already has a value.
+// The option that a word names. Fails if it already has a value.
 fn new_option(set: OptionSet, word: &[u8], given: &Given) -> Result<OptionWord, WordFault>
     ensures option { Says setting_of result (new_setting (given_of given.now) (named (table_of set) word.now)) }
     ensures list { IfOk result (λ option. IsTrue (is_list option) → IsTrue (is_lister (lister set) word.now)) }
@@ -90,7 +90,7 @@ fn new_option(set: OptionSet, word: &[u8], given: &Given) -> Result<OptionWord, 
     }
 }
 
-// // Parses the arguments of an option.
+// Parses the arguments of an option.
 fn add_own(
     alloc: Global,
     option: OptionWord,
@@ -126,7 +126,7 @@ fn add_own(
     Ok(())
 }
 
-// // Parses all words as options with their arguments.
+// Parses all words as options with their arguments.
 fn read_options(
     alloc: Global,
     set: OptionSet,
@@ -145,7 +145,7 @@ fn read_options(
     Ok(())
 }
 
-// // The values of options that these words give.
+// The values of options that these words give.
 pub(crate) fn read_given(alloc: Global, set: OptionSet, words: &[Word]) -> Result<Given, ReadFault>
     ensures { SaysOr (IsTrue (may_list (lister set) words.now)) given_of result (options (table_of set) nothing 0 words.now) }
 {

@@ -1,4 +1,4 @@
-// // The arguments of one option: splitting them off, and parsing lists of times, labels and filters.
+// The arguments of one option: splitting them off, and parsing lists of times, labels and filters.
 ghost use Rattle.std.specs.Prelude.{◌≡◌, ◌≢◌, [], ◌∷◌, take, drop, IfOk, IfErr, ◌≤◌, ⊤, All};
 ghost use Rattle.ts_command.specs.declared.word_fault.WordFault.TheVariants.{BadOption};
 ghost use Rattle.ts_spec.specs.Sample.{MAX_TIME};
@@ -12,7 +12,7 @@ use std::alloc::{AllocError, Global};
 use ts_labels::{Filter, FilterFault};
 use ts_resp::Word;
 
-// // Splits off the arguments of an option from the words after it. There may be fewer words than arguments.
+// Splits off the arguments of an option from the words after it. There may be fewer words than arguments.
 pub(crate) fn split_own(size: usize, words: &[Word]) -> (&[Word], &[Word])
     ensures own { result.0.now ≡ take size words.now }
     ensures rest { result.1.now ≡ drop size words.now }
@@ -23,7 +23,7 @@ pub(crate) fn split_own(size: usize, words: &[Word]) -> (&[Word], &[Word])
     (&words[..size], &words[size..])
 }
 
-// // The only argument of an option.
+// The only argument of an option.
 pub(crate) fn own_word(own: &[Word]) -> Result<&[u8], WordFault>
     ensures ok { IfOk result (λ word. own.now ≡ word.now ∷ drop 1 own.now) }
     ensures fault { IfErr result (λ fault. (fault ≡ BadOption) × (own.now ≡ [])) }
@@ -34,7 +34,7 @@ pub(crate) fn own_word(own: &[Word]) -> Result<&[u8], WordFault>
     Ok(word.bytes())
 }
 
-// // The arguments of an option with a list, which must not be empty.
+// The arguments of an option with a list, which must not be empty.
 pub(crate) fn own_words(own: &[Word]) -> Result<&[Word], WordFault>
     ensures ok { IfOk result (λ words. (words.now ≡ own.now) × (own.now ≢ [])) }
     ensures fault { IfErr result (λ fault. (fault ≡ BadOption) × (own.now ≡ [])) }
@@ -46,7 +46,7 @@ pub(crate) fn own_words(own: &[Word]) -> Result<&[Word], WordFault>
     }
 }
 
-// // Parses times.
+// Parses times.
 pub(crate) fn read_times(alloc: Global, words: &[Word]) -> Result<Vec<u64>, ReadFault>
     ensures times { SaysOr ⊤ (λ times. times.items) result (times_of words.now) }
     ensures bound { IfOk result (λ times. All (λ t. t ≤ MAX_TIME) times.items) }
@@ -58,7 +58,7 @@ pub(crate) fn read_times(alloc: Global, words: &[Word]) -> Result<Vec<u64>, Read
     Ok(times)
 }
 
-// // Parses names of labels.
+// Parses names of labels.
 pub(crate) fn read_names(alloc: Global, words: &[Word]) -> Result<Vec<Word>, ReadFault>
     ensures { SaysOr ⊤ (λ names. names.items) result (names_of words.now) }
 {
@@ -72,7 +72,7 @@ pub(crate) fn read_names(alloc: Global, words: &[Word]) -> Result<Vec<Word>, Rea
     Ok(names)
 }
 
-// // Parses a filter.
+// Parses a filter.
 #[tactic(auto, unfolding(ts_spec::specs::ManySeries::filter_word))]
 fn filter_word(alloc: Global, word: &Word) -> Result<Filter, ReadFault>
     ensures { SaysOr ⊤ (λ filter. filter) result (filter_word word.now) }
@@ -84,7 +84,7 @@ fn filter_word(alloc: Global, word: &Word) -> Result<Filter, ReadFault>
     }
 }
 
-// // Parses filters.
+// Parses filters.
 pub(crate) fn read_filters(alloc: Global, words: &[Word]) -> Result<Vec<Filter>, ReadFault>
     ensures { SaysOr ⊤ (λ filters. filters.items) result (filters_of words.now) }
 {

@@ -1,4 +1,4 @@
-// // Parses options of a range query.
+// Parses options of a range query.
 ghost use Rattle.ts_spec.specs.Ranges.{filter_by_value, aggregation, align, bucket_timestamp};
 ghost use Rattle.ts_command.specs.Faults.{Says};
 ghost use Rattle.ts_command.specs.Given.{given_of};

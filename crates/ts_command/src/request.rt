@@ -1,4 +1,4 @@
-// // The entry point: finds the command by its name, checks the number of arguments, and parses them.
+// The entry point: finds the command by its name, checks the number of arguments, and parses them.
 ghost use Rattle.std.specs.Prelude.{◌≡◌, drop, IfOk, IfErr, IsTrue};
 ghost use Rattle.ts_spec.specs.Grammar.{command};
 ghost use Rattle.ts_command.specs.Answers.{HasTime, IsFaultIn};
@@ -18,10 +18,9 @@ use crate::with_options::read_alter;
 use crate::word_fault::ReadFault;
 use ts_resp::Word;
 
-/// /// Parses a request into a command and moves its words into it. Returns the first error: in the name, then the
-/// number of arguments, then the arguments from left to right. Only TS.MADD, labels, filters and the times of
-/// FILTER_BY_TS allocate, after the name and the number of arguments have been checked. Returns `Memory` if there is
-/// no memory.
+/// Parses a request into a command and moves its words into it. Returns the first error: in the name, then the number
+/// of arguments, then the arguments from left to right. Only TS.MADD, labels, filters and the times of FILTER_BY_TS
+/// allocate, after the name and the number of arguments have been checked. Returns `Memory` if there is no memory.
 pub fn read(words: Vec<Word>) -> Result<Command, CommandFault>
     ensures ok { IfOk result (λ c. command words.items ≡ Ok (command_of c)) }
     ensures time { IfOk result HasTime }
@@ -43,7 +42,7 @@ pub fn read(words: Vec<Word>) -> Result<Command, CommandFault>
     }
 }
 
-// // Parses the words after the command's name.
+// Parses the words after the command's name.
 fn read_by(verb: Verb, words: Vec<Word>) -> Result<Command, ReadFault>
     ensures command { SaysOr (IsTrue ((form_of verb).lists (drop 1 words.items))) command_of result ((form_of verb).says (drop 1 words.items)) }
     ensures time { IfOk result HasTime }

@@ -1,5 +1,5 @@
-// // TS.CREATERULE and TS.DELETERULE. Each function gets the whole request, its name included, and takes its words
-// one by one.
+// TS.CREATERULE and TS.DELETERULE. Each function gets the whole request, its name included, and takes its words one by
+// one.
 ghost use Rattle.std.specs.Prelude.{◌≡◌, ◌∷◌, [], drop, IfOk, IfErr};
 ghost use Rattle.std.specs.Vec.Iter.{into_iter_items};
 ghost use Rattle.ts_spec.specs.Grammar.{create_rule, delete_rule, rule_buckets};
@@ -16,7 +16,7 @@ use ts_agg::is_name;
 use ts_bucket::Grid;
 use ts_resp::Word;
 
-// // The next word, which must exist.
+// The next word, which must exist.
 fn next_word(words: &mut IntoIter<Word>) -> Result<Word, WordFault>
     ensures ok { IfOk result (λ word. into_iter_items words.old ≡ word ∷ into_iter_items words.new) }
     ensures fault { IfErr result (λ fault. (fault ≡ Arity) × (into_iter_items words.old ≡ [])) }
@@ -24,7 +24,7 @@ fn next_word(words: &mut IntoIter<Word>) -> Result<Word, WordFault>
     words.next().ok_or(WordFault::Arity)
 }
 
-// // Parses the aggregator, the bucket duration and the optional alignment of a compaction rule.
+// Parses the aggregator, the bucket duration and the optional alignment of a compaction rule.
 fn read_buckets(source: Word, dest: Word, mut words: IntoIter<Word>) -> Result<Command, WordFault>
     ensures command { Says command_of result (rule_buckets source dest (into_iter_items words)) }
     ensures time { IfOk result HasTime }

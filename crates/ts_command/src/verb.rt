@@ -1,4 +1,4 @@
-// // The names of commands, and how many words each accepts.
+// The names of commands, and how many words each accepts.
 ghost use Rattle.std.specs.Prelude.{◌≡◌, option_map};
 ghost use Rattle.ts_spec.specs.Names.{named};
 ghost use Rattle.ts_spec.specs.Grammar.{commands};
@@ -32,7 +32,7 @@ pub(crate) enum Verb {
     Exists,
 }
 
-// // The most frequent commands, in a table short enough to search without a loop.
+// The most frequent commands, in a table short enough to search without a loop.
 const WRITES: [(&[u8], Verb); 6] = [
     (b"TS.CREATE", Verb::Create),
     (b"TS.ALTER", Verb::Alter),
@@ -71,7 +71,7 @@ impl Verb {
         }
     }
 
-    // // Whether the command accepts a request of `count` words, its name included.
+    // Whether the command accepts a request of `count` words, its name included.
     pub(crate) fn takes(self, count: usize) -> bool
         ensures { result ≡ (form_of self).words count }
     {

@@ -1,4 +1,4 @@
-// // Commands on one series, with options. Each function gets the whole request, its name included, and parses it in
+// Commands on one series, with options. Each function gets the whole request, its name included, and parses it in
 // place; the key is moved out at the end. Option values are large, so they stay out of the callers' frames.
 ghost use Rattle.std.specs.Prelude.{drop, IfOk, IsTrue};
 ghost use Rattle.ts_spec.specs.Grammar.{create, alter, add, incr};

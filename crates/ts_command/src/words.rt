@@ -1,4 +1,4 @@
-// // Parses single words of a command.
+// Parses single words of a command.
 ghost use Rattle.std.specs.Prelude.{◌≡◌, ◌≤◌, IfSome, IfOk};
 ghost use Rattle.ts_spec.specs.Number.{number};
 ghost use Rattle.ts_spec.specs.Sample.{MAX_TIME};
@@ -17,7 +17,7 @@ use ts_decimal::parse;
 use ts_sample::{MAX_TIME, Units};
 use ts_spec::{Align, At, Encoding, Policy};
 
-// // Parses a number of 1 to 19 digits, at most `MAX_TIME`.
+// Parses a number of 1 to 19 digits, at most `MAX_TIME`.
 pub(crate) fn number_of(word: &[u8]) -> Option<u64>
     ensures value { result ≡ number word.now }
     ensures bound { IfSome result (λ n. n ≤ MAX_TIME) }
@@ -35,7 +35,7 @@ pub(crate) fn number_of(word: &[u8]) -> Option<u64>
     if total <= MAX_TIME { Some(total) } else { None }
 }
 
-// // The least and the greatest chunk size, in bytes. A chunk size is a multiple of `CHUNK_STEP`.
+// The least and the greatest chunk size, in bytes. A chunk size is a multiple of `CHUNK_STEP`.
 const LEAST_CHUNK: u64 = 48;
 
 const GREATEST_CHUNK: u64 = 1_048_576;

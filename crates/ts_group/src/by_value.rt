@@ -1,4 +1,4 @@
-// // Groups members by the value of a label.
+// Groups members by the value of a label.
 ghost use Rattle.std.specs.Prelude.{◌≡◌, ◌++◌, ℕ, List, [], ◌∷◌, map, Some, IfOk, OnOk};
 ghost use Rattle.ts_spec.specs.Filter.{value_of};
 ghost use Rattle.ts_spec.specs.Groups.{Labelled};
@@ -10,10 +10,10 @@ use std::collections::BTreeMap;
 use ts_multi::Member;
 use ts_resp::Word;
 
-// // The group of each value.
+// The group of each value.
 pub(crate) type Groups = BTreeMap<Word, Group>;
 
-// // Groups members by their value of `label`. Members without the label are left out.
+// Groups members by their value of `label`. Members without the label are left out.
 pub(crate) fn by_value(
     alloc: Global,
     members: &[Member],
@@ -28,7 +28,7 @@ pub(crate) fn by_value(
     Ok(groups)
 }
 
-// // Adds a member to its group, if it has the label.
+// Adds a member to its group, if it has the label.
 fn add_member(
     alloc: Global,
     groups: &mut Groups,
@@ -44,7 +44,7 @@ fn add_member(
     }
 }
 
-// // Adds a member to the group of `value`.
+// Adds a member to the group of `value`.
 fn add_to(
     alloc: Global,
     groups: &mut Groups,

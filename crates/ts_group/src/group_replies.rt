@@ -1,4 +1,4 @@
-// // Builds the reply to a query with GROUPBY.
+// Builds the reply to a query with GROUPBY.
 ghost use Rattle.std.specs.Prelude.{◌≡◌, ◌+◌, ◌≤◌, ◌++◌, List, length, map, IfOk, OnOk};
 ghost use Rattle.ts_spec.specs.Groups as spec;
 ghost use Rattle.ts_spec.specs.Groups.{Labelled};
@@ -21,7 +21,7 @@ use ts_labels::Show;
 use ts_multi::{Member, member_reply};
 use ts_resp::{Out, Reply, Word, encode};
 
-/// /// The reply to TS.MRANGE and TS.MREVRANGE with GROUPBY: for each value of the label, in ascending order,
+/// The reply to TS.MRANGE and TS.MREVRANGE with GROUPBY: for each value of the label, in ascending order,
 /// `[label=value, labels, rows]`. Labels are the requested ones of the group. There are at most `count` rows, newest
 /// first if `reverse`. The members must be in the order of their keys.
 pub fn group(
@@ -43,14 +43,14 @@ pub fn group(
     Ok(array(shown))
 }
 
-// // The array of these replies.
+// The array of these replies.
 fn array(items: Vec<Reply>) -> Reply
     ensures { reply_of result ≡ replies.array (map reply_of items.items) }
 {
     Reply::Array(items)
 }
 
-// // The reply for the group of `value`.
+// The reply for the group of `value`.
 fn reply_to<'a>(
     alloc: Global,
     group: &'a Group,
@@ -67,7 +67,7 @@ fn reply_to<'a>(
     group_reply(alloc, &labels, show, rows)
 }
 
-// // `[label=value, labels, rows]`.
+// `[label=value, labels, rows]`.
 fn group_reply<'a>(
     alloc: Global,
     labels: &GroupLabels<'a>,
@@ -86,7 +86,7 @@ fn group_reply<'a>(
     member_reply(alloc, &key, &labels, &rows)
 }
 
-/// /// Writes the reply that `group` returns for the same arguments. Grows the output buffer as needed.
+/// Writes the reply that `group` returns for the same arguments. Grows the output buffer as needed.
 pub fn encode_groups(
     alloc: Global,
     members: &[Member],

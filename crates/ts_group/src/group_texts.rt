@@ -1,4 +1,4 @@
-// // Writes a group as text. After an `Err` the output may end in part of a group.
+// Writes a group as text. After an `Err` the output may end in part of a group.
 ghost use Rattle.std.specs.Prelude.{◌≡◌, ◌+◌, ◌≤◌, ◌++◌, List, length, OnOk, IfOk, map, OnErr};
 ghost use Rattle.ts_spec.specs.Groups.{Labelled};
 ghost use Rattle.ts_spec.specs.Text.{text};
@@ -18,7 +18,7 @@ use ts_labels::Show;
 use ts_multi::encode_head;
 use ts_resp::{Out, Word, begin_array, put_pair, reserve_items};
 
-/// /// Writes the group of `value`. Grows the output buffer as needed.
+/// Writes the group of `value`. Grows the output buffer as needed.
 pub fn encode_one<'a>(
     alloc: Global,
     group: &'a Group,
@@ -37,8 +37,8 @@ pub fn encode_one<'a>(
     encode_group(alloc, &labels, show, rows, out)
 }
 
-/// /// Writes a group of the reply to TS.MRANGE or TS.MREVRANGE: an array of `label=value`, its requested labels and
-/// its rows. Grows the output buffer as needed.
+/// Writes a group of the reply to TS.MRANGE or TS.MREVRANGE: an array of `label=value`, its requested labels and its
+/// rows. Grows the output buffer as needed.
 pub fn encode_group<'a>(
     alloc: Global,
     labels: &GroupLabels<'a>,
@@ -58,7 +58,7 @@ pub fn encode_group<'a>(
     encode_group_rows(rows, out)
 }
 
-// // The key that a reply shows for a group: `label=value`.
+// The key that a reply shows for a group: `label=value`.
 pub(crate) fn group_key(alloc: Global, labels: &GroupLabels<'_>) -> Result<Vec<u8>, AllocError>
     ensures { IfOk result (λ key. key.items ≡ key_of labels.now) }
 {
@@ -69,7 +69,7 @@ pub(crate) fn group_key(alloc: Global, labels: &GroupLabels<'_>) -> Result<Vec<u
     Ok(key)
 }
 
-/// /// Writes the array of the rows. On `Err` the output is unchanged.
+/// Writes the array of the rows. On `Err` the output is unchanged.
 pub fn encode_group_rows(mut rows: GroupRows<'_>, out: &mut Out) -> Result<(), AllocError>
     ensures ok { OnOk result (out.new.bytes ≡ out.old.bytes ++ text (spec.array (map spec.row_reply rows.entry))) }
     ensures err { OnErr result (out.new.bytes ≡ out.old.bytes) }

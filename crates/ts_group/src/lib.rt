@@ -1,4 +1,4 @@
-//! //! Groups series by the value of a label and reduces their rows, for TS.MRANGE and TS.MREVRANGE with GROUPBY.
+//! Groups series by the value of a label and reduces their rows, for TS.MRANGE and TS.MREVRANGE with GROUPBY.
 #![tactic(auto)]
 
 mod by_value;

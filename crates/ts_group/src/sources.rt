@@ -1,4 +1,4 @@
-// // The keys of the series of a group, separated by commas.
+// The keys of the series of a group, separated by commas.
 ghost use Rattle.std.specs.Prelude.{◌≡◌, ◌++◌, List, [], ◌∷◌, if◌then◌else◌, codes, OnOk};
 ghost use Rattle.ts_spec.specs.Key.{Key};
 ghost use Rattle.ts_group.specs.Sources.{joined, joining};
@@ -6,11 +6,11 @@ ghost use Rattle.ts_group.specs.Sources.{joined, joining};
 use std::alloc::{AllocError, Global};
 use std::marker::Model;
 
-/// /// The keys added so far, separated by commas. A key may be empty.
+/// The keys added so far, separated by commas. A key may be empty.
 #[derive(Drop)]
 pub struct Sources {
     text: Vec<u8>,
-    // // Whether there is a key.
+    // Whether there is a key.
     some: bool,
 }
 
@@ -23,7 +23,7 @@ impl Model for Sources {
 }
 
 impl Sources {
-    /// /// No key yet. Allocates nothing.
+    /// No key yet. Allocates nothing.
     pub fn new(alloc: Global) -> Sources
         ensures { result ≡ joining [] }
     {
@@ -33,7 +33,7 @@ impl Sources {
         }
     }
 
-    /// /// Appends a key. After an `Err` the text may end in part of it.
+    /// Appends a key. After an `Err` the text may end in part of it.
     pub fn add(&mut self, key: &[u8]) -> Result<(), AllocError>
         ensures { OnOk result ((keys : List Key) → self.old ≡ joining keys
             → self.new ≡ joining (keys ++ key.now ∷ [])) }
@@ -43,7 +43,7 @@ impl Sources {
         Ok(())
     }
 
-    /// /// The text of the keys.
+    /// The text of the keys.
     pub fn bytes(&self) -> &[u8]
         ensures { (keys : List Key) → self.now ≡ joining keys → result.now ≡ joined keys }
     {
@@ -51,7 +51,7 @@ impl Sources {
     }
 }
 
-// // Appends a key, with a comma before it unless it is the first.
+// Appends a key, with a comma before it unless it is the first.
 fn add_after(text: &mut Vec<u8>, some: bool, key: &[u8]) -> Result<(), AllocError>
     ensures { OnOk result (text.new.items ≡ text.old.items ++ (if some then codes "," else []) ++ key.now) }
 {

@@ -1,4 +1,4 @@
-//! //! Builds the replies to TS.MRANGE, TS.MREVRANGE and TS.MGET.
+//! Builds the replies to TS.MRANGE, TS.MREVRANGE and TS.MGET.
 #![tactic(auto)]
 
 mod member_replies;

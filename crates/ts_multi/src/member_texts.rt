@@ -1,5 +1,5 @@
-// // Writes members of a reply as text, without building a `Reply` in memory. After an `Err` the output may end in
-// part of a member.
+// Writes members of a reply as text, without building a `Reply` in memory. After an `Err` the output may end in part of
+// a member.
 ghost use Rattle.std.specs.Prelude.{◌≡◌, ◌+◌, ◌≤◌, ◌++◌, length, map, option_map, OnOk, OnErr};
 ghost use Rattle.ts_spec.specs.Text.{text};
 ghost use Rattle.ts_range.specs.Query.{row_of};
@@ -16,8 +16,8 @@ use ts_resp::{
     Out, PAIR, Reply, Word, begin_array, encode, encode_bulk, encode_count, put_pair, reserve_items,
 };
 
-/// /// Writes a member of the reply to TS.MRANGE or TS.MREVRANGE: an array of its key, its requested labels and its
-/// rows. Grows the output buffer as needed.
+/// Writes a member of the reply to TS.MRANGE or TS.MREVRANGE: an array of its key, its requested labels and its rows.
+/// Grows the output buffer as needed.
 pub fn encode_member(
     key: &Word,
     labels: &Labels,
@@ -32,8 +32,8 @@ pub fn encode_member(
     encode_rows(rows, out)
 }
 
-/// /// Writes a member of the reply to TS.MGET: an array of its key, its requested labels and its last row, or an
-/// empty array in place of the row. Grows the output buffer as needed.
+/// Writes a member of the reply to TS.MGET: an array of its key, its requested labels and its last row, or an empty
+/// array in place of the row. Grows the output buffer as needed.
 pub fn encode_last_member(
     key: &Word,
     labels: &Labels,
@@ -48,8 +48,8 @@ pub fn encode_last_member(
     encode_row(last, out)
 }
 
-/// /// Writes the start of a member, up to its rows: the array header, the key and the requested labels. Grows the
-/// output buffer as needed.
+/// Writes the start of a member, up to its rows: the array header, the key and the requested labels. Grows the output
+/// buffer as needed.
 pub fn encode_head<S: ShowsLabels>(key: &[u8], labels: &S, out: &mut Out) -> Result<(), AllocError>
     ensures ok { OnOk result (out.new.bytes ≡ out.old.bytes ++ head_text key.now (S.shown labels.now)) }
     ensures room { length out.old.bytes + out.old.spare ≤ length out.new.bytes + out.new.spare }
@@ -59,7 +59,7 @@ pub fn encode_head<S: ShowsLabels>(key: &[u8], labels: &S, out: &mut Out) -> Res
     encode_labels(labels, out)
 }
 
-// // Writes the array of the labels that the reply shows.
+// Writes the array of the labels that the reply shows.
 fn encode_labels<S: ShowsLabels>(labels: &S, out: &mut Out) -> Result<(), AllocError>
     ensures ok { OnOk result (out.new.bytes ≡ out.old.bytes ++ text (spec.labels_reply (S.shown labels.now))) }
     ensures room { length out.old.bytes + out.old.spare ≤ length out.new.bytes + out.new.spare }
@@ -72,7 +72,7 @@ fn encode_labels<S: ShowsLabels>(labels: &S, out: &mut Out) -> Result<(), AllocE
     Ok(())
 }
 
-// // Writes `[label, value]`, with nil for an absent value.
+// Writes `[label, value]`, with nil for an absent value.
 fn encode_label(label: Shown<'_>, out: &mut Out) -> Result<(), AllocError>
     ensures ok { OnOk result (out.new.bytes ≡ out.old.bytes ++ text (spec.shown_label_reply (label_of label.entry))) }
     ensures room { length out.old.bytes + out.old.spare ≤ length out.new.bytes + out.new.spare }
@@ -82,7 +82,7 @@ fn encode_label(label: Shown<'_>, out: &mut Out) -> Result<(), AllocError>
     encode_value(label.value, out)
 }
 
-// // Writes a bulk string, or nil.
+// Writes a bulk string, or nil.
 fn encode_value(value: Option<&[u8]>, out: &mut Out) -> Result<(), AllocError>
     ensures ok { OnOk result (out.new.bytes ≡ out.old.bytes ++ text (spec.bulk_or_nil (option_copied value.entry))) }
     ensures room { length out.old.bytes + out.old.spare ≤ length out.new.bytes + out.new.spare }
@@ -93,7 +93,7 @@ fn encode_value(value: Option<&[u8]>, out: &mut Out) -> Result<(), AllocError>
     }
 }
 
-/// /// Writes the array of the rows. On `Err` the output is unchanged.
+/// Writes the array of the rows. On `Err` the output is unchanged.
 pub fn encode_rows(rows: &[Row], out: &mut Out) -> Result<(), AllocError>
     ensures ok { OnOk result (out.new.bytes ≡ out.old.bytes ++ text (spec.array (map spec.row_reply (map row_of rows.now)))) }
     ensures err { OnErr result (out.new.bytes ≡ out.old.bytes) }
@@ -107,7 +107,7 @@ pub fn encode_rows(rows: &[Row], out: &mut Out) -> Result<(), AllocError>
     Ok(())
 }
 
-/// /// Writes a row, or an empty array if there is none. On `Err` the output is unchanged or ends in part of it.
+/// Writes a row, or an empty array if there is none. On `Err` the output is unchanged or ends in part of it.
 pub(crate) fn encode_row(row: Option<Row>, out: &mut Out) -> Result<(), AllocError>
     ensures ok { OnOk result (out.new.bytes ≡ out.old.bytes ++ text (spec.last_row_reply (option_map row_of row))) }
     ensures room { length out.old.bytes + out.old.spare ≤ length out.new.bytes + out.new.spare }

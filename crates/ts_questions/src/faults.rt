@@ -1,4 +1,4 @@
-// // Error replies: rejected by the database, too many rows, out of memory.
+// Error replies: rejected by the database, too many rows, out of memory.
 ghost use Rattle.std.specs.Prelude.{◌≡◌, ◌⊎◌, ◌+◌, ◌<◌, ◌≤◌, [], length};
 ghost use Rattle.ts_spec.specs.Keyed.{Keyed};
 ghost use Rattle.ts_spec.specs.Refusal.{EmptyRows};
@@ -12,14 +12,14 @@ ghost use Rattle.ts_questions.specs.Answering.{message_of, IsShort, lost_reply};
 use ts_db::DbFault;
 use ts_resp::{Out, Reply, encode, put};
 
-/// /// The error reply to a query with EMPTY whose rows exceed the limit.
+/// The error reply to a query with EMPTY whose rows exceed the limit.
 pub(crate) fn too_many_rows() -> Reply
     ensures { reply_of result ≡ shown_refusal EmptyRows }
 {
     Reply::Error("ERR TSDB: too many empty buckets")
 }
 
-/// /// The error reply to a command that the database rejects or has no memory for. It names no key.
+/// The error reply to a command that the database rejects or has no memory for. It names no key.
 pub fn refusal_reply(fault: DbFault) -> Reply
     ensures reply { (ids : Keyed Id) → reply_of result ≡ Error (message_of (refusal_of ids fault)) }
     ensures short { IsShort (reply_of result) }
@@ -27,14 +27,14 @@ pub fn refusal_reply(fault: DbFault) -> Reply
     error(message(fault))
 }
 
-// // An error reply with this text.
+// An error reply with this text.
 fn error(words: &'static str) -> Reply
     ensures { reply_of result ≡ Error words.now }
 {
     Reply::Error(words)
 }
 
-// // The message of an error.
+// The message of an error.
 fn message(fault: DbFault) -> &'static str
     ensures { (ids : Keyed Id) → result.now ≡ message_of (refusal_of ids fault) }
 {
@@ -62,7 +62,7 @@ fn message(fault: DbFault) -> &'static str
     }
 }
 
-/// /// Writes the out-of-memory error. The output always has capacity reserved for it.
+/// Writes the out-of-memory error. The output always has capacity reserved for it.
 pub fn put_no_memory(out: &mut Out)
     requires empty { out.old.bytes ≡ [] }
     requires room { 128 ≤ length out.old.bytes + out.old.spare }
@@ -72,7 +72,7 @@ pub fn put_no_memory(out: &mut Out)
     put(&Reply::Error("OOM out of memory"), out);
 }
 
-/// /// Replaces the output by an error: too many rows, or else out of memory.
+/// Replaces the output by an error: too many rows, or else out of memory.
 pub(crate) fn put_lost(are_too_many: bool, out: &mut Out)
     requires room { 128 ≤ length out.old.bytes + out.old.spare }
     ensures bytes { out.new.bytes ≡ text (lost_reply are_too_many) }
@@ -86,7 +86,7 @@ pub(crate) fn put_lost(are_too_many: bool, out: &mut Out)
     put_no_memory(out);
 }
 
-/// /// Writes a reply, growing the output as needed, or writes the out-of-memory error.
+/// Writes a reply, growing the output as needed, or writes the out-of-memory error.
 pub fn put_or_no_memory(reply: &Reply, out: &mut Out)
     requires empty { out.old.bytes ≡ [] }
     requires room { 128 ≤ out.old.spare }

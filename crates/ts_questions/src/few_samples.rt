@@ -1,4 +1,4 @@
-// // Plain scans with a COUNT: narrow the interval, or read a few samples one by one.
+// Plain scans with a COUNT: narrow the interval, or read a few samples one by one.
 ghost use Rattle.std.specs.Prelude.{◌≡◌, ◌≤◌, true, false, None, ◌+◌, ◌*◌, [], ◌∷◌};
 ghost use Rattle.ts_spec.specs.Answer.{rows, row_of as row_of_sample};
 ghost use Rattle.ts_range.specs.Query.{query_of, row_of};
@@ -10,7 +10,7 @@ use std::sync::ledger::Ledger;
 use ts_range::{Query, Row, Take};
 use ts_sample::{Cell, Sample, Steps};
 
-/// /// An end time late enough for the first `count` rows, and early enough to skip most later samples.
+/// An end time late enough for the first `count` rows, and early enough to skip most later samples.
 pub(crate) fn last_wanted(question: &Question<'_>) -> u64
     requires forward { question.now.query.now.reverse ≡ false }
     ensures within { result ≤ question.now.query.now.to }
@@ -33,7 +33,7 @@ pub(crate) fn last_wanted(question: &Question<'_>) -> u64
     question.time_for(query.from, query.to, count)
 }
 
-/// /// A start time early enough for the last `count` rows, and late enough to skip most earlier samples.
+/// A start time early enough for the last `count` rows, and late enough to skip most earlier samples.
 pub(crate) fn first_wanted(question: &Question<'_>) -> u64
     requires backward { question.now.query.now.reverse ≡ true }
     ensures within { question.now.query.now.from ≤ result }
@@ -56,7 +56,7 @@ pub(crate) fn first_wanted(question: &Question<'_>) -> u64
     question.time_from(query.from, query.to, count)
 }
 
-/// /// Whether the query is a plain scan, which returns each sample of its interval.
+/// Whether the query is a plain scan, which returns each sample of its interval.
 pub(crate) fn tells_each(query: &Query) -> bool
     ensures { result ≡ true → (query.now.times ≡ None) × (query.now.values ≡ None) × (query.now.buckets ≡ None) }
 {
@@ -69,10 +69,10 @@ pub(crate) fn tells_each(query: &Query) -> bool
     query.buckets.is_none()
 }
 
-// // Above this many samples, scanning whole chunks is faster.
+// Above this many samples, scanning whole chunks is faster.
 const FEW: u64 = 64;
 
-/// /// The sample limit, if the query is a plain scan with a small COUNT.
+/// The sample limit, if the query is a plain scan with a small COUNT.
 pub(crate) fn few_wanted(question: &Question<'_>) -> Option<u64>
     ensures { ForSome result (IsFew question.now) }
 {
@@ -92,7 +92,7 @@ pub(crate) fn few_wanted(question: &Question<'_>) -> Option<u64>
     Some(count)
 }
 
-/// /// The sink after receiving the rows of the first `count` samples.
+/// The sink after receiving the rows of the first `count` samples.
 pub(crate) fn few_into<T: Take, L: Ledger>(
     question: &Question<'_>,
     count: u64,
@@ -122,7 +122,7 @@ pub(crate) fn few_into<T: Take, L: Ledger>(
     taker
 }
 
-/// /// The row of the last sample, if the query returns only that.
+/// The row of the last sample, if the query returns only that.
 pub(crate) fn last_alone<L: Ledger>(question: &Question<'_>, steps: &mut Steps<L>) -> Option<Row>
     requires backward { question.now.query.now.reverse ≡ true }
     ensures row { ForSome result (λ row. rows_asked question.now ≡ row_of row ∷ []) }
@@ -143,7 +143,7 @@ pub(crate) fn last_alone<L: Ledger>(question: &Question<'_>, steps: &mut Steps<L
     Some(row(&last))
 }
 
-// // The row of a sample.
+// The row of a sample.
 fn row(sample: &Sample) -> Row
     ensures { row_of result ≡ row_of_sample sample.now }
 {

@@ -1,5 +1,5 @@
-// // Emits the rows of samples newest first. It reads batches of samples from the back and emits each batch at once,
-// so it never builds a list of all rows.
+// Emits the rows of samples newest first. It reads batches of samples from the back and emits each batch at once, so it
+// never builds a list of all rows.
 ghost use Rattle.std.specs.Prelude.{◌≡◌, ◌-◌, ◌++◌, true, List, [], map, None, option_map};
 ghost use Rattle.ts_spec.specs.Answer.{Row as TheRow};
 ghost use Rattle.ts_range.specs.Query.{row_of};
@@ -13,11 +13,11 @@ use std::sync::ledger::Ledger;
 use ts_range::{Keep, Row, Take, turned};
 use ts_sample::Steps;
 
-// // The least number of samples in a batch, except in the earliest one.
+// The least number of samples in a batch, except in the earliest one.
 const SHARE: u64 = 1024;
 
-/// /// The sink after receiving the rows of the interval, newest first. Each batch begins where a chunk does, so no
-/// chunk is decoded twice.
+/// The sink after receiving the rows of the interval, newest first. Each batch begins where a chunk does, so no chunk
+/// is decoded twice.
 pub(crate) fn samples_back_into<T: Keep, L: Ledger>(
     question: &Question<'_>,
     mut taker: T,
@@ -57,7 +57,7 @@ pub(crate) fn samples_back_into<T: Keep, L: Ledger>(
     taker
 }
 
-// // The row limit that remains after `count` rows.
+// The row limit that remains after `count` rows.
 fn left_after(left: Option<u64>, count: usize) -> Option<u64>
     ensures { result ≡ option_map (λ n. n - count) left }
 {
@@ -65,7 +65,7 @@ fn left_after(left: Option<u64>, count: usize) -> Option<u64>
     Some(left.saturating_sub(count as u64))
 }
 
-/// /// Emits rows to a sink.
+/// Emits rows to a sink.
 pub(crate) fn hand_on<T: Take>(rows: &[Row], taker: &mut T)
     ensures { (before : List TheRow) → T.has taker.old before → T.has taker.new (before ++ map row_of rows.now) }
 {

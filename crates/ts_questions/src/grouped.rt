@@ -1,4 +1,4 @@
-// // Writes the groups of many series.
+// Writes the groups of many series.
 ghost use Rattle.std.specs.Prelude.{◌≡◌, ◌+◌, ◌≤◌, ◌++◌, All, true, false, length, sum_by, IfErr, IfOk};
 ghost use Rattle.std.specs.List.{list_any};
 ghost use Rattle.std.specs.Result.{is_err};
@@ -21,8 +21,8 @@ use ts_range::RangeFault;
 use ts_resp::{Out, Word};
 use ts_sample::Steps;
 
-/// /// Writes the array of the groups of these series. Fails if a series with the label has too many rows. Returns
-/// whether memory ran out. In both cases the output may end in part of the array.
+/// Writes the array of the groups of these series. Fails if a series with the label has too many rows. Returns whether
+/// memory ran out. In both cases the output may end in part of the array.
 pub(crate) fn add_groups<L: Ledger>(
     db: &Db,
     ids: &[Id],
@@ -48,7 +48,7 @@ pub(crate) fn add_groups<L: Ledger>(
     Ok(lost)
 }
 
-// // Returns that memory ran out, or fails if a series with the label has too many rows. Allocates nothing.
+// Returns that memory ran out, or fails if a series with the label has too many rows. Allocates nothing.
 fn lost_unless_refused<L: Ledger>(
     db: &Db,
     ids: &[Id],
@@ -69,7 +69,7 @@ fn lost_unless_refused<L: Ledger>(
     Ok(true)
 }
 
-// // Whether a series has the label and too many rows. Allocates nothing.
+// Whether a series has the label and too many rows. Allocates nothing.
 fn is_number_refused<L: Ledger>(db: &Db, id: Id, grouping: &Grouping, steps: &mut Steps<L>) -> bool
     requires { IsNumbered db.now.ids id }
     ensures refused { result ≡ is_group_refused grouping.now db.now (key_with db.now.ids id) }
@@ -78,7 +78,7 @@ fn is_number_refused<L: Ledger>(db: &Db, id: Id, grouping: &Grouping, steps: &mu
     grouping.is_refused(db, id, steps)
 }
 
-// // Writes the group of `value`, or after memory ran out only checks that the rows are not too many. Returns whether
+// Writes the group of `value`, or after memory ran out only checks that the rows are not too many. Returns whether
 // memory ran out.
 fn add_group<L: Ledger>(
     db: &Db,
@@ -115,7 +115,7 @@ fn add_group<L: Ledger>(
     )))
 }
 
-// // Whether memory ran out.
+// Whether memory ran out.
 fn is_lost(done: Result<(), AllocError>) -> bool
     ensures { result ≡ is_err done }
 {

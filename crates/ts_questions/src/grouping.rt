@@ -1,4 +1,4 @@
-// // A query with GROUPBY: what it reads of each series.
+// A query with GROUPBY: what it reads of each series.
 ghost use Rattle.std.specs.Prelude.{◌≡◌, ◌+◌, ◌≤◌, Some};
 ghost use Rattle.ts_spec.specs.Key.{Key};
 ghost use Rattle.ts_spec.specs.Keyed.{get};
@@ -19,17 +19,17 @@ use ts_range::{Filters, Query, RangeFault};
 use ts_resp::Out;
 use ts_sample::Steps;
 
-/// /// A query with GROUPBY, and how the reply shows its groups.
+/// A query with GROUPBY, and how the reply shows its groups.
 #[derive(Drop)]
 pub(crate) struct Grouping {
     pub(crate) latest: bool,
     pub(crate) show: Show,
-    /// /// The query over each series. It has no row limit: that applies to each group.
+    /// The query over each series. It has no row limit: that applies to each group.
     pub(crate) query: Query,
-    /// /// The prepared filters of the query, or `None` if there was no memory for them.
+    /// The prepared filters of the query, or `None` if there was no memory for them.
     pub(crate) filters: Option<Filters>,
     pub(crate) by: GroupBy,
-    /// /// The maximum number of rows of each group, if any.
+    /// The maximum number of rows of each group, if any.
     pub(crate) count: Option<u64>,
 }
 
@@ -57,7 +57,7 @@ impl Grouping {
         }
     }
 
-    /// /// Whether the series has the label.
+    /// Whether the series has the label.
     pub(crate) fn asks(&self, db: &Db, id: Id) -> bool
         requires { IsLive db.now.ids id }
         ensures { (key : Key) → get key db.now.ids ≡ Some id → result ≡ has_label db.now self.now.by.label key }
@@ -65,7 +65,7 @@ impl Grouping {
         db.labels_of(id).get(&self.by.label).is_some()
     }
 
-    // // Whether the series has the label and too many rows.
+    // Whether the series has the label and too many rows.
     fn is_too_much_of<L: Ledger>(&self, db: &Db, id: Id, steps: &mut Steps<L>) -> bool
         requires { IsLive db.now.ids id }
         ensures refused { (key : Key) → get key db.now.ids ≡ Some id → result ≡ is_group_refused self.now db.now key }

@@ -1,4 +1,4 @@
-// // Finds the last rows of a query in batches from the back, so that it decodes no earlier samples than necessary.
+// Finds the last rows of a query in batches from the back, so that it decodes no earlier samples than necessary.
 ghost use Rattle.std.specs.Prelude.{◌≡◌, ◌+◌, ◌*◌, ◌≤◌, ◌<◌, ◌⊎◌, ◌++◌, map, reverse, take, IsSome, IfOk};
 ghost use Rattle.std.specs.Option.{ForSome};
 ghost use Rattle.ts_spec.specs.Bucket.{start};
@@ -13,7 +13,7 @@ use std::sync::ledger::Ledger;
 use ts_range::{Row, RowList, turned};
 use ts_sample::Steps;
 
-/// /// The last `count` rows of the samples from `from` on, newest first.
+/// The last `count` rows of the samples from `from` on, newest first.
 pub(crate) fn last_rows<L: Ledger>(
     question: &Question<'_>,
     from: u64,
@@ -44,9 +44,9 @@ pub(crate) fn last_rows<L: Ledger>(
     Ok(found)
 }
 
-// // The start of a batch that ends at `end`: no earlier than `from`, and otherwise the start of a bucket. A batch
-// goes back by the samples of one chunk, or by as many buckets as are missing if that is further. Each batch goes
-// back eight times as far as the previous one.
+// The start of a batch that ends at `end`: no earlier than `from`, and otherwise the start of a bucket. A batch goes
+// back by the samples of one chunk, or by as many buckets as are missing if that is further. Each batch goes back eight
+// times as far as the previous one.
 fn start_of_share(question: &Question<'_>, from: u64, end: u64, wanted: u64, shares: u64) -> u64
     requires ordered { (from ≤ end) × (end ≤ question.now.query.now.to) }
     requires more { 0 < wanted }
@@ -70,8 +70,8 @@ fn start_of_share(question: &Question<'_>, from: u64, end: u64, wanted: u64, sha
     from.max(grid.start_of(near.min(last.saturating_sub(back))))
 }
 
-// // How far the next batch goes back, relative to the first. `None` takes all remaining samples. A chunk at the
-// border of two batches is decoded twice, so there are few batches.
+// How far the next batch goes back, relative to the first. `None` takes all remaining samples. A chunk at the border of
+// two batches is decoded twice, so there are few batches.
 fn scale_after(shares: u64) -> Option<u64>
     ensures { IsSome result → shares < 3 }
 {
@@ -83,7 +83,7 @@ fn scale_after(shares: u64) -> Option<u64>
     }
 }
 
-/// /// The rows of the samples between two times, oldest first.
+/// The rows of the samples between two times, oldest first.
 pub(crate) fn rows_between<L: Ledger>(
     question: &Question<'_>,
     from: u64,
@@ -97,7 +97,7 @@ pub(crate) fn rows_between<L: Ledger>(
     handed(question, from, to, taker, steps).into_rows()
 }
 
-// // Appends earlier rows, newest first, and keeps at most `count` in total.
+// Appends earlier rows, newest first, and keeps at most `count` in total.
 fn with_earlier(mut found: Vec<Row>, earlier: Vec<Row>, count: u64) -> Result<Vec<Row>, AllocError>
     ensures { IfOk result (λ all. map row_of all.items ≡ take count (map row_of found.items ++ reverse (map row_of earlier.items))) }
 {

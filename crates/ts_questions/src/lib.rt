@@ -1,4 +1,4 @@
-//! //! Answers queries from the database: reads one series or many, and writes the text of the reply.
+//! Answers queries from the database: reads one series or many, and writes the text of the reply.
 #![tactic(auto)]
 
 mod by_value;

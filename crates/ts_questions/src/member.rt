@@ -1,4 +1,4 @@
-// // Writes one member of a reply over many series. After an `Err` the output may end in part of it.
+// Writes one member of a reply over many series. After an `Err` the output may end in part of it.
 ghost use Rattle.std.specs.Prelude.{◌≡◌, ◌+◌, ◌≤◌, ◌++◌, length, map, is_none, None, Some, option_map, OnOk, IfErr};
 ghost use Rattle.std.specs.Prelude.{IfOk};
 ghost use Rattle.std.specs.Option.{ForSome};
@@ -32,7 +32,7 @@ use ts_range::{Filters, Query, RangeFault, Row, RowList};
 use ts_resp::{Out, encode_bulk};
 use ts_sample::{Cell, Sample, Steps};
 
-/// /// Writes the member for one series.
+/// Writes the member for one series.
 pub(crate) fn add_member<L: Ledger>(
     db: &Db,
     id: Id,
@@ -59,7 +59,7 @@ pub(crate) fn add_member<L: Ledger>(
     }
 }
 
-/// /// The result of a call that can only fail for lack of memory.
+/// The result of a call that can only fail for lack of memory.
 pub(crate) fn in_memory(done: Result<(), AllocError>) -> Result<(), RangeFault>
     ensures { result ≡ in_memory done }
 {
@@ -69,7 +69,7 @@ pub(crate) fn in_memory(done: Result<(), AllocError>) -> Result<(), RangeFault>
     }
 }
 
-// // Writes the member with its last row.
+// Writes the member with its last row.
 fn add_last<L: Ledger>(
     db: &Db,
     id: Id,
@@ -88,7 +88,7 @@ fn add_last<L: Ledger>(
     encode_last_member(db.key_of(id), db.labels_of(id), show, last, out)
 }
 
-// // The row of a sample.
+// The row of a sample.
 fn row_of(sample: Option<Sample>) -> Option<Row>
     ensures { option_map row_of result ≡ option_map row_of_sample sample }
 {
@@ -99,7 +99,7 @@ fn row_of(sample: Option<Sample>) -> Option<Row>
     })
 }
 
-// // Writes the member with the rows of a query. Fails if they are too many.
+// Writes the member with the rows of a query. Fails if they are too many.
 fn add_rows<L: Ledger>(
     db: &Db,
     id: Id,
@@ -127,7 +127,7 @@ fn add_rows<L: Ledger>(
     in_memory(encode_member(db.key_of(id), db.labels_of(id), show, &rows, out))
 }
 
-/// /// The error for rows that can't be returned: too many rows, or out of memory.
+/// The error for rows that can't be returned: too many rows, or out of memory.
 pub(crate) fn lost(are_too_many: bool) -> RangeFault
     ensures { are_too_many ≡ is_too_many result }
 {
@@ -137,7 +137,7 @@ pub(crate) fn lost(are_too_many: bool) -> RangeFault
     RangeFault::Memory(AllocError)
 }
 
-/// /// The rows of a query. Fails if they are too many, or if there is no memory.
+/// The rows of a query. Fails if they are too many, or if there is no memory.
 pub(crate) fn rows_of<L: Ledger>(
     question: &Question<'_>,
     steps: &mut Steps<L>,
@@ -156,7 +156,7 @@ pub(crate) fn rows_of<L: Ledger>(
     }
 }
 
-// // The rows of a row plan, in a list.
+// The rows of a row plan, in a list.
 fn rows_told<L: Ledger>(
     question: &Question<'_>,
     told: &Told,

@@ -1,4 +1,4 @@
-// // Writes the members of a reply over many series.
+// Writes the members of a reply over many series.
 ghost use Rattle.std.specs.Prelude.{◌≡◌, ◌+◌, ◌≤◌, ◌++◌, All, List, [], true, false, length, sum_by, None, Some};
 ghost use Rattle.std.specs.Prelude.{IfErr, IfOk};
 ghost use Rattle.std.specs.Fmt.{decimal};
@@ -23,8 +23,8 @@ use ts_range::RangeFault;
 use ts_resp::{Out, encode_count};
 use ts_sample::Steps;
 
-/// /// Writes the reply over all series that match the filters, in the order of their keys. If a series has too many
-/// rows, the reply is that error, even if memory ran out for others.
+/// Writes the reply over all series that match the filters, in the order of their keys. If a series has too many rows,
+/// the reply is that error, even if memory ran out for others.
 pub fn put_members<L: Ledger>(
     db: &Db,
     filters: &[Filter],
@@ -42,8 +42,8 @@ pub fn put_members<L: Ledger>(
     put_many(db, filters, wanted, out, steps);
 }
 
-/// /// Writes the array of the members for these series. Fails if one of them has too many rows. Returns whether
-/// memory ran out. In both cases the output may end in part of the array.
+/// Writes the array of the members for these series. Fails if one of them has too many rows. Returns whether memory ran
+/// out. In both cases the output may end in part of the array.
 pub(crate) fn add_members<L: Ledger>(
     db: &Db,
     ids: &[Id],
@@ -67,7 +67,7 @@ pub(crate) fn add_members<L: Ledger>(
     Ok(lost)
 }
 
-/// /// Writes the header of an array. Returns whether memory ran out.
+/// Writes the header of an array. Returns whether memory ran out.
 pub(crate) fn begin_members(count: usize, out: &mut Out) -> bool
     ensures begun { result ≡ false → out.new.bytes ≡ out.old.bytes ++ line_text 42 (decimal count) }
     ensures room { length out.old.bytes + out.old.spare ≤ length out.new.bytes + out.new.spare }
@@ -78,8 +78,8 @@ pub(crate) fn begin_members(count: usize, out: &mut Out) -> bool
     }
 }
 
-// // Writes one member, or after memory ran out only checks that its rows are not too many. Returns whether memory
-// ran out.
+// Writes one member, or after memory ran out only checks that its rows are not too many. Returns whether memory ran
+// out.
 fn add_next<L: Ledger>(
     db: &Db,
     id: Id,

@@ -1,4 +1,4 @@
-// // Writes the replies to TS.RANGE, TS.MRANGE (and their reverse forms) and TS.GET.
+// Writes the replies to TS.RANGE, TS.MRANGE (and their reverse forms) and TS.GET.
 ghost use Rattle.std.specs.Prelude.{◌≡◌, ◌+◌, ◌*◌, ◌≤◌, [], length, Some, option_map};
 ghost use Rattle.ts_spec.specs.Answer.{answer as spec_answer, row_of as row_of_sample};
 ghost use Rattle.ts_spec.specs.Key.{Key};
@@ -37,7 +37,7 @@ use ts_range::{Filters, Query};
 use ts_resp::{Out, Word, begin_array, put, put_pair};
 use ts_sample::{Cell, Sample, Steps};
 
-/// /// Writes the reply to TS.RANGE and TS.REVRANGE.
+/// Writes the reply to TS.RANGE and TS.REVRANGE.
 pub fn put_range<L: Ledger>(
     db: &Db,
     key: &Word,
@@ -59,7 +59,7 @@ pub fn put_range<L: Ledger>(
     }
 }
 
-// // Writes the rows of series `id`.
+// Writes the rows of series `id`.
 fn put_rows_of<L: Ledger>(
     db: &Db,
     id: Id,
@@ -82,7 +82,7 @@ fn put_rows_of<L: Ledger>(
     }
 }
 
-// // Writes the rows of a query.
+// Writes the rows of a query.
 fn put_rows<L: Ledger>(question: &Question<'_>, out: &mut Out, steps: &mut Steps<L>)
     requires empty { out.old.bytes ≡ [] }
     requires room { 128 ≤ out.old.spare }
@@ -97,7 +97,7 @@ fn put_rows<L: Ledger>(question: &Question<'_>, out: &mut Out, steps: &mut Steps
     }
 }
 
-// // Writes the rows of a row plan, one by one.
+// Writes the rows of a row plan, one by one.
 fn put_told<L: Ledger>(question: &Question<'_>, told: &Told, out: &mut Out, steps: &mut Steps<L>)
     requires told { IsTold question.now.query.now (samples_asked question.now) told.now }
     requires empty { out.old.bytes ≡ [] }
@@ -117,7 +117,7 @@ fn put_told<L: Ledger>(question: &Question<'_>, told: &Told, out: &mut Out, step
     *out = rows_into(question, told, taker, steps).finish();
 }
 
-/// /// Writes the reply to TS.GET. Allocates nothing.
+/// Writes the reply to TS.GET. Allocates nothing.
 pub fn put_get<L: Ledger>(db: &Db, key: &Word, latest: bool, out: &mut Out, steps: &mut Steps<L>)
     requires empty { out.old.bytes ≡ [] }
     requires room { 128 ≤ out.old.spare }
@@ -131,7 +131,7 @@ pub fn put_get<L: Ledger>(db: &Db, key: &Word, latest: bool, out: &mut Out, step
     }
 }
 
-// // Writes the row of the last sample, or an empty array if there is none.
+// Writes the row of the last sample, or an empty array if there is none.
 fn put_last(last: Option<Sample>, out: &mut Out)
     requires empty { out.old.bytes ≡ [] }
     requires room { 128 ≤ out.old.spare }
@@ -144,8 +144,8 @@ fn put_last(last: Option<Sample>, out: &mut Out)
     }
 }
 
-/// /// Writes the reply to TS.MRANGE and TS.MREVRANGE: the rows of each series that matches the filters, or of each
-/// group of them.
+/// Writes the reply to TS.MRANGE and TS.MREVRANGE: the rows of each series that matches the filters, or of each group
+/// of them.
 pub fn put_ranges<L: Ledger>(
     db: &Db,
     filters: &[Filter],

@@ -1,5 +1,5 @@
-// // Replies over many series: what a reply writes for each, the reply itself, and the search for a series with too
-// many rows when memory runs out.
+// Replies over many series: what a reply writes for each, the reply itself, and the search for a series with too many
+// rows when memory runs out.
 ghost use Rattle.std.specs.Prelude.{◌≡◌, ◌+◌, ◌≤◌, ℕ, Bool, true, false, All, List, [], length, sum_by, Some, IfOk};
 ghost use Rattle.std.specs.Prelude.{IfErr};
 ghost use Rattle.std.specs.List.{list_any};
@@ -23,30 +23,30 @@ use ts_range::RangeFault;
 use ts_resp::Out;
 use ts_sample::Steps;
 
-/// /// What a reply over many series writes for each of them.
+/// What a reply over many series writes for each of them.
 pub(crate) trait Telling {
-    // // Whether a series has too many rows, and the most steps it takes to write its part.
+    // Whether a series has too many rows, and the most steps it takes to write its part.
     ghost is_too_much: { Self → Stock → Key → Bool };
 
     ghost most: { Self → Stock → Key → ℕ };
 
-    // // What must hold before writing, and the response over keys that all are within the limit.
+    // What must hold before writing, and the response over keys that all are within the limit.
     ghost is_ready: { Self → Type 0 };
 
     ghost response: { Self → Stock → List Key → Response };
 
-    /// /// Whether a series can have too many rows.
+    /// Whether a series can have too many rows.
     fn can_be_refused(&self) -> bool
         ensures { result ≡ false → (stock : Stock) (key : Key) → is_too_much self.now stock key ≡ false };
 
-    /// /// Whether a series has too many rows. Allocates nothing.
+    /// Whether a series has too many rows. Allocates nothing.
     fn is_refused<L: Ledger>(&self, db: &Db, id: Id, steps: &mut Steps<L>) -> bool
         requires { IsLive db.now.ids id }
         ensures refused { (key : Key) → get key db.now.ids ≡ Some id → result ≡ is_too_much self.now db.now key }
         ensures steps { (key : Key) → get key db.now.ids ≡ Some id → steps.new ≤ steps.old + most self.now db.now key };
 
-    /// /// Writes the reply over these series. Fails if one of them has too many rows. Returns whether memory ran
-    /// out. In both cases the output may end in part of the reply.
+    /// Writes the reply over these series. Fails if one of them has too many rows. Returns whether memory ran out. In
+    /// both cases the output may end in part of the reply.
     fn put_all<L: Ledger>(
         &self,
         db: &Db,
@@ -65,8 +65,8 @@ pub(crate) trait Telling {
         ensures steps { (keys : List Key) → AreNumbersOf db.now.ids keys ids.now → steps.new ≤ steps.old + sum_by (most self.now db.now) keys };
 }
 
-/// /// Writes the reply over the series that match the filters, in the order of their keys. If a series has too many
-/// rows, the reply is that error, even if memory ran out for others.
+/// Writes the reply over the series that match the filters, in the order of their keys. If a series has too many rows,
+/// the reply is that error, even if memory ran out for others.
 pub(crate) fn put_many<T: Telling, L: Ledger>(
     db: &Db,
     filters: &[Filter],
@@ -93,7 +93,7 @@ pub(crate) fn put_many<T: Telling, L: Ledger>(
     }
 }
 
-/// /// Whether a series that matches the filters has too many rows. Allocates nothing.
+/// Whether a series that matches the filters has too many rows. Allocates nothing.
 pub(crate) fn is_one_refused<T: Telling, L: Ledger>(
     db: &Db,
     filters: &[Filter],
@@ -114,7 +114,7 @@ pub(crate) fn is_one_refused<T: Telling, L: Ledger>(
     false
 }
 
-// // Whether a series matches the filters and has too many rows.
+// Whether a series matches the filters and has too many rows.
 fn is_refused_of<T: Telling, L: Ledger>(
     db: &Db,
     id: Id,

@@ -1,4 +1,4 @@
-// // Row plans: which rows a query returns, decided before the first row is produced.
+// Row plans: which rows a query returns, decided before the first row is produced.
 ghost use Rattle.std.specs.Prelude.{◌≡◌, ◌≤◌, ◌+◌, ◌*◌, None, Some, is_none, IfNone, IfSome};
 ghost use Rattle.ts_spec.specs.Answer.{answer as spec_answer};
 ghost use Rattle.ts_spec.specs.Key.{Key};
@@ -16,17 +16,17 @@ use ts_db::{Db, Id};
 use ts_range::{Buckets as Grouped, Query, Stretch, are_too_many, filled_buckets};
 use ts_sample::Steps;
 
-/// /// Which rows a query returns.
+/// Which rows a query returns.
 #[derive(Clone, Copy)]
 pub(crate) enum Told {
-    /// /// One for each sample, or for each non-empty bucket.
+    /// One for each sample, or for each non-empty bucket.
     Samples,
-    /// /// One for each bucket of a range, empty ones included.
+    /// One for each bucket of a range, empty ones included.
     Buckets(Stretch),
     Nothing,
 }
 
-/// /// The row plan of a query, or `None` if it has too many rows. Allocates nothing.
+/// The row plan of a query, or `None` if it has too many rows. Allocates nothing.
 pub(crate) fn told_of<L: Ledger>(question: &Question<'_>, steps: &mut Steps<L>) -> Option<Told>
     ensures told { IfSome result (IsTold question.now.query.now (samples_asked question.now)) }
     ensures few { IfSome result (λ told. answer_asked question.now ≡ Some (rows_asked question.now)) }
@@ -40,7 +40,7 @@ pub(crate) fn told_of<L: Ledger>(question: &Question<'_>, steps: &mut Steps<L>) 
     }
 }
 
-// // The row plan of a query with EMPTY and these buckets.
+// The row plan of a query with EMPTY and these buckets.
 fn told_filled<L: Ledger>(
     question: &Question<'_>,
     buckets: &Grouped,
@@ -63,7 +63,7 @@ fn told_filled<L: Ledger>(
     }
 }
 
-/// /// Whether a query over series `id` has too many rows. Allocates nothing.
+/// Whether a query over series `id` has too many rows. Allocates nothing.
 pub(crate) fn has_too_many_rows<L: Ledger>(
     db: &Db,
     id: Id,

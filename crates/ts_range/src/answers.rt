@@ -1,4 +1,4 @@
-// // Answers a query from samples that were collected before.
+// Answers a query from samples that were collected before.
 ghost use Rattle.std.specs.Prelude.{◌≡◌, ◌≢◌, ◌≤◌, ◌^◌, ℕ, List, [], length, map, Some, None, IfOk, IfErr, filter};
 ghost use Rattle.std.specs.Prelude.{reverse, option_map};
 ghost use Rattle.ts_spec.specs.Sample.{Point, IsAscending, between};
@@ -21,8 +21,8 @@ use crate::walk::Walk;
 use std::alloc::{AllocError, Global};
 use ts_sample::{Sample, Visit, places_between};
 
-/// /// Answers `query` from the collected samples `asked`. `empty_rows` limits the rows of a query with EMPTY. Fails
-/// with `EmptyRows` above that limit, and with `Memory` if memory runs out.
+/// Answers `query` from the collected samples `asked`. `empty_rows` limits the rows of a query with EMPTY. Fails with
+/// `EmptyRows` above that limit, and with `Memory` if memory runs out.
 pub fn answer(
     alloc: Global,
     query: &Query,
@@ -52,7 +52,7 @@ pub fn answer(
     }
 }
 
-// // All rows of the answer, without the limit on empty buckets.
+// All rows of the answer, without the limit on empty buckets.
 fn rows(alloc: Global, query: &Query, asked: &Asked) -> Result<Vec<Row>, AllocError>
     requires ascending { IsAscending asked.now.rows.items }
     requires within { between query.now.from query.now.to asked.now.rows.items ≡ asked.now.rows.items }
@@ -73,7 +73,7 @@ fn rows(alloc: Global, query: &Query, asked: &Asked) -> Result<Vec<Row>, AllocEr
     Ok(rows)
 }
 
-// // The rows of a bucket range, oldest first.
+// The rows of a bucket range, oldest first.
 fn stretch_rows(
     alloc: Global,
     query: &Query,
@@ -105,7 +105,7 @@ fn stretch_rows(
         .into_rows()
 }
 
-// // Feeds all samples to a fresh `LastValues` and returns its sink.
+// Feeds all samples to a fresh `LastValues` and returns its sink.
 fn seen_by<T: Take>(samples: &[Sample], mut line: LastValues<'_, T>) -> T
     requires room { length samples.now ≤ 10 ^ 14 }
     requires none { line.seen ≡ [] }
@@ -115,10 +115,10 @@ fn seen_by<T: Take>(samples: &[Sample], mut line: LastValues<'_, T>) -> T
     line.finish()
 }
 
-// // The most samples that one scan accepts. No memory could hold as many.
+// The most samples that one scan accepts. No memory could hold as many.
 pub(crate) const MOST: usize = 100_000_000_000_000;
 
-// // The rows of the samples that pass the filters, or of their buckets.
+// The rows of the samples that pass the filters, or of their buckets.
 pub(crate) fn walked_rows(
     alloc: Global,
     query: &Query,
@@ -142,7 +142,7 @@ pub(crate) fn walked_rows(
     Ok(first(rows, query.count))
 }
 
-/// /// Reverses the rows and keeps at most the first `count`.
+/// Reverses the rows and keeps at most the first `count`.
 pub fn turned(mut rows: Vec<Row>, count: Option<u64>) -> Vec<Row>
     ensures { map row_of result.items ≡ spec.first_ones count (reverse (map row_of rows.items)) }
 {
@@ -150,7 +150,7 @@ pub fn turned(mut rows: Vec<Row>, count: Option<u64>) -> Vec<Row>
     first(rows, count)
 }
 
-// // Keeps at most the first `count` rows.
+// Keeps at most the first `count` rows.
 fn first(mut rows: Vec<Row>, count: Option<u64>) -> Vec<Row>
     ensures { map row_of result.items ≡ spec.first_ones count (map row_of rows.items) }
 {
@@ -160,7 +160,7 @@ fn first(mut rows: Vec<Row>, count: Option<u64>) -> Vec<Row>
     rows
 }
 
-// // Feeds all samples to a fresh scan and returns its sink.
+// Feeds all samples to a fresh scan and returns its sink.
 pub(crate) fn walked<T: Take>(samples: &[Sample], mut walk: Walk<'_, T>) -> T
     requires ascending { IsAscending samples.now }
     requires room { length samples.now ≤ 10 ^ 14 }
@@ -172,7 +172,7 @@ pub(crate) fn walked<T: Take>(samples: &[Sample], mut walk: Walk<'_, T>) -> T
     walk.finish()
 }
 
-// // Shows all samples to a visitor, in order.
+// Shows all samples to a visitor, in order.
 pub(crate) fn show_all<V: Visit>(samples: &[Sample], visit: &mut V)
     requires { length samples.now ≤ V.room visit.old }
     ensures { visit.new ≡ visited V.step visit.old samples.now }

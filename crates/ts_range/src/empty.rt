@@ -1,4 +1,4 @@
-// // The row limit of queries with EMPTY, and the last sample before a bucket.
+// The row limit of queries with EMPTY, and the last sample before a bucket.
 ghost use Rattle.std.specs.Prelude.{◌≡◌, ◌&&◌, List, length, nat_lt, IsTrue};
 ghost use Rattle.ts_spec.specs.Sample.{Point, IsAscending, first_of, last_of};
 ghost use Rattle.ts_spec.specs.Answer as spec;
@@ -10,8 +10,8 @@ use crate::query::{Asked, Query};
 use crate::starts::Starts;
 use ts_sample::{Sample, place_of};
 
-/// /// Whether the query asks for empty buckets and its answer has more than `limit` rows. `ends` are the times of
-/// the first and the last sample of the series, in milliseconds.
+/// Whether the query asks for empty buckets and its answer has more than `limit` rows. `ends` are the times of the
+/// first and the last sample of the series, in milliseconds.
 pub fn are_too_many(query: &Query, ends: Option<(u64, u64)>, limit: u32) -> bool
     ensures { (l : List Point) → (IsTrue (spec.tells_empty (query_of query.now).buckets) → ends ≡ times_of (first_of l) (last_of l))
         → result ≡ (spec.tells_empty (query_of query.now).buckets
@@ -29,7 +29,7 @@ pub fn are_too_many(query: &Query, ends: Option<(u64, u64)>, limit: u32) -> bool
     }
 }
 
-// // The last sample before `start`, from the collected samples. `first` says that `start` begins the first bucket.
+// The last sample before `start`, from the collected samples. `first` says that `start` begins the first bucket.
 pub(crate) fn before(asked: &Asked, start: u64, first: bool) -> Option<Sample>
     requires { IsAscending asked.now.rows.items }
     ensures { result ≡ known_before first start asked.now }

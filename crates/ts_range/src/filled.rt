@@ -1,4 +1,4 @@
-// // A sink that passes on rows of buckets and fills the gaps between them with rows of empty buckets.
+// A sink that passes on rows of buckets and fills the gaps between them with rows of empty buckets.
 ghost use Rattle.std.specs.Prelude.{◌≡◌, ◌≤◌, ◌<◌, ◌+◌, ◌^◌, ℕ, List, [], ◌∷◌, None, Some, length, slice_get};
 ghost use Rattle.ts_spec.specs.Sample.{MAX_TIME};
 ghost use Rattle.ts_spec.specs.Answer.{Row as TheRow};
@@ -11,7 +11,7 @@ use crate::query::Row;
 use crate::take::Take;
 use ts_sample::Cell;
 
-/// /// Receives rows that have bucket starts as their times, in ascending order.
+/// Receives rows that have bucket starts as their times, in ascending order.
 #[derive(Drop)]
 pub struct Filled<T: Take> {
     taker: T,
@@ -37,7 +37,7 @@ impl<T: Take> Filled<T> {
         }
     }
 
-    /// /// Emits the rows of the remaining empty buckets and returns the inner sink.
+    /// Emits the rows of the remaining empty buckets and returns the inner sink.
     pub fn into_taker(self) -> T
         ensures { (rows : List TheRow) → ((more : List TheRow) → IsFilled (T.has self.taker) (filling_of self.filling) self.place (rows ++ more) more)
             → T.has result (filled_line (filling_of self.filling) rows) }
@@ -69,7 +69,7 @@ impl<T: Take> Take for Filled<T> {
     }
 }
 
-// // Emits the rows of the empty buckets before `time`.
+// Emits the rows of the empty buckets before `time`.
 fn fill_before<T: Take>(filling: &Filling, place: &mut Place, time: u64, taker: &mut T)
     ensures filled { (all more : List TheRow) (r : TheRow) → r.time ≡ time → IsFilled (T.has taker.old) (filling_of filling.now) place.old all (r ∷ more)
         → IsFilled (T.has taker.new) (filling_of filling.now) place.new all (r ∷ more) }
@@ -83,7 +83,7 @@ fn fill_before<T: Take>(filling: &Filling, place: &mut Place, time: u64, taker: 
     }
 }
 
-// // Emits the rows of the remaining empty buckets.
+// Emits the rows of the remaining empty buckets.
 fn fill_rest<T: Take>(filling: &Filling, place: &mut Place, taker: &mut T)
     ensures { (all : List TheRow) → IsFilled (T.has taker.old) (filling_of filling.now) place.old all []
         → T.has taker.new (filled_line (filling_of filling.now) all) }
@@ -93,7 +93,7 @@ fn fill_rest<T: Take>(filling: &Filling, place: &mut Place, taker: &mut T)
     }
 }
 
-// // Emits the row of the next bucket, which is empty.
+// Emits the row of the next bucket, which is empty.
 fn fill<T: Take>(filling: &Filling, place: &mut Place, start: u64, taker: &mut T)
     requires time { start ≤ MAX_TIME }
     requires next { slice_get (starts_of filling.now.starts) place.old.told ≡ Some start }
@@ -106,7 +106,7 @@ fn fill<T: Take>(filling: &Filling, place: &mut Place, start: u64, taker: &mut T
     place.told += 1;
 }
 
-// // Emits the row of the next bucket with this value, if any bucket is left.
+// Emits the row of the next bucket with this value, if any bucket is left.
 fn give<T: Take>(filling: &Filling, place: &mut Place, value: Cell, taker: &mut T)
     ensures { (all more : List TheRow) (r : TheRow) → r.value ≡ cell_of value
         → ((b : ℕ) → slice_get (starts_of filling.now.starts) place.old.told ≡ Some b → r.time ≤ b)

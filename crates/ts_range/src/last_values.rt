@@ -1,5 +1,4 @@
-// // A visitor that emits the last value of each bucket. An empty bucket repeats the value of the last sample before
-// it.
+// A visitor that emits the last value of each bucket. An empty bucket repeats the value of the last sample before it.
 ghost use Rattle.std.specs.Prelude.{◌≡◌, ◌<◌, ◌+◌, ◌^◌, ◌++◌, ℕ, List, [], ◌∷◌, Some, if◌then◌else◌, take, length};
 ghost use Rattle.std.specs.Prelude.{option_map, slice_get};
 ghost use Rattle.ts_spec.specs.Answer.{Number};
@@ -17,8 +16,8 @@ use crate::trail::Trail;
 use std::marker::Model;
 use ts_sample::{Cell, Sample, Units, Visit};
 
-/// /// Emits the row of a bucket as soon as a later sample arrives. A sample that the filters drop does not count for
-/// its own bucket, but empty buckets after it repeat its value.
+/// Emits the row of a bucket as soon as a later sample arrives. A sample that the filters drop does not count for its
+/// own bucket, but empty buckets after it repeat its value.
 #[derive(Drop)]
 pub struct LastValues<'f, T: Take> {
     filters: &'f Filters,
@@ -28,14 +27,14 @@ pub struct LastValues<'f, T: Take> {
     seen: Trail,
 }
 
-// // The current bucket. More samples may follow.
+// The current bucket. More samples may follow.
 #[derive(Clone, Copy)]
 pub(crate) struct Current {
-    // // How many buckets were emitted before it, and the last value before it.
+    // How many buckets were emitted before it, and the last value before it.
     place: Place,
-    // // The last value in it that passes the filters.
+    // The last value in it that passes the filters.
     chosen: Option<Cell>,
-    // // The last value of all samples so far.
+    // The last value of all samples so far.
     latest: Option<Cell>,
 }
 
@@ -70,7 +69,7 @@ impl<'f, T: Take> LastValues<'f, T> {
         }
     }
 
-    /// /// Emits the rows of the remaining buckets and returns the sink.
+    /// Emits the rows of the remaining buckets and returns the sink.
     pub fn finish(self) -> T
         ensures { (lo hi : ℕ) → IsLine lo hi self.entry → T.has result (last_rows self.entry) }
     {
@@ -111,7 +110,7 @@ impl<T: Take> Visit for LastValues<'_, T> {
     ghost lowers = { λ v p. Prim.omega arith };
 }
 
-// // Emits the rows of the buckets before that of the sample, then adds the sample to its own.
+// Emits the rows of the buckets before that of the sample, then adds the sample to its own.
 #[inline(always)]
 fn take_sample<T: Take>(
     filters: &Filters,
@@ -128,7 +127,7 @@ fn take_sample<T: Take>(
     put(current, sample.value, filters.let_through(sample));
 }
 
-// // Records a value in the current bucket. `is_chosen` says whether it passes the filters.
+// Records a value in the current bucket. `is_chosen` says whether it passes the filters.
 #[inline(always)]
 fn put(current: &mut Current, value: Units, is_chosen: bool)
     ensures place { current.new.place ≡ current.old.place }
@@ -141,7 +140,7 @@ fn put(current: &mut Current, value: Units, is_chosen: bool)
     }
 }
 
-// // Emits the rows of the buckets before the one that contains `time`.
+// Emits the rows of the buckets before the one that contains `time`.
 fn reach<T: Take>(filling: &Filling, current: &mut Current, time: u64, taker: &mut T)
     requires { current.old.place.told < length (starts_of filling.now.starts) }
     ensures within { current.new.place.told < length (starts_of filling.now.starts) }
@@ -157,7 +156,7 @@ fn reach<T: Take>(filling: &Filling, current: &mut Current, time: u64, taker: &m
     }
 }
 
-// // Emits the rows of all buckets but the last one.
+// Emits the rows of all buckets but the last one.
 fn reach_last<T: Take>(filling: &Filling, current: &mut Current, taker: &mut T)
     requires { current.old.place.told < length (starts_of filling.now.starts) }
     ensures last { current.new.place.told + 1 ≡ length (starts_of filling.now.starts) }
@@ -168,7 +167,7 @@ fn reach_last<T: Take>(filling: &Filling, current: &mut Current, taker: &mut T)
     }
 }
 
-// // Emits the row of the current bucket and starts the next one.
+// Emits the row of the current bucket and starts the next one.
 fn open_next<T: Take>(filling: &Filling, current: &mut Current, taker: &mut T)
     requires next { current.old.place.told + 1 < length (starts_of filling.now.starts) }
     requires few { length (starts_of filling.now.starts) < 2 ^ 64 }
@@ -181,7 +180,7 @@ fn open_next<T: Take>(filling: &Filling, current: &mut Current, taker: &mut T)
     current.chosen = None;
 }
 
-// // Emits the row of the current bucket.
+// Emits the row of the current bucket.
 fn tell<T: Take>(filling: &Filling, current: &Current, taker: &mut T)
     requires { current.now.place.told < length (starts_of filling.now.starts) }
     ensures { (v : Last) (lo hi : ℕ) → v.filling ≡ filling_of filling.now → IsLine lo hi v → IsOpen (T.has taker.old) v current.now

@@ -1,4 +1,4 @@
-//! //! Answers range queries over one series: filters samples, aggregates them into buckets, and fills empty buckets.
+//! Answers range queries over one series: filters samples, aggregates them into buckets, and fills empty buckets.
 #![tactic(auto)]
 
 mod answers;

@@ -1,19 +1,19 @@
-// // The starts of consecutive buckets.
+// The starts of consecutive buckets.
 ghost use Rattle.std.specs.Prelude.{◌+◌, ◌-◌, ◌*◌, ◌≤◌};
 ghost use Rattle.ts_spec.specs.Sample.{MAX_TIME};
 
 use crate::query::Query;
 use ts_bucket::Grid;
 
-// // Starts of consecutive buckets, in milliseconds.
+// Starts of consecutive buckets, in milliseconds.
 #[derive(Clone, Copy)]
 pub(crate) struct Starts {
     first: u64,
-    // // The start of the second bucket, if there is one.
+    // The start of the second bucket, if there is one.
     second: u64,
-    // // The distance between starts, from the second one on.
+    // The distance between starts, from the second one on.
     duration: u64,
-    // // The number of buckets.
+    // The number of buckets.
     count: u64,
     ghost some: { 1 ≤ count },
     ghost first_fits: { first ≤ MAX_TIME },
@@ -27,7 +27,7 @@ impl Starts {
     ghost use Rattle.ts_range.specs.Starts.{starts_of, starts_if, starts_within};
     ghost use Rattle.ts_range.specs.Walk.{most_of};
 
-    // // The starts for a query over a series whose first and last sample have the times `ends`.
+    // The starts for a query over a series whose first and last sample have the times `ends`.
     pub(crate) fn over(query: &Query, grid: &Grid, ends: Option<(u64, u64)>) -> Option<Starts>
         ensures { starts_if result ≡ starts_within grid.now query.now.from query.now.to ends }
     {
@@ -41,7 +41,7 @@ impl Starts {
         }
     }
 
-    // // The starts from the bucket of `from` to the bucket of `to`.
+    // The starts from the bucket of `from` to the bucket of `to`.
     pub(crate) fn between(grid: &Grid, from: u64, to: u64) -> Starts
         requires ordered { from ≤ to }
         requires time { to ≤ MAX_TIME }
@@ -64,7 +64,7 @@ impl Starts {
         }
     }
 
-    // // A single bucket.
+    // A single bucket.
     fn one(start: u64) -> Starts
         requires { start ≤ MAX_TIME }
         ensures { starts_of result ≡ start ∷ [] }
@@ -77,7 +77,7 @@ impl Starts {
         }
     }
 
-    // // The number of rows, at most `count`.
+    // The number of rows, at most `count`.
     pub(crate) fn wanted(&self, count: Option<u64>) -> u64
         ensures { result ≡ most_of count (length (starts_of self.now)) }
     {
@@ -87,7 +87,7 @@ impl Starts {
         }
     }
 
-    // // The start at index `i`, counted from the end if `reverse`.
+    // The start at index `i`, counted from the end if `reverse`.
     pub(crate) fn at(&self, reverse: bool, i: u64) -> u64
         requires { i < length (starts_of self.now) }
         ensures start { slice_get (in_order reverse (starts_of self.now)) i ≡ Some result }
@@ -101,7 +101,7 @@ impl Starts {
         }
     }
 
-    // // The index from the front that `i` stands for.
+    // The index from the front that `i` stands for.
     fn number(&self, reverse: bool, i: u64) -> u64
         requires { i < length (starts_of self.now) }
         ensures within { result < self.now.count }

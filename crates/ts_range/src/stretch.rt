@@ -1,4 +1,4 @@
-// // The range of buckets that an answer with EMPTY covers.
+// The range of buckets that an answer with EMPTY covers.
 ghost use Rattle.std.specs.Prelude.{◌≡◌, ◌≤◌, ℕ, [], map, IfNone, IfSome};
 ghost use Rattle.ts_spec.specs.Sample.{MAX_TIME};
 ghost use Rattle.ts_spec.specs.Bucket.{start as start_of};
@@ -17,16 +17,16 @@ use ts_agg::Aggregator;
 use ts_bucket::{Grid, Stamp};
 use ts_sample::Sample;
 
-/// /// The consecutive buckets that a query with EMPTY returns, and the part of its interval that lies in them. Times
-/// are in milliseconds.
+/// The consecutive buckets that a query with EMPTY returns, and the part of its interval that lies in them. Times are
+/// in milliseconds.
 #[derive(Clone, Copy)]
 pub struct Stretch {
     pub(crate) buckets: Buckets,
-    // // Their starts, in ascending order.
+    // Their starts, in ascending order.
     pub(crate) starts: Starts,
-    /// /// The first time.
+    /// The first time.
     pub from: u64,
-    /// /// The last time, included.
+    /// The last time, included.
     pub to: u64,
     ghost from_fits: { from ≤ MAX_TIME },
     ghost to_fits: { to ≤ MAX_TIME },
@@ -43,8 +43,8 @@ impl Stretch {
     ghost use Rattle.ts_range.specs.Stretches.{IsStretchOf, filling_with};
     ghost use Rattle.ts_range.specs.Walking.{lets};
 
-    /// /// The bucket range of a query over a series whose first and last sample have the times `ends`. Returns
-    /// `None` if the answer has no rows.
+    /// The bucket range of a query over a series whose first and last sample have the times `ends`. Returns `None` if
+    /// the answer has no rows.
     pub fn of(query: &Query, buckets: &Buckets, ends: Option<(u64, u64)>) -> Option<Stretch>
         ensures stretch { IfSome result (λ stretch. IsStretchOf query.now buckets.now ends stretch) }
         ensures none { IfNone result ((f : ℕ → TheRow) → first_ones query.now.count (turned query.now.reverse (map f (starts_within buckets.now.grid query.now.from query.now.to ends))) ≡ []) }
@@ -66,7 +66,7 @@ impl Stretch {
         })
     }
 
-    /// /// The start of the first bucket.
+    /// The start of the first bucket.
     pub fn first(&self) -> u64
         ensures start { result ≡ start_of self.now.buckets.grid self.now.from }
         ensures time { result ≤ MAX_TIME }
@@ -75,8 +75,8 @@ impl Stretch {
         self.buckets.grid.start_of(self.from)
     }
 
-    /// /// A scan for the samples from `from` to `to` that also emits the rows of empty buckets. `ahead` is the last
-    /// sample before the first bucket, and `prior` the last one before `from`.
+    /// A scan for the samples from `from` to `to` that also emits the rows of empty buckets. `ahead` is the last sample
+    /// before the first bucket, and `prior` the last one before `from`.
     pub fn walk<'f, T: Take>(
         &self,
         filters: &'f Filters,
@@ -98,8 +98,8 @@ impl Stretch {
         Walk::new(filters, Some(begun), filled)
     }
 
-    /// /// The same for a query whose empty buckets may repeat a value that the filters drop. The visitor needs all
-    /// samples from `from` to `to`.
+    /// The same for a query whose empty buckets may repeat a value that the filters drop. The visitor needs all samples
+    /// from `from` to `to`.
     pub fn last_values<'f, T: Take>(
         &self,
         filters: &'f Filters,
@@ -115,7 +115,7 @@ impl Stretch {
         LastValues::new(filters, self.filling(ahead, prior), taker)
     }
 
-    /// /// Whether empty buckets repeat the last value before them.
+    /// Whether empty buckets repeat the last value before them.
     pub fn says_last(&self) -> bool
         ensures { IsTrue result ↔ (self.now.buckets.agg ≡ Last) }
     {
@@ -125,7 +125,7 @@ impl Stretch {
         }
     }
 
-    /// /// Whether empty buckets may repeat a value that these filters drop.
+    /// Whether empty buckets may repeat a value that these filters drop.
     pub fn says_hidden(&self, filters: &Filters) -> bool
         ensures last { result ≡ true → self.now.buckets.agg ≡ Last }
         ensures shown { result ≡ false → self.now.buckets.agg ≡ Last → (p : Point) → passes filters.now p ≡ true }
@@ -133,7 +133,7 @@ impl Stretch {
         self.says_last() && !filters.let_all()
     }
 
-    // // How to fill the gaps of this range.
+    // How to fill the gaps of this range.
     fn filling(&self, ahead: Option<Sample>, prior: Option<Sample>) -> Filling
         ensures { filling_of result ≡ filling_with self.now ahead prior }
     {
@@ -146,7 +146,7 @@ impl Stretch {
     }
 }
 
-// // A time in the first bucket to return and one in the last, given the limit `count`.
+// A time in the first bucket to return and one in the last, given the limit `count`.
 fn wanted(
     grid: &Grid,
     first: u64,

@@ -1,4 +1,4 @@
-// // Sinks that receive the rows of an answer: the traits, a list, and one with a limit.
+// Sinks that receive the rows of an answer: the traits, a list, and one with a limit.
 ghost use Rattle.std.specs.Prelude.{◌≡◌, true, List, [], ◌∷◌, ◌++◌, ◌≤◌, false, map, IfOk, OnOk, None};
 ghost use Rattle.ts_spec.specs.Answer.{Row as TheRow, first_ones};
 ghost use Rattle.ts_range.specs.Query.{row_of, cell_of};
@@ -9,42 +9,41 @@ use crate::query::Row;
 use std::alloc::{AllocError, Global};
 use ts_sample::Cell;
 
-/// /// Receives the rows of an answer one by one. A sink that runs out of memory remembers that and ignores further
-/// rows.
+/// Receives the rows of an answer one by one. A sink that runs out of memory remembers that and ignores further rows.
 pub trait Take: Drop {
-    // // Whether the sink has received these rows. Any list qualifies once memory has run out.
+    // Whether the sink has received these rows. Any list qualifies once memory has run out.
     ghost has: { Self → List TheRow → Type 0 };
 
-    // // What limits the rows that it passes on: a maximum number, or the buckets whose gaps it fills.
+    // What limits the rows that it passes on: a maximum number, or the buckets whose gaps it fills.
     ghost limit: { Self → Limit };
 
-    /// /// Accepts the next row.
+    /// Accepts the next row.
     fn row(&mut self, row: Row)
         ensures taken { (rows : List TheRow) → has self.old rows → has self.new (rows ++ row_of row ∷ []) }
         ensures limit { limit self.new ≡ limit self.old };
 
-    /// /// Whether further rows would change nothing.
+    /// Whether further rows would change nothing.
     fn is_full(&self) -> bool
         ensures { result ≡ true → (rows more : List TheRow) → has self.now rows → has self.now (rows ++ more) };
 }
 
-/// /// A sink that stores rows, and so may run out of memory.
+/// A sink that stores rows, and so may run out of memory.
 pub trait Keep: Take {
-    /// /// Records that memory ran out for a row.
+    /// Records that memory ran out for a row.
     fn lose(&mut self)
         ensures { (rows : List TheRow) → Self.has self.new rows };
 }
 
-/// /// A list of the received rows, in order.
+/// A list of the received rows, in order.
 #[derive(Drop)]
 pub struct RowList {
     rows: Vec<Row>,
-    // // Whether memory ran out for a row.
+    // Whether memory ran out for a row.
     lost: bool,
 }
 
 impl RowList {
-    /// /// An empty list with capacity for `count` rows. Fails if there is no memory.
+    /// An empty list with capacity for `count` rows. Fails if there is no memory.
     pub fn with_room(alloc: Global, count: usize) -> Result<RowList, AllocError>
         ensures { IfOk result (λ t. IsListOf t.lost t.rows.items []) }
     {
@@ -54,7 +53,7 @@ impl RowList {
         })
     }
 
-    /// /// The received rows. Fails if memory ran out for one of them.
+    /// The received rows. Fails if memory ran out for one of them.
     pub fn into_rows(self) -> Result<Vec<Row>, AllocError>
         ensures { (rows : List TheRow) → IsListOf self.lost self.rows.items rows
             → IfOk result (λ taken. map row_of taken.items ≡ rows) }
@@ -104,13 +103,13 @@ fn add(rows: &mut Vec<Row>, time: u64, value: Cell) -> Result<(), AllocError>
 #[derive(Drop)]
 pub struct Limited<T: Take> {
     taker: T,
-    // // The maximum number of rows, and how many more it accepts.
+    // The maximum number of rows, and how many more it accepts.
     count: Option<u64>,
     left: Option<u64>,
 }
 
 impl<T: Take> Limited<T> {
-    /// /// Passes on at most `count` rows, or all of them if `None`.
+    /// Passes on at most `count` rows, or all of them if `None`.
     pub fn new(taker: T, count: Option<u64>) -> Limited<T>
         requires { T.has taker [] }
         ensures taken { IsFirstOf (T.has result.taker) result.count result.left [] }
@@ -123,7 +122,7 @@ impl<T: Take> Limited<T> {
         }
     }
 
-    /// /// The inner sink.
+    /// The inner sink.
     pub fn into_taker(self) -> T
         ensures { (rows : List TheRow) → IsFirstOf (T.has self.taker) self.count self.left rows → T.has result (first_ones self.count rows) }
     {

@@ -1,4 +1,4 @@
-// // The scan that turns samples into rows.
+// The scan that turns samples into rows.
 ghost use Rattle.std.specs.Prelude.{◌≡◌, ◌<◌, ◌+◌, ◌^◌, ℕ, List, [], ◌∷◌, ◌++◌, filter, option_map};
 ghost use Rattle.std.specs.Option.{ForSome};
 ghost use Rattle.ts_spec.specs.Sample.{Point, IsAscending};
@@ -15,12 +15,12 @@ use crate::trail::Trail;
 use std::marker::Model;
 use ts_sample::{Cell, Sample, Visit};
 
-/// /// A visitor that answers a query: it emits each row to a sink as soon as the row is complete. Accepts up to
-/// 10^14 samples, in ascending time.
+/// A visitor that answers a query: it emits each row to a sink as soon as the row is complete. Accepts up to 10^14
+/// samples, in ascending time.
 #[derive(Drop)]
 pub struct Walk<'f, T: Take> {
     filters: &'f Filters,
-    // // Groups samples into buckets. `None` emits the samples themselves.
+    // Groups samples into buckets. `None` emits the samples themselves.
     cut: Option<Cutter>,
     taker: T,
     seen: Trail,
@@ -52,8 +52,8 @@ impl<'f, T: Take> Walk<'f, T> {
     ghost use Rattle.ts_range.specs.Filters.{passes};
     ghost use Rattle.ts_range.specs.Walking.{lets, rows_of_walk};
 
-    /// /// A scan with these filters that has received no sample yet. It aggregates into `buckets`, or emits each
-    /// sample if `None`.
+    /// A scan with these filters that has received no sample yet. It aggregates into `buckets`, or emits each sample if
+    /// `None`.
     pub fn new(filters: &'f Filters, buckets: Option<Buckets>, taker: T) -> Walk<'f, T>
         requires { T.has taker [] }
         ensures lets { (p : Point) → lets result p ≡ passes filters.now p }
@@ -73,7 +73,7 @@ impl<'f, T: Take> Walk<'f, T> {
         }
     }
 
-    /// /// The part of the interval that can contain samples that pass the filters, if any can.
+    /// The part of the interval that can contain samples that pass the filters, if any can.
     pub fn wanted_part(&self, from: u64, to: u64) -> Option<(u64, u64)>
         ensures within { IfSome result (λ part. (from ≤ part.0) × ((part.0 ≤ part.1) × (part.1 ≤ to))) }
         ensures all { IfSome result (λ part. (ps : List Point) →
@@ -83,7 +83,7 @@ impl<'f, T: Take> Walk<'f, T> {
         self.filters.part_of(from, to)
     }
 
-    /// /// Emits the row of the current bucket and returns the sink.
+    /// Emits the row of the current bucket and returns the sink.
     pub fn finish(self) -> T
         ensures rows { IsAscending self.entry.seen → (asked : List Point) → T.has result (rows_of_walk self.entry asked) }
         ensures limit { T.limit result ≡ self.entry.limit }
@@ -100,7 +100,7 @@ impl<'f, T: Take> Walk<'f, T> {
         taker
     }
 
-    /// /// Returns the sink if further samples would change none of its rows, else the scan itself.
+    /// Returns the sink if further samples would change none of its rows, else the scan itself.
     pub fn finish_if_full(self) -> Result<T, Walk<'f, T>>
         ensures rows { IfOk result (λ taker. (more asked : List Point) → IsAscending (self.entry.seen ++ more)
             → T.has taker (rows_of_walk (record self.entry { seen = self.entry.seen ++ more }) asked)) }
@@ -137,7 +137,7 @@ impl<T: Take> Visit for Walk<'_, T> {
     ghost lowers = { lowered };
 }
 
-// // Emits the row that this sample makes or completes, if the sample passes the filters.
+// Emits the row that this sample makes or completes, if the sample passes the filters.
 #[inline(always)]
 fn take_sample<T: Take>(filters: &Filters, cut: &mut Option<Cutter>, taker: &mut T, sample: &Sample)
     requires { ForSome cut.old (λ c. ForSome c.current (λ b. counted b.tally < 10 ^ 14)) }
@@ -156,7 +156,7 @@ fn take_sample<T: Take>(filters: &Filters, cut: &mut Option<Cutter>, taker: &mut
     }
 }
 
-// // Emits the row of a sample.
+// Emits the row of a sample.
 #[inline(always)]
 fn tell<T: Take>(sample: &Sample, taker: &mut T)
     ensures limit { T.limit taker.new ≡ T.limit taker.old }
