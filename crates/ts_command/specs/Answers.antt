@@ -1,4 +1,4 @@
--- What `read` answers.
+-- The results of `read`.
 use Rattle.std.specs.Prelude.{◌≡◌, ◌≤◌, ⊤, Err, IsTrue}
 use Rattle.ts_spec.specs.Wire.{Request}
 use Rattle.ts_spec.specs.Grammar.{command, makes_list}
@@ -10,12 +10,12 @@ use Rattle.ts_command.specs.declared.fault.CommandFault.{CommandFault}
 use Rattle.ts_command.specs.declared.fault.CommandFault.TheVariants.{Memory}
 use Rattle.ts_command.specs.Faults.{fault_of}
 
--- Words are answered by a fault where it is the first one in them, and by want of memory only where they make a list.
+-- The error is the first one in the request. Running out of memory is possible only for requests with lists.
 abbrev pub IsFaultIn : Request → CommandFault → Type 0
 IsFaultIn words (Memory _) = IsTrue (makes_list words)
 IsFaultIn words fault = command words ≡ Err (fault_of fault)
 
--- the time of a command of one sample is at most the greatest time, and so are the ends of what is deleted
+-- the times of the command are at most `MAX_TIME`
 abbrev pub HasTime : Command → Type 0
 HasTime (Add key at value on spec) = IsTime at
 HasTime (Incr key change at spec) = IsTime at

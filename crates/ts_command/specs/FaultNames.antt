@@ -1,10 +1,10 @@
--- The names of faults, as Debug prints them.
+-- The names of errors, as Debug prints them.
 use Rattle.std.specs.Prelude.{ℕ, List, codes}
 use Rattle.ts_command.specs.declared.fault.CommandFault.{CommandFault}
 use Rattle.ts_command.specs.declared.fault.CommandFault.TheVariants.{UnknownCommand, Arity, BadTimestamp, BadValue, BadOption, RepeatedOption, BadLabels, BadChunkSize, BadPolicy, BadEncoding, UnknownAggregator, AggregatorNotInProfile, BadDuration, BadFilter, NoPositiveFilter, Memory}
 use Rattle.ts_spec.specs.declared.value.ValueFault.TheVariants.{NotANumber, OutOfRange}
 
--- the name of a fault
+-- the name of an error
 abbrev pub name_of : CommandFault → List ℕ
 name_of UnknownCommand = codes "UnknownCommand"
 name_of Arity = codes "Arity"

@@ -1,4 +1,4 @@
--- Faults of commands, as the definitions have them.
+-- Errors of commands as values of the specification.
 use Rattle.std.specs.Prelude.{◌≡◌, ℕ, List, Result, Ok, Err}
 use Rattle.ts_spec.specs.Refusal as spec
 use Rattle.ts_spec.specs.Refusal.{Fault}
@@ -11,7 +11,7 @@ use Rattle.ts_command.specs.declared.word_fault.WordFault.TheVariants as word
 use Rattle.ts_command.specs.declared.word_fault.ReadFault.{ReadFault}
 use Rattle.ts_command.specs.declared.word_fault.ReadFault.TheVariants as read
 
--- The fault in the words. Want of memory is none of them: it stands in no command, and where it is answered that is told apart.
+-- The error in the words. `Memory` has no counterpart: no command contains it, and results that allow it say so.
 abbrev pub fault_of : CommandFault → Fault
 fault_of code.UnknownCommand = spec.UnknownCommand
 fault_of code.Arity = spec.Arity
@@ -30,11 +30,11 @@ fault_of code.BadFilter = spec.BadFilter
 fault_of code.NoPositiveFilter = spec.NoPositiveFilter
 fault_of (code.Memory _) = spec.UnknownCommand
 
--- it is no want of memory
+-- the error is not `Memory`
 abbrev pub IsNoMemory : CommandFault → Type 0
 IsNoMemory fault = (error : AllocError) → fault ≡ code.Memory error → ⊥
 
--- the fault in the words after a command's name
+-- the error in the words after a command's name
 abbrev pub fault_of_word : WordFault → Fault
 fault_of_word word.Arity = spec.Arity
 fault_of_word word.BadTimestamp = spec.BadTimestamp
@@ -51,32 +51,32 @@ fault_of_word word.BadDuration = spec.BadDuration
 fault_of_word word.BadFilter = spec.BadFilter
 fault_of_word word.NoPositiveFilter = spec.NoPositiveFilter
 
--- an answer says what is wanted, seen by this view
+-- the result matches the specification's, where `view` maps values of the program to those of the specification
 abbrev pub Says : {X Y : Type 0} → (X → Y) → Result X WordFault → Result Y Fault → Type 0
 Says view (Ok x) wanted = wanted ≡ Ok (view x)
 Says view (Err fault) wanted = wanted ≡ Err (fault_of_word fault)
 
--- an answer says what is wanted, which needs no other view
+-- the same for values that need no mapping
 abbrev pub SaysSame : {X : Type 0} → Result X WordFault → Result X Fault → Type 0
 SaysSame (Ok x) wanted = wanted ≡ Ok x
 SaysSame (Err fault) wanted = wanted ≡ Err (fault_of_word fault)
 
--- a fault is the one that is wanted, or want of memory where that is allowed
+-- the error matches the specification's, or is `Memory` where that is allowed
 abbrev pub IsFaultOr : {Y : Type 0} → (allowed : Type 0) → ReadFault → Result Y Fault → Type 0
 IsFaultOr allowed (read.Word fault) wanted = wanted ≡ Err (fault_of_word fault)
 IsFaultOr allowed (read.Memory error) wanted = allowed
 
--- An answer says what is wanted, seen by this view. It is want of memory only where that is allowed.
+-- The result matches the specification's under `view`. It may be `Memory` only where that is allowed.
 abbrev pub SaysOr : {X Y : Type 0} → (allowed : Type 0) → (X → Y) → Result X ReadFault → Result Y Fault → Type 0
 SaysOr allowed view (Ok x) wanted = wanted ≡ Ok (view x)
 SaysOr allowed view (Err fault) wanted = IsFaultOr allowed fault wanted
 
--- what stands in a command where a time or a value is wanted
+-- the time or value of a sample of TS.MADD, or its error
 abbrev pub said_same : {X : Type 0} → Result X CommandFault → Result X Fault
 said_same (Ok x) = Ok x
 said_same (Err fault) = Err (fault_of fault)
 
--- what the error reply says
+-- the text of the error reply
 abbrev pub message : CommandFault → List ℕ
 message (code.Memory _) = memory_message
 message fault = fault_message (fault_of fault)

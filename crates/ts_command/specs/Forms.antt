@@ -1,4 +1,4 @@
--- The forms of commands.
+-- The grammar of each command.
 use Rattle.std.specs.Prelude.{ℤ, neg_ℤ, true, false, ◌&&◌, ◌==◌, nat_le, Ok}
 use Rattle.ts_spec.specs.Command.{Quit, Drop, Exists}
 use Rattle.ts_spec.specs.Ranges.{has_list}
@@ -9,7 +9,7 @@ use Rattle.ts_command.specs.declared.forms.Sign.TheVariants.{Plus, Minus}
 use Rattle.ts_command.specs.declared.verb.Verb.{Verb}
 use Rattle.ts_command.specs.declared.verb.Verb.TheVariants as verb
 
--- the form of a command
+-- the grammar of a command
 abbrev pub form_of : Verb → Form
 form_of verb.Create = option_form has_labels 1 (nat_le 2) create
 form_of verb.Alter = option_form has_labels 1 (nat_le 2) alter
@@ -34,7 +34,7 @@ form_of verb.Quit = form (nat_le 1) (λ words. Ok Quit)
 form_of verb.Drop = form (nat_le 2) (λ keys. Ok (Drop keys))
 form_of verb.Exists = form (nat_le 2) (λ keys. Ok (Exists keys))
 
--- the change that a value stands for
+-- the change by a value: added or subtracted
 abbrev pub signed_by : Sign → ℤ → ℤ
 signed_by Plus v = v
 signed_by Minus v = neg_ℤ v

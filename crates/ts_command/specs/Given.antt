@@ -1,4 +1,4 @@
--- What options say, as the definitions have it.
+-- Option values as values of the specification.
 use Rattle.std.specs.Prelude.{false, None, option_map}
 use Rattle.ts_spec.specs.Settings as spec
 use Rattle.ts_labels.specs.Show.{show_of}
@@ -7,7 +7,7 @@ use Rattle.ts_command.specs.GroupBy.{group_of}
 use Rattle.ts_command.specs.declared.given.Given.{Given}
 use Rattle.ts_command.specs.declared.range_given.RangeGiven.{RangeGiven}
 
--- the options that a command was given, as the definitions have them
+-- all option values of a command
 abbrev pub given_of : Given → spec.Given
 given_of g = record {
   retention = g.retention;
@@ -31,7 +31,7 @@ given_of g = record {
   group = option_map group_of g.group;
 }
 
--- the same of what is said of an interval alone
+-- the option values of a range query alone
 abbrev pub range_given_of : RangeGiven → spec.Given
 range_given_of g = record {
   retention = None;

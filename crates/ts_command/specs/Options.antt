@@ -1,4 +1,4 @@
--- Options: what each option word says, which of them a command takes, and which make lists.
+-- Options: what each means, which ones a command accepts, and which have lists.
 use Rattle.std.specs.Prelude.{ℕ, Bool, true, false, List, codes, Option, None, Some}
 use Rattle.std.specs.Str.{str_eq_ignore_ascii_case}
 use Rattle.ts_spec.specs.Names.{Table}
@@ -14,7 +14,7 @@ use Rattle.ts_command.specs.declared.option_word.OptionWord.TheVariants as code
 use Rattle.ts_command.specs.declared.option_word.OptionSet.{OptionSet}
 use Rattle.ts_command.specs.declared.option_word.OptionSet.TheVariants as set
 
--- the option of an option word
+-- the meaning of an option
 abbrev pub setting_of : OptionWord → Setting
 setting_of code.Retention = series.retention
 setting_of code.Encoding = series.encoding
@@ -37,7 +37,7 @@ setting_of code.SelectedLabels = many.selected_labels
 setting_of code.Filter = many.filter
 setting_of code.GroupBy = many.group_by
 
--- whether it is one with a list, or with a label that is copied
+-- whether parsing the option allocates
 abbrev pub is_list : OptionWord → Bool
 is_list code.Labels = true
 is_list code.FilterByTs = true
@@ -46,7 +46,7 @@ is_list code.Filter = true
 is_list code.GroupBy = true
 is_list _ = false
 
--- the table of a set of options
+-- the options of a set
 abbrev pub table_of : OptionSet → Table Setting
 table_of set.Create = series_options
 table_of set.Alter = alter_options
@@ -56,7 +56,7 @@ table_of set.Range = range_options
 table_of set.ManyRanges = many_options
 table_of set.ManyLast = last_options
 
--- the name of the option with a list, in a set that has only one
+-- the name of the option with a list, in a set with only one
 abbrev pub lister : OptionSet → Option (List ℕ)
 lister set.Create = Some (codes "LABELS")
 lister set.Alter = Some (codes "LABELS")
@@ -66,12 +66,12 @@ lister set.Range = Some (codes "FILTER_BY_TS")
 lister set.ManyRanges = None
 lister set.ManyLast = None
 
--- whether a word may be the name of an option with a list
+-- whether a word may name an option with a list
 abbrev pub is_lister : Option (List ℕ) → Word → Bool
 is_lister None word = true
 is_lister (Some name) word = str_eq_ignore_ascii_case name word
 
--- whether words may make a list
+-- whether these words may contain a list
 abbrev pub may_list : Option (List ℕ) → List Word → Bool
 may_list None words = true
 may_list (Some name) words = has_name name words

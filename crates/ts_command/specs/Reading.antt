@@ -1,4 +1,4 @@
--- A command as the definitions have it.
+-- Commands as values of the specification.
 use Rattle.std.specs.Prelude.{List, map, option_map}
 use Rattle.ts_spec.specs.Command as spec
 use Rattle.ts_labels.specs.Spec.{spec_of, change_of}
@@ -10,15 +10,15 @@ use Rattle.ts_command.specs.declared.command.Triple.{Triple}
 use Rattle.ts_command.specs.Faults.{said_same}
 use Rattle.ts_command.specs.GroupBy.{group_of}
 
--- a key, a time and a value of TS.MADD, as the definitions have them
+-- a sample of TS.MADD
 abbrev pub triple_of : Triple → spec.Triple
 triple_of t = record { key = t.key; at = said_same t.at; value = said_same t.value }
 
--- the same of all that TS.MADD is given
+-- all samples of TS.MADD
 abbrev pub triples_of : List Triple → List spec.Triple
 triples_of ts = map triple_of ts
 
--- the command of the definitions that a command is
+-- a command
 abbrev pub command_of : Command → spec.Command
 command_of (Create key s) = spec.Create key (spec_of s)
 command_of (Alter key c) = spec.Alter key (change_of c)

@@ -1,5 +1,5 @@
-// TS.ADD with no option but ON_DUPLICATE, as most samples come: it is read where its words stand, and no command is made
-// for it.
+// TS.ADD without options, or with ON_DUPLICATE alone. Most samples arrive this way, so it is parsed in place, without
+// building a command.
 ghost use Rattle.std.specs.Prelude.{[], ◌∷◌, Some, IfSome};
 ghost use Rattle.ts_spec.specs.Settings.{IsTime};
 ghost use Rattle.ts_command.specs.OnDuplicate.{SayPolicy};
@@ -14,13 +14,13 @@ use ts_resp::Word;
 use ts_sample::Units;
 use ts_spec::{At, Policy};
 
-/// A sample for a series, which is made with the usual options and no labels where it is missing.
+/// A sample to add to a series. If the series does not exist, it is created with default options and no labels.
 #[derive(Clone, Copy)]
 pub struct Addition<'a> {
     pub key: &'a Word,
     pub at: At,
     pub value: Units,
-    /// What this write does where its time already has a sample, in place of the series' own policy.
+    /// How to merge with a sample at the same time, instead of by the duplicate policy of the series.
     pub on: Option<Policy>,
     ghost time_fits: { IsTime at },
 }
@@ -34,8 +34,8 @@ impl<'a> Addition<'a> {
     ghost use Rattle.ts_command.specs.Addition.{addition_of};
     ghost use Rattle.ts_command.specs.OnDuplicate.{SayPolicy};
 
-    /// TS.ADD without options, or with ON_DUPLICATE alone, if the words are that and have no fault. What any others say,
-    /// `read` tells.
+    /// Parses TS.ADD without options or with ON_DUPLICATE alone. Returns `None` for anything else, errors included: use
+    /// `read` then.
     pub fn read(words: &'a [Word]) -> Option<Addition<'a>>
         ensures { IfSome result (λ a. command words.now ≡ Ok (addition_of a)) }
     {
@@ -49,7 +49,7 @@ impl<'a> Addition<'a> {
         }
     }
 
-    // TS.ADD with these words, whatever options say this policy and no more.
+    // Parses TS.ADD with these arguments and the policy given by ON_DUPLICATE, if any.
     #[inline]
     fn by_words(
         name: &Word,
@@ -72,7 +72,7 @@ impl<'a> Addition<'a> {
         Some(Addition { key, at, value, on })
     }
 
-    /// What the series is made with.
+    /// The options and labels of a series that this command creates.
     pub fn spec(alloc: Global) -> Spec
         ensures { spec_of result ≡ spec nothing }
     {
@@ -80,7 +80,7 @@ impl<'a> Addition<'a> {
     }
 }
 
-// The policy that two words give, if they are ON_DUPLICATE and a policy.
+// The policy of `ON_DUPLICATE policy`, if the words are that.
 fn on_duplicate(option: &Word, word: &Word) -> Option<Policy>
     ensures { IfSome result (λ policy. SayPolicy (Some policy) (option.now ∷ word.now ∷ [])) }
 {

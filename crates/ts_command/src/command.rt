@@ -1,7 +1,10 @@
-// Commands with nothing left to read: what the server is to do, in types of its own.
+// Commands, and whether one needs the clock.
 ghost use Rattle.std.specs.Result.{ForErr, ForOk};
 ghost use Rattle.ts_spec.specs.Settings.{IsTime};
 ghost use Rattle.ts_command.specs.Faults.{IsNoMemory};
+ghost use Rattle.std.specs.Prelude.{◌≡◌};
+ghost use Rattle.ts_spec.specs.Grammar.{is_clock, is_clock_at, any_clock, needs_clock};
+ghost use Rattle.ts_command.specs.Reading.{triple_of, triples_of, command_of};
 
 use crate::fault::CommandFault;
 use crate::group_by::GroupBy;
@@ -12,40 +15,41 @@ use ts_resp::Word;
 use ts_sample::Units;
 use ts_spec::{Aggregator, At, Policy};
 
-/// What a client asks for.
+/// A client's command.
 #[derive(Debug, Drop)]
 pub enum Command {
-    /// A new series.
+    /// TS.CREATE: creates a series.
     Create {
         key: Word,
         spec: Spec,
     },
-    /// Other options for a series.
+    /// TS.ALTER: changes options of a series.
     Alter {
         key: Word,
         change: Change,
     },
-    /// A sample for a series, which is made with the spec where it is missing.
+    /// TS.ADD: adds a sample. Creates the series with `spec` if it does not exist.
     Add {
         key: Word,
         at: At,
         value: Units,
-        /// What this write does where its time already has a sample, in place of the series' own policy.
+        /// How to merge with a sample at the same time, instead of by the duplicate policy of the series.
         on: Option<Policy>,
         spec: Spec,
     },
-    /// Samples, one after another.
+    /// TS.MADD: adds samples to existing series, in order.
     Madd {
         triples: Vec<Triple>,
     },
-    /// A sample that is the last value and a change; the series is made with the spec where it is missing.
+    /// TS.INCRBY and TS.DECRBY: adds a sample with the last value plus `change`. Creates the series with `spec` if it
+    /// does not exist.
     Incr {
         key: Word,
         change: Units,
         at: At,
         spec: Spec,
     },
-    /// No samples for a series from one time to another, both included.
+    /// TS.DEL: deletes the samples between two times, both included.
     DelRange {
         key: Word,
         /// In milliseconds, at most `MAX_TIME`.
@@ -53,77 +57,79 @@ pub enum Command {
         /// In milliseconds, at most `MAX_TIME`.
         to: u64,
     },
-    /// A rule, by which the buckets of one series are told as samples of another.
+    /// TS.CREATERULE: creates a compaction rule, which aggregates buckets of the source into samples of the
+    /// destination.
     CreateRule {
         source: Word,
         dest: Word,
-        /// What is told of each bucket.
+        /// How the samples of a bucket are aggregated.
         agg: Aggregator,
         grid: Grid,
     },
-    /// No rule from one series to another.
+    /// TS.DELETERULE: deletes the compaction rule between two series.
     DeleteRule {
         source: Word,
         dest: Word,
     },
-    /// The rows of a series that a question asks for.
+    /// TS.RANGE and TS.REVRANGE: queries one series.
     Range {
         key: Word,
-        /// Whether the bucket that is still open counts too.
+        /// LATEST: whether a destination also shows its bucket that is still open.
         latest: bool,
         query: Query,
     },
-    /// The rows that a question asks for of each series that passes filters, or of each group of these.
+    /// TS.MRANGE and TS.MREVRANGE: queries each series that matches the filters, grouped by a label if `group` is
+    /// given.
     MRange {
-        /// Whether the bucket that is still open counts too.
+        /// LATEST: whether a destination also shows its bucket that is still open.
         latest: bool,
         show: Show,
         filters: Vec<Filter>,
         query: Query,
         group: Option<GroupBy>,
     },
-    /// The last sample of a series.
+    /// TS.GET: returns the last sample of a series.
     Get {
         key: Word,
-        /// Whether the bucket that is still open counts too.
+        /// LATEST: whether a destination also shows its bucket that is still open.
         latest: bool,
     },
-    /// The last sample of each series that passes filters.
+    /// TS.MGET: returns the last sample of each series that matches the filters.
     MGet {
-        /// Whether the bucket that is still open counts too.
+        /// LATEST: whether a destination also shows its bucket that is still open.
         latest: bool,
         show: Show,
         filters: Vec<Filter>,
     },
-    /// The keys of the series that pass filters.
+    /// TS.QUERYINDEX: returns the keys of the series that match the filters.
     QueryIndex {
         filters: Vec<Filter>,
     },
-    /// How a series is kept.
+    /// TS.INFO: returns the options and state of a series.
     InfoOf {
         key: Word,
     },
-    /// A sign of life, or a word back.
+    /// PING: replies PONG, or the given word.
     Ping {
         word: Option<Word>,
     },
-    /// A word back.
+    /// ECHO: replies with the given word.
     Echo {
         word: Word,
     },
-    /// The end of the stream.
+    /// QUIT: ends the stream.
     Quit,
-    /// No series under these keys.
+    /// DEL: deletes the series with these keys.
     Drop {
         keys: Vec<Word>,
     },
-    /// How many of these words name a series.
+    /// EXISTS: counts the keys that name a series. A repeated key counts each time.
     Exists {
         keys: Vec<Word>,
     },
 }
 
-/// One sample of TS.MADD. A word that is no time or no value is told in the answer of the sample.
+/// One sample of TS.MADD. An invalid time or value becomes the error reply of this sample alone.
 #[derive(Debug, Drop)]
 pub struct Triple {
     pub key: Word,
@@ -132,4 +138,46 @@ pub struct Triple {
     ghost time_fits: { ForOk at IsTime },
     ghost time_no_memory: { ForErr at IsNoMemory },
     ghost value_no_memory: { ForErr value IsNoMemory },
+}
+
+impl Command {
+    /// Whether the command needs a clock reading: its time is `*`, or is optional and missing.
+    pub fn needs_clock(&self) -> bool
+        ensures { result ≡ needs_clock (command_of self.now) }
+    {
+        match self {
+            Command::Add { at, .. } | Command::Incr { at, .. } => is_clock(*at),
+            Command::Madd { triples } => any_clock(triples),
+            _ => false,
+        }
+    }
+}
+
+fn is_clock(at: At) -> bool
+    ensures { result ≡ is_clock at }
+{
+    match at {
+        At::Clock => true,
+        At::Time(_) => false,
+    }
+}
+
+fn has_clock(triple: &Triple) -> bool
+    ensures { result ≡ is_clock_at (triple_of triple.now).at }
+{
+    match &triple.at {
+        Ok(at) => is_clock(*at),
+        Err(_) => false,
+    }
+}
+
+fn any_clock(triples: &[Triple]) -> bool
+    ensures { result ≡ any_clock (triples_of triples.now) }
+{
+    for triple in triples {
+        if has_clock(triple) {
+            return true;
+        }
+    }
+    false
 }

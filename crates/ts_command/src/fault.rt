@@ -1,4 +1,4 @@
-// The faults that words may have, each with its message, so that no caller words one of its own.
+// Errors in the words of a request, with their messages.
 ghost use Rattle.std.specs.Prelude.{◌≡◌, Some};
 ghost use Rattle.ts_command.specs.FaultNames.{name_of};
 ghost use Rattle.ts_command.specs.Faults.{message};
@@ -8,55 +8,55 @@ use std::fmt;
 use thiserror::Error;
 use ts_spec::ValueFault;
 
-/// Why the words of a request are no command.
+/// Why a request is not a valid command.
 #[derive(Clone, Copy, PartialEq, Eq, Error)]
 pub enum CommandFault {
-    /// The first word is no command.
+    /// The first word is not a command.
     #[error("unknown command")]
     UnknownCommand,
-    /// The command does not have so many words.
+    /// The command does not accept this number of arguments.
     #[error("wrong number of arguments")]
     Arity,
-    /// A time is no number of 1 to 19 digits, or above `MAX_TIME`.
+    /// A time is not a number of 1 to 19 digits, or is above `MAX_TIME`.
     #[error("invalid timestamp")]
     BadTimestamp,
-    /// A value is no decimal of 1 to 64 bytes, or out of range.
+    /// A value is not a decimal of 1 to 64 bytes, or is out of range.
     #[error("invalid value")]
     BadValue(ValueFault),
-    /// A word is no option of the command, or an option's own words are missing or none of its form.
+    /// A word is not an option of the command, or the arguments of an option are missing or malformed.
     #[error("invalid option")]
     BadOption,
-    /// An option stood before.
+    /// The same option appears twice.
     #[error("option given twice")]
     RepeatedOption,
     /// A label or its value is missing or empty.
     #[error("invalid labels")]
     BadLabels,
-    /// The bytes of a chunk are no number from 48 to 1048576 that is a multiple of 8.
+    /// The chunk size is not a multiple of 8 from 48 to 1048576 bytes.
     #[error("invalid chunk size")]
     BadChunkSize,
-    /// A word is no policy for a time that repeats.
+    /// A word is not a duplicate policy.
     #[error("invalid duplicate policy")]
     BadPolicy,
-    /// A word is no encoding of chunks.
+    /// A word is not a chunk encoding.
     #[error("invalid encoding")]
     BadEncoding,
-    /// A word is no aggregator.
+    /// A word is not an aggregator.
     #[error("unknown aggregator")]
     UnknownAggregator,
-    /// An aggregator that this server leaves out.
+    /// An aggregator of RedisTimeSeries that this server does not support.
     #[error("aggregator not supported")]
     AggregatorNotInProfile,
-    /// The milliseconds of a bucket are no number from 1 to 10^14.
+    /// The bucket duration is not a number from 1 to 10^14 milliseconds.
     #[error("invalid bucket duration")]
     BadDuration,
-    /// A word is no filter.
+    /// A word is not a filter.
     #[error("invalid filter")]
     BadFilter,
-    /// No filter names a wanted value.
+    /// No filter requires a value.
     #[error("a filter with a wanted value is needed")]
     NoPositiveFilter,
-    /// There was no memory.
+    /// There is no memory to parse the request.
     #[error(transparent)]
     Memory(AllocError),
 }
@@ -88,7 +88,7 @@ impl fmt::Debug for CommandFault {
 }
 
 impl CommandFault {
-    /// The words of the error reply.
+    /// The text of the error reply.
     pub fn message(self) -> &'static str
         ensures { result.now ≡ message self }
     {

@@ -1,15 +1,18 @@
-// The commands that change one series. Their words are the whole request, with its name; they are read where they
-// stand, and the key is taken out of them at the end. Most have no options, and what those say is not gathered for them.
+// Commands on one series. Each function gets the whole request, its name included, and parses it in place; the key is
+// moved out at the end. Requests without options take a short path that collects no option values.
 ghost use Rattle.std.specs.Prelude.{◌≡◌, drop, IfOk, IsTrue};
-ghost use Rattle.ts_spec.specs.Grammar.{create, add, incr, del_range};
+ghost use Rattle.ts_spec.specs.Grammar.{create, add, incr, del_range, range};
 ghost use Rattle.ts_spec.specs.SeriesOptions.{has_labels};
 ghost use Rattle.ts_command.specs.Answers.{HasTime};
 ghost use Rattle.ts_command.specs.Faults.{Says, SaysOr};
 ghost use Rattle.ts_command.specs.Forms.{signed_by};
 ghost use Rattle.ts_command.specs.Reading.{command_of};
+ghost use Rattle.ts_spec.specs.Ranges.{has_list};
 
 use crate::command::Command;
 use crate::given::Given;
+use crate::option_word::OptionSet;
+use crate::options::read_given;
 use crate::with_options::{add_with_options, create_with_options, incr_with_options};
 use crate::word_fault::{ReadFault, WordFault};
 use crate::words::{at_word, end_word, value_word};
@@ -17,7 +20,7 @@ use ts_resp::Word;
 use ts_sample::Units;
 use ts_spec::At;
 
-// How a command changes the last value.
+// Whether a command adds to the last value or subtracts from it.
 #[derive(Clone, Copy)]
 pub(crate) enum Sign {
     Plus,
@@ -98,5 +101,27 @@ pub(crate) fn read_del_range(mut words: Vec<Word>) -> Result<Command, WordFault>
         key: words.swap_remove(1),
         from,
         to,
+    })
+}
+
+pub(crate) fn read_range(reverse: bool, mut words: Vec<Word>) -> Result<Command, ReadFault>
+    ensures command { SaysOr (IsTrue (has_list (drop 3 (drop 1 words.items)))) command_of result (range reverse (drop 1 words.items)) }
+    ensures time { IfOk result HasTime }
+{
+    let alloc = *words.allocator();
+    let [_, _, from, to, options @ ..] = words.as_slice() else {
+        return Err(ReadFault::Word(WordFault::Arity));
+    };
+    let first = end_word(from.bytes())?;
+    let last = end_word(to.bytes())?;
+    let given = read_given(alloc, OptionSet::Range, options)?;
+    let latest = given.latest;
+    let query = given
+        .range
+        .query(reverse, from.bytes(), to.bytes(), first, last)?;
+    Ok(Command::Range {
+        key: words.swap_remove(1),
+        latest,
+        query,
     })
 }

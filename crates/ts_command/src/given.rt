@@ -1,4 +1,4 @@
-// What options have said so far: they come in any order, so they are gathered before a command is made of them.
+// The values of options. Options come in any order, so they are collected before a command is built from them.
 ghost use Rattle.std.specs.Prelude.{◌≡◌, ◌≤◌, [], unwrap_or};
 ghost use Rattle.std.specs.Option.{ForSome};
 ghost use Rattle.ts_spec.specs.Sample.{MAX_TIME};
@@ -11,10 +11,10 @@ use std::alloc::Global;
 use ts_labels::{Change, Filter, Labels, Show, Spec};
 use ts_spec::{At, Encoding, Ignore, Options, Policy};
 
-// The bytes of a chunk where none are given.
+// The default chunk size, in bytes.
 const USUAL_CHUNK: u32 = 4096;
 
-// What the options of a command have said so far.
+// The option values of a command so far.
 #[derive(Drop)]
 pub(crate) struct Given {
     pub(crate) retention: Option<u64>,
@@ -26,7 +26,7 @@ pub(crate) struct Given {
     pub(crate) at: Option<At>,
     pub(crate) labels: Option<Labels>,
     pub(crate) range: RangeGiven,
-    // Whether open buckets are asked too.
+    // LATEST: whether open buckets count too.
     pub(crate) latest: bool,
     pub(crate) show: Option<Show>,
     pub(crate) filters: Option<Vec<Filter>>,
@@ -63,7 +63,7 @@ impl Given {
         }
     }
 
-    // What a new series is made with where no options are given.
+    // The default options of a new series.
     pub(crate) fn usual_spec(alloc: Global) -> Spec
         ensures { spec_of result ≡ spec nothing }
     {
@@ -79,7 +79,7 @@ impl Given {
         }
     }
 
-    // What a new series is made with.
+    // The options and labels of a new series.
     pub(crate) fn spec(self, alloc: Global) -> Spec
         ensures { spec_of result ≡ spec (given_of self) }
     {
@@ -95,7 +95,7 @@ impl Given {
         }
     }
 
-    // What a series gets anew.
+    // The changes to an existing series.
     pub(crate) fn change(self) -> Change
         ensures { change_of result ≡ change (given_of self) }
     {
@@ -109,7 +109,7 @@ impl Given {
     }
 }
 
-// Labels, or none where none are given.
+// The given labels, or none.
 fn labels_or_none(alloc: Global, labels: Option<Labels>) -> Labels
     ensures { result ≡ unwrap_or labels [] }
 {

@@ -1,4 +1,4 @@
-// Answers in groups: what GROUPBY adds by its own words.
+// Parses GROUPBY.
 ghost use Rattle.std.specs.Prelude.{⊤};
 ghost use Rattle.ts_spec.specs.ManySeries.{label_word, reducer_word, group_by};
 ghost use Rattle.ts_command.specs.Faults.{Says, SaysOr, SaysSame};
@@ -10,16 +10,16 @@ use ts_agg::{AggFault, is_name, read_reducer};
 use ts_resp::Word;
 use ts_spec::Reducer;
 
-/// One answer for each value of a label, over the series that have it.
+/// GROUPBY: one group for each value of a label, over the series that have the label.
 #[derive(Debug, Drop)]
 pub struct GroupBy {
-    /// It is not empty.
+    /// Not empty.
     pub label: Word,
-    /// What is told of the values that these series have at one time.
+    /// How the values of the series at one time are reduced to one.
     pub reducer: Reducer,
 }
 
-// `label REDUCE reducer`.
+// Parses `label REDUCE reducer`.
 pub(crate) fn add_group(own: &[Word], given: &mut Given) -> Result<(), ReadFault>
     ensures { SaysOr ⊤ (λ done. given_of given.new) result (group_by.says own.now (given_of given.old)) }
 {

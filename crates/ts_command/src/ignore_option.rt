@@ -1,4 +1,4 @@
-// What IGNORE adds by its own words.
+// Parses IGNORE.
 ghost use Rattle.std.specs.Prelude.{◌≤◌, IfOk};
 ghost use Rattle.ts_spec.specs.Sample.{MAX_TIME};
 ghost use Rattle.ts_spec.specs.SeriesOptions.{ignore, ignore_time_word, ignore_value_word, from_zero};
@@ -6,14 +6,14 @@ ghost use Rattle.ts_command.specs.Faults.{Says, SaysSame};
 ghost use Rattle.ts_command.specs.Given.{given_of};
 
 use crate::given::Given;
-use crate::number::number_of;
 use crate::word_fault::WordFault;
-use crate::words::value_word;
+use crate::words::{number_of, value_word};
 use ts_resp::Word;
 use ts_sample::Units;
 use ts_spec::Ignore;
 
-// How close to its last sample a series ignores one: how much later, and how far its value may be from that one's.
+// Parses the greatest time difference, in milliseconds, and the greatest value difference at which a series ignores a
+// sample.
 pub(crate) fn add_ignore(own: &[Word], given: &mut Given) -> Result<(), WordFault>
     ensures { Says (λ done. given_of given.new) result (ignore.says own.now (given_of given.old)) }
 {
@@ -41,7 +41,7 @@ fn ignore_value_word(word: &[u8]) -> Result<Units, WordFault>
     from_zero(value_word(word)?)
 }
 
-// A value, unless it is below 0.
+// The value, unless it is below 0.
 fn from_zero(value: Units) -> Result<Units, WordFault>
     ensures { SaysSame result (from_zero value) }
 {

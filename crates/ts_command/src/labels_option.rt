@@ -1,4 +1,4 @@
-// The words of the option with labels: a label and its value, again and again.
+// Parses LABELS: pairs of a label and its value.
 ghost use Rattle.std.specs.Prelude.{◌≡◌, ⊤, [], ◌∷◌, OnOk};
 ghost use Rattle.ts_spec.specs.Labels.{with_label};
 ghost use Rattle.ts_spec.specs.Settings.{is_known};
@@ -14,7 +14,7 @@ use std::alloc::{AllocError, Global};
 use ts_labels::Labels;
 use ts_resp::Word;
 
-// How many words come before an option that stands where a label would.
+// The number of words before the next option. Only words in the position of a label can end the list.
 pub(crate) fn count_pairs(set: OptionSet, words: &[Word]) -> usize
     ensures { result ≡ count_pairs (is_known (table_of set)) words.now }
 {
@@ -29,7 +29,7 @@ pub(crate) fn count_pairs(set: OptionSet, words: &[Word]) -> usize
     words.len()
 }
 
-// The labels that words say.
+// Parses pairs of a label and its value.
 pub(crate) fn read_labels(alloc: Global, words: &[Word]) -> Result<Labels, ReadFault>
     ensures { SaysOr ⊤ (λ labels. labels) result (labels_after [] words.now) }
 {
@@ -45,7 +45,7 @@ pub(crate) fn read_labels(alloc: Global, words: &[Word]) -> Result<Labels, ReadF
     Ok(labels)
 }
 
-// Adds a label, unless it or its value is empty.
+// Sets a label. Fails if the label or its value is empty.
 fn add_label(labels: &mut Labels, name: &Word, value: &Word) -> Result<(), ReadFault>
     ensures { SaysOr ⊤ (λ done. labels.new) result (labels_after labels.old (name.now ∷ value.now ∷ [])) }
 {
@@ -55,7 +55,7 @@ fn add_label(labels: &mut Labels, name: &Word, value: &Word) -> Result<(), ReadF
     Ok(set_copies(labels, name, value)?)
 }
 
-// Gives a label a value, both copied.
+// Sets a label to copies of these words.
 fn set_copies(labels: &mut Labels, name: &Word, value: &Word) -> Result<(), AllocError>
     ensures { OnOk result (labels.new ≡ with_label (labelled name.now value.now) labels.old) }
 {

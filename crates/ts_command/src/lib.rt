@@ -1,10 +1,8 @@
-//! The words of a request as a command, or the first fault in them. Names, option words, policies and
-//! encodings are those of RedisTimeSeries' command reference, with letters in either case.
+//! Parses requests into commands, or finds their first error. Names and options follow the RedisTimeSeries command
+//! reference; letter case does not matter.
 #![tactic(auto)]
 
 mod addition;
-mod bucket_words;
-mod clock;
 mod command;
 mod fault;
 mod forms;
@@ -12,14 +10,11 @@ mod given;
 mod group_by;
 mod ignore_option;
 mod labels_option;
-mod lists;
 mod many;
 mod names;
-mod number;
 mod option_word;
 mod options;
 mod own_words;
-mod range;
 mod range_given;
 mod range_options;
 mod request;

@@ -1,4 +1,4 @@
-// The questions over many series.
+// Commands on many series.
 ghost use Rattle.std.specs.Prelude.{⊤, ◌∷◌, drop, IfOk};
 ghost use Rattle.ts_spec.specs.Grammar.{many_ranges, last_of_many, query_index};
 ghost use Rattle.ts_spec.specs.ManySeries.{selecting};
@@ -7,17 +7,16 @@ ghost use Rattle.ts_command.specs.Faults.{Says, SaysOr};
 ghost use Rattle.ts_command.specs.Reading.{command_of};
 
 use crate::command::Command;
-use crate::lists::read_filters;
 use crate::option_word::OptionSet;
 use crate::options::read_given;
-use crate::own_words::split_own;
+use crate::own_words::{read_filters, split_own};
 use crate::word_fault::{ReadFault, WordFault};
 use crate::words::end_word;
 use std::alloc::Global;
 use ts_labels::{Filter, Show, has_positive};
 use ts_resp::Word;
 
-// Filters, of which one asks for a value.
+// The filters, if at least one of them requires a value.
 fn selection(filters: Vec<Filter>) -> Result<Vec<Filter>, WordFault>
     ensures { Says (λ filters. filters.items) result (selecting filters.items) }
 {
@@ -28,7 +27,7 @@ fn selection(filters: Vec<Filter>) -> Result<Vec<Filter>, WordFault>
     }
 }
 
-// What two words, the ends of an interval, and the options after them ask.
+// Parses the interval and the options after it.
 fn read_asked(
     alloc: Global,
     reverse: bool,
@@ -54,7 +53,7 @@ fn read_asked(
     })
 }
 
-// The words are the whole request, with its name.
+// Parses the whole request, its name included.
 pub(crate) fn read_many_ranges(reverse: bool, words: &Vec<Word>) -> Result<Command, ReadFault>
     ensures command { SaysOr ⊤ command_of result (many_ranges reverse (drop 1 words.now.items)) }
     ensures time { IfOk result HasTime }

@@ -1,4 +1,4 @@
-// The policies, encodings and places in buckets that words name, in one table each.
+// Tables of the names of policies, encodings, alignments and bucket timestamps.
 ghost use Rattle.std.specs.Prelude.{◌≡◌, IfSome};
 ghost use Rattle.ts_spec.specs.Names.{named, policies, encodings, aligns, stamps};
 ghost use Rattle.ts_spec.specs.Ranges.{IsAlign};
@@ -53,7 +53,7 @@ pub(crate) fn encoding_named(word: &[u8]) -> Option<Encoding>
     named(&ENCODINGS, word)
 }
 
-// The end of an interval that a word names, for buckets to begin at.
+// The end of the interval that ALIGN names.
 #[tactic(auto, unfolding(ts_spec::specs::Names::aligns))]
 pub(crate) fn align_named(word: &[u8]) -> Option<Align>
     ensures value { result ≡ named aligns word.now }

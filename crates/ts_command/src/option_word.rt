@@ -1,11 +1,11 @@
-// The words that name options, and which of them a command takes.
+// The names of options, and which options each command accepts.
 ghost use Rattle.std.specs.Prelude.{◌≡◌, option_map, IfSome, IsTrue};
 ghost use Rattle.ts_spec.specs.Names.{named};
 ghost use Rattle.ts_command.specs.Options.{setting_of, table_of, is_list, lister, is_lister};
 
 use ts_agg::named;
 
-// An option word.
+// An option.
 #[derive(Clone, Copy)]
 pub(crate) enum OptionWord {
     Retention,
@@ -30,7 +30,7 @@ pub(crate) enum OptionWord {
     GroupBy,
 }
 
-// The options that a command takes.
+// The set of options that a command accepts.
 #[derive(Clone, Copy)]
 pub(crate) enum OptionSet {
     Create,
@@ -113,7 +113,7 @@ const MANY_RANGES: [(&[u8], OptionWord); 12] = [
 ];
 
 impl OptionSet {
-    // The option of the set that a word names.
+    // The option of this set with this name.
     pub(crate) fn named(self, word: &[u8]) -> Option<OptionWord>
         ensures setting { option_map setting_of result ≡ named (table_of self) word.now }
         ensures list { IfSome result (λ option. IsTrue (is_list option) → IsTrue (is_lister (lister self) word.now)) }

@@ -1,4 +1,4 @@
-// The options of a command, in any order.
+// Parses the options of a command, in any order.
 ghost use Rattle.std.specs.Prelude.{◌≡◌, IfOk, IsTrue};
 ghost use Rattle.ts_spec.specs.Names.{named};
 ghost use Rattle.ts_spec.specs.Settings.{nothing, new_setting, options, count_own, is_known};
@@ -10,9 +10,8 @@ use crate::given::Given;
 use crate::group_by::add_group;
 use crate::ignore_option::add_ignore;
 use crate::labels_option::{count_pairs, read_labels};
-use crate::lists::{read_filters, read_names, read_times};
 use crate::option_word::{OptionSet, OptionWord};
-use crate::own_words::{own_word, own_words, split_own};
+use crate::own_words::{own_word, own_words, read_filters, read_names, read_times, split_own};
 use crate::range_options::{add_aggregation, add_align, add_stamp, add_values};
 use crate::word_fault::{ReadFault, WordFault};
 use crate::words::{
@@ -23,7 +22,7 @@ use ts_labels::Show;
 use ts_resp::Word;
 
 impl OptionWord {
-    // Whether it stood before.
+    // Whether the option already has a value.
     fn is_given(self, given: &Given) -> bool
         ensures { result ≡ (setting_of self).stood (given_of given.now) }
     {
@@ -50,7 +49,7 @@ impl OptionWord {
         }
     }
 
-    // How many of the words after it are its own, if there are so many.
+    // The number of arguments of the option among the words after it.
     fn size(self, set: OptionSet, words: &[Word]) -> usize
         ensures { result ≡ (setting_of self).size (is_known (table_of set)) words.now }
     {
@@ -67,7 +66,7 @@ impl OptionWord {
     }
 }
 
-// How many words come before the next option.
+// The number of words before the next option.
 fn count_own(set: OptionSet, words: &[Word]) -> usize
     ensures { result ≡ count_own (is_known (table_of set)) words.now }
 {
@@ -79,7 +78,7 @@ fn count_own(set: OptionSet, words: &[Word]) -> usize
     words.len()
 }
 
-// The option that a word names, unless it stood before.
+// The option that a word names. Fails if it already has a value.
 fn new_option(set: OptionSet, word: &[u8], given: &Given) -> Result<OptionWord, WordFault>
     ensures option { Says setting_of result (new_setting (given_of given.now) (named (table_of set) word.now)) }
     ensures list { IfOk result (λ option. IsTrue (is_list option) → IsTrue (is_lister (lister set) word.now)) }
@@ -91,7 +90,7 @@ fn new_option(set: OptionSet, word: &[u8], given: &Given) -> Result<OptionWord, 
     }
 }
 
-// What an option adds by its own words.
+// Parses the arguments of an option.
 fn add_own(
     alloc: Global,
     option: OptionWord,
@@ -127,7 +126,7 @@ fn add_own(
     Ok(())
 }
 
-// Adds what the options say, which these words are and no more.
+// Parses all words as options with their arguments.
 fn read_options(
     alloc: Global,
     set: OptionSet,
@@ -146,7 +145,7 @@ fn read_options(
     Ok(())
 }
 
-// What the options say, which these words are and no more.
+// The values of options that these words give.
 pub(crate) fn read_given(alloc: Global, set: OptionSet, words: &[Word]) -> Result<Given, ReadFault>
     ensures { SaysOr (IsTrue (may_list (lister set) words.now)) given_of result (options (table_of set) nothing 0 words.now) }
 {

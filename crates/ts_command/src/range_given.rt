@@ -1,4 +1,4 @@
-// The options of a question over an interval, apart from others: one series is asked by them as many are.
+// The option values of a range query. Queries over one series and over many share them.
 ghost use Rattle.std.specs.Prelude.{◌≡◌, ◌≤◌, All};
 ghost use Rattle.std.specs.Option.{ForSome};
 ghost use Rattle.ts_spec.specs.Ranges.{IsDuration, IsAlign};
@@ -10,7 +10,7 @@ use ts_range::{Buckets, Query};
 use ts_sample::Units;
 use ts_spec::{Aggregation, Align};
 
-// What the options of a question over an interval have said so far.
+// The option values of a range query so far.
 #[derive(Drop)]
 pub(crate) struct RangeGiven {
     pub(crate) times: Option<Vec<u64>>,
@@ -47,7 +47,7 @@ impl RangeGiven {
         }
     }
 
-    // Whether options speak of buckets of which nothing is told.
+    // Whether ALIGN, BUCKETTIMESTAMP or EMPTY is given without AGGREGATION.
     fn lacks_aggregation(&self) -> bool
         ensures { result ≡ lacks_aggregation (range_given_of self.now) }
     {
@@ -55,7 +55,7 @@ impl RangeGiven {
         speaks && self.aggregation.is_none()
     }
 
-    // Whether buckets are to begin at an end of the interval whose word names no time.
+    // Whether buckets are aligned to an end of the interval that the client left open with `-` or `+`.
     fn lacks_end(&self, from: &[u8], to: &[u8]) -> bool
         ensures { result ≡ lacks_end self.now.align from.now to.now }
     {
@@ -66,7 +66,7 @@ impl RangeGiven {
         }
     }
 
-    // Where one of the buckets begins.
+    // A time at which a bucket begins.
     fn alignment(&self, from: u64, to: u64) -> u64
         requires from { from ≤ MAX_TIME }
         requires to { to ≤ MAX_TIME }
@@ -81,7 +81,7 @@ impl RangeGiven {
         }
     }
 
-    // The buckets that are asked for, if any are.
+    // The buckets to aggregate into, if AGGREGATION is given.
     fn buckets(&self, from: u64, to: u64) -> Option<Buckets>
         requires from { from ≤ MAX_TIME }
         requires to { to ≤ MAX_TIME }
@@ -97,8 +97,8 @@ impl RangeGiven {
         })
     }
 
-    // What is asked of an interval, unless what is said of its buckets can't be met. The ends are given as their
-    // words and as the times that these say.
+    // Builds the query. Fails if the bucket options contradict each other. `from` and `to` are the words for the
+    // interval, and `first` and `last` their times.
     pub(crate) fn query(
         self,
         reverse: bool,

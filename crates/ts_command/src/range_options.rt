@@ -1,13 +1,12 @@
-// What some options of a question over an interval add by their own words.
+// Parses options of a range query.
 ghost use Rattle.ts_spec.specs.Ranges.{filter_by_value, aggregation, align, bucket_timestamp};
 ghost use Rattle.ts_command.specs.Faults.{Says};
 ghost use Rattle.ts_command.specs.Given.{given_of};
 
-use crate::bucket_words::{aggregator_word, align_word, duration_word, stamp_word};
 use crate::given::Given;
 use crate::own_words::own_word;
 use crate::word_fault::WordFault;
-use crate::words::value_word;
+use crate::words::{aggregator_word, align_word, duration_word, stamp_word, value_word};
 use ts_resp::Word;
 use ts_spec::Aggregation;
 

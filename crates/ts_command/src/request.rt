@@ -1,4 +1,4 @@
-// The one way in: the name finds the command and the number of its words, and the command reads them.
+// The entry point: finds the command by its name, checks the number of arguments, and parses them.
 ghost use Rattle.std.specs.Prelude.{◌≡◌, drop, IfOk, IfErr, IsTrue};
 ghost use Rattle.ts_spec.specs.Grammar.{command};
 ghost use Rattle.ts_command.specs.Answers.{HasTime, IsFaultIn};
@@ -8,9 +8,8 @@ ghost use Rattle.ts_command.specs.Reading.{command_of};
 
 use crate::command::Command;
 use crate::fault::CommandFault;
-use crate::forms::{Sign, read_add, read_create, read_del_range, read_incr};
+use crate::forms::{Sign, read_add, read_create, read_del_range, read_incr, read_range};
 use crate::many::{read_last_of_many, read_many_ranges, read_query_index};
-use crate::range::read_range;
 use crate::rule::{read_create_rule, read_delete_rule};
 use crate::small::{read_drop, read_echo, read_exists, read_get, read_info, read_ping};
 use crate::triple::read_madd;
@@ -19,10 +18,9 @@ use crate::with_options::read_alter;
 use crate::word_fault::ReadFault;
 use ts_resp::Word;
 
-/// The command that the words of a request say, with the words moved into it, or the first fault in them: the
-/// name, then the number of words, then the words from left to right. Only TS.MADD, labels, filters and the times
-/// of FILTER_BY_TS take memory, and not before the name and the number of words were found right; want of it is
-/// told as `Memory`.
+/// Parses a request into a command and moves its words into it. Returns the first error: in the name, then the number
+/// of arguments, then the arguments from left to right. Only TS.MADD, labels, filters and the times of FILTER_BY_TS
+/// allocate, after the name and the number of arguments have been checked. Returns `Memory` if there is no memory.
 pub fn read(words: Vec<Word>) -> Result<Command, CommandFault>
     ensures ok { IfOk result (λ c. command words.items ≡ Ok (command_of c)) }
     ensures time { IfOk result HasTime }
@@ -44,7 +42,7 @@ pub fn read(words: Vec<Word>) -> Result<Command, CommandFault>
     }
 }
 
-// The command that the words after its name say.
+// Parses the words after the command's name.
 fn read_by(verb: Verb, words: Vec<Word>) -> Result<Command, ReadFault>
     ensures command { SaysOr (IsTrue ((form_of verb).lists (drop 1 words.items))) command_of result ((form_of verb).says (drop 1 words.items)) }
     ensures time { IfOk result HasTime }

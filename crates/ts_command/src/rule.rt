@@ -1,4 +1,5 @@
-// The commands that make and end rules. Their words are the whole request, with its name, and are taken one by one.
+// TS.CREATERULE and TS.DELETERULE. Each function gets the whole request, its name included, and takes its words one by
+// one.
 ghost use Rattle.std.specs.Prelude.{◌≡◌, ◌∷◌, [], drop, IfOk, IfErr};
 ghost use Rattle.std.specs.Vec.Iter.{into_iter_items};
 ghost use Rattle.ts_spec.specs.Grammar.{create_rule, delete_rule, rule_buckets};
@@ -7,16 +8,15 @@ ghost use Rattle.ts_command.specs.Faults.{Says};
 ghost use Rattle.ts_command.specs.Reading.{command_of};
 ghost use Rattle.ts_command.specs.declared.word_fault.WordFault.TheVariants.{Arity};
 
-use crate::bucket_words::{aggregator_word, duration_word};
 use crate::command::Command;
 use crate::word_fault::WordFault;
-use crate::words::time_word;
+use crate::words::{aggregator_word, duration_word, time_word};
 use std::vec::IntoIter;
 use ts_agg::is_name;
 use ts_bucket::Grid;
 use ts_resp::Word;
 
-// A word that has to be there.
+// The next word, which must exist.
 fn next_word(words: &mut IntoIter<Word>) -> Result<Word, WordFault>
     ensures ok { IfOk result (λ word. into_iter_items words.old ≡ word ∷ into_iter_items words.new) }
     ensures fault { IfErr result (λ fault. (fault ≡ Arity) × (into_iter_items words.old ≡ [])) }
@@ -24,7 +24,7 @@ fn next_word(words: &mut IntoIter<Word>) -> Result<Word, WordFault>
     words.next().ok_or(WordFault::Arity)
 }
 
-// The rule of two series: what is told of each bucket, how long it is, and where one begins, which may be left out.
+// Parses the aggregator, the bucket duration and the optional alignment of a compaction rule.
 fn read_buckets(source: Word, dest: Word, mut words: IntoIter<Word>) -> Result<Command, WordFault>
     ensures command { Says command_of result (rule_buckets source dest (into_iter_items words)) }
     ensures time { IfOk result HasTime }

@@ -1,4 +1,4 @@
-// The commands whose words are keys, or are sent back. Their words are the whole request, with its name.
+// Commands whose arguments are keys or words to echo. Each function gets the whole request, its name included.
 ghost use Rattle.std.specs.Prelude.{◌≡◌, drop, IfOk};
 ghost use Rattle.ts_spec.specs.Command as spec;
 ghost use Rattle.ts_spec.specs.Grammar.{get_last, info, ping, echo};
@@ -67,7 +67,7 @@ pub(crate) fn read_echo(mut words: Vec<Word>) -> Result<Command, WordFault>
     })
 }
 
-// The words after the name, in the memory of the request.
+// The words after the name, without copying them.
 fn keys(mut words: Vec<Word>) -> Vec<Word>
     ensures { result.items ≡ drop 1 words.items }
 {

@@ -1,4 +1,4 @@
-// The samples of TS.MADD.
+// Parses TS.MADD.
 ghost use Rattle.std.specs.Prelude.{◌≡◌, ◌<◌, ⊤, ◌∷◌, [], drop, length, IfOk, OnSome, MatchOption};
 ghost use Rattle.std.specs.Vec.Iter.{into_iter_items};
 ghost use Rattle.std.specs.Result.{ForErr, ForOk};
@@ -34,7 +34,7 @@ fn next_triple(words: &mut IntoIter<Word>) -> Option<Triple>
     })
 }
 
-// The time of a triple, or the fault that is its answer.
+// The time of a sample, or its error.
 fn time_of(word: &[u8]) -> Result<At, CommandFault>
     ensures answer { said_same result ≡ at_word word.now }
     ensures time { ForOk result IsTime }
@@ -46,7 +46,7 @@ fn time_of(word: &[u8]) -> Result<At, CommandFault>
     }
 }
 
-// The value of a triple, or the fault that is its answer.
+// The value of a sample, or its error.
 fn value_of(word: &[u8]) -> Result<Units, CommandFault>
     ensures answer { said_same result ≡ value_word word.now }
     ensures no_memory { ForErr result IsNoMemory }
@@ -57,7 +57,7 @@ fn value_of(word: &[u8]) -> Result<Units, CommandFault>
     }
 }
 
-// Three words each.
+// Parses groups of three words.
 fn read_triples(alloc: Global, mut words: IntoIter<Word>) -> Result<Vec<Triple>, AllocError>
     ensures { IfOk result (λ ts. triples_of ts.items ≡ triples (into_iter_items words)) }
 {
@@ -68,7 +68,7 @@ fn read_triples(alloc: Global, mut words: IntoIter<Word>) -> Result<Vec<Triple>,
     Ok(triples)
 }
 
-// The words are the whole request, with its name.
+// Parses the whole request, its name included.
 pub(crate) fn read_madd(words: Vec<Word>) -> Result<Command, ReadFault>
     ensures command { SaysOr ⊤ command_of result (madd (drop 1 words.items)) }
     ensures time { IfOk result HasTime }

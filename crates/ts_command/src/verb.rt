@@ -1,4 +1,4 @@
-// The names of commands, and how many words each may have.
+// The names of commands, and how many words each accepts.
 ghost use Rattle.std.specs.Prelude.{◌≡◌, option_map};
 ghost use Rattle.ts_spec.specs.Names.{named};
 ghost use Rattle.ts_spec.specs.Grammar.{commands};
@@ -32,7 +32,7 @@ pub(crate) enum Verb {
     Exists,
 }
 
-// The commands that come most often have a table of their own: it is short enough that a look-up needs no loop.
+// The most frequent commands, in a table short enough to search without a loop.
 const WRITES: [(&[u8], Verb); 6] = [
     (b"TS.CREATE", Verb::Create),
     (b"TS.ALTER", Verb::Alter),
@@ -71,7 +71,7 @@ impl Verb {
         }
     }
 
-    // Whether the command may have so many words, its name included.
+    // Whether the command accepts a request of `count` words, its name included.
     pub(crate) fn takes(self, count: usize) -> bool
         ensures { result ≡ (form_of self).words count }
     {

@@ -1,5 +1,5 @@
-// The commands that change one series, with options. Their words are the whole request, with its name; they are read
-// where they stand, and the key is taken out of them at the end. What options say is large, and is kept out of callers.
+// Commands on one series, with options. Each function gets the whole request, its name included, and parses it in
+// place; the key is moved out at the end. Option values are large, so they stay out of the callers' frames.
 ghost use Rattle.std.specs.Prelude.{drop, IfOk, IsTrue};
 ghost use Rattle.ts_spec.specs.Grammar.{create, alter, add, incr};
 ghost use Rattle.ts_spec.specs.SeriesOptions.{has_labels};

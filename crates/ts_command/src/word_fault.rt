@@ -1,4 +1,4 @@
-// Faults of words, as those who read them answer. Want of memory is none of them, and is told apart.
+// Errors of the parsing functions. Running out of memory is separate.
 ghost use Rattle.std.specs.Prelude.{◌≡◌, Err};
 ghost use Rattle.ts_spec.specs.Grammar.{command};
 ghost use Rattle.ts_spec.specs.Wire.{Request};
@@ -9,7 +9,7 @@ use crate::fault::CommandFault;
 use std::alloc::AllocError;
 use ts_spec::ValueFault;
 
-// What is wrong with the words after a command's name.
+// An error in the words after the command's name.
 #[derive(Clone, Copy)]
 pub(crate) enum WordFault {
     Arity,
@@ -28,7 +28,7 @@ pub(crate) enum WordFault {
     NoPositiveFilter,
 }
 
-// Why words that may make a list were not read.
+// Why words that may form a list could not be parsed.
 #[derive(Clone, Copy)]
 pub(crate) enum ReadFault {
     Word(WordFault),
@@ -36,7 +36,7 @@ pub(crate) enum ReadFault {
 }
 
 impl WordFault {
-    // The fault of the command.
+    // The same error as a command's.
     pub(crate) fn of_command(self) -> CommandFault
         ensures fault { fault_of result ≡ fault_of_word self }
         ensures no_memory { IsNoMemory result }

@@ -1,19 +1,41 @@
-// Single words of a command.
-ghost use Rattle.std.specs.Prelude.{◌≤◌, IfOk};
-ghost use Rattle.ts_spec.specs.Settings.{IsTime, time_word, end_word, at_word, value_word};
-ghost use Rattle.ts_spec.specs.SeriesOptions.{IsChunkSize, retention_word, chunk_size_word, policy_word, encoding_word};
-ghost use Rattle.ts_spec.specs.Ranges.{count_word};
+// Parses single words of a command.
+ghost use Rattle.std.specs.Prelude.{◌≡◌, ◌≤◌, IfSome, IfOk};
+ghost use Rattle.ts_spec.specs.Number.{number};
 ghost use Rattle.ts_spec.specs.Sample.{MAX_TIME};
+ghost use Rattle.ts_spec.specs.Settings.{IsTime, time_word, end_word, at_word, value_word};
+ghost use Rattle.ts_spec.specs.SeriesOptions.{IsChunkSize, retention_word, chunk_size_word, policy_word};
+ghost use Rattle.ts_spec.specs.SeriesOptions.{encoding_word};
+ghost use Rattle.ts_spec.specs.Ranges.{count_word, IsDuration, IsAlign, aggregator_word, duration_word, align_word};
+ghost use Rattle.ts_spec.specs.Ranges.{stamp_word};
 ghost use Rattle.ts_command.specs.Faults.{SaysSame};
 
-use crate::names::{encoding_named, policy_named};
-use crate::number::number_of;
+use crate::names::{align_named, encoding_named, policy_named, stamp_named};
 use crate::word_fault::WordFault;
+use ts_agg::{AggFault, Aggregator, read_aggregator};
+use ts_bucket::{LONGEST, Stamp};
 use ts_decimal::parse;
 use ts_sample::{MAX_TIME, Units};
-use ts_spec::{At, Encoding, Policy};
+use ts_spec::{Align, At, Encoding, Policy};
 
-// The least and the greatest number of bytes of a chunk, which has a multiple of so many.
+// Parses a number of 1 to 19 digits, at most `MAX_TIME`.
+pub(crate) fn number_of(word: &[u8]) -> Option<u64>
+    ensures value { result ≡ number word.now }
+    ensures bound { IfSome result (λ n. n ≤ MAX_TIME) }
+{
+    if word.is_empty() || word.len() > 19 {
+        return None;
+    }
+    let mut total: u64 = 0;
+    for byte in word {
+        if !byte.is_ascii_digit() {
+            return None;
+        }
+        total = total * 10 + u64::from(*byte - b'0');
+    }
+    if total <= MAX_TIME { Some(total) } else { None }
+}
+
+// The least and the greatest chunk size, in bytes. A chunk size is a multiple of `CHUNK_STEP`.
 const LEAST_CHUNK: u64 = 48;
 
 const GREATEST_CHUNK: u64 = 1_048_576;
@@ -101,4 +123,47 @@ pub(crate) fn encoding_word(word: &[u8]) -> Result<Encoding, WordFault>
     ensures { SaysSame result (encoding_word word.now) }
 {
     encoding_named(word).ok_or(WordFault::BadEncoding)
+}
+
+#[tactic(auto, unfolding(ts_spec::specs::Ranges::aggregator_word))]
+pub(crate) fn aggregator_word(word: &[u8]) -> Result<Aggregator, WordFault>
+    ensures { SaysSame result (aggregator_word word.now) }
+{
+    match read_aggregator(word) {
+        Ok(agg) => Ok(agg),
+        Err(AggFault::Unknown) => Err(WordFault::UnknownAggregator),
+        Err(AggFault::NotInProfile) => Err(WordFault::AggregatorNotInProfile),
+    }
+}
+
+#[tactic(auto, unfolding(ts_spec::specs::Ranges::duration_word))]
+pub(crate) fn duration_word(word: &[u8]) -> Result<u64, WordFault>
+    ensures answer { SaysSame result (duration_word word.now) }
+    ensures bound { IfOk result IsDuration }
+{
+    match number_of(word) {
+        Some(n) if n >= 1 && n <= LONGEST => Ok(n),
+        _ => Err(WordFault::BadDuration),
+    }
+}
+
+#[tactic(auto, unfolding(ts_spec::specs::Ranges::align_word))]
+pub(crate) fn align_word(word: &[u8]) -> Result<Align, WordFault>
+    ensures answer { SaysSame result (align_word word.now) }
+    ensures bound { IfOk result IsAlign }
+{
+    if let Some(end) = align_named(word) {
+        return Ok(end);
+    }
+    match number_of(word) {
+        Some(time) => Ok(Align::Time(time)),
+        None => Err(WordFault::BadOption),
+    }
+}
+
+#[tactic(auto, unfolding(ts_spec::specs::Ranges::stamp_word))]
+pub(crate) fn stamp_word(word: &[u8]) -> Result<Stamp, WordFault>
+    ensures { SaysSame result (stamp_word word.now) }
+{
+    stamp_named(word).ok_or(WordFault::BadOption)
 }

@@ -1,25 +1,25 @@
--- Series by the value of a label.
+-- Series grouped by the value of a label.
 use Rattle.std.specs.Prelude.{ℕ, false, List, map, flat_map}
 use Rattle.ts_spec.specs.Answer.{Row}
 use Rattle.ts_spec.specs.Groups.{Labelled, values, having}
 use Rattle.ts_range.specs.Query.{row_of}
-use Rattle.ts_multi.specs.declared.member.Member.{Member}
+use Rattle.ts_multi.specs.declared.replies.Member.{Member}
 use Rattle.ts_group.specs.Summaries.{Kept, summaries}
 use Rattle.ts_group.specs.Sources.{joining}
 use Rattle.ts_group.specs.declared.one_group.Group.{Group}
 
--- a member with its labels and its rows
+-- a member with its labels and rows
 abbrev pub labelled_of : Member → Labelled
 labelled_of m = record { key = m.key; labels = m.labels; rows = map row_of m.rows.items }
 
--- what is kept of these rows
+-- the reduction of these rows
 abbrev pub kept_rows : List Row → Kept
 kept_rows rows = record { summaries = summaries rows; lost = false }
 
--- what a group of these series keeps
+-- the group of these series
 abbrev pub grouped : List Labelled → Group
 grouped ms = record { sources = joining (map (λ m. m.key) ms); reduction = kept_rows (flat_map (λ m. m.rows) ms) }
 
--- the groups of series by the values of a label
+-- the groups of series, by value of the label
 abbrev pub by_values : (label : List ℕ) → List Labelled → List (List ℕ × Group)
 by_values label ms = map (λ value. (value, grouped (having label value ms))) (values label ms)

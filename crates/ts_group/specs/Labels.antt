@@ -1,4 +1,4 @@
--- The labels that a group shows.
+-- The labels of a group.
 use Rattle.std.specs.Prelude.{ℕ, List, [], ◌∷◌, ◌++◌, codes}
 use Rattle.ts_spec.specs.Aggregate.{aggregator_of}
 use Rattle.ts_spec.specs.State.{Label}
@@ -11,7 +11,7 @@ use Rattle.ts_labels.specs.Show.{show_of}
 use Rattle.ts_multi.specs.Members.{member_showing}
 use Rattle.ts_group.specs.declared.labels.GroupLabels.{GroupLabels}
 
--- the labels of a group: its own, how it was reduced, and of which series
+-- the labels of a group: its own, the reducer, and the source keys
 abbrev pub labels_of : GroupLabels → List Label
 labels_of g =
     record { name = g.label.now; value = g.value.now }
@@ -19,14 +19,14 @@ labels_of g =
     ∷ record { name = codes "__source__"; value = g.sources.now }
     ∷ []
 
--- those of them that are asked for
+-- the requested ones of them
 abbrev pub shown_of : Show → GroupLabels → List spec.ShownLabel
 shown_of show g = labels_shown (show_of show) (labels_of g)
 
--- what stands for a key in the answer
+-- the key that a reply shows for a group
 abbrev pub key_of : GroupLabels → List ℕ
 key_of g = g.label.now ++ codes "=" ++ g.value.now
 
--- a group in the answer, with these rows
+-- a group as a member of the reply, with these rows
 abbrev pub member_with : Show → GroupLabels → List Row → spec.Member
 member_with show g rows = member_showing (key_of g) (shown_of show g) rows

@@ -1,4 +1,4 @@
--- The rows that a group tells, of what it keeps.
+-- The reduced rows of a group.
 use Rattle.std.specs.Prelude.{ℕ, ◌≤◌, ◌==◌, if◌then◌else◌, Bool, List, map, length, Option}
 use Rattle.ts_spec.specs.declared.bucket.Reducer.{Reducer}
 use Rattle.ts_spec.specs.Aggregate.{Summary, result_of, aggregator_of}
@@ -6,7 +6,7 @@ use Rattle.ts_spec.specs.Answer.{Cell, Number, Nan, Row, turned, first_ones}
 use Rattle.ts_spec.specs.Groups.{reduced_rows}
 use Rattle.ts_group.specs.Summaries.{Summaries, AreTimely}
 
--- what a reducer tells of what the numbers of a time come to
+-- the reduced value of an aggregate, NaN if it is empty
 abbrev pub cell_told : Reducer → Summary → Cell
 cell_told reducer s = if s.count == 0 then Nan else Number (result_of (aggregator_of reducer) s)
 
@@ -14,15 +14,15 @@ cell_told reducer s = if s.count == 0 then Nan else Number (result_of (aggregato
 abbrev pub row_told : Reducer → ℕ × Summary → Row
 row_told reducer e = record { time = e.0; value = cell_told reducer e.1 }
 
--- the rows of these times, the last one first where that is asked
+-- the rows of these times, newest first if `reverse`
 abbrev pub rows_told : Reducer → (reverse : Bool) → Summaries → List Row
 rows_told reducer reverse es = turned reverse (map (row_told reducer) es)
 
--- the rows of a group whose series have these: reduced, turned round where the last is to come first, and then so many of them
+-- the rows of a group whose series have these rows: reduced, in the requested order, at most `count`
 abbrev pub group_rows : Reducer → (count : Option ℕ) → (reverse : Bool) → List Row → List Row
 group_rows reducer count reverse rows = first_ones count (turned reverse (reduced_rows reducer rows))
 
--- no time is past the greatest, and no more rows are left than there are times
+-- all times are within the limit, and at most as many rows remain as there are times
 pub record AreInPart (left : ℕ) (es : Summaries) : Type 0 where
   pub timely : AreTimely es
   pub few : left ≤ length es

@@ -1,8 +1,8 @@
--- The keys of the series of a group, with commas between them.
+-- The keys of the series of a group, separated by commas.
 use Rattle.std.specs.Prelude.{ℕ, Bool, true, false, List, [], ◌∷◌, ◌++◌, codes}
 use Rattle.ts_spec.specs.Key.{Key}
 
--- keys, with commas between them
+-- keys, separated by commas
 abbrev pub joined : List Key → List ℕ
 joined [] = []
 joined (k ∷ []) = k
@@ -13,11 +13,11 @@ abbrev pub are_some : List Key → Bool
 are_some [] = false
 are_some (k ∷ ks) = true
 
--- whether there is a key so far, and the text of those that there are
+-- whether there is a key so far, and the text of the keys
 pub record Joined : Type 0 where
   pub some : Bool
   pub text : List ℕ
 
--- the same of these keys
+-- the same, for these keys
 abbrev pub joining : List Key → Joined
 joining ks = record { some = are_some ks; text = joined ks }

@@ -1,4 +1,4 @@
-// Series by the value of a label.
+// Groups members by the value of a label.
 ghost use Rattle.std.specs.Prelude.{◌≡◌, ◌++◌, ℕ, List, [], ◌∷◌, map, Some, IfOk, OnOk};
 ghost use Rattle.ts_spec.specs.Filter.{value_of};
 ghost use Rattle.ts_spec.specs.Groups.{Labelled};
@@ -13,7 +13,7 @@ use ts_resp::Word;
 // The group of each value.
 pub(crate) type Groups = BTreeMap<Word, Group>;
 
-// The groups of members by the values of a label. A member without it is in none.
+// Groups members by their value of `label`. Members without the label are left out.
 pub(crate) fn by_value(
     alloc: Global,
     members: &[Member],
@@ -44,7 +44,7 @@ fn add_member(
     }
 }
 
-// Adds a member to the group of a value.
+// Adds a member to the group of `value`.
 fn add_to(
     alloc: Global,
     groups: &mut Groups,

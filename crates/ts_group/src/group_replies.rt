@@ -1,4 +1,4 @@
-// The reply that tells of series in groups, and its text.
+// Builds the reply to a query with GROUPBY.
 ghost use Rattle.std.specs.Prelude.{◌≡◌, ◌+◌, ◌≤◌, ◌++◌, List, length, map, IfOk, OnOk};
 ghost use Rattle.ts_spec.specs.Groups as spec;
 ghost use Rattle.ts_spec.specs.Groups.{Labelled};
@@ -21,10 +21,9 @@ use ts_labels::Show;
 use ts_multi::{Member, member_reply};
 use ts_resp::{Out, Reply, Word, encode};
 
-/// The reply to TS.MRANGE and TS.MREVRANGE with GROUPBY: for each value that members have of the label, in ascending
-/// order, an array of the label and its value with `=` between them, an array of those labels of the group that are
-/// asked for, and an array of its rows, the last one first where `reverse` is set and so many of them at most. The
-/// members come in the order of their keys.
+/// The reply to TS.MRANGE and TS.MREVRANGE with GROUPBY: for each value of the label, in ascending order,
+/// `[label=value, labels, rows]`. Labels are the requested ones of the group. There are at most `count` rows, newest
+/// first if `reverse`. The members must be in the order of their keys.
 pub fn group(
     alloc: Global,
     members: &[Member],
@@ -51,7 +50,7 @@ fn array(items: Vec<Reply>) -> Reply
     Reply::Array(items)
 }
 
-// What is told of the group of a value.
+// The reply for the group of `value`.
 fn reply_to<'a>(
     alloc: Global,
     group: &'a Group,
@@ -87,7 +86,7 @@ fn group_reply<'a>(
     member_reply(alloc, &key, &labels, &rows)
 }
 
-/// Writes the text of the reply that `group` makes of the same. Room is reserved on the way.
+/// Writes the reply that `group` returns for the same arguments. Grows the output buffer as needed.
 pub fn encode_groups(
     alloc: Global,
     members: &[Member],

@@ -1,25 +1,24 @@
-// The text of a group. After an Err there may be a part of it.
-ghost use Rattle.std.specs.Prelude.{◌≡◌, ◌+◌, ◌≤◌, ◌++◌, List, length, OnOk, IfOk};
-ghost use Rattle.ts_spec.specs.Groups as groups;
+// Writes a group as text. After an `Err` the output may end in part of a group.
+ghost use Rattle.std.specs.Prelude.{◌≡◌, ◌+◌, ◌≤◌, ◌++◌, List, length, OnOk, IfOk, map, OnErr};
 ghost use Rattle.ts_spec.specs.Groups.{Labelled};
-ghost use Rattle.ts_spec.specs.Replies as spec;
 ghost use Rattle.ts_spec.specs.Text.{text};
 ghost use Rattle.ts_labels.specs.Show.{show_of};
 ghost use Rattle.ts_command.specs.GroupBy.{group_of};
 ghost use Rattle.ts_group.specs.Grouped.{grouped};
 ghost use Rattle.ts_group.specs.Labels.{key_of, member_with};
+ghost use Rattle.ts_spec.specs.Groups as groups;
+ghost use Rattle.ts_spec.specs.Replies as spec;
 
 use crate::labels::{GroupLabels, LabelsShown};
 use crate::one_group::Group;
-use crate::row_texts::encode_group_rows;
 use crate::rows::GroupRows;
 use std::alloc::{AllocError, Global};
 use ts_command::GroupBy;
 use ts_labels::Show;
 use ts_multi::encode_head;
-use ts_resp::{Out, Word};
+use ts_resp::{Out, Word, begin_array, put_pair, reserve_items};
 
-/// Writes the text of the group of a value. Room is reserved on the way.
+/// Writes the group of `value`. Grows the output buffer as needed.
 pub fn encode_one<'a>(
     alloc: Global,
     group: &'a Group,
@@ -38,8 +37,8 @@ pub fn encode_one<'a>(
     encode_group(alloc, &labels, show, rows, out)
 }
 
-/// Writes the text of a group in the reply to TS.MRANGE and TS.MREVRANGE: an array of the label and its value with `=`
-/// between them, an array of those labels that are asked for, and an array of its rows. Room is reserved on the way.
+/// Writes a group of the reply to TS.MRANGE or TS.MREVRANGE: an array of `label=value`, its requested labels and its
+/// rows. Grows the output buffer as needed.
 pub fn encode_group<'a>(
     alloc: Global,
     labels: &GroupLabels<'a>,
@@ -59,7 +58,7 @@ pub fn encode_group<'a>(
     encode_group_rows(rows, out)
 }
 
-// The label and its value, with `=` between them.
+// The key that a reply shows for a group: `label=value`.
 pub(crate) fn group_key(alloc: Global, labels: &GroupLabels<'_>) -> Result<Vec<u8>, AllocError>
     ensures { IfOk result (λ key. key.items ≡ key_of labels.now) }
 {
@@ -68,4 +67,19 @@ pub(crate) fn group_key(alloc: Global, labels: &GroupLabels<'_>) -> Result<Vec<u
     key.push(b'=')?;
     key.extend_from_slice(labels.value)?;
     Ok(key)
+}
+
+/// Writes the array of the rows. On `Err` the output is unchanged.
+pub fn encode_group_rows(mut rows: GroupRows<'_>, out: &mut Out) -> Result<(), AllocError>
+    ensures ok { OnOk result (out.new.bytes ≡ out.old.bytes ++ text (spec.array (map spec.row_reply rows.entry))) }
+    ensures err { OnErr result (out.new.bytes ≡ out.old.bytes) }
+    ensures room { length out.old.bytes + out.old.spare ≤ length out.new.bytes + out.new.spare }
+{
+    let count = rows.len();
+    reserve_items(count, out)?;
+    begin_array(count, out);
+    while let Some(row) = rows.next() {
+        put_pair(row.time, row.value, out);
+    }
+    Ok(())
 }

@@ -1,4 +1,4 @@
-// The labels that a group shows.
+// The labels of a group.
 ghost use Rattle.std.specs.Prelude.{◌≡◌, ◌<◌, slice_get, option_map, Some};
 ghost use Rattle.std.specs.Option.{option_copied};
 ghost use Rattle.ts_spec.specs.Aggregate.{aggregator_of};
@@ -13,23 +13,23 @@ use ts_agg::{Reducer, aggregator_of, name};
 use ts_labels::Show;
 use ts_multi::{Shown, ShowsLabels};
 
-// The names of the labels that tell how a group was reduced, and of which series.
+// The names of the labels for the reducer and the source keys.
 const REDUCER: &[u8] = b"__reducer__";
 
 const SOURCE: &[u8] = b"__source__";
 
-/// What a group shows as its labels. A client may have given its own label one of the names of the others.
+/// The labels of a group. A client may use one of the reserved names for its own label.
 #[derive(Clone, Copy)]
 pub struct GroupLabels<'a> {
-    /// The label whose values make the groups, and the value of this one.
+    /// The name of the label that forms the groups.
     pub label: &'a [u8],
     pub value: &'a [u8],
     pub reducer: Reducer,
-    /// The keys of its series in their order, with commas between them.
+    /// The keys of its series, in order, separated by commas.
     pub sources: &'a [u8],
 }
 
-// The labels of a group, and which of them are shown.
+// The labels of a group, with the client's choice of which to show.
 #[derive(Clone, Copy)]
 pub(crate) struct LabelsShown<'a> {
     pub(crate) labels: GroupLabels<'a>,
@@ -57,7 +57,7 @@ impl ShowsLabels for LabelsShown<'_> {
 }
 
 impl<'a> GroupLabels<'a> {
-    // One of its own.
+    // The label at this index: 0 to 2.
     fn label_at(&self, place: usize) -> Shown<'a>
         requires { place < 3 }
         ensures { slice_get (shown_of which.All self.now) place ≡ Some (label_of result) }
@@ -68,7 +68,7 @@ impl<'a> GroupLabels<'a> {
         }
     }
 
-    // The name of one of its own.
+    // Its name.
     fn name_at(&self, place: usize) -> &'a [u8]
         requires { place < 3 }
         ensures { option_map (λ l. l.name) (slice_get (labels_of self.now) place) ≡ Some result.now }
@@ -82,7 +82,7 @@ impl<'a> GroupLabels<'a> {
         SOURCE
     }
 
-    // The value of one of its own.
+    // Its value.
     fn value_at(&self, place: usize) -> &'a [u8]
         requires { place < 3 }
         ensures { option_map (λ l. l.value) (slice_get (labels_of self.now) place) ≡ Some result.now }
@@ -96,7 +96,7 @@ impl<'a> GroupLabels<'a> {
         self.sources
     }
 
-    // The label with this name.
+    // The label with this name, without a value if it is absent.
     fn labelled(&self, name: &'a [u8]) -> Shown<'a>
         ensures { label_of result ≡ picked_label (labels_of self.now) name.now }
     {
@@ -106,7 +106,7 @@ impl<'a> GroupLabels<'a> {
         }
     }
 
-    // The value of a label, if it has that.
+    // The value of a label, if the group has it.
     fn get(&self, name: &[u8]) -> Option<&'a [u8]>
         ensures { option_copied result ≡ value_of name.now (labels_of self.now) }
     {
@@ -122,7 +122,7 @@ impl<'a> GroupLabels<'a> {
         None
     }
 
-    // The name of its reducer.
+    // The name of the reducer, as RedisTimeSeries spells it.
     fn reducer_name(&self) -> &'static [u8]
         ensures { result.now ≡ aggregator_name (aggregator_of self.now.reducer) }
     {

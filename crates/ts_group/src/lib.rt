@@ -1,4 +1,4 @@
-//! The answers over series in groups: what a group tells, reduced time by time.
+//! Groups series by the value of a label and reduces their rows, for TS.MRANGE and TS.MREVRANGE with GROUPBY.
 #![tactic(auto)]
 
 mod by_value;
@@ -7,18 +7,16 @@ mod group_texts;
 mod labels;
 mod one_group;
 mod reduction;
-mod row_texts;
 mod rows;
 mod slots;
 mod sources;
 mod summaries;
 
 pub use group_replies::{encode_groups, group};
-pub use group_texts::{encode_group, encode_one};
+pub use group_texts::{encode_group, encode_group_rows, encode_one};
 pub use labels::GroupLabels;
 pub use one_group::Group;
 pub use reduction::Reduction;
-pub use row_texts::encode_group_rows;
 pub use rows::GroupRows;
 pub use sources::Sources;
 pub use ts_agg::Reducer;

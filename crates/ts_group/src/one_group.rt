@@ -1,4 +1,4 @@
-// What is kept of a group while its series come.
+// A group while its series are added.
 ghost use Rattle.std.specs.Prelude.{◌≡◌, ◌++◌, List, [], ◌∷◌, map, OnOk};
 ghost use Rattle.ts_spec.specs.Answer.{Row as TheRow};
 ghost use Rattle.ts_spec.specs.Groups.{Labelled, group};
@@ -19,7 +19,7 @@ use ts_multi::Member;
 use ts_range::{Row, Take};
 use ts_resp::Word;
 
-/// The keys of the series of a group so far, and what their rows come to, time by time.
+/// The keys of the series in a group so far, and their reduced rows.
 #[derive(Drop)]
 pub struct Group {
     pub(crate) sources: Sources,
@@ -27,7 +27,7 @@ pub struct Group {
 }
 
 impl Group {
-    /// No series yet. Takes no memory.
+    /// An empty group. Allocates nothing.
     pub fn new(alloc: Global) -> Group
         ensures { result ≡ grouped [] }
     {
@@ -37,7 +37,7 @@ impl Group {
         }
     }
 
-    // One series more. After an Err there may be a part of it.
+    // Adds a series. After an `Err` the group may have part of it.
     pub(crate) fn add(&mut self, member: &Member) -> Result<(), AllocError>
         ensures { OnOk result ((ms : List Labelled) → self.old ≡ grouped ms
             → self.new ≡ grouped (ms ++ labelled_of member.now ∷ [])) }
@@ -45,7 +45,7 @@ impl Group {
         self.add_rows(member.key.bytes(), &member.rows)
     }
 
-    /// One series more, by its key and its rows. After an Err there may be a part of it.
+    /// Adds a series by its key and its rows. After an `Err` the group may have part of it.
     pub fn add_rows(&mut self, key: &[u8], rows: &[Row]) -> Result<(), AllocError>
         ensures { OnOk result ((ms : List Labelled) (m : Labelled) → m.key ≡ key.now → m.rows ≡ map row_of rows.now → self.old ≡ grouped ms
             → self.new ≡ grouped (ms ++ m ∷ [])) }
@@ -54,7 +54,7 @@ impl Group {
         take_rows(&mut self.reduction, rows)
     }
 
-    // What is told of it where its series have this value of the label: its labels, and its rows.
+    // The labels and rows that a reply shows for this group, where its series have this value of the label.
     pub(crate) fn told<'a>(
         &'a self,
         by: &'a GroupBy,
@@ -75,7 +75,7 @@ impl Group {
     }
 }
 
-// Takes all these rows.
+// Accepts all rows. Fails if memory runs out.
 fn take_rows(reduction: &mut Reduction, rows: &[Row]) -> Result<(), AllocError>
     ensures { OnOk result ((before : List TheRow) → reduction.old ≡ kept_rows before
         → reduction.new ≡ kept_rows (before ++ map row_of rows.now)) }

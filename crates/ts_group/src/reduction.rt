@@ -1,4 +1,4 @@
-// The rows of a group, reduced time by time as they come.
+// Reduces the rows of a group, time by time, as they arrive.
 ghost use Rattle.std.specs.Prelude.{◌≡◌, false, List, []};
 ghost use Rattle.ts_spec.specs.Answer.{Row as TheRow};
 ghost use Rattle.ts_group.specs.Rows.{group_rows};
@@ -11,12 +11,12 @@ use std::marker::Model;
 use ts_agg::Reducer;
 use ts_range::{Keep, Row, Take};
 
-/// Takes the rows of the series of a group, one series after another, and keeps of each time what its numbers come to.
-/// So it grows with the times that differ, and not with the rows. Rows may come in any order of time.
+/// A sink that aggregates the rows of a group by time. Its memory grows with the number of distinct times, not with the
+/// number of rows. Rows may arrive in any order of time.
 #[derive(Drop)]
 pub struct Reduction {
     kept: Summaries,
-    // Whether there was no memory for some row.
+    // Whether memory ran out for a row.
     lost: bool,
 }
 
@@ -31,7 +31,7 @@ impl Model for Reduction {
 }
 
 impl Reduction {
-    /// No row yet. Takes no memory.
+    /// No rows yet. Allocates nothing.
     pub fn new(alloc: Global) -> Reduction
         ensures taken { HasTaken result [] }
         ensures kept { result.lost ≡ false }
@@ -42,15 +42,14 @@ impl Reduction {
         }
     }
 
-    /// Whether there was no memory for some row.
+    /// Whether memory ran out for a row.
     pub fn is_lost(&self) -> bool
         ensures { result ≡ self.now.lost }
     {
         self.lost
     }
 
-    /// The rows of the group by a reducer, in ascending time or the last one first, and so many of them at most. Takes
-    /// no memory.
+    /// The reduced rows, at most `count` of them, newest first if `reverse`. Allocates nothing.
     pub fn rows(&self, reducer: Reducer, count: Option<u64>, reverse: bool) -> GroupRows<'_>
         ensures { (rows : List TheRow) → HasTaken self.now rows → self.now.lost ≡ false
             → result ≡ group_rows reducer count reverse rows }

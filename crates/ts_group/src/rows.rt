@@ -1,4 +1,4 @@
-// The rows that a group tells, one after another.
+// The reduced rows of a group.
 ghost use Rattle.std.specs.Prelude.{◌≡◌, ◌≤◌, List, ◌∷◌, ◌++◌, [], length, map, MatchOption, IfOk};
 ghost use Rattle.ts_spec.specs.Answer.{Row as TheRow, first_ones};
 ghost use Rattle.ts_spec.specs.Sample.{MAX_TIME};
@@ -14,11 +14,11 @@ use ts_agg::{Reducer, Running, aggregator_of};
 use ts_range::{Row, RowList, Take};
 use ts_sample::Cell;
 
-/// The rows of a group that are left to be told, the next one first.
+/// An iterator over the reduced rows of a group.
 #[derive(Drop)]
 pub struct GroupRows<'a> {
     times: SummaryIter<'a>,
-    // How many of them are told, and whether from their end.
+    // How many more rows it yields, and whether from the end.
     left: usize,
     reverse: bool,
     reducer: Reducer,
@@ -39,7 +39,7 @@ impl<'a> Model for GroupRows<'a> {
 }
 
 impl<'a> GroupRows<'a> {
-    // The rows of these times, and so many of them at most.
+    // The rows of these times, at most `count`.
     pub(crate) fn new(
         kept: &'a Summaries,
         reducer: Reducer,
@@ -57,14 +57,14 @@ impl<'a> GroupRows<'a> {
         }
     }
 
-    /// How many are left.
+    /// The number of remaining rows.
     pub fn len(&self) -> usize
         ensures { result ≡ length self.now }
     {
         self.left
     }
 
-    /// The next one, if any is left.
+    /// The next row, if any remains.
     pub fn next(&mut self) -> Option<Row>
         ensures { MatchOption result ((self.old ≡ []) × (self.new ≡ [])) (λ row. self.old ≡ row_of row ∷ self.new) }
     {
@@ -74,7 +74,7 @@ impl<'a> GroupRows<'a> {
         Some(row)
     }
 
-    /// Hands on all that are left.
+    /// Emits the remaining rows to a sink.
     pub fn hand_on<T: Take>(mut self, taker: &mut T)
         ensures limit { T.limit taker.new ≡ T.limit taker.old }
         ensures taken { (before : List TheRow) → T.has taker.old before → T.has taker.new (before ++ self.entry) }
@@ -84,7 +84,7 @@ impl<'a> GroupRows<'a> {
         }
     }
 
-    /// All that are left, in a list.
+    /// Collects the remaining rows into a list.
     pub fn into_list(self, alloc: Global) -> Result<Vec<Row>, AllocError>
         ensures { IfOk result (λ list. map row_of list.items ≡ self.entry) }
     {
@@ -94,7 +94,7 @@ impl<'a> GroupRows<'a> {
     }
 }
 
-// So many of the rows, if there is a limit.
+// The number of rows, at most `count`.
 fn at_most(count: Option<u64>, rows: usize) -> usize
     ensures { result ≡ most_of count rows }
 {
@@ -104,7 +104,7 @@ fn at_most(count: Option<u64>, rows: usize) -> usize
     }
 }
 
-// The row of the next time, from one end or the other.
+// The row of the next time, from either end.
 fn next_row(times: &mut SummaryIter<'_>, reducer: Reducer, reverse: bool) -> Option<Row>
     requires { AreTimely times.old }
     ensures row { MatchOption result (times.old ≡ []) (λ row. rows_told reducer reverse times.old ≡ row_of row ∷ rows_told reducer reverse times.new) }
@@ -130,7 +130,7 @@ fn row_at(time: u64, reducer: Reducer, running: &Running) -> Row
     }
 }
 
-// What a reducer tells of the numbers of a time.
+// The reduced value of a time, NaN if all its rows are NaN.
 fn cell_at(reducer: Reducer, running: &Running) -> Cell
     ensures { cell_of result ≡ cell_told reducer running.now }
 {

@@ -1,4 +1,4 @@
-// What is kept of the rows of one time.
+// The aggregate of the rows at one time.
 ghost use Rattle.std.specs.Prelude.{◌≡◌, ◌≤◌, ◌<◌, ◌++◌, true, List, [], ◌∷◌, length, OnOk, IfOk};
 ghost use Rattle.ts_spec.specs.Aggregate.{summary};
 ghost use Rattle.ts_spec.specs.Groups.{number_then};
@@ -11,7 +11,7 @@ use ts_agg::Running;
 use ts_range::Row;
 use ts_sample::{Cell, Sample, Units};
 
-// A time, and what its numbers come to.
+// A time in milliseconds, and the aggregate of its values.
 #[derive(Drop)]
 pub(crate) struct Slot {
     pub(crate) time: u64,
@@ -19,7 +19,7 @@ pub(crate) struct Slot {
 }
 
 impl Slot {
-    // That of one row.
+    // The slot of a first row.
     pub(crate) fn of_row(row: Row) -> Result<Slot, AllocError>
         ensures time { IfOk result (λ slot. slot.time ≡ row.time) }
         ensures counted { IfOk result (λ slot. slot.running ≡ summary (number_then row.time (cell_of row.value) [])) }
@@ -32,7 +32,7 @@ impl Slot {
         })
     }
 
-    // Counts the cell of a row of its time.
+    // Adds a row of the same time.
     pub(crate) fn count(&mut self, row: Row) -> Result<(), AllocError>
         ensures counted { OnOk result ((ps : List Point) → self.old.running ≡ summary ps
             → self.new.running ≡ summary (ps ++ number_then row.time (cell_of row.value) [])) }
@@ -42,7 +42,7 @@ impl Slot {
     }
 }
 
-// Whether what stands at a place is of a time.
+// Whether the slot at this index exists and has this time.
 pub(crate) fn is_of(slots: &[Slot], place: usize, time: u64) -> bool
     ensures { result ≡ true → (place < length slots.now) × ((slot_at slots.now place).time ≡ time) }
 {
@@ -52,7 +52,7 @@ pub(crate) fn is_of(slots: &[Slot], place: usize, time: u64) -> bool
     }
 }
 
-// Counts a cell among others of its time. Only a number counts.
+// Adds a value to the aggregate. NaN counts as no value.
 fn count(running: &mut Running, time: u64, cell: Cell) -> Result<(), AllocError>
     requires { time ≤ MAX_TIME }
     ensures { OnOk result ((ps : List Point) → running.old ≡ summary ps
@@ -64,7 +64,7 @@ fn count(running: &mut Running, time: u64, cell: Cell) -> Result<(), AllocError>
     }
 }
 
-// Counts a number among others, unless these are too many.
+// Adds a number to the aggregate. Fails if it already has as many as it can count.
 fn count_number(running: &mut Running, sample: &Sample) -> Result<(), AllocError>
     ensures { OnOk result ((ps : List Point) → running.old ≡ summary ps
         → running.new ≡ summary (ps ++ sample.now ∷ [])) }
@@ -76,7 +76,7 @@ fn count_number(running: &mut Running, sample: &Sample) -> Result<(), AllocError
     Ok(())
 }
 
-// A number of a time, as a sample.
+// The sample that stands for a value at a time.
 fn sample_at(time: u64, value: Units) -> Sample
     requires { time ≤ MAX_TIME }
     ensures { result ≡ record { time = time; value = value; made = 0 } }

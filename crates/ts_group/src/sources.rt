@@ -1,4 +1,4 @@
-// The keys of the series of a group, with commas between them.
+// The keys of the series of a group, separated by commas.
 ghost use Rattle.std.specs.Prelude.{◌≡◌, ◌++◌, List, [], ◌∷◌, if◌then◌else◌, codes, OnOk};
 ghost use Rattle.ts_spec.specs.Key.{Key};
 ghost use Rattle.ts_group.specs.Sources.{joined, joining};
@@ -6,7 +6,7 @@ ghost use Rattle.ts_group.specs.Sources.{joined, joining};
 use std::alloc::{AllocError, Global};
 use std::marker::Model;
 
-/// The keys of series that were added so far, as a group shows them: with commas between them. A key may be empty.
+/// The keys added so far, separated by commas. A key may be empty.
 #[derive(Drop)]
 pub struct Sources {
     text: Vec<u8>,
@@ -23,7 +23,7 @@ impl Model for Sources {
 }
 
 impl Sources {
-    /// No key yet. Takes no memory.
+    /// No key yet. Allocates nothing.
     pub fn new(alloc: Global) -> Sources
         ensures { result ≡ joining [] }
     {
@@ -33,7 +33,7 @@ impl Sources {
         }
     }
 
-    /// Adds a key at the end. After an Err there may be a part of it.
+    /// Appends a key. After an `Err` the text may end in part of it.
     pub fn add(&mut self, key: &[u8]) -> Result<(), AllocError>
         ensures { OnOk result ((keys : List Key) → self.old ≡ joining keys
             → self.new ≡ joining (keys ++ key.now ∷ [])) }
@@ -51,7 +51,7 @@ impl Sources {
     }
 }
 
-// Adds a key to a text, with a comma between them if there are others.
+// Appends a key, with a comma before it unless it is the first.
 fn add_after(text: &mut Vec<u8>, some: bool, key: &[u8]) -> Result<(), AllocError>
     ensures { OnOk result (text.new.items ≡ text.old.items ++ (if some then codes "," else []) ++ key.now) }
 {

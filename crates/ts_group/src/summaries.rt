@@ -1,4 +1,4 @@
-// What is kept of rows, time by time. After an Err it may have part of a row.
+// Aggregates of rows by time. After an `Err` it may have part of a row.
 ghost use Rattle.std.specs.Prelude.{◌≡◌, ◌++◌, ℕ, None, Some, List, [], ◌∷◌, length, MatchOption, OnOk, OnErr};
 ghost use Rattle.std.specs.BTreeMap.{insert_entry, is_at};
 ghost use Rattle.std.specs.Map.{lookup};
@@ -16,14 +16,14 @@ use std::marker::Model;
 use ts_agg::Running;
 use ts_range::Row;
 
-// For each time that rows have, what its numbers come to. Times that come in the order of those before are found at once.
+// The aggregate of each time. A series that has the same times as the previous one needs no search.
 #[derive(Drop)]
 pub(crate) struct Summaries {
-    // the place of each time
+    // the index of the slot of each time
     places: BTreeMap<u64, usize>,
-    // what stands there: the times in the order in which each came first
+    // the slots, in the order in which their times first arrived
     slots: Vec<Slot>,
-    // the place of the last row: after it the time of the next one may stand
+    // the index of the last row's slot; the next row often belongs to the slot after it
     last: usize,
 }
 
@@ -39,7 +39,7 @@ impl Model for Summaries {
 }
 
 impl Summaries {
-    // Those of no row. Takes no memory.
+    // No rows yet. Allocates nothing.
     pub(crate) fn new(alloc: Global) -> Summaries
         ensures { result ≡ [] }
     {
@@ -50,7 +50,7 @@ impl Summaries {
         }
     }
 
-    // Takes one row more.
+    // Adds a row.
     pub(crate) fn add(&mut self, row: Row) -> Result<(), AllocError>
         requires timely { AreTimely self.old }
         ensures added { OnOk result ((rows : List TheRow) → self.old ≡ summaries rows → self.new ≡ summaries (rows ++ row_of row ∷ [])) }
@@ -70,14 +70,14 @@ impl Summaries {
         }
     }
 
-    // How many times there are.
+    // The number of times.
     pub(crate) fn len(&self) -> usize
         ensures { result ≡ length self.now }
     {
         self.places.len()
     }
 
-    // The times in ascending order, with what the numbers of each come to.
+    // The times in ascending order, with their aggregates.
     pub(crate) fn iter(&self) -> SummaryIter<'_>
         ensures { result ≡ self.now }
     {
@@ -88,7 +88,7 @@ impl Summaries {
     }
 }
 
-// The place of a time, if it has one. It is looked at first whether that is the place `next`.
+// The index of the slot of `time`, if there is one. Tries index `next` before searching.
 fn place_of(places: &BTreeMap<u64, usize>, slots: &[Slot], next: usize, time: u64) -> Option<usize>
     requires { ArePlaced slots.now places.now.entries }
     ensures { result ≡ lookup (is_at (nat_cmp time)) places.now.entries }
@@ -99,7 +99,7 @@ fn place_of(places: &BTreeMap<u64, usize>, slots: &[Slot], next: usize, time: u6
     places.get(&time).copied()
 }
 
-// Puts what is kept of a new time at a new place, and answers which that is. After an Err all is as before.
+// Adds a slot for a new time and returns its index. On `Err` nothing changes.
 fn add_slot(
     places: &mut BTreeMap<u64, usize>,
     slots: &mut Vec<Slot>,
@@ -121,7 +121,7 @@ fn add_slot(
     Ok(place)
 }
 
-// The times that are left, from both ends, with what the numbers of each come to.
+// An iterator over times and aggregates, from both ends.
 #[derive(Drop)]
 pub(crate) struct SummaryIter<'a> {
     places: Iter<'a, u64, usize>,
@@ -140,7 +140,7 @@ impl<'a> Model for SummaryIter<'a> {
 }
 
 impl<'a> SummaryIter<'a> {
-    // The first one.
+    // The first remaining one.
     pub(crate) fn next(&mut self) -> Option<(u64, &'a Running)>
         ensures { MatchOption result ((self.old ≡ []) × (self.new ≡ [])) (λ e. self.old ≡ (e.0, e.1.now) ∷ self.new) }
     {
@@ -148,7 +148,7 @@ impl<'a> SummaryIter<'a> {
         Some((*time, &self.slots[*place].running))
     }
 
-    // The last one.
+    // The last remaining one.
     pub(crate) fn next_back(&mut self) -> Option<(u64, &'a Running)>
         ensures { MatchOption result ((self.old ≡ []) × (self.new ≡ [])) (λ e. self.old ≡ self.new ++ (e.0, e.1.now) ∷ []) }
     {

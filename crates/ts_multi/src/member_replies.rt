@@ -1,4 +1,4 @@
-// The replies of members, and of their parts.
+// Builds the replies of members and their parts.
 ghost use Rattle.std.specs.Prelude.{◌≡◌, [], ◌∷◌, pos, map, IfOk};
 ghost use Rattle.std.specs.Option.{option_copied};
 ghost use Rattle.ts_spec.specs.Replies as spec;
@@ -29,7 +29,7 @@ pub fn member_reply<S: ShowsLabels>(
     reply_with(alloc, key, labels, array(replies))
 }
 
-// `[key, labels, row]`, of the first row.
+// `[key, labels, row]`, with the first row, or an empty array if there is none.
 pub(crate) fn last_member_reply<S: ShowsLabels>(
     alloc: Global,
     key: &[u8],
@@ -46,7 +46,7 @@ pub(crate) fn last_member_reply<S: ShowsLabels>(
     reply_with(alloc, key, labels, row)
 }
 
-// A key, an array of labels, and what stands behind them.
+// `[key, labels, last]`.
 fn reply_with<S: ShowsLabels>(
     alloc: Global,
     key: &[u8],
@@ -61,7 +61,7 @@ fn reply_with<S: ShowsLabels>(
     Ok(array(vec![in alloc; key, labels, last]?))
 }
 
-// An array of the labels that are shown.
+// The array of the labels that the reply shows.
 fn labels_reply<S: ShowsLabels>(alloc: Global, labels: &S) -> Result<Reply, AllocError>
     ensures { IfOk result (λ reply. reply_of reply ≡ spec.labels_reply (S.shown labels.now)) }
 {
@@ -73,7 +73,7 @@ fn labels_reply<S: ShowsLabels>(alloc: Global, labels: &S) -> Result<Reply, Allo
     Ok(array(replies))
 }
 
-// `[label, value]`, where a value that is absent is nil.
+// `[label, value]`, with nil for an absent value.
 fn label_reply(alloc: Global, label: Shown<'_>) -> Result<Reply, AllocError>
     ensures { IfOk result (λ reply. reply_of reply ≡ spec.shown_label_reply (label_of label.entry)) }
 {
@@ -82,7 +82,7 @@ fn label_reply(alloc: Global, label: Shown<'_>) -> Result<Reply, AllocError>
     Ok(array(vec![in alloc; name, value]?))
 }
 
-// Bytes, or nil.
+// A bulk string, or nil.
 fn bulk_or_nil(alloc: Global, value: Option<&[u8]>) -> Result<Reply, AllocError>
     ensures { IfOk result (λ reply. reply_of reply ≡ spec.bulk_or_nil (option_copied value.entry)) }
 {
@@ -100,7 +100,7 @@ fn row_reply(alloc: Global, row: Row) -> Result<Reply, AllocError>
     Ok(array(vec![in alloc; Reply::Int(signed_time(row)), value]?))
 }
 
-// The time of a row as the integer that a reply shows.
+// The time of a row as a reply integer.
 fn signed_time(row: Row) -> i64
     ensures { result ≡ pos row.time }
 {

@@ -1,4 +1,4 @@
-// Labels that an answer shows, one after another.
+// The labels that a reply shows.
 ghost use Rattle.std.specs.Prelude.{◌≡◌, ◌<◌, List, length, map, slice_get, Some};
 ghost use Rattle.std.specs.Option.{option_copied};
 ghost use Rattle.ts_spec.specs.Questions.{shown_label, picked_label};
@@ -8,29 +8,29 @@ ghost use Rattle.ts_multi.specs.Members.{label_of};
 use ts_labels::{Labels, Show};
 use ts_resp::Word;
 
-/// A label that is shown, with its value if there is one.
+/// A label of a reply. The value is `None` if the series lacks the label.
 #[derive(Clone, Copy)]
 pub struct Shown<'a> {
     pub name: &'a [u8],
     pub value: Option<&'a [u8]>,
 }
 
-/// Labels, of which those are shown that are asked for.
+/// A list of the labels that a reply shows.
 pub trait ShowsLabels {
-    // Those that are shown.
+    // The labels, in order.
     ghost shown: { Self → List ShownLabel };
 
-    /// How many labels are shown.
+    /// The number of labels.
     fn count(&self) -> usize
         ensures { result ≡ length (shown self.now) };
 
-    /// The label that is shown at this place.
+    /// The label at this index, counted from 0.
     fn label(&self, place: usize) -> Shown<'_>
         requires { place < length (shown self.now) }
         ensures { slice_get (shown self.now) place ≡ Some (label_of result) };
 }
 
-/// The labels of a series, and which of them are shown.
+/// The labels of a series, with the client's choice of which to show.
 #[derive(Clone, Copy)]
 pub(crate) struct SeriesLabels<'a> {
     pub(crate) labels: &'a Labels,
@@ -60,7 +60,7 @@ impl ShowsLabels for SeriesLabels<'_> {
     }
 }
 
-// The label at a place.
+// The label at this index.
 fn label_at(labels: &Labels, place: usize) -> Shown<'_>
     requires { place < length labels.now }
     ensures { slice_get (map shown_label labels.now) place ≡ Some (label_of result) }
@@ -71,7 +71,7 @@ fn label_at(labels: &Labels, place: usize) -> Shown<'_>
     }
 }
 
-// The label with a name, whether or not it is there.
+// The label with this name, without a value if it is absent.
 fn label_named<'a>(labels: &'a Labels, name: &'a Word) -> Shown<'a>
     ensures { label_of result ≡ picked_label labels.now name.now }
 {

@@ -16,7 +16,7 @@ use Rattle.ts_spec.specs.State.{Label}
 use Rattle.ts_spec.specs.Text.{text}
 use Rattle.ts_labels.specs.declared.labels.Show.{Show}
 use Rattle.ts_labels.specs.Show.{show_of}
-use Rattle.ts_range.specs.declared.fault.RangeFault.{RangeFault}
+use Rattle.ts_range.specs.declared.query.RangeFault.{RangeFault}
 use Rattle.ts_multi.specs.Members.{member_with}
 use Rattle.ts_questions.specs.Members.{in_memory, is_too_many, rows_at, IsAdded}
 

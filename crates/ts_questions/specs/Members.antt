@@ -1,4 +1,4 @@
--- Answers over many series, member by member.
+-- Replies over many series, member by member.
 use Rattle.std.specs.Prelude.{◌≡◌, ◌&&◌, ⊤, is_none, Bool, true, false, ℕ, List, [], ◌∷◌, ◌++◌, map, flat_map, Option, None, Some, option_map, Result, Ok, Err}
 use Rattle.std.specs.Option.{ForSome}
 use Rattle.std.specs.declared.alloc.AllocError.{AllocError}
@@ -18,84 +18,84 @@ use Rattle.ts_spec.specs.Questions.{members_of, members_response, last_member}
 use Rattle.ts_labels.specs.Show.{show_of}
 use Rattle.ts_range.specs.Filters.{passes}
 use Rattle.ts_range.specs.Query.{query_of}
-use Rattle.ts_range.specs.declared.fault.RangeFault.{RangeFault}
-use Rattle.ts_range.specs.declared.fault.RangeFault.TheVariants.{EmptyRows, Memory}
+use Rattle.ts_range.specs.declared.query.RangeFault.{RangeFault}
+use Rattle.ts_range.specs.declared.query.RangeFault.TheVariants.{EmptyRows, Memory}
 use Rattle.ts_db.specs.Held.{Held, Stock}
 use Rattle.ts_questions.specs.declared.wanted.Wanted.{Wanted}
 use Rattle.ts_questions.specs.declared.wanted.Wanted.TheVariants as wanted
 
--- what comes of a call that may only find no memory
+-- the result of a call that can only fail for lack of memory
 abbrev pub in_memory : Result (Unit {0}) AllocError → Result (Unit {0}) RangeFault
 in_memory (Ok done) = Ok done
 in_memory (Err fault) = Err (Memory fault)
 
--- whether a fault is that the rows are too many
+-- whether the error is that the rows are too many
 abbrev pub is_too_many : RangeFault → Bool
 is_too_many EmptyRows = true
 is_too_many (Memory fault) = false
 
--- the member of a key with the rows of a question, unless these are too many
+-- the member of a key with the rows of a query, unless these are too many
 abbrev pub rows_at : Limits → Keeping → Bool → Show → Query → Key → Option Reply
 rows_at limits m latest show q k = option_map (λ rows. member_reply (kept_member m show k rows)) (answer limits.empty_rows q (kept_asked m latest k))
 
--- what is told of a key, unless its rows are too many
+-- the member of a key, unless its rows are too many
 abbrev pub reply_at : Limits → Keeping → Wanted → Key → Option Reply
 reply_at limits m wanted.Key k = Some (Bulk k)
 reply_at limits m (wanted.Last latest show) k = Some (last_member_reply (kept_last_member m latest (show_of show) k))
 reply_at limits m (wanted.Rows latest show query filters) k = rows_at limits m latest (show_of show) (query_of query) k
 
--- one answer and then the others, unless there is nothing to tell of one
+-- an element in front of the others, or nothing if either is missing
 abbrev pub told_then : {X : Type 0} → Option X → Option (List X) → Option (List X)
 told_then None others = None
 told_then (Some one) None = None
 told_then (Some one) (Some others) = Some (one ∷ others)
 
--- what is told of keys, unless there is nothing to tell of one
+-- the elements of all keys, or nothing if one is missing
 abbrev pub each_told : {X : Type 0} → (Key → Option X) → List Key → Option (List X)
 each_told told [] = Some []
 each_told told (k ∷ ks) = told_then (told k) (each_told told ks)
 
--- what is told was added, as it is written
+-- the element exists, and its text was appended
 abbrev pub IsAdded : {X Y : Type 0} → (X → List Y) → Option X → (before after : List Y) → Type 0
 IsAdded written None before after = ⊥
 IsAdded written (Some one) before after = after ≡ before ++ written one
 
--- what is told was added, unless memory was lost; in either case there is something to tell
+-- the element exists, and its text was appended unless memory ran out
 abbrev pub IsAddedOrLost : {X Y : Type 0} → (X → List Y) → (lost : Bool) → Option X → (before after : List Y) → Type 0
 IsAddedOrLost written lost None before after = ⊥
 IsAddedOrLost written lost (Some one) before after = lost ≡ false → after ≡ before ++ written one
 
--- the text of an array of replies was added, unless memory was lost; in either case there is one
+-- the replies exist, and the text of their array was appended unless memory ran out
 abbrev pub AreAddedOrLost : (lost : Bool) → Option (List Reply) → (before after : List ℕ) → Type 0
 AreAddedOrLost lost None before after = ⊥
 AreAddedOrLost lost (Some replies) before after = lost ≡ false → after ≡ before ++ text (array replies)
 
--- all that is told of keys was added as it is, unless memory was lost; in either case there is something to tell of each
+-- all elements exist, and they were appended unless memory ran out
 abbrev pub AreGatheredOrLost : {Y : Type 0} → (lost : Bool) → Option (List (List Y)) → (before after : List Y) → Type 0
 AreGatheredOrLost lost None before after = ⊥
 AreGatheredOrLost lost (Some all) before after = lost ≡ false → after ≡ before ++ flat_map (λ ys. ys) all
 
--- whether there is nothing to tell of a key
+-- whether a key has too many rows
 abbrev pub is_too_much_at : Wanted → Stock → Key → Bool
 is_too_much_at w stock k = is_none (reply_at stock.limits stock.keys w k)
 
--- whether a key passes filters, and there is nothing to tell of it
+-- whether a key matches the filters and has too many rows
 abbrev pub is_refused_at : Stock → List Filter → (is_too_much : Key → Bool) → Key → Bool
 is_refused_at stock fs is_too_much k = all_hold fs (kept_labels_at (get k stock.keys)) && is_too_much k
 
--- the filters of a query, where there was memory for them, let through what the query does
+-- the prepared filters, if there was memory for them, match the query
 abbrev pub AreAsAsked : Wanted → Type 0
 AreAsAsked wanted.Key = ⊤
 AreAsAsked (wanted.Last latest show) = ⊤
 AreAsAsked (wanted.Rows latest show query filters) = ForSome filters (λ f. (p : Point) → passes f p ≡ is_let_through (query_of query) p)
 
--- the response to what is wanted of keys, by what is kept of them
+-- the response over these keys, from the stored data
 abbrev pub kept_many : Limits → Keeping → Wanted → List Key → Response
 kept_many limits m wanted.Key ks = Keys ks
 kept_many limits m (wanted.Last latest show) ks = LastRows (map (kept_last_member m latest (show_of show)) ks)
 kept_many limits m (wanted.Rows latest show query filters) ks = members_response (kept_members_of limits m latest (show_of show) (query_of query) ks)
 
--- the response over the series that pass filters
+-- the response over the series that match the filters
 abbrev pub many_response : Held → Wanted → List Filter → Response
 many_response from wanted.Key fs = Keys (selection from.state fs)
 many_response from (wanted.Last latest show) fs = LastRows (map (last_member from.state latest (show_of show)) (selection from.state fs))

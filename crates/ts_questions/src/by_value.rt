@@ -1,4 +1,4 @@
-// The numbers of series by the values of a label.
+// Groups series ids by the value of a label.
 ghost use Rattle.std.specs.Prelude.{◌≡◌, ◌++◌, ℕ, All, List, [], ◌∷◌, Some, OnOk, IfOk};
 ghost use Rattle.ts_spec.specs.Filter.{value_of};
 ghost use Rattle.ts_spec.specs.Groups.{Labelled};
@@ -14,7 +14,7 @@ use std::marker::Model;
 use ts_db::{Db, Id};
 use ts_resp::Word;
 
-/// The numbers of series that have one value, in the order of their keys.
+/// The ids of the series with one value, in the order of their keys.
 #[derive(Drop)]
 pub(crate) struct Numbers {
     ids: Vec<Id>,
@@ -30,7 +30,6 @@ impl Model for Numbers {
 }
 
 impl Numbers {
-    // None yet.
     fn new(alloc: Global) -> Numbers
         ensures { result ≡ [] }
     {
@@ -39,7 +38,7 @@ impl Numbers {
         }
     }
 
-    // One more.
+    // Appends an id.
     fn add(&mut self, id: Id) -> Result<(), AllocError>
         ensures { OnOk result (self.new ≡ self.old ++ id ∷ []) }
     {
@@ -47,7 +46,7 @@ impl Numbers {
         Ok(())
     }
 
-    /// All of them.
+    /// All ids.
     pub(crate) fn all(&self) -> &[Id]
         ensures { result.now ≡ self.now }
     {
@@ -55,10 +54,10 @@ impl Numbers {
     }
 }
 
-/// The numbers of the series that have each value.
+/// The ids of the series with each value.
 pub(crate) type ByValue = BTreeMap<Word, Numbers>;
 
-/// These numbers by the values that their series have of the label. A series without the label is nowhere.
+/// Groups series by their value of the label. Series without the label are left out.
 pub(crate) fn by_value(db: &Db, ids: &[Id], grouping: &Grouping) -> Result<ByValue, AllocError>
     requires { All (IsNumbered db.now.ids) ids.now }
     ensures { IfOk result (λ groups. groups.entries ≡ by_values_of (numbered db.now grouping.now) grouping.now.by.label ids.now) }
@@ -70,7 +69,7 @@ pub(crate) fn by_value(db: &Db, ids: &[Id], grouping: &Grouping) -> Result<ByVal
     Ok(groups)
 }
 
-// Adds a number to those of its value, if its series has the label.
+// Adds a series to the group of its value, if it has the label.
 fn add_number(db: &Db, id: Id, grouping: &Grouping, groups: &mut ByValue) -> Result<(), AllocError>
     requires { IsNumbered db.now.ids id }
     ensures { OnOk result ((ns : List TheId) → groups.old.entries ≡ by_values_of (numbered db.now grouping.now) grouping.now.by.label ns
@@ -82,7 +81,7 @@ fn add_number(db: &Db, id: Id, grouping: &Grouping, groups: &mut ByValue) -> Res
     }
 }
 
-// Adds a number to those of a value.
+// Adds a series to the group of `value`.
 fn add_to(alloc: Global, groups: &mut ByValue, value: &Word, id: Id) -> Result<(), AllocError>
     ensures { OnOk result ((series : TheId → Labelled) (label : List ℕ) (ns : List TheId) → value_of label (series id).labels ≡ Some value.now
         → groups.old.entries ≡ by_values_of series label ns → groups.new.entries ≡ by_values_of series label (ns ++ id ∷ [])) }
@@ -98,7 +97,7 @@ fn add_to(alloc: Global, groups: &mut ByValue, value: &Word, id: Id) -> Result<(
     }
 }
 
-/// Does nothing: it tells that each of these numbers is that of one key.
+/// Does nothing at run time. Its contract says that each id belongs to exactly one key.
 pub(crate) fn known_numbers(db: &Db, ids: &[Id])
     requires { All (IsLive db.now.ids) ids.now }
     ensures { All (IsNumbered db.now.ids) ids.now }
@@ -108,7 +107,7 @@ pub(crate) fn known_numbers(db: &Db, ids: &[Id])
     }
 }
 
-// Does nothing: it tells that a number is that of one key.
+// Does nothing at run time. Its contract says that the id belongs to exactly one key.
 fn known_number(db: &Db, id: Id)
     requires { IsLive db.now.ids id }
     ensures { IsNumbered db.now.ids id }

@@ -1,20 +1,78 @@
-// Few single samples of a question: they are read one after another, so that no more of their chunk is decoded.
-ghost use Rattle.std.specs.Prelude.{◌≡◌, ◌+◌, ◌*◌, ◌≤◌, true, false, [], ◌∷◌};
+// Plain scans with a COUNT: narrow the interval, or read a few samples one by one.
+ghost use Rattle.std.specs.Prelude.{◌≡◌, ◌≤◌, true, false, None, ◌+◌, ◌*◌, [], ◌∷◌};
+ghost use Rattle.ts_spec.specs.Answer.{rows, row_of as row_of_sample};
+ghost use Rattle.ts_range.specs.Query.{query_of, row_of};
+ghost use Rattle.ts_questions.specs.Asking.{samples_asked, rows_asked, reach_asked, IsFew};
 ghost use Rattle.std.specs.Option.{ForSome};
-ghost use Rattle.ts_spec.specs.Answer.{row_of as row_of_sample};
-ghost use Rattle.ts_range.specs.Query.{row_of};
-ghost use Rattle.ts_questions.specs.Asking.{reach_asked, rows_asked, IsFew};
 
-use crate::narrowed::tells_each;
 use crate::question::Question;
 use std::sync::ledger::Ledger;
-use ts_range::{Row, Take};
+use ts_range::{Query, Row, Take};
 use ts_sample::{Cell, Sample, Steps};
 
-// A walk over a chunk takes less time for more samples than these.
+/// An end time late enough for the first `count` rows, and early enough to skip most later samples.
+pub(crate) fn last_wanted(question: &Question<'_>) -> u64
+    requires forward { question.now.query.now.reverse ≡ false }
+    ensures within { result ≤ question.now.query.now.to }
+    ensures rows { rows (record (query_of question.now.query.now) { to = result }) (samples_asked question.now) ≡ rows_asked question.now }
+{
+    let query = question.query;
+    question.known();
+    let Some(count) = query.count else {
+        return query.to;
+    };
+    if question.latest {
+        return query.to;
+    }
+    if query.to < query.from {
+        return query.to;
+    }
+    if !tells_each(query) {
+        return query.to;
+    }
+    question.time_for(query.from, query.to, count)
+}
+
+/// A start time early enough for the last `count` rows, and late enough to skip most earlier samples.
+pub(crate) fn first_wanted(question: &Question<'_>) -> u64
+    requires backward { question.now.query.now.reverse ≡ true }
+    ensures within { question.now.query.now.from ≤ result }
+    ensures rows { rows (record (query_of question.now.query.now) { from = result }) (samples_asked question.now) ≡ rows_asked question.now }
+{
+    let query = question.query;
+    question.known();
+    let Some(count) = query.count else {
+        return query.from;
+    };
+    if question.latest {
+        return query.from;
+    }
+    if query.to < query.from {
+        return query.from;
+    }
+    if !tells_each(query) {
+        return query.from;
+    }
+    question.time_from(query.from, query.to, count)
+}
+
+/// Whether the query is a plain scan, which returns each sample of its interval.
+pub(crate) fn tells_each(query: &Query) -> bool
+    ensures { result ≡ true → (query.now.times ≡ None) × (query.now.values ≡ None) × (query.now.buckets ≡ None) }
+{
+    if query.times.is_some() {
+        return false;
+    }
+    if query.values.is_some() {
+        return false;
+    }
+    query.buckets.is_none()
+}
+
+// Above this many samples, scanning whole chunks is faster.
 const FEW: u64 = 64;
 
-/// How many samples are wanted, where they are few and each of the interval is told.
+/// The sample limit, if the query is a plain scan with a small COUNT.
 pub(crate) fn few_wanted(question: &Question<'_>) -> Option<u64>
     ensures { ForSome result (IsFew question.now) }
 {
@@ -34,7 +92,7 @@ pub(crate) fn few_wanted(question: &Question<'_>) -> Option<u64>
     Some(count)
 }
 
-/// The taker to which the rows of the first samples were handed, so few of them.
+/// The sink after receiving the rows of the first `count` samples.
 pub(crate) fn few_into<T: Take, L: Ledger>(
     question: &Question<'_>,
     count: u64,
@@ -64,7 +122,7 @@ pub(crate) fn few_into<T: Take, L: Ledger>(
     taker
 }
 
-/// The row of the last sample, where that is all that is wanted, the last one first.
+/// The row of the last sample, if the query returns only that.
 pub(crate) fn last_alone<L: Ledger>(question: &Question<'_>, steps: &mut Steps<L>) -> Option<Row>
     requires backward { question.now.query.now.reverse ≡ true }
     ensures row { ForSome result (λ row. rows_asked question.now ≡ row_of row ∷ []) }

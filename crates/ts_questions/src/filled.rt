@@ -1,4 +1,4 @@
-// The rows of a stretch of buckets, of which the empty ones are told too, by one walk over the samples.
+// Answers a query with EMPTY by one scan over the samples.
 ghost use Rattle.std.specs.Prelude.{◌≡◌, ◌+◌, ◌*◌, ◌≤◌, ℕ, List, []};
 ghost use Rattle.ts_spec.specs.declared.bucket.Aggregator.TheVariants.{Last};
 ghost use Rattle.ts_spec.specs.Sample.{between};
@@ -14,7 +14,7 @@ use std::sync::ledger::Ledger;
 use ts_range::{LastValues, Stretch, Take};
 use ts_sample::{Sample, Steps};
 
-/// The taker to which the rows of a stretch were handed, the first one first.
+/// The sink after receiving all rows of a bucket range, oldest first.
 pub(crate) fn handed_filled<T: Take, L: Ledger>(
     question: &Question<'_>,
     stretch: &Stretch,
@@ -36,7 +36,7 @@ pub(crate) fn handed_filled<T: Take, L: Ledger>(
     walked(question, stretch.from, stretch.to, walk, steps).into_taker()
 }
 
-// The last samples before the first bucket of a stretch and before its first time, where an empty bucket says them.
+// The last samples before the first bucket and before the first time of the range, if empty buckets repeat them.
 fn known_before<L: Ledger>(
     question: &Question<'_>,
     stretch: &Stretch,
@@ -53,7 +53,7 @@ fn known_before<L: Ledger>(
     (ahead, prior)
 }
 
-// The taker of a line that has not begun, after the samples between two times.
+// Feeds the samples between two times to a fresh `LastValues` and returns its sink.
 fn shown<T: Take, L: Ledger>(
     question: &Question<'_>,
     from: u64,

@@ -1,24 +1,23 @@
-// The rows of samples, the last one first. They are found a share after another from the back, and handed on as they are
-// found: so no list of all rows is made.
+// Emits the rows of samples newest first. It reads batches of samples from the back and emits each batch at once, so it
+// never builds a list of all rows.
 ghost use Rattle.std.specs.Prelude.{◌≡◌, ◌-◌, ◌++◌, true, List, [], map, None, option_map};
 ghost use Rattle.ts_spec.specs.Answer.{Row as TheRow};
 ghost use Rattle.ts_range.specs.Query.{row_of};
 ghost use Rattle.ts_series.specs.Seams.{IsSeamed};
 ghost use Rattle.ts_questions.specs.Asking.{pieces_asked, rows_asked};
 
-use crate::few_samples::last_alone;
+use crate::few_samples::{first_wanted, last_alone};
 use crate::last_rows::rows_between;
-use crate::narrowed::first_wanted;
 use crate::question::Question;
 use std::sync::ledger::Ledger;
 use ts_range::{Keep, Row, Take, turned};
 use ts_sample::Steps;
 
-// How many samples a share has at least, where it does not begin with the interval.
+// The least number of samples in a batch, except in the earliest one.
 const SHARE: u64 = 1024;
 
-/// The taker to which the rows of the samples of the interval were handed, the last one first. Each share begins where a chunk
-/// does, so that no chunk is decoded for two of them.
+/// The sink after receiving the rows of the interval, newest first. Each batch begins where a chunk does, so no chunk
+/// is decoded twice.
 pub(crate) fn samples_back_into<T: Keep, L: Ledger>(
     question: &Question<'_>,
     mut taker: T,
@@ -58,7 +57,7 @@ pub(crate) fn samples_back_into<T: Keep, L: Ledger>(
     taker
 }
 
-// How many rows are still wanted after so many.
+// The row limit that remains after `count` rows.
 fn left_after(left: Option<u64>, count: usize) -> Option<u64>
     ensures { result ≡ option_map (λ n. n - count) left }
 {
@@ -66,7 +65,7 @@ fn left_after(left: Option<u64>, count: usize) -> Option<u64>
     Some(left.saturating_sub(count as u64))
 }
 
-/// Hands rows on.
+/// Emits rows to a sink.
 pub(crate) fn hand_on<T: Take>(rows: &[Row], taker: &mut T)
     ensures { (before : List TheRow) → T.has taker.old before → T.has taker.new (before ++ map row_of rows.now) }
 {

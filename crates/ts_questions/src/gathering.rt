@@ -1,4 +1,4 @@
-// The series of a group, whose rows are reduced one series after another. After an Err there may be some of them.
+// Adds the series of a group one by one and reduces their rows. After an `Err` the group may have some of them.
 ghost use Rattle.std.specs.Prelude.{◌≡◌, ◌+◌, ◌≤◌, All, [], ◌∷◌, true, false, sum_by, OnOk, IfErr, IfOk};
 ghost use Rattle.std.specs.List.{list_any};
 ghost use Rattle.ts_questions.specs.Grouping.{IsGrouping, IsNumbered, AreAddedTo, is_too_long, number_steps};
@@ -15,8 +15,8 @@ use ts_group::Group;
 use ts_range::RangeFault;
 use ts_sample::Steps;
 
-/// Adds the series of these numbers, which have the label, unless the rows of one are too many. Answers whether memory was
-/// lost: then there may be only some of them, as there may be where it was lost before.
+/// Adds the series with these ids, which have the label. Fails if one of them has too many rows. Returns whether memory
+/// ran out, now or `before`; then only some series may have been added.
 pub(crate) fn gather<L: Ledger>(
     db: &Db,
     ids: &[Id],
@@ -40,8 +40,7 @@ pub(crate) fn gather<L: Ledger>(
     Ok(lost)
 }
 
-// Adds the series of a number, unless memory was lost or is lost now, and answers whether it was. Its rows may be too many
-// in either case.
+// Adds one series, or after memory ran out only checks that its rows are not too many. Returns whether memory ran out.
 fn gather_next<L: Ledger>(
     db: &Db,
     id: Id,
@@ -71,7 +70,7 @@ fn gather_next<L: Ledger>(
     }
 }
 
-// Whether the rows of the series of a number are too many. Takes no memory.
+// Whether a series has too many rows. Allocates nothing.
 fn is_too_long<L: Ledger>(db: &Db, id: Id, grouping: &Grouping, steps: &mut Steps<L>) -> bool
     requires { IsNumbered db.now.ids id }
     ensures long { result ≡ is_too_long db.now grouping.now id }
@@ -80,7 +79,7 @@ fn is_too_long<L: Ledger>(db: &Db, id: Id, grouping: &Grouping, steps: &mut Step
     has_too_many_rows(db, id, grouping.latest, &grouping.query, steps)
 }
 
-// Adds the series of a number, unless its rows are too many.
+// Adds one series. Fails if it has too many rows, or if there is no memory.
 fn add_series<L: Ledger>(
     db: &Db,
     id: Id,

@@ -1,11 +1,12 @@
-// The groups of many series.
+// Writes the groups of many series.
 ghost use Rattle.std.specs.Prelude.{◌≡◌, ◌+◌, ◌≤◌, ◌++◌, All, true, false, length, sum_by, IfErr, IfOk};
 ghost use Rattle.std.specs.List.{list_any};
 ghost use Rattle.std.specs.Result.{is_err};
 ghost use Rattle.ts_spec.specs.Replies.{array};
 ghost use Rattle.ts_spec.specs.Text.{text};
 ghost use Rattle.ts_db.specs.Faults.{key_with};
-ghost use Rattle.ts_questions.specs.Grouping.{IsGrouping, IsNumbered, group_reply, is_group_refused, group_steps, groups_of_numbers, is_too_long, number_steps, numbers_steps, refusals};
+ghost use Rattle.ts_questions.specs.Grouping.{IsGrouping, IsNumbered, group_reply, is_group_refused, group_steps};
+ghost use Rattle.ts_questions.specs.Grouping.{groups_of_numbers, is_too_long, number_steps, numbers_steps, refusals};
 
 use crate::by_value::by_value;
 use crate::gathering::gather;
@@ -20,8 +21,8 @@ use ts_range::RangeFault;
 use ts_resp::{Out, Word};
 use ts_sample::Steps;
 
-/// Adds an array of the groups of these numbers, unless the rows of one that has the label are too many. Answers whether
-/// memory was lost: then there may be a part of it, as there may be after an Err.
+/// Writes the array of the groups of these series. Fails if a series with the label has too many rows. Returns whether
+/// memory ran out. In both cases the output may end in part of the array.
 pub(crate) fn add_groups<L: Ledger>(
     db: &Db,
     ids: &[Id],
@@ -47,7 +48,7 @@ pub(crate) fn add_groups<L: Ledger>(
     Ok(lost)
 }
 
-// Answers that memory was lost, unless the rows of one of these that has the label are too many. Takes no memory.
+// Returns that memory ran out, or fails if a series with the label has too many rows. Allocates nothing.
 fn lost_unless_refused<L: Ledger>(
     db: &Db,
     ids: &[Id],
@@ -68,7 +69,7 @@ fn lost_unless_refused<L: Ledger>(
     Ok(true)
 }
 
-// Whether the series of a number has the label, and its rows are too many. Takes no memory.
+// Whether a series has the label and too many rows. Allocates nothing.
 fn is_number_refused<L: Ledger>(db: &Db, id: Id, grouping: &Grouping, steps: &mut Steps<L>) -> bool
     requires { IsNumbered db.now.ids id }
     ensures refused { result ≡ is_group_refused grouping.now db.now (key_with db.now.ids id) }
@@ -77,8 +78,8 @@ fn is_number_refused<L: Ledger>(db: &Db, id: Id, grouping: &Grouping, steps: &mu
     grouping.is_refused(db, id, steps)
 }
 
-// Adds the group of a value with the series of these numbers, unless memory was lost or is lost now, and answers whether it
-// was. The rows of one may be too many in either case.
+// Writes the group of `value`, or after memory ran out only checks that the rows are not too many. Returns whether
+// memory ran out.
 fn add_group<L: Ledger>(
     db: &Db,
     value: &Word,
@@ -114,7 +115,7 @@ fn add_group<L: Ledger>(
     )))
 }
 
-// Whether there was no memory.
+// Whether memory ran out.
 fn is_lost(done: Result<(), AllocError>) -> bool
     ensures { result ≡ is_err done }
 {

@@ -1,10 +1,11 @@
-// An answer over many series in groups: what is asked of each series.
+// A query with GROUPBY: what it reads of each series.
 ghost use Rattle.std.specs.Prelude.{◌≡◌, ◌+◌, ◌≤◌, Some};
 ghost use Rattle.ts_spec.specs.Key.{Key};
 ghost use Rattle.ts_spec.specs.Keyed.{get};
 ghost use Rattle.ts_range.specs.Query.{query_of};
 ghost use Rattle.ts_db.specs.Held.{IsLive};
-ghost use Rattle.ts_questions.specs.Grouping.{IsGrouping, counted, has_label, is_group_refused, group_steps, kept_groups};
+ghost use Rattle.ts_questions.specs.Grouping.{IsGrouping, counted, has_label, is_group_refused, group_steps};
+ghost use Rattle.ts_questions.specs.Grouping.{kept_groups};
 
 use crate::by_value::known_numbers;
 use crate::grouped::add_groups;
@@ -18,17 +19,17 @@ use ts_range::{Filters, Query, RangeFault};
 use ts_resp::Out;
 use ts_sample::Steps;
 
-/// What an answer in groups asks of each series that has the label, and how it tells the groups.
+/// A query with GROUPBY, and how the reply shows its groups.
 #[derive(Drop)]
 pub(crate) struct Grouping {
     pub(crate) latest: bool,
     pub(crate) show: Show,
-    /// The question. It asks all rows: how many are told is settled group by group.
+    /// The query over each series. It has no row limit: that applies to each group.
     pub(crate) query: Query,
-    /// What the query lets through, unless there was no memory for that.
+    /// The prepared filters of the query, or `None` if there was no memory for them.
     pub(crate) filters: Option<Filters>,
     pub(crate) by: GroupBy,
-    /// How many rows of each group are told, if not all.
+    /// The maximum number of rows of each group, if any.
     pub(crate) count: Option<u64>,
 }
 
@@ -56,7 +57,7 @@ impl Grouping {
         }
     }
 
-    /// Whether the key of a number has the label.
+    /// Whether the series has the label.
     pub(crate) fn asks(&self, db: &Db, id: Id) -> bool
         requires { IsLive db.now.ids id }
         ensures { (key : Key) → get key db.now.ids ≡ Some id → result ≡ has_label db.now self.now.by.label key }
@@ -64,7 +65,7 @@ impl Grouping {
         db.labels_of(id).get(&self.by.label).is_some()
     }
 
-    // Whether the rows of the key of a number are asked, and too many.
+    // Whether the series has the label and too many rows.
     fn is_too_much_of<L: Ledger>(&self, db: &Db, id: Id, steps: &mut Steps<L>) -> bool
         requires { IsLive db.now.ids id }
         ensures refused { (key : Key) → get key db.now.ids ≡ Some id → result ≡ is_group_refused self.now db.now key }

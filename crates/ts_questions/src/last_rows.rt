@@ -1,5 +1,4 @@
-// The last rows of a question, found in shares from the back, so that earlier samples are not decoded where the later
-// ones have as many rows as are wanted.
+// Finds the last rows of a query in batches from the back, so that it decodes no earlier samples than necessary.
 ghost use Rattle.std.specs.Prelude.{◌≡◌, ◌+◌, ◌*◌, ◌≤◌, ◌<◌, ◌⊎◌, ◌++◌, map, reverse, take, IsSome, IfOk};
 ghost use Rattle.std.specs.Option.{ForSome};
 ghost use Rattle.ts_spec.specs.Bucket.{start};
@@ -14,7 +13,7 @@ use std::sync::ledger::Ledger;
 use ts_range::{Row, RowList, turned};
 use ts_sample::Steps;
 
-/// So many rows of the samples from a time on, the last one first.
+/// The last `count` rows of the samples from `from` on, newest first.
 pub(crate) fn last_rows<L: Ledger>(
     question: &Question<'_>,
     from: u64,
@@ -45,9 +44,9 @@ pub(crate) fn last_rows<L: Ledger>(
     Ok(found)
 }
 
-// Where a share begins that ends at a time, after so many others: no earlier than another time, and else where a bucket
-// does. It goes back by as many samples as a chunk may hold, or by as many buckets as are wanted where that is further, and
-// each share eight times as far as the one before it.
+// The start of a batch that ends at `end`: no earlier than `from`, and otherwise the start of a bucket. A batch goes
+// back by the samples of one chunk, or by as many buckets as are missing if that is further. Each batch goes back eight
+// times as far as the previous one.
 fn start_of_share(question: &Question<'_>, from: u64, end: u64, wanted: u64, shares: u64) -> u64
     requires ordered { (from ≤ end) × (end ≤ question.now.query.now.to) }
     requires more { 0 < wanted }
@@ -71,8 +70,8 @@ fn start_of_share(question: &Question<'_>, from: u64, end: u64, wanted: u64, sha
     from.max(grid.start_of(near.min(last.saturating_sub(back))))
 }
 
-// How many times as far as the first share the next one goes back, after so many: none where it has all the rest. Where
-// a share begins a chunk may be cut, which is decoded for two shares then, so that there are few.
+// How far the next batch goes back, relative to the first. `None` takes all remaining samples. A chunk at the border of
+// two batches is decoded twice, so there are few batches.
 fn scale_after(shares: u64) -> Option<u64>
     ensures { IsSome result → shares < 3 }
 {
@@ -84,7 +83,7 @@ fn scale_after(shares: u64) -> Option<u64>
     }
 }
 
-/// The rows of the samples between two times, in their order.
+/// The rows of the samples between two times, oldest first.
 pub(crate) fn rows_between<L: Ledger>(
     question: &Question<'_>,
     from: u64,
@@ -98,7 +97,7 @@ pub(crate) fn rows_between<L: Ledger>(
     handed(question, from, to, taker, steps).into_rows()
 }
 
-// Rows, and after them earlier ones, the last of these first, so many in all.
+// Appends earlier rows, newest first, and keeps at most `count` in total.
 fn with_earlier(mut found: Vec<Row>, earlier: Vec<Row>, count: u64) -> Result<Vec<Row>, AllocError>
     ensures { IfOk result (λ all. map row_of all.items ≡ take count (map row_of found.items ++ reverse (map row_of earlier.items))) }
 {

@@ -1,5 +1,6 @@
-// One series in an answer over many. After an Err there may be a part of its text.
-ghost use Rattle.std.specs.Prelude.{◌≡◌, ◌+◌, ◌≤◌, ◌++◌, length, map, is_none, None, Some, option_map, OnOk, IfErr, IfOk};
+// Writes one member of a reply over many series. After an `Err` the output may end in part of it.
+ghost use Rattle.std.specs.Prelude.{◌≡◌, ◌+◌, ◌≤◌, ◌++◌, length, map, is_none, None, Some, option_map, OnOk, IfErr};
+ghost use Rattle.std.specs.Prelude.{IfOk};
 ghost use Rattle.std.specs.Option.{ForSome};
 ghost use Rattle.ts_spec.specs.Answer.{is_let_through, row_of as row_of_sample};
 ghost use Rattle.ts_spec.specs.Key.{Key};
@@ -13,7 +14,8 @@ ghost use Rattle.ts_range.specs.Filters.{passes};
 ghost use Rattle.ts_range.specs.Query.{row_of, query_of};
 ghost use Rattle.ts_series.specs.Seams.{IsSeamed};
 ghost use Rattle.ts_db.specs.Held.{IsLive};
-ghost use Rattle.ts_questions.specs.Asking.{key_asked, samples_asked, pieces_asked, rows_asked, answer_asked, steps_beside, IsTold};
+ghost use Rattle.ts_questions.specs.Asking.{key_asked, samples_asked, pieces_asked, rows_asked, answer_asked};
+ghost use Rattle.ts_questions.specs.Asking.{steps_beside, IsTold};
 ghost use Rattle.ts_questions.specs.Bounds.{question_steps, wanted_steps};
 ghost use Rattle.ts_questions.specs.Members.{reply_at, rows_at, AreAsAsked, IsAdded, in_memory, is_too_many};
 
@@ -30,7 +32,7 @@ use ts_range::{Filters, Query, RangeFault, Row, RowList};
 use ts_resp::{Out, encode_bulk};
 use ts_sample::{Cell, Sample, Steps};
 
-/// Adds what is told of the key of a number.
+/// Writes the member for one series.
 pub(crate) fn add_member<L: Ledger>(
     db: &Db,
     id: Id,
@@ -57,7 +59,7 @@ pub(crate) fn add_member<L: Ledger>(
     }
 }
 
-/// What comes of a call that may only find no memory.
+/// The result of a call that can only fail for lack of memory.
 pub(crate) fn in_memory(done: Result<(), AllocError>) -> Result<(), RangeFault>
     ensures { result ≡ in_memory done }
 {
@@ -67,7 +69,7 @@ pub(crate) fn in_memory(done: Result<(), AllocError>) -> Result<(), RangeFault>
     }
 }
 
-// Adds the member with the last row.
+// Writes the member with its last row.
 fn add_last<L: Ledger>(
     db: &Db,
     id: Id,
@@ -97,7 +99,7 @@ fn row_of(sample: Option<Sample>) -> Option<Row>
     })
 }
 
-// Adds the member with the rows of a question, unless these are too many.
+// Writes the member with the rows of a query. Fails if they are too many.
 fn add_rows<L: Ledger>(
     db: &Db,
     id: Id,
@@ -125,7 +127,7 @@ fn add_rows<L: Ledger>(
     in_memory(encode_member(db.key_of(id), db.labels_of(id), show, &rows, out))
 }
 
-/// That the rows are too many, or else that there is no memory for them.
+/// The error for rows that can't be returned: too many rows, or out of memory.
 pub(crate) fn lost(are_too_many: bool) -> RangeFault
     ensures { are_too_many ≡ is_too_many result }
 {
@@ -135,7 +137,7 @@ pub(crate) fn lost(are_too_many: bool) -> RangeFault
     RangeFault::Memory(AllocError)
 }
 
-/// The rows that answer a question, unless they are too many.
+/// The rows of a query. Fails if they are too many, or if there is no memory.
 pub(crate) fn rows_of<L: Ledger>(
     question: &Question<'_>,
     steps: &mut Steps<L>,
@@ -154,7 +156,7 @@ pub(crate) fn rows_of<L: Ledger>(
     }
 }
 
-// The rows of what is told, in a list.
+// The rows of a row plan, in a list.
 fn rows_told<L: Ledger>(
     question: &Question<'_>,
     told: &Told,

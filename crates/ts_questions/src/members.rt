@@ -1,5 +1,6 @@
-// The answers over many series.
-ghost use Rattle.std.specs.Prelude.{◌≡◌, ◌+◌, ◌≤◌, ◌++◌, All, List, [], true, false, length, sum_by, None, Some, IfErr, IfOk};
+// Writes the members of a reply over many series.
+ghost use Rattle.std.specs.Prelude.{◌≡◌, ◌+◌, ◌≤◌, ◌++◌, All, List, [], true, false, length, sum_by, None, Some};
+ghost use Rattle.std.specs.Prelude.{IfErr, IfOk};
 ghost use Rattle.std.specs.Fmt.{decimal};
 ghost use Rattle.ts_spec.specs.Key.{Key};
 ghost use Rattle.ts_spec.specs.Keyed.{get};
@@ -9,11 +10,11 @@ ghost use Rattle.ts_db.specs.Bounds.{selection_steps};
 ghost use Rattle.ts_db.specs.Held.{Held, Stands, IsLive, AreNumbersOf};
 ghost use Rattle.ts_questions.specs.Answering.{IsReplyText};
 ghost use Rattle.ts_questions.specs.Bounds.{wanted_steps};
-ghost use Rattle.ts_questions.specs.Members.{reply_at, each_told, AreAsAsked, IsAddedOrLost, AreAddedOrLost, many_response};
+ghost use Rattle.ts_questions.specs.Members.{reply_at, each_told, AreAsAsked, IsAddedOrLost, AreAddedOrLost};
+ghost use Rattle.ts_questions.specs.Members.{many_response};
 
-use crate::many::put_many;
 use crate::member::add_member;
-use crate::telling::Telling;
+use crate::telling::{Telling, put_many};
 use crate::wanted::Wanted;
 use std::sync::ledger::Ledger;
 use ts_db::{Db, Id};
@@ -22,8 +23,8 @@ use ts_range::RangeFault;
 use ts_resp::{Out, encode_count};
 use ts_sample::Steps;
 
-/// Writes what is told of each series that passes filters, one after another in the order of their keys. Where the
-/// rows of one are too many, that alone is said, also where there is no memory for the others.
+/// Writes the reply over all series that match the filters, in the order of their keys. If a series has too many rows,
+/// the reply is that error, even if memory ran out for others.
 pub fn put_members<L: Ledger>(
     db: &Db,
     filters: &[Filter],
@@ -41,8 +42,8 @@ pub fn put_members<L: Ledger>(
     put_many(db, filters, wanted, out, steps);
 }
 
-/// Adds an array of what is told of the keys of these numbers, unless what is told of one is too much. Answers whether
-/// memory was lost: then there may be a part of it, as there may be after an Err.
+/// Writes the array of the members for these series. Fails if one of them has too many rows. Returns whether memory ran
+/// out. In both cases the output may end in part of the array.
 pub(crate) fn add_members<L: Ledger>(
     db: &Db,
     ids: &[Id],
@@ -66,7 +67,7 @@ pub(crate) fn add_members<L: Ledger>(
     Ok(lost)
 }
 
-/// Begins an array of so many. Answers whether there was no memory for that.
+/// Writes the header of an array. Returns whether memory ran out.
 pub(crate) fn begin_members(count: usize, out: &mut Out) -> bool
     ensures begun { result ≡ false → out.new.bytes ≡ out.old.bytes ++ line_text 42 (decimal count) }
     ensures room { length out.old.bytes + out.old.spare ≤ length out.new.bytes + out.new.spare }
@@ -77,8 +78,8 @@ pub(crate) fn begin_members(count: usize, out: &mut Out) -> bool
     }
 }
 
-// Adds what is told of the key of a number, unless memory was lost or is lost now, and answers whether it was. What is
-// told may be too much in either case.
+// Writes one member, or after memory ran out only checks that its rows are not too many. Returns whether memory ran
+// out.
 fn add_next<L: Ledger>(
     db: &Db,
     id: Id,

@@ -1,4 +1,4 @@
-// A question about the samples of one series.
+// A query over one series of the database.
 ghost use Rattle.std.specs.Prelude.{◌≡◌, ◌^◌, Some};
 ghost use Rattle.ts_spec.specs.Answer.{is_let_through};
 ghost use Rattle.ts_spec.specs.Keyed.{get};
@@ -12,8 +12,7 @@ use ts_db::{Cursor, Db, Id};
 use ts_range::{Filters, Query};
 use ts_sample::{Sample, Steps, Visit};
 
-/// What is asked of the series of a number: the query, whether the sample of its open bucket counts, and the filters of
-/// the query, ready to be asked.
+/// A query over the series `id`: the query, whether LATEST adds the series' open bucket, and the prepared filters.
 #[derive(Clone, Copy)]
 pub(crate) struct Question<'a> {
     pub(crate) db: &'a Db,
@@ -60,7 +59,7 @@ impl<'a> Question<'a> {
         }
     }
 
-    /// Does nothing: it tells what always holds of the samples.
+    /// Does nothing at run time. Its contract states facts about the samples.
     pub(crate) fn known(&self)
         ensures rising { IsAscending (samples_asked self.now) }
         ensures few { length (samples_asked self.now) ≤ 2 ^ 32 }
@@ -71,7 +70,7 @@ impl<'a> Question<'a> {
         let _samples = self.db.limits().samples;
     }
 
-    /// Takes a visitor over the samples between two times, in milliseconds, both included, in their order.
+    /// Shows the samples between two times to a visitor, oldest first. Times are in milliseconds, both included.
     pub(crate) fn visit<V: Visit, L: Ledger>(
         &self,
         from: u64,
@@ -87,7 +86,7 @@ impl<'a> Question<'a> {
             .visit_of(self.id, from, to, self.latest, visit, steps);
     }
 
-    /// The times of the first and of the last sample, in milliseconds, if there are any.
+    /// The times of the first and the last sample, in milliseconds, if there are any.
     pub(crate) fn ends<L: Ledger>(&self, steps: &mut Steps<L>) -> Option<(u64, u64)>
         ensures ends { result ≡ ends_of (samples_asked self.now) }
         ensures bounded { ForSome result AreTimes }
@@ -96,7 +95,7 @@ impl<'a> Question<'a> {
         self.db.ends_of(self.id, self.latest, steps)
     }
 
-    /// The last sample before a time, in milliseconds, if there is one.
+    /// The last sample before `t` (in milliseconds), if there is one.
     pub(crate) fn before<L: Ledger>(&self, t: u64, steps: &mut Steps<L>) -> Option<Sample>
         ensures before { result ≡ last_of (at_times (λ u. nat_lt u t) (samples_asked self.now)) }
         ensures steps { steps.new ≤ steps.old + reach_asked self.now }
@@ -104,8 +103,8 @@ impl<'a> Question<'a> {
         self.db.before_of(self.id, t, self.latest, steps)
     }
 
-    /// A time from one to another, in milliseconds, up to which there are so many samples, where that of the open bucket
-    /// is not asked; the later one where there are fewer. It cuts no chunk.
+    /// A time in the interval up to which there are at least `count` samples, or `to` if there are fewer. Ignores
+    /// LATEST. Falls between chunks, so no chunk is split.
     pub(crate) fn time_for(&self, from: u64, to: u64, count: u64) -> u64
         requires ordered { from ≤ to }
         ensures within { (from ≤ result) × (result ≤ to) }
@@ -115,8 +114,8 @@ impl<'a> Question<'a> {
         self.db.time_for(self.id, from, to, count)
     }
 
-    /// A time from one to another, in milliseconds, from which on there are so many samples, where that of the open bucket
-    /// is not asked; the earlier one where there are fewer. It cuts no chunk.
+    /// A time in the interval from which on there are at least `count` samples, or `from` if there are fewer. Ignores
+    /// LATEST. Falls between chunks, so no chunk is split.
     pub(crate) fn time_from(&self, from: u64, to: u64, count: u64) -> u64
         requires ordered { from ≤ to }
         ensures within { (from ≤ result) × (result ≤ to) }
@@ -126,7 +125,7 @@ impl<'a> Question<'a> {
         self.db.time_from(self.id, from, to, count)
     }
 
-    /// Begins to read the samples from a time on, in milliseconds, where that of the open bucket is not asked.
+    /// A cursor over the samples from `from` on (in milliseconds). Ignores LATEST.
     pub(crate) fn read_from<L: Ledger>(&self, from: u64, steps: &mut Steps<L>) -> Cursor<'a>
         ensures left { self.now.latest ≡ false → result ≡ at_times (nat_le from) (samples_asked self.now) }
         ensures steps { steps.new ≤ steps.old + reach_asked self.now }
@@ -134,7 +133,7 @@ impl<'a> Question<'a> {
         self.db.read_of(self.id, from, steps)
     }
 
-    /// The last sample, if there is one, where that of the open bucket is not asked. Decodes none.
+    /// The last sample, if there is one. Ignores LATEST, and decodes nothing.
     pub(crate) fn last<L: Ledger>(&self, steps: &mut Steps<L>) -> Option<Sample>
         ensures last { self.now.latest ≡ false → result ≡ last_of (samples_asked self.now) }
         ensures steps { steps.new ≡ steps.old }
@@ -142,7 +141,7 @@ impl<'a> Question<'a> {
         self.db.last_of(self.id, false, steps)
     }
 
-    /// How many samples a new chunk of the series has room for at most.
+    /// The greatest number of samples that a new chunk of the series can hold.
     pub(crate) fn chunk_reach(&self) -> u64
         ensures { result ≤ reach_asked self.now }
     {

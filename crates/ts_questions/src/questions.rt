@@ -1,4 +1,4 @@
-// The replies to questions about the samples of one series.
+// Writes the replies to TS.RANGE, TS.MRANGE (and their reverse forms) and TS.GET.
 ghost use Rattle.std.specs.Prelude.{◌≡◌, ◌+◌, ◌*◌, ◌≤◌, [], length, Some, option_map};
 ghost use Rattle.ts_spec.specs.Answer.{answer as spec_answer, row_of as row_of_sample};
 ghost use Rattle.ts_spec.specs.Key.{Key};
@@ -12,17 +12,27 @@ ghost use Rattle.ts_range.specs.Query.{query_of};
 ghost use Rattle.ts_series.specs.Seams.{IsSeamed};
 ghost use Rattle.ts_db.specs.Held.{Held, Stands, IsLive};
 ghost use Rattle.ts_questions.specs.Answering.{IsReplyText};
-ghost use Rattle.ts_questions.specs.Asking.{key_asked, samples_asked, pieces_asked, rows_asked, answer_asked, steps_beside, IsTold};
-ghost use Rattle.ts_questions.specs.Bounds.{question_steps};
+ghost use Rattle.ts_questions.specs.Asking.{key_asked, samples_asked, pieces_asked, rows_asked, answer_asked};
+ghost use Rattle.ts_questions.specs.Asking.{steps_beside, IsTold};
+ghost use Rattle.ts_questions.specs.Bounds.{question_steps, members_steps};
+ghost use Rattle.ts_spec.specs.Filter.{selection};
+ghost use Rattle.ts_spec.specs.Groups.{ranges_response};
+ghost use Rattle.ts_labels.specs.Show.{show_of};
+ghost use Rattle.ts_command.specs.GroupBy.{group_of};
 
-use crate::faults::{refusal_reply, too_many_rows};
+use crate::faults::{put_lost, put_no_memory, refusal_reply, too_many_rows};
+use crate::grouping::Grouping;
+use crate::members::put_members;
 use crate::question::Question;
-use crate::room::{put_lost, put_no_memory};
 use crate::row_texts::{FIRST_ROOM, RowTexts};
 use crate::rows_into::rows_into;
+use crate::telling::put_many;
 use crate::told::{Told, has_too_many_rows, told_of};
+use crate::wanted::Wanted;
 use std::sync::ledger::Ledger;
+use ts_command::GroupBy;
 use ts_db::{Db, DbFault, Id};
+use ts_labels::{Filter, Show};
 use ts_range::{Filters, Query};
 use ts_resp::{Out, Word, begin_array, put, put_pair};
 use ts_sample::{Cell, Sample, Steps};
@@ -49,7 +59,7 @@ pub fn put_range<L: Ledger>(
     }
 }
 
-// Writes the rows of the key of a number.
+// Writes the rows of series `id`.
 fn put_rows_of<L: Ledger>(
     db: &Db,
     id: Id,
@@ -72,7 +82,7 @@ fn put_rows_of<L: Ledger>(
     }
 }
 
-// Writes the rows of a question.
+// Writes the rows of a query.
 fn put_rows<L: Ledger>(question: &Question<'_>, out: &mut Out, steps: &mut Steps<L>)
     requires empty { out.old.bytes ≡ [] }
     requires room { 128 ≤ out.old.spare }
@@ -87,7 +97,7 @@ fn put_rows<L: Ledger>(question: &Question<'_>, out: &mut Out, steps: &mut Steps
     }
 }
 
-// Writes the rows of what is told, one after another.
+// Writes the rows of a row plan, one by one.
 fn put_told<L: Ledger>(question: &Question<'_>, told: &Told, out: &mut Out, steps: &mut Steps<L>)
     requires told { IsTold question.now.query.now (samples_asked question.now) told.now }
     requires empty { out.old.bytes ≡ [] }
@@ -107,7 +117,7 @@ fn put_told<L: Ledger>(question: &Question<'_>, told: &Told, out: &mut Out, step
     *out = rows_into(question, told, taker, steps).finish();
 }
 
-/// Writes the reply to TS.GET, which needs no memory.
+/// Writes the reply to TS.GET. Allocates nothing.
 pub fn put_get<L: Ledger>(db: &Db, key: &Word, latest: bool, out: &mut Out, steps: &mut Steps<L>)
     requires empty { out.old.bytes ≡ [] }
     requires room { 128 ≤ out.old.spare }
@@ -121,7 +131,7 @@ pub fn put_get<L: Ledger>(db: &Db, key: &Word, latest: bool, out: &mut Out, step
     }
 }
 
-// Writes the row of the last sample, or an empty array where there is none.
+// Writes the row of the last sample, or an empty array if there is none.
 fn put_last(last: Option<Sample>, out: &mut Out)
     requires empty { out.old.bytes ≡ [] }
     requires room { 128 ≤ out.old.spare }
@@ -131,5 +141,41 @@ fn put_last(last: Option<Sample>, out: &mut Out)
     match last {
         None => begin_array(0, out),
         Some(sample) => put_pair(sample.time, Cell::Number(sample.value), out),
+    }
+}
+
+/// Writes the reply to TS.MRANGE and TS.MREVRANGE: the rows of each series that matches the filters, or of each group
+/// of them.
+pub fn put_ranges<L: Ledger>(
+    db: &Db,
+    filters: &[Filter],
+    latest: bool,
+    show: Show,
+    query: Query,
+    group: Option<GroupBy>,
+    out: &mut Out,
+    steps: &mut Steps<L>,
+)
+    requires empty { out.old.bytes ≡ [] }
+    requires room { 128 ≤ out.old.spare }
+    ensures reply { (from : Held) → Stands db.now from
+        → IsReplyText (ranges_response from.limits from.state latest (show_of show) (query_of query) (option_map group_of group) (selection from.state filters.now)) out.new.bytes }
+    ensures room { 128 ≤ length out.new.bytes + out.new.spare }
+    ensures steps { steps.new ≤ steps.old + members_steps db.now filters.now query.from query.to }
+{
+    match group {
+        None => {
+            let wanted = Wanted::Rows {
+                latest,
+                show,
+                filters: Filters::of(&query).ok(),
+                query,
+            };
+            put_members(db, filters, &wanted, out, steps);
+        }
+        Some(by) => {
+            let grouping = Grouping::new(latest, show, query, by);
+            put_many(db, filters, &grouping, out, steps);
+        }
     }
 }

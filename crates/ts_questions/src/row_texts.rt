@@ -1,22 +1,22 @@
-// A taker that writes rows.
+// A sink that writes rows as text.
 ghost use Rattle.std.specs.Prelude.{◌+◌, ◌≤◌, length};
 
-use crate::room::put_no_memory;
+use crate::faults::put_no_memory;
 use ts_range::{Keep, Row, Take};
 use ts_resp::{Out, PAIR, close_array, open_array, put_pair};
 
-/// Writes the text of each row, behind a gap for the line with their number. The room grows as it fills.
+/// Writes the text of each row, after a gap of 24 bytes for the array header. The output grows as needed.
 #[derive(Drop)]
 pub(crate) struct RowTexts {
     out: Out,
     count: u64,
-    // Whether there was no memory for a row.
+    // Whether memory ran out for a row.
     lost: bool,
     ghost gap: { 24 ≤ length out.bytes },
     ghost room: { 152 ≤ length out.bytes + out.spare },
 }
 
-/// The room that it wants at first: the gap, and what every error takes.
+/// The initial capacity, in bytes: the gap, and the longest error reply.
 pub(crate) const FIRST_ROOM: usize = 152;
 
 impl RowTexts {
@@ -40,7 +40,7 @@ impl RowTexts {
         }
     }
 
-    /// The text of the array of the rows, or that there was no memory.
+    /// The text of the array of the rows, or the out-of-memory error.
     pub(crate) fn finish(self) -> Out
         ensures reply { (rows : List TheRow) → AreWritten self.lost self.count self.out.bytes rows → IsReplyText (Rows rows) result.bytes }
         ensures room { 128 ≤ length result.bytes + result.spare }

@@ -1,16 +1,16 @@
-// The rows of a question, handed to whoever takes them.
+// Emits the rows of a query to a sink.
 ghost use Rattle.std.specs.Prelude.{◌≡◌, ◌+◌, ◌*◌, true, false, [], map, IfOk};
 ghost use Rattle.ts_spec.specs.Answer.{tells_empty};
 ghost use Rattle.ts_range.specs.Query.{query_of, row_of};
 ghost use Rattle.ts_range.specs.Stretches.{IsStretchIn};
 ghost use Rattle.ts_series.specs.Seams.{IsSeamed};
-ghost use Rattle.ts_questions.specs.Asking.{samples_asked, pieces_asked, reach_asked, rows_asked, steps_beside, IsTold};
+ghost use Rattle.ts_questions.specs.Asking.{samples_asked, pieces_asked, reach_asked, rows_asked, steps_beside};
+ghost use Rattle.ts_questions.specs.Asking.{IsTold};
 
-use crate::few_samples::{few_into, few_wanted};
+use crate::few_samples::{few_into, few_wanted, last_wanted};
 use crate::filled::handed_filled;
 use crate::from_back::{hand_on, samples_back_into};
 use crate::last_rows::{last_rows, rows_between};
-use crate::narrowed::last_wanted;
 use crate::question::Question;
 use crate::told::Told;
 use crate::walked::handed;
@@ -19,7 +19,7 @@ use std::sync::ledger::Ledger;
 use ts_range::{Keep, Limited, Row, RowList, Stretch, Take, turned};
 use ts_sample::Steps;
 
-/// The taker to which the rows of what is told were handed, in the order asked.
+/// The sink after receiving the rows of a row plan, in the requested order.
 pub(crate) fn rows_into<T: Keep, L: Ledger>(
     question: &Question<'_>,
     told: &Told,
@@ -41,7 +41,7 @@ pub(crate) fn rows_into<T: Keep, L: Ledger>(
     }
 }
 
-// The taker to which the rows of samples, or of their buckets, were handed, the first one first.
+// The sink after receiving the rows of samples or of non-empty buckets, oldest first.
 fn samples_into<T: Take, L: Ledger>(question: &Question<'_>, taker: T, steps: &mut Steps<L>) -> T
     requires forward { question.now.query.now.reverse ≡ false }
     requires full { tells_empty (query_of question.now.query.now).buckets ≡ false }
@@ -58,7 +58,7 @@ fn samples_into<T: Take, L: Ledger>(question: &Question<'_>, taker: T, steps: &m
     handed(question, query.from, to, taker, steps).into_taker()
 }
 
-// The taker to which the rows were handed, the last one first. Those of buckets are found before the first one is handed on.
+// The sink after receiving the rows newest first. Rows of buckets are collected before the first is emitted.
 fn rows_back_into<T: Keep, L: Ledger>(
     question: &Question<'_>,
     told: &Told,
@@ -81,7 +81,7 @@ fn rows_back_into<T: Keep, L: Ledger>(
     taker
 }
 
-/// The rows of what is told, the last one first.
+/// The rows of a row plan, newest first.
 pub(crate) fn rows_back<L: Ledger>(
     question: &Question<'_>,
     told: &Told,
@@ -99,7 +99,7 @@ pub(crate) fn rows_back<L: Ledger>(
     }
 }
 
-// The rows of samples, or of their buckets, the last one first.
+// The rows of samples or of non-empty buckets, newest first.
 fn samples_back<L: Ledger>(
     question: &Question<'_>,
     steps: &mut Steps<L>,
@@ -117,7 +117,7 @@ fn samples_back<L: Ledger>(
     Ok(turned(rows, None))
 }
 
-// The rows of a stretch of buckets, the last one first.
+// The rows of a bucket range, newest first.
 fn filled_back<L: Ledger>(
     question: &Question<'_>,
     stretch: &Stretch,

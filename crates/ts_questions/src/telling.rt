@@ -1,5 +1,7 @@
-// What is told of each of many series, and that it may be too much of one.
-ghost use Rattle.std.specs.Prelude.{◌≡◌, ◌+◌, ◌≤◌, ℕ, Bool, true, false, All, List, [], length, sum_by, Some, IfOk, IfErr};
+// Replies over many series: what a reply writes for each, the reply itself, and the search for a series with too many
+// rows when memory runs out.
+ghost use Rattle.std.specs.Prelude.{◌≡◌, ◌+◌, ◌≤◌, ℕ, Bool, true, false, All, List, [], length, sum_by, Some, IfOk};
+ghost use Rattle.std.specs.Prelude.{IfErr};
 ghost use Rattle.std.specs.List.{list_any};
 ghost use Rattle.ts_spec.specs.Key.{Key};
 ghost use Rattle.ts_spec.specs.Keyed.{get};
@@ -7,37 +9,44 @@ ghost use Rattle.ts_spec.specs.Replies.{reply_to};
 ghost use Rattle.ts_spec.specs.Response.{Response};
 ghost use Rattle.ts_spec.specs.Text.{text};
 ghost use Rattle.ts_db.specs.Held.{Stock, IsLive, AreNumbersOf};
+ghost use Rattle.ts_spec.specs.KeptQuestions.{kept_selection};
+ghost use Rattle.ts_db.specs.Bounds.{selection_steps};
+ghost use Rattle.ts_questions.specs.Answering.{IsManyText};
+ghost use Rattle.ts_questions.specs.Bounds.{tried_steps};
+ghost use Rattle.ts_questions.specs.Members.{is_refused_at};
 
+use crate::faults::put_lost;
 use std::sync::ledger::Ledger;
 use ts_db::{Db, Id};
+use ts_labels::Filter;
 use ts_range::RangeFault;
 use ts_resp::Out;
 use ts_sample::Steps;
 
-/// What is told of each of many series, by what it is too much of.
+/// What a reply over many series writes for each of them.
 pub(crate) trait Telling {
-    // Whether it is too much of a key, and how many steps it takes at most to tell it.
+    // Whether a series has too many rows, and the most steps it takes to write its part.
     ghost is_too_much: { Self → Stock → Key → Bool };
 
     ghost most: { Self → Stock → Key → ℕ };
 
-    // What holds of it before it is told, and the response over keys of which it is too much of none.
+    // What must hold before writing, and the response over keys that all are within the limit.
     ghost is_ready: { Self → Type 0 };
 
     ghost response: { Self → Stock → List Key → Response };
 
-    /// Whether it can be too much of some series.
+    /// Whether a series can have too many rows.
     fn can_be_refused(&self) -> bool
         ensures { result ≡ false → (stock : Stock) (key : Key) → is_too_much self.now stock key ≡ false };
 
-    /// Whether it is too much of the key of a number. Takes no memory.
+    /// Whether a series has too many rows. Allocates nothing.
     fn is_refused<L: Ledger>(&self, db: &Db, id: Id, steps: &mut Steps<L>) -> bool
         requires { IsLive db.now.ids id }
         ensures refused { (key : Key) → get key db.now.ids ≡ Some id → result ≡ is_too_much self.now db.now key }
         ensures steps { (key : Key) → get key db.now.ids ≡ Some id → steps.new ≤ steps.old + most self.now db.now key };
 
-    /// Writes what is told of the keys of these numbers, unless it is too much of one. Answers whether memory was lost:
-    /// then there may be a part of it, as there may be after an Err.
+    /// Writes the reply over these series. Fails if one of them has too many rows. Returns whether memory ran out. In
+    /// both cases the output may end in part of the reply.
     fn put_all<L: Ledger>(
         &self,
         db: &Db,
@@ -54,4 +63,71 @@ pub(crate) trait Telling {
         ensures refused { IfErr result (λ fault. (keys : List Key) → AreNumbersOf db.now.ids keys ids.now → list_any (is_too_much self.now db.now) keys ≡ true) }
         ensures room { length out.old.bytes + out.old.spare ≤ length out.new.bytes + out.new.spare }
         ensures steps { (keys : List Key) → AreNumbersOf db.now.ids keys ids.now → steps.new ≤ steps.old + sum_by (most self.now db.now) keys };
+}
+
+/// Writes the reply over the series that match the filters, in the order of their keys. If a series has too many rows,
+/// the reply is that error, even if memory ran out for others.
+pub(crate) fn put_many<T: Telling, L: Ledger>(
+    db: &Db,
+    filters: &[Filter],
+    telling: &T,
+    out: &mut Out,
+    steps: &mut Steps<L>,
+)
+    requires ready { T.is_ready telling.now }
+    requires empty { out.old.bytes ≡ [] }
+    requires room { 128 ≤ out.old.spare }
+    ensures reply { IsManyText (list_any (T.is_too_much telling.now db.now) (kept_selection db.now.keys filters.now))
+        (T.response telling.now db.now (kept_selection db.now.keys filters.now)) out.new.bytes }
+    ensures room { 128 ≤ length out.new.bytes + out.new.spare }
+    ensures steps { steps.new ≤ steps.old + (selection_steps db.now filters.now + sum_by (T.most telling.now db.now) (kept_selection db.now.keys filters.now)) }
+{
+    let Ok(ids) = db.select(filters, steps) else {
+        put_lost(is_one_refused(db, filters, telling, steps), out);
+        return;
+    };
+    match telling.put_all(db, &ids, out, steps) {
+        Ok(false) => {}
+        Ok(true) => put_lost(false, out),
+        Err(_) => put_lost(true, out),
+    }
+}
+
+/// Whether a series that matches the filters has too many rows. Allocates nothing.
+pub(crate) fn is_one_refused<T: Telling, L: Ledger>(
+    db: &Db,
+    filters: &[Filter],
+    telling: &T,
+    steps: &mut Steps<L>,
+) -> bool
+    ensures refused { result ≡ list_any (T.is_too_much telling.now db.now) (kept_selection db.now.keys filters.now) }
+    ensures steps { steps.new ≤ steps.old + (selection_steps db.now filters.now + sum_by (T.most telling.now db.now) (kept_selection db.now.keys filters.now)) }
+{
+    if !telling.can_be_refused() {
+        return false;
+    }
+    for id in db.candidates(filters) {
+        if is_refused_of(db, id, filters, telling, steps) {
+            return true;
+        }
+    }
+    false
+}
+
+// Whether a series matches the filters and has too many rows.
+fn is_refused_of<T: Telling, L: Ledger>(
+    db: &Db,
+    id: Id,
+    filters: &[Filter],
+    telling: &T,
+    steps: &mut Steps<L>,
+) -> bool
+    requires { IsLive db.now.ids id }
+    ensures refused { (key : Key) → get key db.now.ids ≡ Some id → result ≡ is_refused_at db.now filters.now (T.is_too_much telling.now db.now) key }
+    ensures steps { (key : Key) → get key db.now.ids ≡ Some id → steps.new ≤ steps.old + tried_steps db.now filters.now (T.most telling.now db.now) key }
+{
+    if !db.passes(id, filters, steps) {
+        return false;
+    }
+    telling.is_refused(db, id, steps)
 }

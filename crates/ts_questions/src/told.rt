@@ -1,4 +1,4 @@
-// What is told in answer to a question, which is settled before any row is.
+// Row plans: which rows a query returns, decided before the first row is produced.
 ghost use Rattle.std.specs.Prelude.{◌≡◌, ◌≤◌, ◌+◌, ◌*◌, None, Some, is_none, IfNone, IfSome};
 ghost use Rattle.ts_spec.specs.Answer.{answer as spec_answer};
 ghost use Rattle.ts_spec.specs.Key.{Key};
@@ -7,7 +7,8 @@ ghost use Rattle.ts_spec.specs.KeptQuestions.{kept_asked};
 ghost use Rattle.ts_range.specs.Query.{query_of};
 ghost use Rattle.ts_range.specs.Stretches.{IsFilledIn};
 ghost use Rattle.ts_db.specs.Held.{IsLive, reach_at};
-ghost use Rattle.ts_questions.specs.Asking.{samples_asked, reach_asked, rows_asked, answer_asked, steps_beside, IsTold};
+ghost use Rattle.ts_questions.specs.Asking.{samples_asked, reach_asked, rows_asked, answer_asked, steps_beside};
+ghost use Rattle.ts_questions.specs.Asking.{IsTold};
 
 use crate::question::Question;
 use std::sync::ledger::Ledger;
@@ -15,17 +16,17 @@ use ts_db::{Db, Id};
 use ts_range::{Buckets as Grouped, Query, Stretch, are_too_many, filled_buckets};
 use ts_sample::Steps;
 
-/// What is told of a series.
+/// Which rows a query returns.
 #[derive(Clone, Copy)]
 pub(crate) enum Told {
-    /// Its samples, or those of their buckets that have any.
+    /// One for each sample, or for each non-empty bucket.
     Samples,
-    /// A stretch of buckets, the empty ones too.
+    /// One for each bucket of a range, empty ones included.
     Buckets(Stretch),
     Nothing,
 }
 
-/// What is told in answer to a question, unless the rows are too many. Takes no memory.
+/// The row plan of a query, or `None` if it has too many rows. Allocates nothing.
 pub(crate) fn told_of<L: Ledger>(question: &Question<'_>, steps: &mut Steps<L>) -> Option<Told>
     ensures told { IfSome result (IsTold question.now.query.now (samples_asked question.now)) }
     ensures few { IfSome result (λ told. answer_asked question.now ≡ Some (rows_asked question.now)) }
@@ -39,7 +40,7 @@ pub(crate) fn told_of<L: Ledger>(question: &Question<'_>, steps: &mut Steps<L>) 
     }
 }
 
-// What is told where these buckets are, the empty ones too.
+// The row plan of a query with EMPTY and these buckets.
 fn told_filled<L: Ledger>(
     question: &Question<'_>,
     buckets: &Grouped,
@@ -62,7 +63,7 @@ fn told_filled<L: Ledger>(
     }
 }
 
-/// Whether the rows of the key of a number are too many. Takes no memory.
+/// Whether a query over series `id` has too many rows. Allocates nothing.
 pub(crate) fn has_too_many_rows<L: Ledger>(
     db: &Db,
     id: Id,

@@ -1,4 +1,4 @@
-// A walk over the samples of a question that leaves out those that it has no use for.
+// Scans the samples of a query and skips those that can't contribute.
 ghost use Rattle.std.specs.Prelude.{◌≡◌, ◌≤◌, ◌+◌, ◌⊎◌, List, [], filter};
 ghost use Rattle.ts_spec.specs.Sample.{Point, between};
 ghost use Rattle.ts_range.specs.Walking.{lets, rows_chosen};
@@ -10,10 +10,10 @@ use std::sync::ledger::Ledger;
 use ts_range::{Take, Walk};
 use ts_sample::Steps;
 
-// How many samples the walk is given at least before it is asked which more it wants.
+// The least number of samples in a batch before the scan is asked what else it needs.
 const SHARE: u64 = 1024;
 
-/// The taker to which the rows of the samples between two times were handed, the first one first.
+/// The sink after receiving the rows of the samples between two times, oldest first.
 pub(crate) fn handed<T: Take, L: Ledger>(
     question: &Question<'_>,
     from: u64,
@@ -30,8 +30,8 @@ pub(crate) fn handed<T: Take, L: Ledger>(
     walked(question, from, to, walk, steps)
 }
 
-/// The taker of a walk that has not begun, after the samples between two times. Where only some rows or some times are
-/// asked, not all of them are decoded.
+/// Feeds the samples between two times to a fresh scan and returns its sink. For a query with a COUNT or with listed
+/// times it does not decode all samples.
 pub(crate) fn walked<T: Take, L: Ledger>(
     question: &Question<'_>,
     from: u64,
@@ -53,7 +53,7 @@ pub(crate) fn walked<T: Take, L: Ledger>(
     walk.finish()
 }
 
-// The same, in shares of samples: before each the walk is asked which of the others it wants.
+// The same in batches: before each batch it asks the scan which samples it still needs.
 fn walked_in_shares<T: Take, L: Ledger>(
     question: &Question<'_>,
     mut from: u64,
@@ -83,8 +83,8 @@ fn walked_in_shares<T: Take, L: Ledger>(
     walk.finish()
 }
 
-// A share of samples: the first and the last time in it that are wanted, and the time at which it ends. It ends where
-// a chunk does, so that no chunk is decoded for two shares.
+// A batch of samples: the first and the last needed time in it, and its end. It ends where a chunk does, so no chunk is
+// decoded for two batches.
 #[derive(Clone, Copy)]
 struct Share {
     first: u64,
@@ -92,7 +92,7 @@ struct Share {
     end: u64,
 }
 
-// The share that begins at a time and ends no later than another, of so many samples.
+// The batch from `start` on, of about `SHARE` samples, that ends no later than `last`.
 fn share_of<T: Take>(question: &Question<'_>, walk: &Walk<'_, T>, start: u64, last: u64) -> Share
     requires ordered { start ≤ last }
     ensures within { (start ≤ result.first) × (result.first ≤ result.last) × (result.last ≤ result.end) × (result.end ≤ last) }

@@ -1,4 +1,4 @@
-// What is told of each of many series.
+// What a reply over many series shows of each.
 ghost use Rattle.std.specs.Prelude.{◌≡◌, ◌+◌, ◌≤◌, is_none, Some};
 ghost use Rattle.ts_spec.specs.Key.{Key};
 ghost use Rattle.ts_spec.specs.Keyed.{get};
@@ -16,22 +16,22 @@ use ts_range::{Filters, Query, RangeFault};
 use ts_resp::Out;
 use ts_sample::Steps;
 
-/// What an answer over many series tells of each.
+/// What a reply over many series shows of each.
 #[derive(Drop)]
 pub enum Wanted {
     /// Its key.
     Key,
-    /// Its key, those of its labels that are shown, and its last row.
+    /// Its key, its requested labels and its last row.
     Last {
         latest: bool,
         show: Show,
     },
-    /// Its key, those of its labels that are shown, and the rows of a question.
+    /// Its key, its requested labels and the rows of a query.
     Rows {
         latest: bool,
         show: Show,
         query: Query,
-        /// What the query lets through, unless there was no memory for that.
+        /// The prepared filters of the query, or `None` if there was no memory for them.
         filters: Option<Filters>,
     },
 }
@@ -68,7 +68,7 @@ impl Telling for Wanted {
     }
 }
 
-// Whether what is told of the key of a number is too much. Takes no memory.
+// Whether a series has too many rows. Allocates nothing.
 fn is_refused<L: Ledger>(db: &Db, id: Id, wanted: &Wanted, steps: &mut Steps<L>) -> bool
     requires { IsLive db.now.ids id }
     ensures refused { (key : Key) → get key db.now.ids ≡ Some id → result ≡ is_none (reply_at db.now.limits db.now.keys wanted.now key) }

@@ -10,7 +10,7 @@ use Rattle.ts_spec.proofs.Buckets.{start-le, start-mono, start-start}
 use Rattle.ts_sample.proofs.Between.{filter-filter}
 use Rattle.ts_range.specs.declared.query.Buckets.{Buckets}
 use Rattle.ts_range.specs.declared.query.Query.{Query}
-use Rattle.ts_range.specs.declared.row.Asked.{Asked}
+use Rattle.ts_range.specs.declared.query.Asked.{Asked}
 use Rattle.ts_range.specs.declared.stretch.Stretch.{Stretch}
 use Rattle.ts_range.specs.Empty.{known_before}
 use Rattle.ts_range.specs.Stretches.{IsStretchOf}

@@ -1,4 +1,4 @@
--- What is told of the samples of buckets.
+-- The rows of buckets.
 use Rattle.std.specs.Prelude.{ℕ, List, map}
 use Rattle.ts_spec.specs.Sample.{Point}
 use Rattle.ts_spec.specs.Bucket.{starts, stamp}
@@ -6,7 +6,7 @@ use Rattle.ts_spec.specs.Aggregate.{aggregate}
 use Rattle.ts_spec.specs.Command.{Buckets}
 use Rattle.ts_spec.specs.Answer.{Row, Number, bucket_row}
 
--- the row of a bucket that begins there and has these samples
+-- the row of the bucket that begins at b and has these samples
 abbrev pub row_with : Buckets → ℕ → List Point → Row
 row_with bs b ps = record { time = stamp bs.grid b bs.stamp; value = Number (aggregate bs.agg ps) }
 

@@ -1,4 +1,4 @@
--- Samples that are cut into buckets one after another.
+-- Grouping ascending samples into buckets.
 use Rattle.std.specs.Prelude.{◌≡◌, ◌<◌, ◌≤◌, ℕ, List, [], ◌∷◌, ◌++◌, Option, None, Some}
 use Rattle.std.specs.List.{All}
 use Rattle.std.specs.Option.{ForSome}
@@ -12,7 +12,7 @@ use Rattle.ts_range.specs.Query.{buckets_of}
 use Rattle.ts_range.specs.Spans.{IsSpan}
 use Rattle.ts_range.specs.BucketRows.{bucket_rows}
 
--- A bucket is open: it has the last ones of these samples, and the rows of the buckets before it were handed on.
+-- There is a current bucket: it has the last of these samples, and the sink has the rows of all earlier buckets.
 pub record IsOpenAt (has : List Row → Type 0) (bs : Buckets) (o : Bucket) (ps : List Point) : Type 0 where
   pub early : List Point
   pub here : List Point
@@ -23,16 +23,16 @@ pub record IsOpenAt (has : List Row → Type 0) (bs : Buckets) (o : Bucket) (ps 
   pub tells : Tells bs.agg o.tally here
   pub taken : (asked : List Point) → has (bucket_rows (buckets_of bs) asked early)
 
--- the bucket of the last of these samples is open, if there are any
+-- the current bucket is that of the last sample; with no samples there is none
 abbrev pub IsCut : (has : List Row → Type 0) → Buckets → Option Bucket → List Point → Type 0
 IsCut has bs None ps = (ps ≡ []) × has []
 IsCut has bs (Some o) ps = IsOpenAt has bs o ps
 
--- an open bucket has counted at most so many samples
+-- the current bucket has at most n samples
 abbrev pub HasAtMost : ℕ → Option Bucket → Type 0
 HasAtMost n current = ForSome current (λ o. counted o.tally ≤ n)
 
--- the bucket of a sample is open, which is the only one in it yet
+-- the current bucket has just started, with this one sample
 pub record HasBegun (bs : Buckets) (current : Option Bucket) (p : Point) : Type 0 where
   pub bucket : Bucket
   pub is : current ≡ Some bucket

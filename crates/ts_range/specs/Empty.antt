@@ -1,19 +1,19 @@
--- What is told of buckets, of those without samples too.
+-- The values of empty buckets.
 use Rattle.std.specs.Prelude.{ℕ, pos, Bool, true, false, Option}
 use Rattle.std.specs.Option.{option_or}
 use Rattle.ts_spec.specs.declared.bucket.Aggregator.{Aggregator}
 use Rattle.ts_spec.specs.declared.bucket.Aggregator.TheVariants.{Sum, Count, Last}
 use Rattle.ts_spec.specs.Sample.{Point}
 use Rattle.ts_spec.specs.Answer.{Cell, Number, Nan, last_value}
-use Rattle.ts_range.specs.declared.row.Asked.{Asked}
+use Rattle.ts_range.specs.declared.query.Asked.{Asked}
 use Rattle.ts_range.specs.Walk.{last_before}
 
--- what is known to be the last sample before a bucket, which may be the first one that is told
+-- the last sample before a bucket, from the collected samples; `first` says that it is the first bucket of the answer
 abbrev pub known_before : (first : Bool) → ℕ → Asked → Option Point
 known_before true b asked = asked.ahead
 known_before false b asked = option_or (last_before b asked.rows.items) asked.prior
 
--- what is told of a bucket without samples, where this is the last one before it
+-- the value of an empty bucket whose last earlier sample is `before`
 abbrev pub empty_cell_of : Aggregator → Option Point → Cell
 empty_cell_of Sum before = Number (pos 0)
 empty_cell_of Count before = Number (pos 0)

@@ -1,4 +1,4 @@
--- What is told of a line of buckets by the last values of their samples.
+-- Rows of buckets that show the last value of their samples.
 use Rattle.std.specs.Prelude.{◌≡◌, ℕ, ◌≤◌, ◌<◌, ℤ, Bool, true, false, ◌==◌, ◌&&◌, List, [], ◌∷◌, ◌++◌, filter, map, take, length, Option, Some, option_map, slice_get}
 use Rattle.std.specs.List.{All}
 use Rattle.ts_spec.specs.Sample.{Point, IsAscending, last_of}
@@ -11,18 +11,19 @@ use Rattle.ts_range.specs.Filling.{Filling, filling_of, row_at, said_of}
 use Rattle.ts_range.specs.Query.{cell_of, span_of}
 use Rattle.ts_range.specs.Walk.{last_before}
 
--- the buckets and what the empty ones say before a sample is seen, the times and the values that are let through, and the samples that were seen
+-- the buckets and the values of empty ones before any sample, the times and values that pass, and the samples received
+-- so far
 pub record LastValues : Type 0 where
   pub filling : Filling
   pub times : Option (List ℕ)
   pub values : Option (ℤ × ℤ)
   pub seen : List Point
 
--- whether a sample is let through
+-- whether a sample passes the filters
 abbrev pub counts : LastValues → Point → Bool
 counts v p = lets_time v.times p.time && lets_value (option_map span_of v.values) p.value
 
--- the last values for these buckets, under these filters, once these samples were seen
+-- the state for these buckets and filters after these samples
 abbrev pub values_of : Filters → rust.Filling → List Point → LastValues
 values_of filters filling seen = record {
   filling = filling_of filling;
@@ -39,17 +40,17 @@ with_one v p = record v { seen = v.seen ++ p ∷ [] }
 abbrev pub value_of : Option Point → Option Cell
 value_of o = option_map (λ p. Number p.value) o
 
--- whether the first of these buckets begins there
+-- whether b is the first of these starts
 abbrev pub is_first : List ℕ → ℕ → Bool
 is_first [] b = false
 is_first (c ∷ starts) b = b == c
 
--- what an empty bucket says: the last value before it
+-- the value of the bucket at b if it is empty: the last value before it
 abbrev pub said_before : (first : Bool) → LastValues → ℕ → Cell
 said_before true v b = v.filling.first
 said_before false v b = said_of v.filling.others (value_of (last_before b v.seen))
 
--- what a bucket tells: the last value in it that is let through, or else that
+-- the value of the bucket at b: its last value that passes, or else that of an empty bucket
 abbrev pub last_cell : LastValues → ℕ → Cell
 last_cell v b = said_of (said_before (is_first v.filling.starts b) v b) (value_of (last_of (members v.filling.buckets.grid b (filter (counts v) v.seen))))
 
@@ -57,11 +58,11 @@ last_cell v b = said_of (said_before (is_first v.filling.starts b) v b) (value_o
 abbrev pub last_row : LastValues → ℕ → Row
 last_row v b = row_at v.filling.buckets b (last_cell v b)
 
--- the rows of its buckets
+-- the rows of all buckets
 abbrev pub last_rows : LastValues → List Row
 last_rows v = map (last_row v) v.filling.starts
 
--- its buckets are those from that of one time to that of another, and its samples lie in them
+-- the buckets are those from the bucket of `lo` to that of `hi`, and all samples lie in them
 pub record IsLine (lo hi : ℕ) (v : LastValues) : Type 0 where
   pub some : 1 ≤ v.filling.buckets.grid.duration
   pub ordered : lo ≤ hi
@@ -70,9 +71,9 @@ pub record IsLine (lo hi : ℕ) (v : LastValues) : Type 0 where
   pub from : All (λ p. lo ≤ p.time) v.seen
   pub upto : All (λ p. start v.filling.buckets.grid p.time ≤ start v.filling.buckets.grid hi) v.seen
 
--- ---- the bucket that is open
+-- ---- the current bucket
 
--- the rows of the buckets before it were handed on, and this is known of it, which begins at b
+-- the sink has the rows of all earlier buckets, and the current bucket, which begins at b, has this state
 pub record IsOpenWith (has : List Row → Type 0) (v : LastValues) (current : Current) (b : ℕ) : Type 0 where
   pub taken : has (take current.place.told (last_rows v))
   pub chosen : option_map cell_of current.chosen ≡ value_of (last_of (members v.filling.buckets.grid b (filter (counts v) v.seen)))
@@ -80,15 +81,15 @@ pub record IsOpenWith (has : List Row → Type 0) (v : LastValues) (current : Cu
   pub latest : option_map cell_of current.latest ≡ value_of (last_of v.seen)
   pub reached : All (λ p. start v.filling.buckets.grid p.time ≤ b) v.seen
 
--- the same of the bucket at its place
+-- the same, for the bucket at its index
 abbrev pub IsOpen : (has : List Row → Type 0) → LastValues → Current → Type 0
 IsOpen has v current = (b : ℕ) → slice_get v.filling.starts current.place.told ≡ Some b → IsOpenWith has v current b
 
--- it begins no later than a time
+-- the current bucket begins no later than t
 abbrev pub BeginsBy : ℕ → LastValues → Current → Type 0
 BeginsBy t v current = (b : ℕ) → slice_get v.filling.starts current.place.told ≡ Some b → b ≤ t
 
--- a bucket of the line is open, and so is what was handed on
+-- one of the buckets is current, and the sink has the rows of all earlier ones
 pub record IsLasting (has : List Row → Type 0) (v : LastValues) (current : Current) : Type 0 where
   pub within : current.place.told < length v.filling.starts
   pub known : (lo hi : ℕ) → IsLine lo hi v → IsOpen has v current

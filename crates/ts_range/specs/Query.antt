@@ -1,4 +1,4 @@
--- A question over one series and its rows, as the definitions have them.
+-- Queries and rows of the program as values of the specification.
 use Rattle.std.specs.Prelude.{ℤ, option_map}
 use Rattle.ts_spec.specs.Command as spec
 use Rattle.ts_spec.specs.Answer as answer
@@ -6,17 +6,17 @@ use Rattle.ts_sample.specs.declared.cell.Cell.{Cell}
 use Rattle.ts_sample.specs.declared.cell.Cell.TheVariants as cell
 use Rattle.ts_range.specs.declared.query.Buckets.{Buckets}
 use Rattle.ts_range.specs.declared.query.Query.{Query}
-use Rattle.ts_range.specs.declared.row.Row.{Row}
+use Rattle.ts_range.specs.declared.query.Row.{Row}
 
--- values from the first to the second
+-- a range of values, both bounds included
 abbrev pub span_of : ℤ × ℤ → spec.Span
 span_of values = record { least = values.0; greatest = values.1 }
 
--- buckets, and what is made of each of them
+-- the buckets of a query
 abbrev pub buckets_of : Buckets → spec.Buckets
 buckets_of bs = record { grid = bs.grid; agg = bs.agg; stamp = bs.stamp; empty = bs.empty }
 
--- a question over one series
+-- a query over one series
 abbrev pub query_of : Query → spec.Query
 query_of q = record {
   from = q.from;
@@ -28,11 +28,11 @@ query_of q = record {
   reverse = q.reverse;
 }
 
--- a value, or that there is none
+-- a value, or NaN
 abbrev pub cell_of : Cell → answer.Cell
 cell_of (cell.Number value) = answer.Number value
 cell_of cell.Nan = answer.Nan
 
--- a row: a time and what it tells
+-- a row
 abbrev pub row_of : Row → answer.Row
 row_of row = record { time = row.time; value = cell_of row.value }

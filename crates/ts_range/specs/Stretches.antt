@@ -1,4 +1,4 @@
--- The stretch of buckets that an answer with empty ones tells of.
+-- The range of buckets that an answer with EMPTY covers.
 use Rattle.std.specs.Prelude.{◌≡◌, ◌≤◌, ℕ, max, min, true, List, map, Option, Some}
 use Rattle.ts_spec.specs.Sample.{Point, first_of, last_of}
 use Rattle.ts_spec.specs.Bucket.{Grid, start}
@@ -12,7 +12,8 @@ use Rattle.ts_range.specs.Query.{buckets_of}
 use Rattle.ts_range.specs.Starts.{starts_of, starts_within}
 use Rattle.ts_range.specs.Walk.{times_of, last_before}
 
--- of the times from one to another, those from `from` to `to` are those of the buckets from that of `from` to that of `upto`
+-- of the times from `first` to `last`, those from `from` to `to` are exactly those in the buckets from that of `from`
+-- to that of `upto`
 pub record IsPart (g : Grid) (first last from upto to : ℕ) : Type 0 where
   pub early : first ≤ from
   pub ordered : from ≤ upto
@@ -21,7 +22,7 @@ pub record IsPart (g : Grid) (first last from upto to : ℕ) : Type 0 where
   pub within : (t : ℕ) → t ≤ to → start g t ≤ start g upto
   pub whole : (t : ℕ) → first ≤ t → t ≤ last → start g from ≤ start g t → start g t ≤ start g upto → (from ≤ t) × (t ≤ to)
 
--- these are the buckets whose rows are wanted, and the times of the interval that lie in them
+-- these are the buckets that the query returns, and the times of its interval that lie in them
 pub record IsStretchOf (q : Query) (bs : Buckets) (ends : Option (ℕ × ℕ)) (stretch : Stretch) : Type 0 where
   pub buckets : stretch.buckets ≡ bs
   pub some : 1 ≤ bs.grid.duration
@@ -33,7 +34,7 @@ pub record IsStretchOf (q : Query) (bs : Buckets) (ends : Option (ℕ × ℕ)) (
   pub starts : starts_of stretch.starts ≡ starts_between bs.grid stretch.from upto
   pub part : IsPart bs.grid (max q.from times.0) (min q.to times.1) stretch.from upto stretch.to
 
--- its buckets, of which the first empty one says that the one sample is the last before it, and the others that the other is
+-- how to fill the gaps: an empty first bucket takes its value from `ahead`, other empty ones from `prior`
 abbrev pub filling_with : Stretch → (ahead prior : Option Point) → Filling
 filling_with stretch ahead prior = record {
   buckets = buckets_of stretch.buckets;
@@ -47,12 +48,12 @@ pub record IsKnownBefore (stretch : Stretch) (ps : List Point) (ahead prior : Op
   pub first : ahead ≡ last_before (start stretch.buckets.grid stretch.from) ps
   pub others : prior ≡ last_before stretch.from ps
 
--- these buckets are told, empty ones too
+-- the query returns these buckets, empty ones included
 pub record IsFilledIn (q : Query) (bs : Buckets) : Type 0 where
   pub told : q.buckets ≡ Some bs
   pub empty : bs.empty ≡ true
 
--- what is wanted of this list is a stretch of buckets that are filled in
+-- the query with EMPTY returns this range of buckets of the list
 pub record IsStretchIn (q : Query) (ps : List Point) (stretch : Stretch) : Type 0 where
   pub buckets : Buckets
   pub filled : IsFilledIn q buckets

@@ -1,29 +1,29 @@
--- What a taker of rows has taken.
+-- What a row sink has received.
 use Rattle.std.specs.Prelude.{◌≡◌, ℕ, ◌-◌, Bool, false, List, map, length, Option, None, Some}
 use Rattle.ts_spec.specs.Answer.{Row as TheRow, first_ones}
-use Rattle.ts_range.specs.declared.row.Row.{Row}
+use Rattle.ts_range.specs.declared.query.Row.{Row}
 use Rattle.ts_range.specs.Query.{row_of}
 use Rattle.ts_range.specs.Filling.{Filling}
 
--- what limits the rows that a taker hands on: their number, if there is a limit, and the line of buckets that it fills in, if it does
+-- what limits the rows that a sink passes on: a maximum number, or the buckets whose gaps it fills
 pub record Limit : Type 0 where
   pub count : Option ℕ
   pub filling : Option Filling
 
--- nothing does
+-- no limit
 abbrev pub no_limit : Limit
 no_limit = record { count = None; filling = None }
 
--- the rows kept are these, unless there was no memory
+-- the stored rows are these, unless memory ran out
 abbrev pub IsListOf : (lost : Bool) → (kept : List Row) → List TheRow → Type 0
 IsListOf lost kept rows = lost ≡ false → map row_of kept ≡ rows
 
--- how many more are wanted, after so many
+-- how many more rows are accepted after this many
 abbrev pub left_of : Option ℕ → ℕ → Option ℕ
 left_of None rows = None
 left_of (Some count) rows = Some (count - rows)
 
--- another taker was given the first ones of these, so many as are wanted in all, and so many more are wanted
+-- the inner sink has at most the first `count` of these rows, and accepts `left` more
 pub record IsFirstOf (has : List TheRow → Type 0) (count left : Option ℕ) (rows : List TheRow) : Type 0 where
   pub taken : has (first_ones count rows)
   pub rest : left ≡ left_of count (length rows)

@@ -1,12 +1,11 @@
-// The bucket that samples are put into, one after another.
+// The current bucket of a scan: its span and the tally of its samples.
 ghost use Rattle.std.specs.Prelude.{◌≡◌, ℕ, ◌<◌, ◌≤◌};
 ghost use Rattle.ts_spec.specs.Sample.{MAX_TIME};
 ghost use Rattle.ts_spec.specs.Bucket.{start as start_of, stamp};
 ghost use Rattle.ts_bucket.specs.Grid.{IsLastOf};
 ghost use Rattle.ts_range.specs.Spans.{IsSpan};
 
-use crate::query::Buckets;
-use crate::row::Row;
+use crate::query::{Buckets, Row};
 use crate::take::Take;
 use ts_agg::Tally;
 use ts_bucket::{Grid, Stamp};
@@ -14,10 +13,10 @@ use ts_sample::{Cell, MAX_TIME, Sample};
 
 #[derive(Clone, Copy)]
 pub(crate) struct Bucket {
-    // Its first and its last time, in milliseconds.
+    // The first and the last time of the bucket, in milliseconds.
     pub(crate) start: u64,
     pub(crate) last: u64,
-    // What its samples come to.
+    // The aggregate of its samples so far.
     pub(crate) tally: Tally,
     ghost start_fits: { start ≤ MAX_TIME },
     ghost last_fits: { last ≤ MAX_TIME },
@@ -31,7 +30,7 @@ impl Bucket {
     ghost use Rattle.ts_range.specs.Query.{buckets_of};
     ghost use Rattle.ts_range.specs.BucketRows.{row_with};
 
-    // The bucket of a sample, which is the only one in it yet.
+    // Starts the bucket of `sample`, with that sample in it.
     pub(crate) fn of(buckets: &Buckets, sample: &Sample) -> Bucket
         ensures span { IsSpan buckets.now.grid result.start result.last }
         ensures start { result.start ≡ start_of buckets.now.grid sample.now.time }
@@ -46,7 +45,7 @@ impl Bucket {
         }
     }
 
-    // The bucket of a sample past this one, which is the only one in it yet.
+    // Starts the bucket of a sample after this bucket, with that sample in it.
     #[inline]
     pub(crate) fn after(&self, buckets: &Buckets, sample: &Sample) -> Bucket
         requires { self.now.last < sample.now.time }
@@ -63,8 +62,8 @@ impl Bucket {
         }
     }
 
-    // Hands on its row, and becomes the bucket of a sample past it, which is the only one in it yet. It is called once a
-    // bucket, and so it stands apart from what is done with each sample.
+    // Emits the row of this bucket and starts the bucket of `sample`. It runs once per bucket, so it stays out of the
+    // code that runs once per sample.
     #[inline(never)]
     pub(crate) fn turn<T: Take>(&mut self, buckets: &Buckets, sample: &Sample, taker: &mut T)
         requires { self.old.last < sample.now.time }
@@ -82,7 +81,7 @@ impl Bucket {
         *self = self.after(buckets, sample);
     }
 
-    // Hands on its row.
+    // Emits the row of this bucket.
     #[inline]
     pub(crate) fn tell<T: Take>(&self, buckets: &Buckets, taker: &mut T)
         ensures limit { T.limit taker.new ≡ T.limit taker.old }
@@ -98,7 +97,7 @@ impl Bucket {
     }
 }
 
-// The first and the last time of the bucket of a time, in milliseconds.
+// The first and the last time of the bucket that contains `t`, in milliseconds.
 fn span_of(grid: &Grid, t: u64) -> (u64, u64)
     requires { t ≤ MAX_TIME }
     ensures times { (result.0 ≤ MAX_TIME) × (result.1 ≤ MAX_TIME) }
@@ -110,7 +109,7 @@ fn span_of(grid: &Grid, t: u64) -> (u64, u64)
     (start, last_from(grid, start))
 }
 
-// The same of a time past a bucket with this last time. Mostly it is in the next bucket, which is one addition away.
+// The same for a time after a bucket that ends at `last`. Mostly that is the next bucket, which takes one addition.
 #[inline]
 fn span_past(last: u64, grid: &Grid, t: u64) -> (u64, u64)
     requires past { last < t }
@@ -127,7 +126,7 @@ fn span_past(last: u64, grid: &Grid, t: u64) -> (u64, u64)
     span_of(grid, t)
 }
 
-// The last time of the bucket that begins there. Only the first bucket may be cut short, and takes a division.
+// The last time of the bucket that begins at `start`. Only the first bucket may be shorter, and needs a division.
 #[inline]
 fn last_from(grid: &Grid, start: u64) -> u64
     requires { start ≤ MAX_TIME }
@@ -141,7 +140,7 @@ fn last_from(grid: &Grid, start: u64) -> u64
     MAX_TIME.min(start + (grid.duration() - 1))
 }
 
-// The time that stands for the bucket that begins there.
+// The timestamp that a row shows for the bucket that begins at `start`.
 #[inline]
 fn stamp_of(start: u64, buckets: &Buckets) -> u64
     requires { start ≤ MAX_TIME }

@@ -1,4 +1,4 @@
-// Cuts samples into buckets, and hands on a row for each.
+// Groups ascending samples into buckets and emits one row per bucket.
 use crate::bucket::Bucket;
 use crate::query::Buckets;
 use crate::take::Take;
@@ -7,7 +7,7 @@ use ts_sample::Sample;
 #[derive(Clone, Copy)]
 pub(crate) struct Cutter {
     pub(crate) buckets: Buckets,
-    // The bucket of the last sample, to which more may come.
+    // The bucket of the last sample. More samples may follow.
     pub(crate) current: Option<Bucket>,
 }
 
@@ -20,7 +20,6 @@ impl Cutter {
     ghost use Rattle.ts_range.specs.BucketRows.{bucket_rows};
     ghost use Rattle.ts_range.specs.Cutting.{IsCut, HasAtMost, HasBegun};
 
-    // No sample yet.
     pub(crate) fn new(buckets: Buckets) -> Cutter
         ensures { result ≡ record { buckets = buckets; current = None } }
     {
@@ -30,8 +29,8 @@ impl Cutter {
         }
     }
 
-    // Puts a sample that is past the others into its bucket. Where that is another one, it hands on the row of
-    // the one before. Within a bucket nothing is divided.
+    // Adds the next sample. If it starts a new bucket, emits the row of the previous one first. Samples within a bucket
+    // need no division.
     #[inline(always)]
     pub(crate) fn push<T: Take>(&mut self, sample: &Sample, taker: &mut T)
         requires few { ForSome self.old.current (λ b. counted b.tally < 10 ^ 14) }
@@ -53,7 +52,7 @@ impl Cutter {
         }
     }
 
-    // Opens the bucket of a first sample.
+    // Starts the bucket of the first sample.
     #[inline(never)]
     fn open(&mut self, sample: &Sample)
         ensures buckets { self.new.buckets ≡ self.old.buckets }
@@ -62,7 +61,7 @@ impl Cutter {
         self.current = Some(Bucket::of(&self.buckets, sample));
     }
 
-    // Hands on the row of the bucket that is open.
+    // Emits the row of the current bucket, if there is one.
     pub(crate) fn close<T: Take>(&self, taker: &mut T)
         ensures limit { T.limit taker.new ≡ T.limit taker.old }
         ensures closed { (ps asked : List Point) → IsCut (T.has taker.old) self.now.buckets self.now.current ps → T.has taker.new (bucket_rows (buckets_of self.now.buckets) asked ps) }

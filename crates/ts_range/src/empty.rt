@@ -1,4 +1,4 @@
-// What is asked of a series around an answer that tells of empty buckets.
+// The row limit of queries with EMPTY, and the last sample before a bucket.
 ghost use Rattle.std.specs.Prelude.{◌≡◌, ◌&&◌, List, length, nat_lt, IsTrue};
 ghost use Rattle.ts_spec.specs.Sample.{Point, IsAscending, first_of, last_of};
 ghost use Rattle.ts_spec.specs.Answer as spec;
@@ -6,12 +6,12 @@ ghost use Rattle.ts_range.specs.Query.{query_of};
 ghost use Rattle.ts_range.specs.Empty.{known_before};
 ghost use Rattle.ts_range.specs.Walk.{times_of};
 
-use crate::query::Query;
-use crate::row::Asked;
+use crate::query::{Asked, Query};
 use crate::starts::Starts;
 use ts_sample::{Sample, place_of};
 
-/// Whether empty buckets are told and the rows are more than the limit, of samples whose first and last times these are.
+/// Whether the query asks for empty buckets and its answer has more than `limit` rows. `ends` are the times of the
+/// first and the last sample of the series, in milliseconds.
 pub fn are_too_many(query: &Query, ends: Option<(u64, u64)>, limit: u32) -> bool
     ensures { (l : List Point) → (IsTrue (spec.tells_empty (query_of query.now).buckets) → ends ≡ times_of (first_of l) (last_of l))
         → result ≡ (spec.tells_empty (query_of query.now).buckets
@@ -29,7 +29,7 @@ pub fn are_too_many(query: &Query, ends: Option<(u64, u64)>, limit: u32) -> bool
     }
 }
 
-// The last sample asked before the start of a bucket.
+// The last sample before `start`, from the collected samples. `first` says that `start` begins the first bucket.
 pub(crate) fn before(asked: &Asked, start: u64, first: bool) -> Option<Sample>
     requires { IsAscending asked.now.rows.items }
     ensures { result ≡ known_before first start asked.now }

@@ -1,4 +1,4 @@
-// A taker that hands on the rows of a line of buckets: those that it is given, and between them those of empty ones.
+// A sink that passes on rows of buckets and fills the gaps between them with rows of empty buckets.
 ghost use Rattle.std.specs.Prelude.{◌≡◌, ◌≤◌, ◌<◌, ◌+◌, ◌^◌, ℕ, List, [], ◌∷◌, None, Some, length, slice_get};
 ghost use Rattle.ts_spec.specs.Sample.{MAX_TIME};
 ghost use Rattle.ts_spec.specs.Answer.{Row as TheRow};
@@ -7,11 +7,11 @@ ghost use Rattle.ts_range.specs.Filling.{filling_of, filled_line, IsFilled, IsBe
 ghost use Rattle.ts_range.specs.Starts.{starts_of};
 
 use crate::filling::{Filling, Place};
-use crate::row::Row;
+use crate::query::Row;
 use crate::take::Take;
 use ts_sample::Cell;
 
-/// It is given rows with the starts of buckets as their times.
+/// Receives rows that have bucket starts as their times, in ascending order.
 #[derive(Drop)]
 pub struct Filled<T: Take> {
     taker: T,
@@ -22,7 +22,6 @@ pub struct Filled<T: Take> {
 impl<T: Take> Filled<T> {
     ghost use Rattle.std.specs.Prelude.{◌++◌};
 
-    // No row is told yet.
     pub(crate) fn new(taker: T, filling: Filling) -> Filled<T>
         requires { T.has taker [] }
         ensures filled { (more : List TheRow) → IsFilled (T.has result.taker) (filling_of result.filling) result.place more more }
@@ -38,7 +37,7 @@ impl<T: Take> Filled<T> {
         }
     }
 
-    /// The taker, to which the rows of all buckets were handed.
+    /// Emits the rows of the remaining empty buckets and returns the inner sink.
     pub fn into_taker(self) -> T
         ensures { (rows : List TheRow) → ((more : List TheRow) → IsFilled (T.has self.taker) (filling_of self.filling) self.place (rows ++ more) more)
             → T.has result (filled_line (filling_of self.filling) rows) }
@@ -70,7 +69,7 @@ impl<T: Take> Take for Filled<T> {
     }
 }
 
-// Hands on the rows of the empty buckets before a start.
+// Emits the rows of the empty buckets before `time`.
 fn fill_before<T: Take>(filling: &Filling, place: &mut Place, time: u64, taker: &mut T)
     ensures filled { (all more : List TheRow) (r : TheRow) → r.time ≡ time → IsFilled (T.has taker.old) (filling_of filling.now) place.old all (r ∷ more)
         → IsFilled (T.has taker.new) (filling_of filling.now) place.new all (r ∷ more) }
@@ -84,7 +83,7 @@ fn fill_before<T: Take>(filling: &Filling, place: &mut Place, time: u64, taker: 
     }
 }
 
-// Hands on the rows of the empty buckets that are left.
+// Emits the rows of the remaining empty buckets.
 fn fill_rest<T: Take>(filling: &Filling, place: &mut Place, taker: &mut T)
     ensures { (all : List TheRow) → IsFilled (T.has taker.old) (filling_of filling.now) place.old all []
         → T.has taker.new (filled_line (filling_of filling.now) all) }
@@ -94,7 +93,7 @@ fn fill_rest<T: Take>(filling: &Filling, place: &mut Place, taker: &mut T)
     }
 }
 
-// Hands on the row of an empty bucket, which is told next.
+// Emits the row of the next bucket, which is empty.
 fn fill<T: Take>(filling: &Filling, place: &mut Place, start: u64, taker: &mut T)
     requires time { start ≤ MAX_TIME }
     requires next { slice_get (starts_of filling.now.starts) place.old.told ≡ Some start }
@@ -107,7 +106,7 @@ fn fill<T: Take>(filling: &Filling, place: &mut Place, start: u64, taker: &mut T
     place.told += 1;
 }
 
-// Hands on the row of a bucket with this value, which is told next if one is left.
+// Emits the row of the next bucket with this value, if any bucket is left.
 fn give<T: Take>(filling: &Filling, place: &mut Place, value: Cell, taker: &mut T)
     ensures { (all more : List TheRow) (r : TheRow) → r.value ≡ cell_of value
         → ((b : ℕ) → slice_get (starts_of filling.now.starts) place.old.told ≡ Some b → r.time ≤ b)

@@ -1,5 +1,6 @@
-// What is told of the buckets of a line, those without samples too.
-ghost use Rattle.std.specs.Prelude.{◌≡◌, ◌≤◌, ◌<◌, ◌+◌, ◌^◌, IfNone, IfSome, Some, Option, length, option_map, slice_get};
+// How to fill gaps: the buckets of an answer with EMPTY, and the values of the empty ones.
+ghost use Rattle.std.specs.Prelude.{◌≡◌, ◌≤◌, ◌<◌, ◌+◌, ◌^◌, IfNone, IfSome, Some, Option, length, option_map};
+ghost use Rattle.std.specs.Prelude.{slice_get};
 ghost use Rattle.ts_spec.specs.Sample.{MAX_TIME};
 ghost use Rattle.ts_spec.specs.Answer.{Cell as TheCell};
 ghost use Rattle.ts_spec.specs.Bucket.{stamp};
@@ -8,33 +9,32 @@ ghost use Rattle.ts_range.specs.Empty.{empty_cell_of};
 ghost use Rattle.ts_range.specs.Filling.{said_after, said_of, said_now};
 ghost use Rattle.ts_range.specs.Starts.{starts_of};
 
-use crate::query::Buckets;
-use crate::row::Row;
+use crate::query::{Buckets, Row};
 use crate::starts::Starts;
 use ts_agg::Aggregator;
 use ts_sample::{Cell, Sample, Units};
 
-// The buckets, and what the empty ones say before the row of another one is told.
+// The buckets to emit, and the values of empty ones before the first bucket with samples.
 #[derive(Clone, Copy)]
 pub(crate) struct Filling {
     pub(crate) buckets: Buckets,
     pub(crate) starts: Starts,
-    // What the first one says, and what the others do.
+    // The value of the first bucket if it is empty, and that of the others.
     pub(crate) first: Cell,
     pub(crate) others: Cell,
 }
 
-// How far they were told.
+// How far the rows have been emitted.
 #[derive(Clone, Copy)]
 pub(crate) struct Place {
-    // How many.
+    // The number of buckets emitted so far.
     pub(crate) told: u64,
-    // The last value, once there is one, where empty buckets say that.
+    // The last emitted value, for aggregators whose empty buckets repeat it.
     pub(crate) last: Option<Cell>,
 }
 
 impl Filling {
-    // The start of the bucket that is told next, if one is left.
+    // The start of the next bucket, in milliseconds, if one is left.
     pub(crate) fn next(&self, place: &Place) -> Option<u64>
         ensures some { IfSome result (λ start. slice_get (starts_of self.now.starts) place.now.told ≡ Some start) }
         ensures time { IfSome result (λ start. start ≤ MAX_TIME) }
@@ -48,7 +48,7 @@ impl Filling {
         }
     }
 
-    // The start of the bucket past that one, if one is left.
+    // The start of the bucket after that, if there is one.
     pub(crate) fn after(&self, place: &Place) -> Option<u64>
         requires { place.now.told < length (starts_of self.now.starts) }
         ensures some { IfSome result (λ start. slice_get (starts_of self.now.starts) (place.now.told + 1) ≡ Some start) }
@@ -65,7 +65,7 @@ impl Filling {
         }
     }
 
-    // What it says if it is empty.
+    // The value of the next bucket if it is empty.
     pub(crate) fn says(&self, place: &Place) -> Cell
         ensures { cell_of result ≡ said_now place.now.told (cell_of self.now.first) (said_of (cell_of self.now.others) (option_map cell_of place.now.last)) }
     {
@@ -78,7 +78,7 @@ impl Filling {
         }
     }
 
-    // Its row, which tells this.
+    // The row of the bucket that begins at `start`.
     pub(crate) fn row(&self, start: u64, value: Cell) -> Row
         requires { start ≤ MAX_TIME }
         ensures time { result.time ≡ stamp self.now.buckets.grid start self.now.buckets.stamp }
@@ -90,7 +90,7 @@ impl Filling {
         }
     }
 
-    // The last value past a bucket with this one.
+    // The value that empty buckets repeat after a bucket with this value.
     pub(crate) fn last_after(&self, place: &Place, value: &Cell) -> Option<Cell>
         ensures { (others : TheCell) → said_of others (option_map cell_of result) ≡ said_after self.now.buckets.agg (said_of others (option_map cell_of place.now.last)) (cell_of value.now) }
     {
@@ -101,7 +101,8 @@ impl Filling {
     }
 }
 
-// What is told of a bucket without samples, where this is the last one before it.
+// The value of an empty bucket whose last earlier sample is `before`: 0 for sums and counts, that sample's value for
+// LAST, else NaN.
 pub(crate) fn empty_cell(agg: Aggregator, before: Option<Sample>) -> Cell
     ensures { cell_of result ≡ empty_cell_of agg before }
 {

@@ -1,5 +1,6 @@
-// Filters by time and by value, ready to be asked of each sample.
-ghost use Rattle.std.specs.Prelude.{◌≡◌, ◌≤◌, ◌<◌, ℕ, true, false, ◌&&◌, None, IfOk, IfSome, IfNone, IsTrue, option_map};
+// Filters by time and by value, prepared for checking each sample quickly.
+ghost use Rattle.std.specs.Prelude.{◌≡◌, ◌≤◌, ◌<◌, ℕ, true, false, ◌&&◌, None, IfOk, IfSome, IfNone, IsTrue};
+ghost use Rattle.std.specs.Prelude.{option_map};
 ghost use Rattle.std.specs.Option.{ForSome};
 ghost use Rattle.std.specs.List.Sorted.{IsNonDecreasing};
 ghost use Rattle.ts_spec.specs.Answer.{is_listed};
@@ -8,13 +9,13 @@ use crate::query::Query;
 use std::alloc::{AllocError, Global};
 use ts_sample::{Sample, Units};
 
-/// What a question lets through, in a form that is asked quickly.
+/// The FILTER_BY_TS and FILTER_BY_VALUE filters of a query.
 #[derive(Drop)]
 pub struct Filters {
     // In ascending order.
     times: Option<Vec<u64>>,
     values: Option<(Units, Units)>,
-    // Whether there is neither, so that no sample need be looked at.
+    // Whether there is no filter, so that samples need no check.
     lets_all: bool,
     ghost times_rise: { ForSome times (λ times. IsNonDecreasing times.items) },
     ghost lets_all_times: { IsTrue lets_all → times ≡ None },
@@ -27,7 +28,7 @@ impl Filters {
     ghost use Rattle.ts_range.specs.Query.{query_of, span_of};
     ghost use Rattle.ts_range.specs.Filters.{passes};
 
-    /// What this question lets through.
+    /// Prepares the filters of a query. Fails if there is no memory for the sorted times.
     pub fn of(query: &Query) -> Result<Filters, AllocError>
         ensures { IfOk result (λ f. (p : Point) →
             passes f p ≡ is_let_through (query_of query.now) p) }
@@ -47,14 +48,14 @@ impl Filters {
         })
     }
 
-    // Whether there is no filter, so that they let every sample through.
+    // Whether there is no filter.
     pub(crate) fn let_all(&self) -> bool
         ensures { result ≡ true → (p : Point) → passes self.now p ≡ true }
     {
         self.lets_all
     }
 
-    // Whether both filters let a sample through.
+    // Whether a sample passes both filters.
     #[inline(always)]
     pub(crate) fn let_through(&self, sample: &Sample) -> bool
         ensures { result ≡ passes self.now sample.now }
@@ -65,7 +66,7 @@ impl Filters {
         self.let_time(sample.time) && self.let_value(sample.value)
     }
 
-    // The part of an interval outside of which they let none of its samples through, if they let any through.
+    // The part of the interval that can contain samples that pass, if any can.
     pub(crate) fn part_of(&self, from: u64, to: u64) -> Option<(u64, u64)>
         ensures within { IfSome result (λ part. (from ≤ part.0) × ((part.0 ≤ part.1) × (part.1 ≤ to))) }
         ensures all { IfSome result (λ part. (p : Point) →
@@ -82,7 +83,7 @@ impl Filters {
         Some((first, last))
     }
 
-    // Whether the time is among those asked for.
+    // Whether the time is one of the listed times.
     #[inline]
     fn let_time(&self, time: u64) -> bool
         ensures { result ≡ lets_time (option_map (λ times. times.items) self.now.times) time }
@@ -93,7 +94,7 @@ impl Filters {
         }
     }
 
-    // Whether the value is among those asked for, the ends included.
+    // Whether the value is within the bounds, both included.
     #[inline]
     fn let_value(&self, value: Units) -> bool
         ensures { result ≡ lets_value (option_map span_of self.now.values) value }
@@ -115,7 +116,7 @@ fn sorted(alloc: Global, times: &[u64]) -> Result<Vec<u64>, AllocError>
     Ok(sorted)
 }
 
-// The first of these times that is not before a time.
+// The first listed time at or after `from`.
 fn first_from(times: &[u64], from: u64) -> Option<u64>
     requires { IsNonDecreasing times.now }
     ensures first { IfSome result (λ first. (from ≤ first) × ((t : ℕ) → from ≤ t → t < first → is_listed times.now t ≡ false)) }
@@ -128,7 +129,7 @@ fn first_from(times: &[u64], from: u64) -> Option<u64>
     Some(times[place])
 }
 
-// The last of these times that is not past a time.
+// The last listed time at or before `to`.
 fn last_upto(times: &[u64], to: u64) -> Option<u64>
     requires { IsNonDecreasing times.now }
     ensures last { IfSome result (λ last. (last ≤ to) × ((t : ℕ) → last < t → t ≤ to → is_listed times.now t ≡ false)) }

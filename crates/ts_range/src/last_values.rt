@@ -1,9 +1,11 @@
-// A visitor that tells the last value of each bucket of a line, of empty ones that of the last sample before them.
-ghost use Rattle.std.specs.Prelude.{◌≡◌, ◌<◌, ◌+◌, ◌^◌, ◌++◌, ℕ, List, [], ◌∷◌, Some, if◌then◌else◌, take, length, option_map, slice_get};
+// A visitor that emits the last value of each bucket. An empty bucket repeats the value of the last sample before it.
+ghost use Rattle.std.specs.Prelude.{◌≡◌, ◌<◌, ◌+◌, ◌^◌, ◌++◌, ℕ, List, [], ◌∷◌, Some, if◌then◌else◌, take, length};
+ghost use Rattle.std.specs.Prelude.{option_map, slice_get};
 ghost use Rattle.ts_spec.specs.Answer.{Number};
 ghost use Rattle.ts_spec.specs.Sample.{Point};
 ghost use Rattle.ts_range.specs.Filling.{filling_of};
-ghost use Rattle.ts_range.specs.LastValues.{LastValues as Last, values_of, last_rows, IsLine, IsOpen, IsLasting, BeginsBy};
+ghost use Rattle.ts_range.specs.LastValues.{LastValues as Last, values_of, last_rows, IsLine, IsOpen, IsLasting};
+ghost use Rattle.ts_range.specs.LastValues.{BeginsBy};
 ghost use Rattle.ts_range.specs.Query.{cell_of};
 ghost use Rattle.ts_range.specs.Starts.{starts_of};
 
@@ -14,8 +16,8 @@ use crate::trail::Trail;
 use std::marker::Model;
 use ts_sample::{Cell, Sample, Units, Visit};
 
-/// It hands the rows to a taker, each as soon as a sample is past its bucket. Samples that are not let through are not
-/// told of their own buckets, but of the empty ones past them.
+/// Emits the row of a bucket as soon as a later sample arrives. A sample that the filters drop does not count for its
+/// own bucket, but empty buckets after it repeat its value.
 #[derive(Drop)]
 pub struct LastValues<'f, T: Take> {
     filters: &'f Filters,
@@ -25,14 +27,14 @@ pub struct LastValues<'f, T: Take> {
     seen: Trail,
 }
 
-// The bucket that is open, to which more samples may come.
+// The current bucket. More samples may follow.
 #[derive(Clone, Copy)]
 pub(crate) struct Current {
-    // How many are told before it, and the last value before it.
+    // How many buckets were emitted before it, and the last value before it.
     place: Place,
-    // The last value in it that is let through.
+    // The last value in it that passes the filters.
     chosen: Option<Cell>,
-    // The last value of all.
+    // The last value of all samples so far.
     latest: Option<Cell>,
 }
 
@@ -47,7 +49,6 @@ impl<'f, T: Take> Model for LastValues<'f, T> {
 }
 
 impl<'f, T: Take> LastValues<'f, T> {
-    // No sample was given yet, and no row handed on.
     pub(crate) fn new(filters: &'f Filters, filling: Filling, taker: T) -> LastValues<'f, T>
         requires { T.has taker [] }
         ensures { result ≡ values_of filters.now filling [] }
@@ -68,7 +69,7 @@ impl<'f, T: Take> LastValues<'f, T> {
         }
     }
 
-    /// The taker, to which the rows of all buckets were handed.
+    /// Emits the rows of the remaining buckets and returns the sink.
     pub fn finish(self) -> T
         ensures { (lo hi : ℕ) → IsLine lo hi self.entry → T.has result (last_rows self.entry) }
     {
@@ -109,7 +110,7 @@ impl<T: Take> Visit for LastValues<'_, T> {
     ghost lowers = { λ v p. Prim.omega arith };
 }
 
-// Puts a sample that is past the others into its bucket, once the rows of those before it were handed on.
+// Emits the rows of the buckets before that of the sample, then adds the sample to its own.
 #[inline(always)]
 fn take_sample<T: Take>(
     filters: &Filters,
@@ -126,7 +127,7 @@ fn take_sample<T: Take>(
     put(current, sample.value, filters.let_through(sample));
 }
 
-// Puts a value into the bucket that is open. It may be let through.
+// Records a value in the current bucket. `is_chosen` says whether it passes the filters.
 #[inline(always)]
 fn put(current: &mut Current, value: Units, is_chosen: bool)
     ensures place { current.new.place ≡ current.old.place }
@@ -139,7 +140,7 @@ fn put(current: &mut Current, value: Units, is_chosen: bool)
     }
 }
 
-// Hands on the rows of the buckets before that of a time.
+// Emits the rows of the buckets before the one that contains `time`.
 fn reach<T: Take>(filling: &Filling, current: &mut Current, time: u64, taker: &mut T)
     requires { current.old.place.told < length (starts_of filling.now.starts) }
     ensures within { current.new.place.told < length (starts_of filling.now.starts) }
@@ -155,7 +156,7 @@ fn reach<T: Take>(filling: &Filling, current: &mut Current, time: u64, taker: &m
     }
 }
 
-// Hands on the rows of all buckets but the last one.
+// Emits the rows of all buckets but the last one.
 fn reach_last<T: Take>(filling: &Filling, current: &mut Current, taker: &mut T)
     requires { current.old.place.told < length (starts_of filling.now.starts) }
     ensures last { current.new.place.told + 1 ≡ length (starts_of filling.now.starts) }
@@ -166,7 +167,7 @@ fn reach_last<T: Take>(filling: &Filling, current: &mut Current, taker: &mut T)
     }
 }
 
-// Hands on the row of the bucket that is open, and opens the next one.
+// Emits the row of the current bucket and starts the next one.
 fn open_next<T: Take>(filling: &Filling, current: &mut Current, taker: &mut T)
     requires next { current.old.place.told + 1 < length (starts_of filling.now.starts) }
     requires few { length (starts_of filling.now.starts) < 2 ^ 64 }
@@ -179,7 +180,7 @@ fn open_next<T: Take>(filling: &Filling, current: &mut Current, taker: &mut T)
     current.chosen = None;
 }
 
-// Hands on the row of the bucket that is open.
+// Emits the row of the current bucket.
 fn tell<T: Take>(filling: &Filling, current: &Current, taker: &mut T)
     requires { current.now.place.told < length (starts_of filling.now.starts) }
     ensures { (v : Last) (lo hi : ℕ) → v.filling ≡ filling_of filling.now → IsLine lo hi v → IsOpen (T.has taker.old) v current.now

@@ -1,39 +1,27 @@
-//! The rows that answer a question over one series.
+//! Answers range queries over one series: filters samples, aggregates them into buckets, and fills empty buckets.
 #![tactic(auto)]
 
 mod answers;
 mod bucket;
 mod cutter;
 mod empty;
-mod fault;
-mod fillable;
 mod filled;
 mod filling;
 mod filters;
 mod last_values;
-mod limited;
-mod list;
 mod query;
-mod row;
 mod starts;
 mod stretch;
 mod take;
 mod trail;
 mod walk;
-mod walked;
 
-pub use answers::answer;
+pub use answers::{answer, turned};
 pub use empty::are_too_many;
-pub use fault::RangeFault;
-pub use fillable::filled_buckets;
 pub use filled::Filled;
 pub use filters::Filters;
 pub use last_values::LastValues;
-pub use limited::Limited;
-pub use list::RowList;
-pub use query::{Buckets, Query};
-pub use row::{Asked, Row};
+pub use query::{Asked, Buckets, Query, RangeFault, Row, filled_buckets};
 pub use stretch::Stretch;
-pub use take::{Keep, Take};
+pub use take::{Keep, Limited, RowList, Take};
 pub use walk::Walk;
-pub use walked::turned;

@@ -1,19 +1,19 @@
-// The starts of the buckets that an answer with empty ones tells of.
+// The starts of consecutive buckets.
 ghost use Rattle.std.specs.Prelude.{◌+◌, ◌-◌, ◌*◌, ◌≤◌};
 ghost use Rattle.ts_spec.specs.Sample.{MAX_TIME};
 
 use crate::query::Query;
 use ts_bucket::Grid;
 
-// Where buckets begin that follow one another, in milliseconds.
+// Starts of consecutive buckets, in milliseconds.
 #[derive(Clone, Copy)]
 pub(crate) struct Starts {
     first: u64,
-    // The start of the second one, if there is one.
+    // The start of the second bucket, if there is one.
     second: u64,
-    // How far it is from each to the next, from the second one on.
+    // The distance between starts, from the second one on.
     duration: u64,
-    // How many there are.
+    // The number of buckets.
     count: u64,
     ghost some: { 1 ≤ count },
     ghost first_fits: { first ≤ MAX_TIME },
@@ -27,8 +27,7 @@ impl Starts {
     ghost use Rattle.ts_range.specs.Starts.{starts_of, starts_if, starts_within};
     ghost use Rattle.ts_range.specs.Walk.{most_of};
 
-    // Those from the bucket of the first time asked to that of the last one, of samples whose first and last
-    // times these are.
+    // The starts for a query over a series whose first and last sample have the times `ends`.
     pub(crate) fn over(query: &Query, grid: &Grid, ends: Option<(u64, u64)>) -> Option<Starts>
         ensures { starts_if result ≡ starts_within grid.now query.now.from query.now.to ends }
     {
@@ -42,7 +41,7 @@ impl Starts {
         }
     }
 
-    // Those from the bucket of one time to that of another.
+    // The starts from the bucket of `from` to the bucket of `to`.
     pub(crate) fn between(grid: &Grid, from: u64, to: u64) -> Starts
         requires ordered { from ≤ to }
         requires time { to ≤ MAX_TIME }
@@ -65,7 +64,7 @@ impl Starts {
         }
     }
 
-    // A single one.
+    // A single bucket.
     fn one(start: u64) -> Starts
         requires { start ≤ MAX_TIME }
         ensures { starts_of result ≡ start ∷ [] }
@@ -78,7 +77,7 @@ impl Starts {
         }
     }
 
-    // How many rows there are, of so many that are wanted.
+    // The number of rows, at most `count`.
     pub(crate) fn wanted(&self, count: Option<u64>) -> u64
         ensures { result ≡ most_of count (length (starts_of self.now)) }
     {
@@ -88,7 +87,7 @@ impl Starts {
         }
     }
 
-    // The one at this place, counted from the last one where that comes first.
+    // The start at index `i`, counted from the end if `reverse`.
     pub(crate) fn at(&self, reverse: bool, i: u64) -> u64
         requires { i < length (starts_of self.now) }
         ensures start { slice_get (in_order reverse (starts_of self.now)) i ≡ Some result }
@@ -102,7 +101,7 @@ impl Starts {
         }
     }
 
-    // Which one that is, counted from the first one.
+    // The index from the front that `i` stands for.
     fn number(&self, reverse: bool, i: u64) -> u64
         requires { i < length (starts_of self.now) }
         ensures within { result < self.now.count }

@@ -1,4 +1,4 @@
-// The stretch of buckets that an answer with empty ones tells of.
+// The range of buckets that an answer with EMPTY covers.
 ghost use Rattle.std.specs.Prelude.{◌≡◌, ◌≤◌, ℕ, [], map, IfNone, IfSome};
 ghost use Rattle.ts_spec.specs.Sample.{MAX_TIME};
 ghost use Rattle.ts_spec.specs.Bucket.{start as start_of};
@@ -17,16 +17,16 @@ use ts_agg::Aggregator;
 use ts_bucket::{Grid, Stamp};
 use ts_sample::Sample;
 
-/// The buckets that a question wants told, each once, and the part of the interval that lies in them. Times are in
-/// milliseconds.
+/// The consecutive buckets that a query with EMPTY returns, and the part of its interval that lies in them. Times are
+/// in milliseconds.
 #[derive(Clone, Copy)]
 pub struct Stretch {
     pub(crate) buckets: Buckets,
-    // Where they begin, in ascending order.
+    // Their starts, in ascending order.
     pub(crate) starts: Starts,
     /// The first time.
     pub from: u64,
-    /// The last time, which is part of it.
+    /// The last time, included.
     pub to: u64,
     ghost from_fits: { from ≤ MAX_TIME },
     ghost to_fits: { to ≤ MAX_TIME },
@@ -43,8 +43,8 @@ impl Stretch {
     ghost use Rattle.ts_range.specs.Stretches.{IsStretchOf, filling_with};
     ghost use Rattle.ts_range.specs.Walking.{lets};
 
-    /// The stretch of a question over samples whose first and last times these are. There is none where no row is
-    /// wanted.
+    /// The bucket range of a query over a series whose first and last sample have the times `ends`. Returns `None` if
+    /// the answer has no rows.
     pub fn of(query: &Query, buckets: &Buckets, ends: Option<(u64, u64)>) -> Option<Stretch>
         ensures stretch { IfSome result (λ stretch. IsStretchOf query.now buckets.now ends stretch) }
         ensures none { IfNone result ((f : ℕ → TheRow) → first_ones query.now.count (turned query.now.reverse (map f (starts_within buckets.now.grid query.now.from query.now.to ends))) ≡ []) }
@@ -66,7 +66,7 @@ impl Stretch {
         })
     }
 
-    /// Where the first bucket begins.
+    /// The start of the first bucket.
     pub fn first(&self) -> u64
         ensures start { result ≡ start_of self.now.buckets.grid self.now.from }
         ensures time { result ≤ MAX_TIME }
@@ -75,8 +75,8 @@ impl Stretch {
         self.buckets.grid.start_of(self.from)
     }
 
-    /// A walk over the samples from the first time to the last one, which tells empty buckets too. `ahead` is the last
-    /// sample before the first bucket, and `prior` the last one before the first time.
+    /// A scan for the samples from `from` to `to` that also emits the rows of empty buckets. `ahead` is the last sample
+    /// before the first bucket, and `prior` the last one before `from`.
     pub fn walk<'f, T: Take>(
         &self,
         filters: &'f Filters,
@@ -98,8 +98,8 @@ impl Stretch {
         Walk::new(filters, Some(begun), filled)
     }
 
-    /// The same, where an empty bucket says a value that the filters may hide: a visitor of all samples from the first
-    /// time to the last one.
+    /// The same for a query whose empty buckets may repeat a value that the filters drop. The visitor needs all samples
+    /// from `from` to `to`.
     pub fn last_values<'f, T: Take>(
         &self,
         filters: &'f Filters,
@@ -115,7 +115,7 @@ impl Stretch {
         LastValues::new(filters, self.filling(ahead, prior), taker)
     }
 
-    /// Whether an empty bucket says the last value before it.
+    /// Whether empty buckets repeat the last value before them.
     pub fn says_last(&self) -> bool
         ensures { IsTrue result ↔ (self.now.buckets.agg ≡ Last) }
     {
@@ -125,7 +125,7 @@ impl Stretch {
         }
     }
 
-    /// Whether an empty bucket may say a value that these filters hide.
+    /// Whether empty buckets may repeat a value that these filters drop.
     pub fn says_hidden(&self, filters: &Filters) -> bool
         ensures last { result ≡ true → self.now.buckets.agg ≡ Last }
         ensures shown { result ≡ false → self.now.buckets.agg ≡ Last → (p : Point) → passes filters.now p ≡ true }
@@ -133,7 +133,7 @@ impl Stretch {
         self.says_last() && !filters.let_all()
     }
 
-    // What is told of its buckets, of which the empty ones say what is known before them.
+    // How to fill the gaps of this range.
     fn filling(&self, ahead: Option<Sample>, prior: Option<Sample>) -> Filling
         ensures { filling_of result ≡ filling_with self.now ahead prior }
     {
@@ -146,7 +146,7 @@ impl Stretch {
     }
 }
 
-// A time of the first bucket that is wanted, and one of the last, of those from one time to another.
+// A time in the first bucket to return and one in the last, given the limit `count`.
 fn wanted(
     grid: &Grid,
     first: u64,

@@ -1,5 +1,5 @@
-// The samples that a visitor was given. They exist only in proofs: a trail takes no bytes, and its methods do nothing
-// at run time.
+// The samples that a visitor has received, for proofs only: a trail takes no bytes, and its methods do nothing at run
+// time.
 ghost use Rattle.std.specs.Prelude.{◌≡◌, List, [], ◌∷◌, ◌++◌};
 ghost use Rattle.std.specs.Borrow.{ftrue};
 ghost use Rattle.ts_spec.specs.Sample.{Point};
@@ -17,14 +17,13 @@ impl Model for Trail {
 }
 
 impl Trail {
-    // None yet.
     pub(crate) fn new() -> Trail
         ensures { result.points ≡ [] }
     {
         Trail {}
     }
 
-    // Those, and one more.
+    // The same samples and one more.
     #[inline(always)]
     pub(crate) fn with(_before: &Trail, _sample: &Sample) -> Trail
         ensures { result.points ≡ _before.now.points ++ _sample.now ∷ [] }

@@ -1,4 +1,4 @@
-// The walk that makes rows of samples while they are scanned.
+// The scan that turns samples into rows.
 ghost use Rattle.std.specs.Prelude.{◌≡◌, ◌<◌, ◌+◌, ◌^◌, ℕ, List, [], ◌∷◌, ◌++◌, filter, option_map};
 ghost use Rattle.std.specs.Option.{ForSome};
 ghost use Rattle.ts_spec.specs.Sample.{Point, IsAscending};
@@ -9,19 +9,18 @@ ghost use Rattle.ts_range.specs.Walking.{AreWalked, HasFew};
 
 use crate::cutter::Cutter;
 use crate::filters::Filters;
-use crate::query::Buckets;
-use crate::row::Row;
+use crate::query::{Buckets, Row};
 use crate::take::Take;
 use crate::trail::Trail;
 use std::marker::Model;
 use ts_sample::{Cell, Sample, Visit};
 
-/// A visitor that answers a question: it hands the rows of the samples that it is given to a taker, each as soon as
-/// it is known. It can take 10^14 samples, which come in ascending time.
+/// A visitor that answers a query: it emits each row to a sink as soon as the row is complete. Accepts up to 10^14
+/// samples, in ascending time.
 #[derive(Drop)]
 pub struct Walk<'f, T: Take> {
     filters: &'f Filters,
-    // Where buckets are told, and not samples.
+    // Groups samples into buckets. `None` emits the samples themselves.
     cut: Option<Cutter>,
     taker: T,
     seen: Trail,
@@ -53,8 +52,8 @@ impl<'f, T: Take> Walk<'f, T> {
     ghost use Rattle.ts_range.specs.Filters.{passes};
     ghost use Rattle.ts_range.specs.Walking.{lets, rows_of_walk};
 
-    /// Lets through what these filters do, and tells of these buckets, or of each sample. No sample was given yet,
-    /// and no row handed on.
+    /// A scan with these filters that has received no sample yet. It aggregates into `buckets`, or emits each sample if
+    /// `None`.
     pub fn new(filters: &'f Filters, buckets: Option<Buckets>, taker: T) -> Walk<'f, T>
         requires { T.has taker [] }
         ensures lets { (p : Point) → lets result p ≡ passes filters.now p }
@@ -74,7 +73,7 @@ impl<'f, T: Take> Walk<'f, T> {
         }
     }
 
-    /// The part of an interval outside of which it lets none of its samples through, if it lets any through.
+    /// The part of the interval that can contain samples that pass the filters, if any can.
     pub fn wanted_part(&self, from: u64, to: u64) -> Option<(u64, u64)>
         ensures within { IfSome result (λ part. (from ≤ part.0) × ((part.0 ≤ part.1) × (part.1 ≤ to))) }
         ensures all { IfSome result (λ part. (ps : List Point) →
@@ -84,7 +83,7 @@ impl<'f, T: Take> Walk<'f, T> {
         self.filters.part_of(from, to)
     }
 
-    /// The taker, to which the rows of all samples were handed.
+    /// Emits the row of the current bucket and returns the sink.
     pub fn finish(self) -> T
         ensures rows { IsAscending self.entry.seen → (asked : List Point) → T.has result (rows_of_walk self.entry asked) }
         ensures limit { T.limit result ≡ self.entry.limit }
@@ -101,7 +100,7 @@ impl<'f, T: Take> Walk<'f, T> {
         taker
     }
 
-    /// The taker, if more samples would change nothing of the rows that it keeps; else the walk as it is.
+    /// Returns the sink if further samples would change none of its rows, else the scan itself.
     pub fn finish_if_full(self) -> Result<T, Walk<'f, T>>
         ensures rows { IfOk result (λ taker. (more asked : List Point) → IsAscending (self.entry.seen ++ more)
             → T.has taker (rows_of_walk (record self.entry { seen = self.entry.seen ++ more }) asked)) }
@@ -138,7 +137,7 @@ impl<T: Take> Visit for Walk<'_, T> {
     ghost lowers = { lowered };
 }
 
-// Hands on the row that a sample makes, or that it ends, if the filters let it through.
+// Emits the row that this sample makes or completes, if the sample passes the filters.
 #[inline(always)]
 fn take_sample<T: Take>(filters: &Filters, cut: &mut Option<Cutter>, taker: &mut T, sample: &Sample)
     requires { ForSome cut.old (λ c. ForSome c.current (λ b. counted b.tally < 10 ^ 14)) }
@@ -157,7 +156,7 @@ fn take_sample<T: Take>(filters: &Filters, cut: &mut Option<Cutter>, taker: &mut
     }
 }
 
-// Hands on the row of a sample.
+// Emits the row of a sample.
 #[inline(always)]
 fn tell<T: Take>(sample: &Sample, taker: &mut T)
     ensures limit { T.limit taker.new ≡ T.limit taker.old }

@@ -7,7 +7,7 @@ use Rattle.ts_spec.specs.Questions.{asked, rows_response, range_response}
 use Rattle.ts_spec.specs.Sample.{Point}
 use Rattle.ts_spec.specs.Text.{text}
 use Rattle.ts_range.specs.Query.{query_of}
-use Rattle.ts_range.specs.declared.row.Asked.{Asked}
+use Rattle.ts_range.specs.declared.query.Asked.{Asked}
 use Rattle.ts_resp.specs.Replies.{reply_of}
 use Rattle.ts_db.proofs.Laws.{there-law}
 use Rattle.ts_db.specs.declared.fault.DbFault.TheVariants.{NoKey}
