@@ -9,8 +9,8 @@ use Rattle.ts_resp.specs.Reading.{Reading, stream_of}
 use Rattle.ts_resp.specs.declared.protocol.Protocol.{Protocol}
 use Rattle.ts_mux.specs.declared.frame.Frame.{Frame}
 use Rattle.ts_mux.specs.declared.hand.Hand.{Hand}
-use Rattle.ts_mux.specs.declared.turn.Turn.{Turn}
-use Rattle.ts_mux.specs.declared.turn.Turn.TheVariants as turn
+use Rattle.ts_mux.specs.declared.hand.Turn.{Turn}
+use Rattle.ts_mux.specs.declared.hand.Turn.TheVariants as turn
 use Rattle.ts_mux.specs.Order.{Connection, Asked, Failed, events_of, news_of, items_of, items_from, without, closes_none}
 use Rattle.ts_mux.specs.Links.{at_hand, stream_or, reader_or, connections, left_of, ahead_of, hand_without, Marks}
 use Rattle.ts_mux.specs.Turns.{SaysOf, GivesTurn}

@@ -3,8 +3,8 @@ use Rattle.std.specs.Prelude.{◌≡◌, ℕ, List, [], ◌∷◌}
 use Rattle.ts_spec.specs.Wire.{Request as Words, Then, Broken}
 use Rattle.ts_resp.specs.Reading.{Reading, stream_of}
 use Rattle.ts_mux.specs.declared.frame.Frame.{Frame}
-use Rattle.ts_mux.specs.declared.turn.Turn.{Turn}
-use Rattle.ts_mux.specs.declared.turn.Turn.TheVariants.{Request, Fault, NotYet, Memory}
+use Rattle.ts_mux.specs.declared.hand.Turn.{Turn}
+use Rattle.ts_mux.specs.declared.hand.Turn.TheVariants.{Request, Fault, NotYet, Memory}
 use Rattle.ts_mux.specs.Order.{Item, Asked, Failed, events_of, without}
 
 -- a fact of the item, if it gave one

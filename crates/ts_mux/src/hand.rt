@@ -1,10 +1,22 @@
-// The connection whose frame was delivered last.
+// The current connection, and the events that connections yield.
 ghost use Rattle.std.specs.Prelude.{◌≡◌, ◌≢◌, []};
 ghost use Rattle.ts_resp.specs.Reading.{fed};
 ghost use Rattle.ts_mux.specs.Turns.{IfRequest, SaysOf};
 
-use crate::Turn;
-use ts_resp::{Next, Reader, Word};
+use ts_resp::{Next, Protocol, Reader, Word};
+
+/// What a Mux answers.
+#[derive(Debug, Drop)]
+pub enum Turn {
+    /// The number of a connection, and the words of its next request. There is at least one.
+    Request(u32, Vec<Word>),
+    /// The number of a connection, and the fault that closes it.
+    Fault(u32, Protocol),
+    /// The frames delivered so far hold no further request or fault of an open connection.
+    NotYet,
+    /// There was no memory for a word. A later call may have more.
+    Memory,
+}
 
 // The connection at hand.
 #[derive(Drop)]
