@@ -1,21 +1,22 @@
-// The commands that change one series.
+// The commands that change one series, and those that create and delete compaction rules.
 ghost use Rattle.std.specs.Prelude.{◌≡◌, ◌≤◌, ◌+◌, ◌*◌};
 ghost use Rattle.ts_spec.specs.Sample.{MAX_TIME};
 ghost use Rattle.ts_spec.specs.Settings.{IsTime};
-ghost use Rattle.ts_spec.specs.Step.{time_of, create, alter, add, incr, delete};
+ghost use Rattle.ts_spec.specs.Step.{time_of, create, alter, add, incr, delete, create_rule, delete_rule};
 ghost use Rattle.ts_labels.specs.Spec.{spec_of, change_of};
 ghost use Rattle.ts_resp.specs.Replies.{reply_of};
 ghost use Rattle.ts_db.specs.Bounds.{write_steps, deletion_steps};
 ghost use Rattle.ts_db.specs.Held.{Carries, reach_at};
 ghost use Rattle.ts_questions.specs.Answering.{IsShort};
-ghost use Rattle.ts_execution.specs.Turn.{StepOrMemory};
+ghost use Rattle.ts_execution.specs.Turn.{StepOrMemory, IsStep};
 
 use crate::answers::{done_reply, number_reply};
 use std::sync::ledger::Ledger;
+use ts_bucket::Grid;
 use ts_db::{Change, Db, Spec};
 use ts_resp::{Reply, Word};
 use ts_sample::{MAX_TIME, Steps, Units};
-use ts_spec::{At, Policy};
+use ts_spec::{Aggregator, At, Policy};
 
 /// The reply to TS.CREATE.
 pub(crate) fn create(db: &mut Db, key: Word, spec: Spec) -> Reply
@@ -100,4 +101,26 @@ pub(crate) fn time_at(at: At, reading: u64) -> u64
         At::Clock => reading.min(MAX_TIME),
         At::Time(time) => time,
     }
+}
+
+/// The reply to TS.CREATERULE.
+pub(crate) fn create_rule(
+    db: &mut Db,
+    source: &Word,
+    dest: &Word,
+    agg: Aggregator,
+    grid: Grid,
+) -> Reply
+    ensures answer { Carries db.old db.new (λ from to. StepOrMemory (create_rule from.limits from.state source.now dest.now agg grid) from (reply_of result) to) }
+    ensures short { IsShort (reply_of result) }
+{
+    done_reply(db.create_rule(source, dest, agg, grid))
+}
+
+/// The reply to TS.DELETERULE, which takes no memory.
+pub(crate) fn delete_rule(db: &mut Db, source: &Word, dest: &Word) -> Reply
+    ensures answer { Carries db.old db.new (λ from to. IsStep (delete_rule from.state source.now dest.now) from (reply_of result) to) }
+    ensures short { IsShort (reply_of result) }
+{
+    done_reply(db.delete_rule(source, dest))
 }

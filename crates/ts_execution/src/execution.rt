@@ -1,18 +1,20 @@
-// What each command does, and the text of its reply.
-ghost use Rattle.std.specs.Prelude.{◌≡◌, ◌+◌, ◌≤◌, length};
+// Executes each command and writes its reply; and a law about TS.MADD.
+ghost use Rattle.std.specs.Prelude.{◌≡◌, ◌+◌, ◌≤◌, length, ◌≢◌, ℕ, List, All};
 ghost use Rattle.ts_command.specs.Answers.{HasTime};
 ghost use Rattle.ts_command.specs.Reading.{command_of};
-ghost use Rattle.ts_db.specs.Held.{Carries};
+ghost use Rattle.ts_db.specs.Held.{Carries, Held};
 ghost use Rattle.ts_execution.specs.Bounded.{IsBounded};
-ghost use Rattle.ts_execution.specs.Turn.{Executes};
+ghost use Rattle.ts_execution.specs.Turn.{Executes, HasAllItems, IsStep};
+ghost use Rattle.ts_spec.specs.Command.{Triple, Madd};
+ghost use Rattle.ts_spec.specs.Replies.{memory_reply};
+ghost use Rattle.ts_spec.specs.Step.{step};
+ghost use Rattle.ts_spec.specs.Text.{Reply};
 
 use crate::additions::put_items;
 use crate::answers::ok;
-use crate::changes::{add, alter, create, delete, incr, time_at};
-use crate::echoes::{put_pong, put_word};
+use crate::changes::{add, alter, create, create_rule, delete, delete_rule, incr, time_at};
 use crate::info::put_info;
-use crate::keys::{count_keys, drop_keys};
-use crate::rules::{create_rule, delete_rule};
+use crate::keys::{count_keys, drop_keys, put_pong, put_word};
 use std::sync::ledger::Ledger;
 use ts_command::Command;
 use ts_db::{Db, Hints};
@@ -111,3 +113,9 @@ pub(crate) fn execute_near<L: Ledger>(
         Command::Exists { keys } => put(&count_keys(db, &keys), out),
     }
 }
+
+/// What is told of the triples of TS.MADD, where want of memory is told of none, is the one step of the definitions.
+pub fn triples_with_memory_are_one_step()
+    ensures { (reading : ℕ) (triples : List Triple) (old new : Held) (reply : Reply) → (all : HasAllItems reading triples old reply new)
+        → All (λ item. item ≢ memory_reply) all.items → IsStep (step old.limits old.state reading (Madd triples)) old reply new }
+{}
