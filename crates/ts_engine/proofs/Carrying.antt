@@ -6,7 +6,7 @@ use Rattle.ts_spec.specs.Wire.{Request}
 use Rattle.ts_db.specs.Held.{Held, Stock, Carries}
 use Rattle.ts_execution.specs.Turns.{Turns}
 use Rattle.ts_execution.proofs.Carried.{carries_as}
-use Rattle.ts_engine.specs.declared.go.Go.{Go}
+use Rattle.ts_engine.specs.declared.replying.Go.{Go}
 use Rattle.ts_engine.specs.Session.{Spot, TurnedBy, IsEndBy, Replied}
 
 -- what holds of a session that goes on

@@ -3,8 +3,8 @@ use Rattle.std.proofs.Common.{ℕ, inl, inr, refl, subst}
 use Rattle.std.specs.Prelude.{Option, None, Some}
 use Rattle.ts_execution.specs.Turn.{plain}
 use Rattle.ts_execution.specs.Turns.{Turns, NoFault}
-use Rattle.ts_engine.specs.declared.go.Go.{Go}
-use Rattle.ts_engine.specs.declared.go.Go.TheVariants as go
+use Rattle.ts_engine.specs.declared.replying.Go.{Go}
+use Rattle.ts_engine.specs.declared.replying.Go.TheVariants as go
 use Rattle.ts_engine.specs.Session.{HasCauseBy, WroteOrFault}
 
 -- counts that were as they are have the same cause

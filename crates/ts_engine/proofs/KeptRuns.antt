@@ -13,8 +13,8 @@ use Rattle.ts_journal.proofs.Loads.{load-within}
 use Rattle.ts_words.specs.declared.status.Status.{Status}
 use Rattle.ts_words.specs.declared.status.Status.TheVariants as status
 use Rattle.ts_execution.specs.Keeping.{kept, journaled}
-use Rattle.ts_engine.specs.declared.journal_end.JournalEnd.{JournalEnd}
-use Rattle.ts_engine.specs.declared.journal_end.JournalEnd.TheVariants as ended
+use Rattle.ts_engine.specs.declared.kept.JournalEnd.{JournalEnd}
+use Rattle.ts_engine.specs.declared.kept.JournalEnd.TheVariants as ended
 use Rattle.ts_engine.specs.declared.piped.End.{End}
 use Rattle.ts_engine.specs.declared.piped.End.TheVariants as end
 use Rattle.ts_engine.specs.Answered.{IsMemoryOr}

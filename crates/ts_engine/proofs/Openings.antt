@@ -8,8 +8,8 @@ use Rattle.ts_execution.specs.declared.loading.Loaded.{Loaded}
 use Rattle.ts_execution.specs.declared.loading.Loaded.TheVariants as loaded
 use Rattle.ts_execution.specs.Restoring.{IsLoaded}
 use Rattle.ts_execution.proofs.Carried.{carries_as}
-use Rattle.ts_engine.specs.declared.journal_end.JournalEnd.{JournalEnd}
-use Rattle.ts_engine.specs.declared.journal_end.JournalEnd.TheVariants as ended
+use Rattle.ts_engine.specs.declared.kept.JournalEnd.{JournalEnd}
+use Rattle.ts_engine.specs.declared.kept.JournalEnd.TheVariants as ended
 use Rattle.ts_engine.specs.Journaled.{IsOpened}
 
 module _ (old new : Stock) (limits : WireLimits) (budget : ℕ) (before : Option (List ℕ)) where

@@ -12,8 +12,8 @@ use Rattle.ts_engine.specs.declared.piped.Step.{Step}
 use Rattle.ts_io.specs.Causes.{Rose}
 use Rattle.ts_execution.specs.Turn.{plain}
 use Rattle.ts_execution.specs.Turns.{Turns, NoFault, AFault}
-use Rattle.ts_engine.specs.declared.go.Go.{Go}
-use Rattle.ts_engine.specs.declared.go.Go.TheVariants as go
+use Rattle.ts_engine.specs.declared.replying.Go.{Go}
+use Rattle.ts_engine.specs.declared.replying.Go.TheVariants as go
 use Rattle.ts_engine.specs.Ending.{end_at, end_by}
 use Rattle.ts_engine.specs.Session.{Spot, Went, Quitted, IsUpToDate, WentAs}
 use Rattle.ts_engine.specs.Piping.{beginning_of, ReadAll, Ends, EndsOr, PIECE, shown_at, is_of_input, has_ended, Pumped, PipedBy, HasCauses, HasCausesBy}

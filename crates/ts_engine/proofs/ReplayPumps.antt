@@ -11,8 +11,8 @@ use Rattle.ts_mux.specs.Framing.{unfinished, ended_at}
 use Rattle.ts_mux.specs.Order.{closing}
 use Rattle.ts_mux.proofs.FramesWithin.{frames-within}
 use Rattle.ts_execution.specs.Turn.{World}
-use Rattle.ts_engine.specs.declared.course.Course.{Course}
-use Rattle.ts_engine.specs.declared.course.Course.TheVariants as course
+use Rattle.ts_engine.specs.declared.replay.Course.{Course}
+use Rattle.ts_engine.specs.declared.replay.Course.TheVariants as course
 use Rattle.ts_engine.specs.declared.replay.Replay.{Replay as Kept}
 use Rattle.ts_engine.specs.declared.replayed.CaptureEnd.{CaptureEnd}
 use Rattle.ts_engine.specs.declared.replayed.CaptureEnd.TheVariants as end

@@ -6,8 +6,8 @@ use Rattle.ts_io.proofs.Growth.{grows_none, grows_twice}
 use Rattle.ts_mux.specs.declared.frame.Frame.{Frame}
 use Rattle.ts_mux.specs.Capture.{framed, all_framed}
 use Rattle.ts_mux.specs.Order.{Item}
-use Rattle.ts_engine.specs.declared.course.Course.{Course}
-use Rattle.ts_engine.specs.declared.course.Course.TheVariants as course
+use Rattle.ts_engine.specs.declared.replay.Course.{Course}
+use Rattle.ts_engine.specs.declared.replay.Course.TheVariants as course
 use Rattle.ts_engine.specs.Replies.{IsReply, reply_frame}
 use Rattle.ts_engine.specs.Replaying.{Spot, Went, WentSome, LastFrame, WentAs, GoesOn, Replied, end_of}
 use Rattle.ts_engine.proofs.FramesWritten.{all_framed-append}

@@ -11,8 +11,8 @@ use Rattle.ts_spec.specs.Run.{Placed, Runs, then_all, requests_in, is_quit}
 use Rattle.ts_spec.specs.Wire.{Request, Then}
 use Rattle.ts_spec.proofs.Runs.{Runs-append, Runs-one, then_all-append, requests_in-append}
 use Rattle.ts_execution.specs.Turns.{Turns, OfLast, is_turn}
-use Rattle.ts_engine.specs.declared.go.Go.{Go}
-use Rattle.ts_engine.specs.declared.go.Go.TheVariants as go
+use Rattle.ts_engine.specs.declared.replying.Go.{Go}
+use Rattle.ts_engine.specs.declared.replying.Go.TheVariants as go
 use Rattle.ts_engine.specs.Session.{Spot, Went, WentSome, LastReply, Quitted, CutFault, IsBroken, WentAs, GoesOn, Replied, Refused}
 use Rattle.ts_engine.proofs.Quits.{goes_on-append, goes_on-one}
 

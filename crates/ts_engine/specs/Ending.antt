@@ -2,8 +2,8 @@
 use Rattle.std.specs.Prelude.{ℕ, Option, None, Some}
 use Rattle.ts_engine.specs.declared.piped.End.{End}
 use Rattle.ts_engine.specs.declared.piped.End.TheVariants as end
-use Rattle.ts_engine.specs.declared.go.Go.{Go}
-use Rattle.ts_engine.specs.declared.go.Go.TheVariants as go
+use Rattle.ts_engine.specs.declared.replying.Go.{Go}
+use Rattle.ts_engine.specs.declared.replying.Go.TheVariants as go
 
 -- at the end of the input, between requests or inside the one that begins at a place
 abbrev pub end_at : Option ℕ → End

@@ -1,7 +1,7 @@
 -- Which answers of a session are its end.
 use Rattle.std.specs.Prelude.{Option, None, Some}
-use Rattle.ts_engine.specs.declared.go.Go.{Go}
-use Rattle.ts_engine.specs.declared.go.Go.TheVariants as go
+use Rattle.ts_engine.specs.declared.replying.Go.{Go}
+use Rattle.ts_engine.specs.declared.replying.Go.TheVariants as go
 
 -- any answer but that more may come
 abbrev pub end_of : Go → Option Go

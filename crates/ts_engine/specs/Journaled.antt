@@ -14,8 +14,8 @@ use Rattle.ts_words.specs.declared.mode.Mode.TheVariants as mode
 use Rattle.ts_words.specs.declared.status.Status.{Status}
 use Rattle.ts_words.specs.declared.status.Status.TheVariants as status
 use Rattle.ts_execution.specs.Keeping.{Kept, kept, IsKept, journaled}
-use Rattle.ts_engine.specs.declared.journal_end.JournalEnd.{JournalEnd}
-use Rattle.ts_engine.specs.declared.journal_end.JournalEnd.TheVariants as end
+use Rattle.ts_engine.specs.declared.kept.JournalEnd.{JournalEnd}
+use Rattle.ts_engine.specs.declared.kept.JournalEnd.TheVariants as end
 use Rattle.ts_engine.specs.declared.piped.End.TheVariants as piped
 use Rattle.ts_engine.specs.Answered.{IsMemoryOr}
 use Rattle.ts_engine.specs.Asked.{asked}

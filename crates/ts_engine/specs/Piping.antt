@@ -12,7 +12,7 @@ use Rattle.ts_engine.specs.declared.piped.End.{End}
 use Rattle.ts_engine.specs.declared.piped.End.TheVariants as end
 use Rattle.ts_engine.specs.declared.piped.Outcome.{Outcome}
 use Rattle.ts_engine.specs.declared.piped.Step.{Step}
-use Rattle.ts_engine.specs.declared.go.Go.TheVariants as go
+use Rattle.ts_engine.specs.declared.replying.Go.TheVariants as go
 use Rattle.ts_engine.specs.Session.{Spot, Went, LastReply, Quitted, CutFault, WentAs}
 
 -- where a session begins: nothing was read or executed

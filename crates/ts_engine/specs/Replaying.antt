@@ -10,8 +10,8 @@ use Rattle.ts_mux.specs.Capture.{Capture, framed, all_framed}
 use Rattle.ts_mux.specs.Framing.{ended_at}
 use Rattle.ts_mux.specs.Order.{Item}
 use Rattle.ts_execution.specs.Turn.{World}
-use Rattle.ts_engine.specs.declared.course.Course.{Course}
-use Rattle.ts_engine.specs.declared.course.Course.TheVariants as course
+use Rattle.ts_engine.specs.declared.replay.Course.{Course}
+use Rattle.ts_engine.specs.declared.replay.Course.TheVariants as course
 use Rattle.ts_engine.specs.declared.replayed.CaptureEnd.{CaptureEnd}
 use Rattle.ts_engine.specs.declared.replayed.CaptureEnd.TheVariants as end
 use Rattle.ts_engine.specs.declared.replayed.Read.{Read}

@@ -8,8 +8,8 @@ use Rattle.ts_spec.specs.Run.{Placed, Runs, then_all, requests_in, is_quit, has_
 use Rattle.ts_spec.specs.Text.{fault_text}
 use Rattle.ts_spec.specs.Wire.{Request, Stream, Broken}
 use Rattle.ts_execution.specs.Turns.{Turns, OfLast, is_turn, CutShort, NoFault, AFault}
-use Rattle.ts_engine.specs.declared.go.Go.{Go}
-use Rattle.ts_engine.specs.declared.go.Go.TheVariants as go
+use Rattle.ts_engine.specs.declared.replying.Go.{Go}
+use Rattle.ts_engine.specs.declared.replying.Go.TheVariants as go
 
 -- where a session stands: what its reader holds, how many requests were executed, and the world
 pub record Spot (turns : Turns) : Type 0 where

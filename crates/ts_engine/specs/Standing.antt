@@ -3,7 +3,7 @@ use Rattle.std.specs.Prelude.{◌≡◌, ℕ, List, [], Option, None}
 use Rattle.ts_resp.specs.Reading.{Reading, stream_of, fed, unfinished, ended_at}
 use Rattle.ts_spec.specs.Wire.{stream_at}
 use Rattle.ts_spec.specs.declared.wire.WireLimits.{WireLimits}
-use Rattle.ts_engine.specs.declared.go.Go.{Go}
+use Rattle.ts_engine.specs.declared.replying.Go.{Go}
 use Rattle.ts_engine.specs.declared.session.Session.{Session as Kept}
 use Rattle.ts_db.specs.Held.{Held}
 use Rattle.ts_execution.specs.Turn.{plain}

@@ -10,8 +10,7 @@ ghost use Rattle.ts_engine.specs.Journaled as journaled;
 ghost use Rattle.ts_engine.specs.Journaled.{Journaled, HasJournalLine, HasJournalCauses, IsAnswered, Did, status_kept};
 ghost use Rattle.ts_engine.specs.Top.{AreUsable, NoneRose};
 
-use crate::journal_end::JournalEnd;
-use crate::kept::pipe_kept;
+use crate::kept::{JournalEnd, pipe_kept};
 use crate::opened::open_journal;
 use crate::status::report_in;
 use std::alloc::Global;

@@ -1,4 +1,4 @@
-// Turns that keep a journal.
+// A run with a journal: how it ends, and the turns that append records to the journal.
 ghost use Rattle.std.specs.Prelude.{◌≡◌, ◌≤◌, List, ℕ, false, OnOk, OnErr, Option};
 ghost use Rattle.std.specs.Io.KnownBytes.{append_known};
 ghost use Rattle.ts_io.specs.Causes.{HasCause};
@@ -8,8 +8,9 @@ ghost use Rattle.ts_execution.specs.Keeping.{keeping, kept};
 ghost use Rattle.ts_execution.specs.Limits.{CanRead};
 ghost use Rattle.ts_execution.specs.Recording.{told_by};
 ghost use Rattle.ts_engine.specs.Piping.{PipedBy, HasCausesBy};
+ghost use Rattle.ts_engine.specs.Journaled as journaled;
 
-use crate::piped::{Outcome, pipe_by};
+use crate::piped::{End, Outcome, pipe_by};
 use std::alloc::Global;
 use std::mem;
 use std::sync::ledger::Ledger;
@@ -19,6 +20,53 @@ use ts_io::{Clock, Failed, Log, Sink, Source, append_all_counted, write_all_coun
 use ts_journal::Record;
 use ts_resp::{Out, WireLimits, Word};
 use ts_sample::Steps;
+use ts_words::Status;
+
+/// How a run with a journal ended.
+#[derive(Clone, Copy, Debug, PartialEq, Eq)]
+pub(crate) enum JournalEnd {
+    /// The journal was loaded, and the input was answered and ended so.
+    Answered(End),
+    /// The journal was loaded, and then the record of a change could not be added to it.
+    NotKept,
+    /// The journal could not be opened, read or cut.
+    NotLoaded,
+    /// It was read to its end, and breaks after this place.
+    Broken(u64),
+    /// As many bytes of it were read as may be.
+    TooLong,
+    /// There was no memory to load it.
+    NoMemory,
+}
+
+impl JournalEnd {
+    /// The status of a run that ends so.
+    pub(crate) fn status(self) -> Status
+        ensures { result ≡ journaled.status_of self }
+    {
+        match self {
+            JournalEnd::Answered(end) => end.status(),
+            JournalEnd::NotKept | JournalEnd::NotLoaded => Status::JournalFault,
+            JournalEnd::Broken(_) => Status::JournalBroken,
+            JournalEnd::TooLong => Status::Budget,
+            JournalEnd::NoMemory => Status::Memory,
+        }
+    }
+
+    /// The place that the line of that status tells, 0 where it tells none.
+    pub(crate) fn place(self) -> u64
+        ensures { result ≡ journaled.place_of self }
+    {
+        match self {
+            JournalEnd::Answered(end) => end.place(),
+            JournalEnd::Broken(place) => place,
+            JournalEnd::NotKept
+            | JournalEnd::NotLoaded
+            | JournalEnd::TooLong
+            | JournalEnd::NoMemory => 0,
+        }
+    }
+}
 
 /// Turns whose records are added to a journal, each before its reply is written. Where the journal fails, the reply is not
 /// written, and `failed` says so.

@@ -6,7 +6,7 @@ ghost use Rattle.ts_journal.specs.Limits.{IsBounded};
 ghost use Rattle.ts_execution.specs.Limits.{CanRead};
 ghost use Rattle.ts_engine.specs.Journaled.{IsOpened, IsUnopened, is_unloaded};
 
-use crate::journal_end::JournalEnd;
+use crate::kept::JournalEnd;
 use std::alloc::Global;
 use ts_db::Db;
 use ts_execution::{Loaded, load};

@@ -7,7 +7,7 @@ ghost use Rattle.ts_engine.specs.Standing.{spot_in, reader_of, ended_of, HasAnsw
 ghost use Rattle.ts_engine.specs.Piping.{Piped, PipedBy, Pumped, HasCauses, HasCausesBy, HasCausesByOr};
 ghost use Rattle.ts_engine.specs.Ending.{end_at, end_by};
 
-use crate::go::Go;
+use crate::replying::Go;
 use crate::session::Session;
 use std::alloc::Global;
 use ts_db::Db;

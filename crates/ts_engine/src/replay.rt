@@ -1,9 +1,9 @@
-// The frames of one capture.
+// A capture session: answers one capture, which comes in pieces.
 ghost use Rattle.std.specs.Prelude.{◌≡◌, ◌+◌, ◌<◌, ◌≤◌, ◌^◌, [], length, None, Some, IfOk};
 ghost use Rattle.ts_mux.specs.Muxing.{ahead, delivered_to};
 ghost use Rattle.ts_execution.specs.Limits.{CanRead};
+ghost use Rattle.ts_engine.specs.Replaying.{end_of};
 
-use crate::course::Course;
 use std::alloc::{AllocError, Global};
 use std::marker::Brand;
 use std::sync::ledger::{Blank, Ledger};
@@ -14,6 +14,31 @@ use ts_resp::{Out, WireLimits};
 use ts_sample::Steps;
 
 mod items;
+
+/// How the replay of a capture goes on after a piece of it.
+#[derive(Clone, Copy, Debug, PartialEq, Eq)]
+pub(crate) enum Course {
+    /// Every whole frame so far was answered: more bytes may come.
+    More,
+    /// The byte at this place can't continue the capture.
+    Broken(u64),
+    /// A frame could not be written.
+    WriteFault,
+    /// There was no memory to read a frame or a request.
+    Memory,
+}
+
+impl Course {
+    // The end that the answer is, if it is one.
+    pub(crate) fn end(self) -> Option<Course>
+        ensures { result ≡ end_of self }
+    {
+        match self {
+            Course::More => None,
+            end => Some(end),
+        }
+    }
+}
 
 /// Answers what interleaved connections ask in a capture, which comes in pieces.
 #[derive(Drop)]

@@ -7,8 +7,7 @@ ghost use Rattle.ts_engine.specs.Captured as captured;
 ghost use Rattle.ts_engine.specs.Replaying.{Replayed, Pumped, HasCauses, HasCausesOr, end_at, end_by};
 ghost use Rattle.ts_engine.specs.Replays.{standing, frames_in, HasAnswered};
 
-use crate::course::Course;
-use crate::replay::Replay;
+use crate::replay::{Course, Replay};
 use std::alloc::Global;
 use ts_db::Db;
 use ts_io::{Clock, Sink, Source};

@@ -1,7 +1,7 @@
-// What a session writes: the reply to a request that has its turn, and the error that answers a broken stream.
+// How a session goes on, and what it writes.
 ghost use Rattle.std.specs.Prelude.{◌≡◌, ◌<◌, ◌^◌, Some};
+ghost use Rattle.ts_engine.specs.Going.{end_of};
 
-use crate::go::Go;
 use crate::session::Session;
 use std::sync::ledger::Ledger;
 use ts_db::Db;
@@ -9,6 +9,33 @@ use ts_execution::Turns;
 use ts_io::{Clock, Sink, write_all_counted};
 use ts_resp::{Protocol, Reply, Word, put};
 use ts_sample::Steps;
+
+/// How a session goes on after a piece of its stream.
+#[derive(Clone, Copy, Debug, PartialEq, Eq)]
+pub enum Go {
+    /// Every whole request so far was answered: more bytes may come.
+    More,
+    /// QUIT was answered.
+    Quit,
+    /// The stream is broken, and the fault was answered.
+    Broken(Protocol),
+    /// A reply could not be written.
+    WriteFault,
+    /// There was no memory to read a request.
+    Memory,
+}
+
+impl Go {
+    // The end that the answer is, if it is one.
+    pub(crate) fn end(self) -> Option<Go>
+        ensures { result ≡ end_of self }
+    {
+        match self {
+            Go::More => None,
+            end => Some(end),
+        }
+    }
+}
 
 impl Session {
     ghost use Rattle.ts_db.specs.Held.{Carries};

@@ -1,5 +1,5 @@
-// The top call: the words of the command line, and what they ask for.
-ghost use Rattle.std.specs.Prelude.{◌≡◌, ◌≢◌, ◌⊎◌, ◌≤◌, ◌<◌, ℕ, false, List, length, take, None, Some};
+// The top call: runs the mode that the command line asks for.
+ghost use Rattle.std.specs.Prelude.{◌≡◌, ◌≢◌, ◌⊎◌, ◌≤◌, ◌<◌, ℕ, false, List, length, take, None, Some, ◌^◌};
 ghost use Rattle.ts_io.specs.Causes.{Rose};
 ghost use Rattle.ts_journal.specs.Limits.{IsBounded};
 ghost use Rattle.ts_engine.specs.Asked.{asked, IsServe, IsGen, Connections, AllServed};
@@ -20,6 +20,13 @@ use std::alloc::Global;
 use ts_db::{Db, Limits};
 use ts_io::{Clock, Listener, Log, Sink, Source};
 use ts_words::{Mode, Status};
+
+/// The most bytes that the program takes of its input, or of a connection.
+pub fn usual_budget() -> u64
+    ensures { result ≡ 2 ^ 60 }
+{
+    1 << 60
+}
 
 /// Runs what the words of the command line, after the program's name, ask for: `pipe` answers the requests of
 /// `input` on `out`, over a new database, at most `budget` bytes of them; `serve ADDRESS N` serves N connections of

@@ -3,7 +3,7 @@ ghost use Rattle.std.specs.Prelude.{◌≡◌, ◌+◌, ◌<◌, ◌≤◌, ◌^
 ghost use Rattle.ts_execution.specs.Limits.{CanRead};
 ghost use Rattle.ts_engine.specs.Going.{end_of};
 
-use crate::go::Go;
+use crate::replying::Go;
 use std::alloc::{AllocError, Global};
 use std::marker::Brand;
 use std::sync::ledger::{Blank, Ledger};

@@ -11,8 +11,8 @@ ghost use Rattle.ts_mux.specs.Muxing.{ahead};
 ghost use Rattle.ts_spec.specs.Text.{fault_text};
 
 use super::Replay;
-use crate::course::Course;
 use crate::framing::write_frame;
+use crate::replay::Course;
 use std::sync::ledger::Ledger;
 use ts_db::Db;
 use ts_execution::take_turn;
