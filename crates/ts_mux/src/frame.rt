@@ -7,20 +7,20 @@ use itoa::Buffer;
 use std::marker::Model;
 use ts_resp::Word;
 
-/// Bytes of one connection. A frame without bytes closes the connection.
+/// A frame: bytes that one connection sent. An empty frame closes the connection.
 #[derive(Debug, Drop)]
 pub struct Frame {
-    /// The number of the connection, from 1 to 4096 in a capture.
+    /// The number of the connection: 1 to 4096 in a capture.
     pub link: u32,
-    /// The bytes, at most 65,536 of them in a capture.
+    /// The bytes, at most 65,536 in a capture.
     pub bytes: Word,
 }
 
-// Two numbers of 64 bits, a space and a line feed.
+// Two numbers of 64 bits (20 digits each), a space and a line feed.
 const ROOM: usize = 42;
 
-/// What stands before the bytes of a frame: the number of its connection, a space, its length and a line feed. A frame
-/// that is written may be longer than one that is read.
+/// The header of a frame: connection number, space, length in bytes and line feed. A written frame may be longer than
+/// one that `Frames` accepts.
 #[derive(Drop)]
 pub struct Header {
     room: [u8; ROOM],
@@ -38,7 +38,7 @@ impl Model for Header {
 }
 
 impl Header {
-    /// The header of a frame of so many bytes. Takes no memory.
+    /// The header of a frame with `len` bytes. Allocates nothing.
     pub fn new(link: u32, len: usize) -> Header
         ensures { result ≡ header link len }
     {
@@ -50,7 +50,7 @@ impl Header {
         Header { room, len }
     }
 
-    /// Its bytes. Takes no memory.
+    /// The bytes of the header, at most 42. Allocates nothing.
     pub fn bytes(&self) -> &[u8]
         ensures bytes { result.now ≡ self.now }
         ensures short { length result.now ≤ 42 }
@@ -59,7 +59,7 @@ impl Header {
     }
 }
 
-// Puts a text at a place of the room, and gives the place after it.
+// Copies `text` to offset `at`. Returns the offset after it.
 fn put(room: &mut [u8], at: usize, text: &[u8]) -> usize
     requires { at + length text.now ≤ length room.old }
     ensures text { take result room.new ≡ take at room.old ++ text.now }
@@ -71,7 +71,7 @@ fn put(room: &mut [u8], at: usize, text: &[u8]) -> usize
     after
 }
 
-// Puts a number in decimal at a place of the room, and gives the place after it.
+// Writes a decimal number at offset `at`. Returns the offset after it.
 fn put_number(room: &mut [u8], at: usize, number: u64) -> usize
     requires { at + 20 ≤ length room.old }
     ensures text { take result room.new ≡ take at room.old ++ decimal number }

@@ -1,4 +1,4 @@
-//! Interleaved connections: the frames of a capture, and the requests of each connection in the order in which they come.
+//! Interleaved connections: parses the frames of a capture, and yields the requests of all connections in order.
 #![tactic(auto)]
 
 mod frame;
