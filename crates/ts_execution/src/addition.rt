@@ -1,4 +1,4 @@
-// TS.ADD with no option but ON_DUPLICATE, from the words of its request: most requests of a busy client are such.
+// TS.ADD without options other than ON_DUPLICATE, executed straight from its arguments: the most frequent request.
 ghost use Rattle.std.specs.Prelude.{◌≡◌, ◌+◌, ◌≤◌, length, None};
 ghost use Rattle.ts_spec.specs.Keyed.{get};
 ghost use Rattle.ts_spec.specs.Sample.{MAX_TIME};
@@ -21,7 +21,7 @@ use ts_questions::refusal_reply;
 use ts_resp::{Out, Reply, put};
 use ts_sample::Steps;
 
-/// Executes TS.ADD with no option but ON_DUPLICATE, and leaves its reply in `out`.
+/// Executes TS.ADD without options other than ON_DUPLICATE, and leaves its reply in `out`.
 pub(crate) fn put_addition<L: Ledger>(
     db: &mut Db,
     hints: &mut Hints,
@@ -40,7 +40,7 @@ pub(crate) fn put_addition<L: Ledger>(
     put(&write(db, hints, alloc, addition, time, steps), out);
 }
 
-// Writes the sample where its words stand. Only for a new series the key is copied.
+// Writes the sample. The key is copied only for a new series.
 fn write<L: Ledger>(
     db: &mut Db,
     hints: &mut Hints,
@@ -69,7 +69,7 @@ fn write<L: Ledger>(
     }
 }
 
-// Makes the series where it is missing.
+// Creates the series and writes its first sample.
 #[inline(never)]
 fn begin<L: Ledger>(
     db: &mut Db,

@@ -16,7 +16,7 @@ use ts_questions::put_no_memory;
 use ts_resp::{Out, Reply, begin_array, put, reserve_items};
 use ts_sample::Steps;
 
-/// Writes the reply to TS.MADD: takes the room for it, and then executes the triples one after another.
+/// Executes TS.MADD and writes its reply. Reserves memory for the whole reply before the first write.
 pub(crate) fn put_items<L: Ledger>(
     db: &mut Db,
     hints: &mut Hints,
@@ -36,7 +36,7 @@ pub(crate) fn put_items<L: Ledger>(
     }
 }
 
-// Executes the triples, and writes their items as an array into room that was reserved.
+// Executes the triples in order, and writes their items into the reserved buffer.
 fn add_all<L: Ledger>(
     db: &mut Db,
     hints: &mut Hints,
@@ -58,7 +58,7 @@ fn add_all<L: Ledger>(
     }
 }
 
-// Executes one triple, and answers its item.
+// Executes one triple and returns its item.
 fn add_one<L: Ledger>(
     db: &mut Db,
     hints: &mut Hints,

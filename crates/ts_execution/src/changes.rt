@@ -75,7 +75,7 @@ pub(crate) fn incr<L: Ledger>(
     number_reply(db.incr(key, change, time, spec, steps))
 }
 
-/// The reply to TS.DEL: how many samples were taken away.
+/// The reply to TS.DEL: how many samples were deleted.
 pub(crate) fn delete<L: Ledger>(
     db: &mut Db,
     key: &Word,
@@ -91,7 +91,7 @@ pub(crate) fn delete<L: Ledger>(
     number_reply(db.delete_range(key, from, to, steps))
 }
 
-/// The time of a sample: the reading, which counts as at most `MAX_TIME`, where it is the clock's.
+/// The time of a sample in milliseconds: as given, or the clock reading, capped at `MAX_TIME`.
 pub(crate) fn time_at(at: At, reading: u64) -> u64
     requires { IsTime at }
     ensures time { result ≡ time_of reading at }
@@ -117,7 +117,7 @@ pub(crate) fn create_rule(
     done_reply(db.create_rule(source, dest, agg, grid))
 }
 
-/// The reply to TS.DELETERULE, which takes no memory.
+/// The reply to TS.DELETERULE. Allocates nothing.
 pub(crate) fn delete_rule(db: &mut Db, source: &Word, dest: &Word) -> Reply
     ensures answer { Carries db.old db.new (λ from to. IsStep (delete_rule from.state source.now dest.now) from (reply_of result) to) }
     ensures short { IsShort (reply_of result) }

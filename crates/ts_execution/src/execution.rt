@@ -22,10 +22,10 @@ use ts_questions::{Wanted, put_get, put_members, put_range, put_ranges};
 use ts_resp::{Out, put};
 use ts_sample::Steps;
 
-/// Executes a command and leaves exactly the text of its reply in `out`. Want of memory is answered by its text,
-/// and then the database is unchanged. TS.MADD takes the room of its reply first, and then executes its triples
-/// one after another, each of which may answer want of memory by itself. `reading` is that of the clock, in
-/// milliseconds; one past `MAX_TIME` counts as that.
+/// Executes a command and leaves exactly the text of its reply in `out`. `reading` is the clock reading in
+/// milliseconds, capped at `MAX_TIME`. If memory runs out, the reply is the out-of-memory error and the database is
+/// unchanged. TS.MADD reserves its reply first and then executes its triples in order; each of them may run out of
+/// memory on its own.
 pub fn execute<L: Ledger>(
     db: &mut Db,
     command: Command,
@@ -43,7 +43,7 @@ pub fn execute<L: Ledger>(
     execute_near(db, &mut hints, command, reading, out, steps);
 }
 
-/// Executes a command as `execute` does, with hints, which change nothing that it does or answers.
+/// The same with hints. They make lookups faster, and change no effect and no reply.
 pub(crate) fn execute_near<L: Ledger>(
     db: &mut Db,
     hints: &mut Hints,
@@ -114,7 +114,7 @@ pub(crate) fn execute_near<L: Ledger>(
     }
 }
 
-/// What is told of the triples of TS.MADD, where want of memory is told of none, is the one step of the definitions.
+/// Law: if no triple of TS.MADD runs out of memory, its reply and effect are those of one step of the specification.
 pub fn triples_with_memory_are_one_step()
     ensures { (reading : ℕ) (triples : List Triple) (old new : Held) (reply : Reply) → (all : HasAllItems reading triples old reply new)
         → All (λ item. item ≢ memory_reply) all.items → IsStep (step old.limits old.state reading (Madd triples)) old reply new }

@@ -1,4 +1,4 @@
-// The commands of Redis itself: DEL, EXISTS, PING and ECHO.
+// The general Redis commands: DEL, EXISTS, PING and ECHO.
 ghost use Rattle.std.specs.Prelude.{◌≡◌, ◌<◌, ◌^◌, length, ◌+◌, ◌≤◌, [], IsTrue};
 ghost use Rattle.ts_spec.specs.Step.{drop_keys, count_there};
 ghost use Rattle.ts_resp.specs.Replies.{reply_of};
@@ -15,7 +15,7 @@ use ts_db::Db;
 use ts_questions::put_or_no_memory;
 use ts_resp::{Out, Reply, Word, put};
 
-/// Takes keys away, one after another, and replies how many were there. A key that is named twice counts once.
+/// Deletes keys in order. Returns how many existed; a repeated key counts once.
 pub(crate) fn drop_keys(db: &mut Db, keys: &[Word]) -> Reply
     requires few { length keys.now < 2 ^ 63 }
     ensures answer { Carries db.old db.new (λ from to. IsStep (drop_keys from.state 0 keys.now) from (reply_of result) to) }
@@ -30,7 +30,7 @@ pub(crate) fn drop_keys(db: &mut Db, keys: &[Word]) -> Reply
     number(count)
 }
 
-/// Replies how many of the words are keys.
+/// Returns how many of the arguments are keys. A repeated key counts each time.
 pub(crate) fn count_keys(db: &Db, keys: &[Word]) -> Reply
     requires few { length keys.now < 2 ^ 63 }
     ensures answer { (from : Held) → Stands db.now from → reply_of result ≡ number (count_there from.state keys.now) }
@@ -45,7 +45,7 @@ pub(crate) fn count_keys(db: &Db, keys: &[Word]) -> Reply
     number(count)
 }
 
-/// Writes the reply to PING: a sign of life, or the word back.
+/// Writes the reply to PING: PONG, or the argument.
 pub(crate) fn put_pong(word: Option<Word>, out: &mut Out)
     requires empty { out.old.bytes ≡ [] }
     requires room { 128 ≤ out.old.spare }
@@ -58,7 +58,7 @@ pub(crate) fn put_pong(word: Option<Word>, out: &mut Out)
     }
 }
 
-/// Writes a word back, or says that there is no memory for a long one.
+/// Writes an argument back. A long one may run out of memory.
 pub(crate) fn put_word(word: Word, out: &mut Out)
     requires empty { out.old.bytes ≡ [] }
     requires room { 128 ≤ out.old.spare }
@@ -68,7 +68,6 @@ pub(crate) fn put_word(word: Word, out: &mut Out)
     put_or_no_memory(&sent_back(word), out);
 }
 
-// The reply that is a word.
 fn sent_back(word: Word) -> Reply
     ensures { reply_of result ≡ reply_to (WordBack word) }
 {

@@ -1,4 +1,5 @@
-//! Commands and their turns: what each does to the database, the text of its reply, its record and its redoing.
+//! Executes commands and handles requests: the effect of each on the database, its reply, its journal record, and the
+//! replay of a journal.
 #![tactic(auto)]
 
 mod addition;

@@ -1,4 +1,4 @@
-// The turn of a request, with its record.
+// Handles a request and makes its journal record.
 ghost use Rattle.std.specs.Prelude.{◌≡◌, ◌+◌, ◌≤◌, true, false, [], length, Option, None, Some, IfOk, IfErr, OnErr, IfSome, IfNone};
 ghost use Rattle.ts_spec.specs.Run.{is_quit};
 ghost use Rattle.ts_command.specs.Answers.{HasTime};
@@ -22,15 +22,15 @@ use ts_questions::put_no_memory;
 use ts_resp::{Out, Word, put};
 use ts_sample::Steps;
 
-/// What is known of a request that had its turn: whether it is QUIT, and the record of what it changes.
+/// The result of a handled request: whether it was QUIT, and its record if it is a change.
 #[derive(Drop)]
 pub struct Taken {
     pub quits: bool,
     pub entry: Option<Record>,
 }
 
-/// Gives a request its turn, and leaves its reply in `room`. The room of its record is taken before it is executed; where
-/// there is none, it is refused.
+/// Handles a request and leaves its reply in `room`. Allocates its record before it executes the request; if that
+/// fails, the request fails with out of memory.
 pub fn take_recorded<C: Clock, L: Ledger>(
     alloc: Global,
     db: &mut Db,
@@ -63,7 +63,7 @@ pub fn take_recorded<C: Clock, L: Ledger>(
     }
 }
 
-// Executes a command, where there is room for its record.
+// Executes a command, if its record can be allocated.
 fn execute_recorded<C: Clock, L: Ledger>(
     alloc: Global,
     db: &mut Db,
@@ -93,7 +93,7 @@ fn execute_recorded<C: Clock, L: Ledger>(
     }
 }
 
-// The record of a change, and None for any other command, which needs no memory here.
+// Makes the record of a change. Returns `Ok(None)` for any other command, without allocating.
 fn record_for(alloc: Global, command: &Command, reading: u64) -> Result<Option<Record>, AllocError>
     ensures record { IfOk result (HasRecord reading (command_of command.now)) }
     ensures change { OnErr result (is_change (command_of command.now) ≡ true) }
@@ -107,7 +107,7 @@ fn record_for(alloc: Global, command: &Command, reading: u64) -> Result<Option<R
     }
 }
 
-// Whether a command is one of those that change the database.
+// Whether a command changes the database.
 fn is_change(command: &Command) -> bool
     ensures { result ≡ is_change (command_of command.now) }
 {
