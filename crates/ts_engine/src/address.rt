@@ -1,4 +1,4 @@
-// What is done where the words of the command line ask to serve.
+// The mode `serve`.
 ghost use Rattle.std.specs.Prelude.{◌≡◌, ◌≢◌, ◌⊎◌, ◌≤◌, false};
 ghost use Rattle.ts_io.specs.Causes.{Rose};
 ghost use Rattle.ts_engine.specs.Asked.{Connections, AllServed};
@@ -12,7 +12,8 @@ use ts_db::{Db, Limits};
 use ts_io::{Clock, Listener, Sink};
 use ts_words::Status;
 
-// Serves so many connections at the address, over a new database. A status other than `Ended` has its line on `err`.
+// Serves `links` connections at the address, one after another, on one new database. Any status other than `Ended`
+// writes its line to `err`.
 pub(crate) fn serve_address<N: Listener, K: Sink, E: Sink, C: Clock>(
     alloc: Global,
     address: &str,
@@ -54,7 +55,6 @@ pub(crate) fn serve_address<N: Listener, K: Sink, E: Sink, C: Clock>(
     }
 }
 
-// The status of a run, by how its serving ended.
 fn status_served(served: Served) -> Status
     ensures { result ≡ asked.status_served served }
 {

@@ -1,4 +1,4 @@
-// What is done where the words of the command line ask for a capture.
+// The mode `mux`.
 ghost use Rattle.std.specs.Prelude.{◌≡◌, ◌≢◌, ◌⊎◌, ◌≤◌, ℕ, List, Some};
 ghost use Rattle.ts_io.specs.Causes.{Rose};
 ghost use Rattle.ts_engine.specs.Captured.{Captured, HasCaptureLine, status_captured};
@@ -11,8 +11,8 @@ use ts_db::{Db, Limits};
 use ts_io::{Clock, Sink, Source};
 use ts_words::{Mode, Status};
 
-// Answers what interleaved connections ask in the capture, over a new database, at most `budget` bytes of it. A status other
-// than `Ended` has its line on `err`.
+// Answers the interleaved connections of a capture on a new database. Reads at most `budget` bytes. Any status other
+// than `Ended` writes its line to `err`.
 pub(crate) fn answer_capture<S: Source, K: Sink, E: Sink, C: Clock>(
     alloc: Global,
     input: &mut S,

@@ -1,4 +1,4 @@
-// What is done where the words of the command line ask for a journal.
+// The mode `keep`.
 ghost use Rattle.std.specs.Prelude.{◌≡◌, ◌≢◌, ◌⊎◌, ◌<◌, ◌≤◌, ℕ, false, List, length, Some};
 ghost use Rattle.ts_io.specs.Causes.{Rose};
 ghost use Rattle.ts_journal.specs.Limits.{IsBounded};
@@ -19,8 +19,9 @@ use ts_io::{Clock, Log, Sink, Source};
 use ts_resp::WireLimits;
 use ts_words::{Mode, Status};
 
-// Answers the requests of `input` over what the journal of this name loads to, at most `budget` bytes of either one, and adds
-// the record of each change to the journal before its reply is written. A status other than `Ended` has its line on `err`.
+// Loads the journal `name` and answers the requests of `input` on that database. Reads at most `budget` bytes of each.
+// Appends the record of each change to the journal before it writes the reply. Any status other than `Ended` writes its
+// line to `err`.
 pub(crate) fn answer_kept<S: Source, K: Sink, E: Sink, C: Clock, J: Log>(
     alloc: Global,
     name: &str,
@@ -63,7 +64,7 @@ pub(crate) fn answer_kept<S: Source, K: Sink, E: Sink, C: Clock, J: Log>(
     report_in(Some(Mode::Keep), err, end.status(), end.place())
 }
 
-// Loads the journal of this name into a new database, and answers the input over that.
+// Loads the journal into a new database, and answers the input.
 fn keep<S: Source, K: Sink, C: Clock, J: Log>(
     alloc: Global,
     name: &str,
@@ -100,7 +101,7 @@ fn keep<S: Source, K: Sink, C: Clock, J: Log>(
     }
 }
 
-// Answers the input over what the journal loaded to.
+// Answers the input on the loaded database.
 fn answer_input<S: Source, K: Sink, C: Clock, J: Log>(
     alloc: Global,
     db: &mut Db,

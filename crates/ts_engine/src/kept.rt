@@ -1,4 +1,4 @@
-// A run with a journal: how it ends, and the turns that append records to the journal.
+// A run with a journal: how it ends, and the request handler that appends records.
 ghost use Rattle.std.specs.Prelude.{◌≡◌, ◌≤◌, List, ℕ, false, OnOk, OnErr, Option};
 ghost use Rattle.std.specs.Io.KnownBytes.{append_known};
 ghost use Rattle.ts_io.specs.Causes.{HasCause};
@@ -25,22 +25,22 @@ use ts_words::Status;
 /// How a run with a journal ended.
 #[derive(Clone, Copy, Debug, PartialEq, Eq)]
 pub(crate) enum JournalEnd {
-    /// The journal was loaded, and the input was answered and ended so.
+    /// The journal was loaded, and the input ended like this.
     Answered(End),
-    /// The journal was loaded, and then the record of a change could not be added to it.
+    /// The journal was loaded, but later a record could not be appended.
     NotKept,
-    /// The journal could not be opened, read or cut.
+    /// The journal could not be opened, read or truncated.
     NotLoaded,
-    /// It was read to its end, and breaks after this place.
+    /// The journal was read to its end, and breaks at this offset.
     Broken(u64),
-    /// As many bytes of it were read as may be.
+    /// The journal is not shorter than the budget.
     TooLong,
-    /// There was no memory to load it.
+    /// Out of memory while loading the journal.
     NoMemory,
 }
 
 impl JournalEnd {
-    /// The status of a run that ends so.
+    /// The exit status for this end.
     pub(crate) fn status(self) -> Status
         ensures { result ≡ journaled.status_of self }
     {
@@ -53,7 +53,7 @@ impl JournalEnd {
         }
     }
 
-    /// The place that the line of that status tells, 0 where it tells none.
+    /// The offset in the status line; 0 if it has none.
     pub(crate) fn place(self) -> u64
         ensures { result ≡ journaled.place_of self }
     {
@@ -68,8 +68,8 @@ impl JournalEnd {
     }
 }
 
-/// Turns whose records are added to a journal, each before its reply is written. Where the journal fails, the reply is not
-/// written, and `failed` says so.
+/// Handles requests with a journal: appends the record of each change before it writes the reply. If the journal fails,
+/// it writes no reply and sets `failed`.
 #[derive(Drop)]
 pub(crate) struct Journaled<'a, J: Log> {
     pub(crate) log: &'a mut J,
@@ -120,16 +120,16 @@ impl<J: Log> Turns for Journaled<'_, J> {
     }
 }
 
-/// What became of a stream whose changes were kept in a journal.
+/// The outcome of a stream with a journal.
 #[derive(Clone, Copy, Debug, PartialEq, Eq)]
 pub(crate) struct KeptOutcome {
-    /// The end is that a reply could not be written where the journal failed before it.
+    /// If the journal failed, its end is a write fault.
     pub(crate) outcome: Outcome,
     pub(crate) failed: bool,
 }
 
-/// Answers the requests of an input as `pipe` does, and adds the record of what each one changed to the journal, before
-/// its reply is written. Where the journal fails nothing is written of that reply, and the stream ends.
+/// Answers the requests of an input like `pipe`, and appends the record of each change to the journal before it writes
+/// the reply. If the journal fails, it writes nothing of that reply, and the stream ends.
 pub(crate) fn pipe_kept<S: Source, K: Sink, C: Clock, J: Log>(
     alloc: Global,
     db: &mut Db,
@@ -156,7 +156,7 @@ pub(crate) fn pipe_kept<S: Source, K: Sink, C: Clock, J: Log>(
     }
 }
 
-// Adds a record to the journal, where the reply has this text.
+// Appends a record to the journal, given the reply's text.
 fn append_record<J: Log>(log: &mut J, entry: Option<Record>, reply: &[u8]) -> Result<(), Failed>
     ensures all { OnOk result (J.content log.new ≡ append_known (J.content log.old) (told_by entry reply.now)) }
     ensures front { OnErr result (AddsFront (J.content log.old) (J.content log.new) (told_by entry reply.now)) }

@@ -1,4 +1,4 @@
-//! The engine: sessions over a stream, what is answered over it, and the top call.
+//! The engine: sessions, the modes of the program, and the function `top` that runs them.
 #![tactic(auto)]
 
 mod address;

@@ -1,4 +1,4 @@
-// What answers a whole input.
+// Answers a whole input.
 ghost use Rattle.std.specs.Prelude.{◌≡◌, ◌+◌, ◌<◌, ◌≤◌, ◌^◌, length, None, Some};
 ghost use Rattle.ts_resp.specs.Reading.{fed, unfinished};
 ghost use Rattle.ts_db.specs.Held.{Carries};
@@ -18,33 +18,33 @@ use ts_resp::{Protocol, WireLimits};
 /// How a stream ended.
 #[derive(Clone, Copy, Debug, PartialEq, Eq)]
 pub enum End {
-    /// The input ends between requests, or QUIT was answered.
+    /// The input ended between requests, or QUIT was answered.
     Ended,
-    /// The input ends inside the request that begins at this place.
+    /// The input ended inside the request that begins at this offset.
     Truncated(u64),
-    /// The stream is broken.
+    /// The stream is broken. The error was written.
     Protocol(Protocol),
     /// A read failed.
     ReadFault,
-    /// A reply could not be written.
+    /// A write failed.
     WriteFault,
-    /// There was no memory to read a request.
+    /// Out of memory while reading a request.
     Memory,
-    /// As many bytes were taken as may be.
+    /// The budget was read.
     Budget,
 }
 
-/// What became of a stream.
+/// The outcome of a stream.
 #[derive(Clone, Copy, Debug, PartialEq, Eq)]
 pub struct Outcome {
-    /// How many requests were executed, the one whose reply failed among them.
+    /// How many requests were executed. One whose reply failed counts.
     pub executed: u64,
-    /// How many bytes were taken from the input.
+    /// How many bytes were read from the input.
     pub taken: u64,
     pub end: End,
 }
 
-// What one read and the answers to its bytes came to.
+// The result of one read and of the requests that it completes.
 #[derive(Clone, Copy)]
 struct Step {
     taken: usize,
@@ -54,9 +54,9 @@ struct Step {
 /// The most bytes that one read asks for.
 const PIECE: usize = 4096;
 
-/// Answers the requests of an input, at most `budget` bytes of it. Each reply is written before the next request
-/// is executed, and a read is made only when every whole request was answered. So where the stream breaks or a reply
-/// can't be written, at most 4096 bytes were taken past the fault, or past that reply's request.
+/// Answers the requests of an input. Reads at most `budget` bytes. Writes each reply before it executes the next
+/// request, and reads on only after every complete request was answered. So at most 4096 bytes are read past a protocol
+/// error, past QUIT, or past a request whose reply could not be written.
 pub fn pipe<S: Source, K: Sink, C: Clock>(
     alloc: Global,
     db: &mut Db,
@@ -77,7 +77,7 @@ pub fn pipe<S: Source, K: Sink, C: Clock>(
     pipe_by(alloc, &mut Plain, db, input, out, clock, limits, budget)
 }
 
-/// The same, by turns of any kind.
+/// The same with any request handler.
 pub(crate) fn pipe_by<T: Turns, S: Source, K: Sink, C: Clock>(
     alloc: Global,
     turns: &mut T,
@@ -127,7 +127,7 @@ pub(crate) fn pipe_by<T: Turns, S: Source, K: Sink, C: Clock>(
     }
 }
 
-// Reads one piece and answers what is whole with it.
+// Reads one piece and answers the requests that it completes.
 fn pump<T: Turns, S: Source, K: Sink, C: Clock>(
     session: &mut Session,
     turns: &mut T,
@@ -173,7 +173,7 @@ fn pump<T: Turns, S: Source, K: Sink, C: Clock>(
     }
 }
 
-// How the stream ends where the input does.
+// The end of the stream, if the input has ended.
 fn end_of_input(session: &Session) -> End
     ensures { result ≡ end_at (unfinished (reader_of session.now)) }
 {
@@ -183,7 +183,7 @@ fn end_of_input(session: &Session) -> End
     }
 }
 
-// How the stream ends with an answer of the session, if it does.
+// The end that a session's result means, if it is one.
 fn end_of_piece(go: Go) -> Option<End>
     ensures { result ≡ end_by go }
 {

@@ -1,4 +1,4 @@
-// A capture session: answers one capture, which comes in pieces.
+// A capture session: answers the interleaved connections of one capture.
 ghost use Rattle.std.specs.Prelude.{◌≡◌, ◌+◌, ◌<◌, ◌≤◌, ◌^◌, [], length, None, Some, IfOk};
 ghost use Rattle.ts_mux.specs.Muxing.{ahead, delivered_to};
 ghost use Rattle.ts_execution.specs.Limits.{CanRead};
@@ -15,21 +15,21 @@ use ts_sample::Steps;
 
 mod items;
 
-/// How the replay of a capture goes on after a piece of it.
+/// The result of a capture session after a piece.
 #[derive(Clone, Copy, Debug, PartialEq, Eq)]
 pub(crate) enum Course {
-    /// Every whole frame so far was answered: more bytes may come.
+    /// Every complete frame was answered. More bytes may follow.
     More,
-    /// The byte at this place can't continue the capture.
+    /// The byte at this offset cannot continue the capture.
     Broken(u64),
-    /// A frame could not be written.
+    /// A write failed.
     WriteFault,
-    /// There was no memory to read a frame or a request.
+    /// Out of memory while reading a frame or a request.
     Memory,
 }
 
 impl Course {
-    // The end that the answer is, if it is one.
+    // This result, unless it is `More`.
     pub(crate) fn end(self) -> Option<Course>
         ensures { result ≡ end_of self }
     {
@@ -40,7 +40,7 @@ impl Course {
     }
 }
 
-/// Answers what interleaved connections ask in a capture, which comes in pieces.
+/// Answers the interleaved connections of a capture that arrives in pieces.
 #[derive(Drop)]
 pub(crate) struct Replay {
     frames: Frames,
@@ -57,7 +57,7 @@ impl Replay {
     ghost use Rattle.ts_engine.specs.Replaying.{WentAs, GoesOn, WroteOrFault};
     ghost use Rattle.ts_engine.specs.Replays.{frames_in, standing, HasAnswered, Begins};
 
-    // A replay to which no byte came.
+    // A new capture session.
     pub(crate) fn new(alloc: Global, limits: WireLimits) -> Result<Replay, AllocError>
         requires limits { CanRead limits }
         ensures { IfOk result (Begins limits) }
@@ -71,7 +71,7 @@ impl Replay {
         })
     }
 
-    // Answers the frames that are whole with these further bytes, each request before the next one has its turn.
+    // Answers the frames that these bytes complete. Writes each reply before it executes the next request.
     pub(crate) fn piece<C: Clock, K: Sink>(
         &mut self,
         db: &mut Db,
@@ -94,14 +94,14 @@ impl Replay {
         }
     }
 
-    // Where an unfinished frame begins, or `None` between frames.
+    // The offset of the incomplete frame, or `None` between frames.
     pub(crate) fn place(&self) -> Option<u64>
         ensures { result ≡ unfinished (frames_in self.now) }
     {
         self.frames.place()
     }
 
-    // Answers every frame that is whole.
+    // Answers every complete frame.
     fn answer_all<C: Clock, K: Sink, L: Ledger>(
         &mut self,
         db: &mut Db,
@@ -128,7 +128,7 @@ impl Replay {
         }
     }
 
-    // Takes the next frame and answers what is whole with it. None: it was answered, and there may be more.
+    // Answers the next frame. Returns `None` if more may follow.
     fn answer_next<C: Clock, K: Sink, L: Ledger>(
         &mut self,
         db: &mut Db,

@@ -1,4 +1,4 @@
-// How a session goes on, and what it writes.
+// The result of a session, and what it writes.
 ghost use Rattle.std.specs.Prelude.{◌≡◌, ◌<◌, ◌^◌, Some};
 ghost use Rattle.ts_engine.specs.Going.{end_of};
 
@@ -10,23 +10,23 @@ use ts_io::{Clock, Sink, write_all_counted};
 use ts_resp::{Protocol, Reply, Word, put};
 use ts_sample::Steps;
 
-/// How a session goes on after a piece of its stream.
+/// The result of a session after a piece of its stream.
 #[derive(Clone, Copy, Debug, PartialEq, Eq)]
 pub enum Go {
-    /// Every whole request so far was answered: more bytes may come.
+    /// Every complete request was answered. More bytes may follow.
     More,
     /// QUIT was answered.
     Quit,
-    /// The stream is broken, and the fault was answered.
+    /// The stream is broken. The error was written.
     Broken(Protocol),
-    /// A reply could not be written.
+    /// A write failed.
     WriteFault,
-    /// There was no memory to read a request.
+    /// Out of memory while reading a request.
     Memory,
 }
 
 impl Go {
-    // The end that the answer is, if it is one.
+    // This result, unless it is `More`.
     pub(crate) fn end(self) -> Option<Go>
         ensures { result ≡ end_of self }
     {
@@ -42,7 +42,7 @@ impl Session {
     ghost use Rattle.ts_engine.specs.Session.{Replied, Refused, HasCauseBy, WroteOrFault};
     ghost use Rattle.ts_engine.specs.Standing.{spot_in, reader_of, executed_by};
 
-    // Gives the request its turn and writes its reply.
+    // Handles a request and writes its reply.
     pub(crate) fn answer<T: Turns, C: Clock, K: Sink, L: Ledger>(
         &mut self,
         words: Vec<Word>,
@@ -81,7 +81,7 @@ impl Session {
         }
     }
 
-    // Writes the error that answers a broken stream.
+    // Writes the protocol error that ends a broken stream.
     pub(crate) fn refuse<K: Sink>(&mut self, fault: Protocol, out: &mut K) -> Go
         ensures refused { Refused result fault (K.has out.old) (K.has out.new) }
         ensures ends { result ≡ Go.More → ⊥ }
