@@ -2,7 +2,6 @@
 ghost use Rattle.std.specs.Prelude.{◌≡◌, ◌+◌, ◌<◌, ◌≤◌, ◌^◌, [], length, None, Some, IfOk};
 ghost use Rattle.ts_mux.specs.Muxing.{ahead, delivered_to};
 ghost use Rattle.ts_execution.specs.Limits.{CanRead};
-ghost use Rattle.ts_engine.specs.Replaying.{end_of};
 
 use std::alloc::{AllocError, Global};
 use std::marker::Brand;
@@ -29,6 +28,8 @@ pub(crate) enum Course {
 }
 
 impl Course {
+    ghost use Rattle.ts_engine.specs.Replaying.{end_of};
+
     // This result, unless it is `More`.
     pub(crate) fn end(self) -> Option<Course>
         ensures { result ≡ end_of self }
