@@ -25,10 +25,17 @@ pub(crate) fn answer_capture<S: Source, K: Sink, E: Sink, C: Clock>(
     requires limits { AreUsable limits }
     requires budget { 1 ≤ budget }
     ensures captured { (bytes : List ℕ) → S.left input.old ≡ Some bytes → Captured
-        (record { limits = limits; readings = C.readings clock.old; readings_left = C.readings clock.new; had = K.has out.old; has = K.has out.new })
+        (record {
+          limits = limits;
+          readings = C.readings clock.old;
+          readings_left = C.readings clock.new;
+          had = K.has out.old;
+          has = K.has out.new;
+        })
         budget bytes (S.left input.new) (E.has err.old) (E.has err.new) result }
     ensures complete { (bytes : List ℕ) → S.left input.old ≡ Some bytes
-        → NoneRose (S.faults input.old) (S.faults input.new) (K.faults out.old) (K.faults out.new) (E.faults err.old) (E.faults err.new)
+        → NoneRose (S.faults input.old) (S.faults input.new) (K.faults out.old) (K.faults out.new) (E.faults err.old)
+        (E.faults err.new)
         → (result ≡ Status.Memory) ⊎ (result ≡ status_captured budget bytes) }
     ensures line { HasCaptureLine (E.has err.old) (E.has err.new) result }
     ensures no_usage { result ≢ Status.Usage }
@@ -38,8 +45,10 @@ pub(crate) fn answer_capture<S: Source, K: Sink, E: Sink, C: Clock>(
     ensures read_fault { result ≡ Status.ReadFault → Rose (S.faults input.old) (S.faults input.new) }
     ensures write_fault { result ≡ Status.WriteFault
         → Rose (K.faults out.old) (K.faults out.new) ⊎ Rose (E.faults err.old) (E.faults err.new) }
-    ensures no_read_fault { result ≢ Status.ReadFault → result ≢ Status.WriteFault → S.faults input.new ≡ S.faults input.old }
-    ensures no_write_fault { result ≢ Status.WriteFault → (K.faults out.new ≡ K.faults out.old) × (E.faults err.new ≡ E.faults err.old) }
+    ensures no_read_fault { result ≢ Status.ReadFault → result ≢ Status.WriteFault
+        → S.faults input.new ≡ S.faults input.old }
+    ensures no_write_fault { result ≢ Status.WriteFault → (K.faults out.new ≡ K.faults out.old)
+        × (E.faults err.new ≡ E.faults err.old) }
 {
     let mut db = Db::new(alloc, limits);
     let end = replay(alloc, &mut db, input, out, clock, limits.wire, budget);

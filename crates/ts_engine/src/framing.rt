@@ -12,8 +12,10 @@ const TOGETHER: usize = 512;
 
 // Writes a frame: the header together with the first bytes, then the rest.
 pub(crate) fn write_frame<K: Sink>(out: &mut K, link: u32, bytes: &[u8]) -> Result<(), Failed>
-    ensures all { OnOk result (Grows (K.has out.old) (K.has out.new) (framed (record { link = link; bytes = bytes.now }))) }
-    ensures front { OnErr result (GrowsByFront (K.has out.old) (K.has out.new) (framed (record { link = link; bytes = bytes.now }))) }
+    ensures all { OnOk result
+        (Grows (K.has out.old) (K.has out.new) (framed (record { link = link; bytes = bytes.now }))) }
+    ensures front { OnErr result
+        (GrowsByFront (K.has out.old) (K.has out.new) (framed (record { link = link; bytes = bytes.now }))) }
     ensures cause { HasCause (K.faults out.old) (K.faults out.new) result }
 {
     let header = Header::new(link, bytes.len());

@@ -36,16 +36,24 @@ pub(crate) fn answer_kept<S: Source, K: Sink, E: Sink, C: Clock, J: Log>(
     requires limits { AreUsable limits }
     requires bounded { IsBounded limits.wire }
     requires budget { 1 ≤ budget }
-    ensures journaled { (journal bytes : List ℕ) → J.content log.old ≡ Some journal → S.left input.old ≡ Some bytes → Journaled
+    ensures journaled { (journal bytes : List ℕ) → J.content log.old ≡ Some journal → S.left input.old ≡ Some bytes
+        → Journaled
         (record {
-          seen = record { limits = limits; readings = C.readings clock.old; readings_left = C.readings clock.new; had = K.has out.old; has = K.has out.new };
+          seen = record {
+            limits = limits;
+            readings = C.readings clock.old;
+            readings_left = C.readings clock.new;
+            had = K.has out.old;
+            has = K.has out.new;
+          };
           journal = journal;
           journal_left = J.content log.new;
         })
         ((input.new ≡ input.old) × (out.new ≡ out.old) × (clock.new ≡ clock.old))
         budget bytes (S.left input.new) (E.has err.old) (E.has err.new) result }
     ensures complete { (journal bytes : List ℕ) → J.content log.old ≡ Some journal → S.left input.old ≡ Some bytes
-        → NoneRose (S.faults input.old) (S.faults input.new) (K.faults out.old) (K.faults out.new) (E.faults err.old) (E.faults err.new)
+        → NoneRose (S.faults input.old) (S.faults input.new) (K.faults out.old) (K.faults out.new) (E.faults err.old)
+        (E.faults err.new)
         → (Rose (J.faults log.old) (J.faults log.new) → ⊥)
         → (result ≡ Status.Memory) ⊎ (result ≡ status_kept limits budget journal bytes) }
     ensures line { HasJournalLine (E.has err.old) (E.has err.new) result }
@@ -56,9 +64,12 @@ pub(crate) fn answer_kept<S: Source, K: Sink, E: Sink, C: Clock, J: Log>(
     ensures write_fault { result ≡ Status.WriteFault
         → Rose (K.faults out.old) (K.faults out.new) ⊎ Rose (E.faults err.old) (E.faults err.new) }
     ensures journal_fault { result ≡ Status.JournalFault → Rose (J.faults log.old) (J.faults log.new) }
-    ensures no_read_fault { result ≢ Status.ReadFault → result ≢ Status.WriteFault → S.faults input.new ≡ S.faults input.old }
-    ensures no_write_fault { result ≢ Status.WriteFault → (K.faults out.new ≡ K.faults out.old) × (E.faults err.new ≡ E.faults err.old) }
-    ensures no_journal_fault { result ≢ Status.JournalFault → result ≢ Status.WriteFault → J.faults log.new ≡ J.faults log.old }
+    ensures no_read_fault { result ≢ Status.ReadFault → result ≢ Status.WriteFault
+        → S.faults input.new ≡ S.faults input.old }
+    ensures no_write_fault { result ≢ Status.WriteFault → (K.faults out.new ≡ K.faults out.old)
+        × (E.faults err.new ≡ E.faults err.old) }
+    ensures no_journal_fault { result ≢ Status.JournalFault → result ≢ Status.WriteFault
+        → J.faults log.new ≡ J.faults log.old }
 {
     let end = keep(alloc, name, input, out, clock, log, limits, budget);
     report_in(Some(Mode::Keep), err, end.status(), end.place())
@@ -80,7 +91,13 @@ fn keep<S: Source, K: Sink, C: Clock, J: Log>(
     requires budget { 1 ≤ budget }
     ensures did { (journal bytes : List ℕ) → J.content log.old ≡ Some journal → S.left input.old ≡ Some bytes → Did
         (record {
-          seen = record { limits = limits; readings = C.readings clock.old; readings_left = C.readings clock.new; had = K.has out.old; has = K.has out.new };
+          seen = record {
+            limits = limits;
+            readings = C.readings clock.old;
+            readings_left = C.readings clock.new;
+            had = K.has out.old;
+            has = K.has out.new;
+          };
           journal = journal;
           journal_left = J.content log.new;
         })
@@ -90,7 +107,8 @@ fn keep<S: Source, K: Sink, C: Clock, J: Log>(
         → (Rose (S.faults input.old) (S.faults input.new) → ⊥) → (Rose (K.faults out.old) (K.faults out.new) → ⊥)
         → (Rose (J.faults log.old) (J.faults log.new) → ⊥)
         → IsMemoryOr (journaled.status_of result) (status_kept limits budget journal bytes) }
-    ensures causes { HasJournalCauses result (S.faults input.old) (S.faults input.new) (K.faults out.old) (K.faults out.new)
+    ensures causes { HasJournalCauses result (S.faults input.old) (S.faults input.new) (K.faults out.old)
+        (K.faults out.new)
         (J.faults log.old) (J.faults log.new) }
 {
     let mut db = Db::new(alloc, limits);
@@ -114,7 +132,8 @@ fn answer_input<S: Source, K: Sink, C: Clock, J: Log>(
 ) -> JournalEnd
     requires limits { CanRead limits }
     requires budget { 1 ≤ budget }
-    ensures answered { Carries db.old db.new (λ from to. (bytes : List ℕ) → S.left input.old ≡ Some bytes → IsAnswered result
+    ensures answered { Carries db.old db.new
+        (λ from to. (bytes : List ℕ) → S.left input.old ≡ Some bytes → IsAnswered result
         (λ failed. record {
           limits = limits;
           from = kept (C.readings clock.old) (J.content log.old) false from;
@@ -123,8 +142,10 @@ fn answer_input<S: Source, K: Sink, C: Clock, J: Log>(
           has = K.has out.new;
         })
         limits budget bytes (S.left input.new)
-        (S.faults input.old) (S.faults input.new) (K.faults out.old) (K.faults out.new) (J.faults log.old) (J.faults log.new)) }
-    ensures causes { HasJournalCauses result (S.faults input.old) (S.faults input.new) (K.faults out.old) (K.faults out.new)
+        (S.faults input.old) (S.faults input.new) (K.faults out.old) (K.faults out.new) (J.faults log.old)
+        (J.faults log.new)) }
+    ensures causes { HasJournalCauses result (S.faults input.old) (S.faults input.new) (K.faults out.old)
+        (K.faults out.new)
         (J.faults log.old) (J.faults log.new) }
 {
     let kept = pipe_kept(alloc, db, input, out, clock, log, limits, budget);

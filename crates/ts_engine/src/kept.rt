@@ -79,7 +79,8 @@ pub(crate) struct Journaled<'a, J: Log> {
 impl<J: Log> Turns for Journaled<'_, J> {
     ghost kind = { keeping };
 
-    ghost world = { λ s held readings. record { held = held; readings = readings; content = J.content s.log.now; failed = s.failed } };
+    ghost world = { λ s held readings.
+        record { held = held; readings = readings; content = J.content s.log.now; failed = s.failed } };
 
     ghost own = { λ s. record { failed = s.failed; count = J.faults s.log.now } };
 
@@ -143,10 +144,13 @@ pub(crate) fn pipe_kept<S: Source, K: Sink, C: Clock, J: Log>(
     requires limits { CanRead limits }
     requires budget { 1 ≤ budget }
     ensures kept { Carries db.old db.new (λ from to. PipedBy keeping limits budget result.outcome
-        (kept (C.readings clock.old) (J.content log.old) false from) (kept (C.readings clock.new) (J.content log.new) result.failed to)
+        (kept (C.readings clock.old) (J.content log.old) false from)
+        (kept (C.readings clock.new) (J.content log.new) result.failed to)
         (S.left input.old) (S.left input.new) (K.has out.old) (K.has out.new)) }
-    ensures causes { HasCausesBy keeping result.outcome.end (S.faults input.old) (S.faults input.new) (K.faults out.old) (K.faults out.new)
-        (record { failed = false; count = J.faults log.old }) (record { failed = result.failed; count = J.faults log.new }) }
+    ensures causes { HasCausesBy keeping result.outcome.end (S.faults input.old) (S.faults input.new)
+        (K.faults out.old) (K.faults out.new)
+        (record { failed = false; count = J.faults log.old })
+        (record { failed = result.failed; count = J.faults log.new }) }
 {
     let mut turns = Journaled { log, failed: false };
     let outcome = pipe_by(alloc, &mut turns, db, input, out, clock, limits, budget);

@@ -72,7 +72,8 @@ pub fn pipe<S: Source, K: Sink, C: Clock>(
         (record { held = from; readings = C.readings clock.old }) (record { held = to; readings = C.readings clock.new })
         (S.left input.old) (S.left input.new) (K.has out.old) (K.has out.new)) }
     ensures within { result.taken ≤ budget }
-    ensures causes { HasCauses result.end (S.faults input.old) (S.faults input.new) (K.faults out.old) (K.faults out.new) }
+    ensures causes { HasCauses result.end (S.faults input.old) (S.faults input.new) (K.faults out.old)
+        (K.faults out.new) }
 {
     pipe_by(alloc, &mut Plain, db, input, out, clock, limits, budget)
 }
@@ -94,7 +95,8 @@ pub(crate) fn pipe_by<T: Turns, S: Source, K: Sink, C: Clock>(
         (T.world turns.old from (C.readings clock.old)) (T.world turns.new to (C.readings clock.new))
         (S.left input.old) (S.left input.new) (K.has out.old) (K.has out.new)) }
     ensures within { result.taken ≤ budget }
-    ensures causes { HasCausesBy T.kind result.end (S.faults input.old) (S.faults input.new) (K.faults out.old) (K.faults out.new)
+    ensures causes { HasCausesBy T.kind result.end (S.faults input.old) (S.faults input.new) (K.faults out.old)
+        (K.faults out.new)
         (T.own turns.old) (T.own turns.new) }
     ensures lent { T.lent turns.new ≡ T.lent turns.old }
 {
@@ -145,7 +147,8 @@ fn pump<T: Turns, S: Source, K: Sink, C: Clock>(
         (spot_in T.kind session.old (T.world turns.old from (C.readings clock.old)))
         (spot_in T.kind session.new (T.world turns.new to (C.readings clock.new))) (K.has out.old) (K.has out.new)) }
     ensures current { result.end ≡ None → HasAnswered session.new }
-    ensures causes { HasCausesByOr T.kind result.end (S.faults input.old) (S.faults input.new) (K.faults out.old) (K.faults out.new)
+    ensures causes { HasCausesByOr T.kind result.end (S.faults input.old) (S.faults input.new) (K.faults out.old)
+        (K.faults out.new)
         (T.own turns.old) (T.own turns.new) }
     ensures lent { T.lent turns.new ≡ T.lent turns.old }
     ensures ended { result.end ≡ None → ended_of session.new ≡ None }

@@ -88,7 +88,8 @@ pub(crate) fn replay<S: Source, K: Sink, C: Clock>(
     requires limits { CanRead limits }
     requires budget { 1 ≤ budget }
     ensures replayed { Carries db.old db.new (λ from to. Replayed limits budget result
-        (record { held = from; readings = C.readings clock.old }) (record { held = to; readings = C.readings clock.new })
+        (record { held = from; readings = C.readings clock.old })
+        (record { held = to; readings = C.readings clock.new })
         (S.left input.old) (S.left input.new) (K.has out.old) (K.has out.new)) }
     ensures causes { HasCauses result (S.faults input.old) (S.faults input.new) (K.faults out.old) (K.faults out.new) }
 {
@@ -121,9 +122,11 @@ fn pump<S: Source, K: Sink, C: Clock>(
     requires within { fed (frames_in replay.old) + length buffer.old < 2 ^ 64 }
     requires room { 0 < length buffer.old }
     ensures pumped { Carries db.old db.new (λ from to. Pumped result (S.left input.old) (S.left input.new)
-        (standing replay.old from (C.readings clock.old)) (standing replay.new to (C.readings clock.new)) (K.has out.old) (K.has out.new)) }
+        (standing replay.old from (C.readings clock.old)) (standing replay.new to (C.readings clock.new))
+        (K.has out.old) (K.has out.new)) }
     ensures answered { result.end ≡ None → HasAnswered replay.new }
-    ensures causes { HasCausesOr result.end (S.faults input.old) (S.faults input.new) (K.faults out.old) (K.faults out.new) }
+    ensures causes { HasCausesOr result.end (S.faults input.old) (S.faults input.new) (K.faults out.old)
+        (K.faults out.new) }
     ensures fed { result.end ≡ None → fed (frames_in replay.new) ≡ fed (frames_in replay.old) + result.taken }
     ensures within { result.taken ≤ length buffer.old }
     ensures some { result.end ≡ None → 0 < result.taken }

@@ -59,7 +59,8 @@ impl Session {
             (spot_in T.kind self.new (T.world turns.new to (C.readings clock.new))) (K.has out.old) (K.has out.new)) }
         ensures reader { reader_of self.new ≡ reader_of self.old }
         ensures ends { result ≡ Some Go.More → ⊥ }
-        ensures cause { HasCauseBy T.kind result (K.faults out.old) (K.faults out.new) (T.own turns.old) (T.own turns.new) }
+        ensures cause { HasCauseBy T.kind result (K.faults out.old) (K.faults out.new) (T.own turns.old)
+            (T.own turns.new) }
         ensures lent { T.lent turns.new ≡ T.lent turns.old }
     {
         let mut words = words;

@@ -45,8 +45,10 @@ pub fn serve<N: Listener, K: Sink, C: Clock>(
     requires budget { 1 ≤ budget }
     requires net { N.is_out net.old ≡ false }
     ensures serves { Carries db.old db.new (λ from to. Serves
-        (record { left = N.In.left; reads = N.In.faults; has = N.Out.has; writes = N.Out.faults }) limits budget result 1 links
-        (record { held = from; readings = C.readings clock.old }) (record { held = to; readings = C.readings clock.new })
+        (record { left = N.In.left; reads = N.In.faults; has = N.Out.has; writes = N.Out.faults }) limits budget
+        result 1 links
+        (record { held = from; readings = C.readings clock.old })
+        (record { held = to; readings = C.readings clock.new })
         (N.coming net.old) (N.coming net.new) (N.closed net.old) (N.closed net.new) (K.has out.old) (K.has out.new)) }
     ensures net { N.is_out net.new ≡ false }
     ensures accepts_later { N.faults net.old ≤ N.faults net.new }
@@ -80,8 +82,10 @@ fn serve_link<N: Listener, K: Sink, C: Clock>(
     requires budget { 1 ≤ budget }
     requires net { N.is_out net.old ≡ false }
     ensures serves { Carries db.old db.new (λ from to. Serves
-        (record { left = N.In.left; reads = N.In.faults; has = N.Out.has; writes = N.Out.faults }) limits budget result number 1
-        (record { held = from; readings = C.readings clock.old }) (record { held = to; readings = C.readings clock.new })
+        (record { left = N.In.left; reads = N.In.faults; has = N.Out.has; writes = N.Out.faults }) limits budget
+        result number 1
+        (record { held = from; readings = C.readings clock.old })
+        (record { held = to; readings = C.readings clock.new })
         (N.coming net.old) (N.coming net.new) (N.closed net.old) (N.closed net.new) (K.has out.old) (K.has out.new)) }
     ensures net { N.is_out net.new ≡ false }
     ensures accepts_later { N.faults net.old ≤ N.faults net.new }

@@ -43,7 +43,8 @@ impl End {
 pub(crate) fn report<E: Sink>(err: &mut E, status: Status, place: u64) -> Status
     ensures reported { Reports status place result (E.has err.old) (E.has err.new) }
     ensures later { E.faults err.old ≤ E.faults err.new }
-    ensures cause { result ≡ Status.WriteFault → (status ≡ Status.WriteFault) ⊎ Rose (E.faults err.old) (E.faults err.new) }
+    ensures cause { result ≡ Status.WriteFault → (status ≡ Status.WriteFault)
+        ⊎ Rose (E.faults err.old) (E.faults err.new) }
     ensures same { result ≡ Status.WriteFault ⊎ result ≡ status }
     ensures good { status ≡ Status.Ended → result ≡ Status.Ended }
     ensures no_fault { result ≢ Status.WriteFault → E.faults err.new ≡ E.faults err.old }
@@ -60,7 +61,8 @@ pub(crate) fn report_in<E: Sink>(
 ) -> Status
     ensures reported { ReportsIn mode status place result (E.has err.old) (E.has err.new) }
     ensures later { E.faults err.old ≤ E.faults err.new }
-    ensures cause { result ≡ Status.WriteFault → (status ≡ Status.WriteFault) ⊎ Rose (E.faults err.old) (E.faults err.new) }
+    ensures cause { result ≡ Status.WriteFault → (status ≡ Status.WriteFault)
+        ⊎ Rose (E.faults err.old) (E.faults err.new) }
     ensures same { result ≡ Status.WriteFault ⊎ result ≡ status }
     ensures good { status ≡ Status.Ended → result ≡ Status.Ended }
     ensures no_fault { result ≢ Status.WriteFault → E.faults err.new ≡ E.faults err.old }

@@ -32,7 +32,8 @@ pub(crate) fn put_addition<L: Ledger>(
     steps: &mut Steps<L>,
 )
     requires room { 128 ≤ length out.old.bytes + out.old.spare }
-    ensures executes { Carries db.old db.new (λ from to. Executes reading (addition_of addition.now) from out.new.bytes to) }
+    ensures executes { Carries db.old db.new
+        (λ from to. Executes reading (addition_of addition.now) from out.new.bytes to) }
     ensures room { 128 ≤ length out.new.bytes + out.new.spare }
 {
     out.clear();
@@ -50,7 +51,9 @@ fn write<L: Ledger>(
     steps: &mut Steps<L>,
 ) -> Reply
     requires { time ≤ MAX_TIME }
-    ensures answer { Carries db.old db.new (λ from to. StepOrMemory (add from.limits from.state addition.now.key.now time addition.now.value addition.now.on (spec nothing)) from (reply_of result) to) }
+    ensures answer { Carries db.old db.new
+        (λ from to. StepOrMemory (add from.limits from.state addition.now.key.now time addition.now.value
+        addition.now.on (spec nothing)) from (reply_of result) to) }
     ensures short { IsShort (reply_of result) }
 {
     match db.put_near(
@@ -80,7 +83,9 @@ fn begin<L: Ledger>(
 ) -> Reply
     requires time { time ≤ MAX_TIME }
     requires missing { (from : Held) → Stands db.old from → get addition.now.key.now from.state ≡ None }
-    ensures answer { Carries db.old db.new (λ from to. StepOrMemory (add from.limits from.state addition.now.key.now time addition.now.value addition.now.on (spec nothing)) from (reply_of result) to) }
+    ensures answer { Carries db.old db.new
+        (λ from to. StepOrMemory (add from.limits from.state addition.now.key.now time addition.now.value
+        addition.now.on (spec nothing)) from (reply_of result) to) }
     ensures short { IsShort (reply_of result) }
 {
     match addition.key.copy() {

@@ -27,7 +27,8 @@ pub(crate) fn put_items<L: Ledger>(
 )
     requires empty { out.old.bytes ≡ [] }
     requires room { 128 ≤ out.old.spare }
-    ensures executes { Carries db.old db.new (λ from to. Executes reading (Madd (triples_of triples.items)) from out.new.bytes to) }
+    ensures executes { Carries db.old db.new
+        (λ from to. Executes reading (Madd (triples_of triples.items)) from out.new.bytes to) }
     ensures room { 128 ≤ length out.new.bytes + out.new.spare }
 {
     match reserve_items(triples.len(), out) {
@@ -48,7 +49,8 @@ fn add_all<L: Ledger>(
     requires empty { out.old.bytes ≡ [] }
     requires room { 128 ≤ out.old.spare }
     requires items { 64 * length triples.items + 64 ≤ out.old.spare }
-    ensures reply { Carries db.old db.new (λ from to. WritesAll reading (triples_of triples.items) from out.new.bytes to) }
+    ensures reply { Carries db.old db.new
+        (λ from to. WritesAll reading (triples_of triples.items) from out.new.bytes to) }
     ensures room { 128 ≤ length out.new.bytes + out.new.spare }
 {
     begin_array(triples.len(), out);
@@ -66,7 +68,8 @@ fn add_one<L: Ledger>(
     reading: u64,
     steps: &mut Steps<L>,
 ) -> Reply
-    ensures reply { Carries db.old db.new (λ from to. HasItem from.limits reading (triple_of triple) from.state (reply_of result) to.state
+    ensures reply { Carries db.old db.new
+        (λ from to. HasItem from.limits reading (triple_of triple) from.state (reply_of result) to.state
         × (to.limits ≡ from.limits)) }
     ensures short { IsShort (reply_of result) }
 {

@@ -20,7 +20,8 @@ use ts_spec::{Aggregator, At, Policy};
 
 /// The reply to TS.CREATE.
 pub(crate) fn create(db: &mut Db, key: Word, spec: Spec) -> Reply
-    ensures answer { Carries db.old db.new (λ from to. StepOrMemory (create from.limits from.state key (spec_of spec)) from (reply_of result) to) }
+    ensures answer { Carries db.old db.new
+        (λ from to. StepOrMemory (create from.limits from.state key (spec_of spec)) from (reply_of result) to) }
     ensures short { IsShort (reply_of result) }
 {
     done_reply(db.create(key, spec))
@@ -33,7 +34,8 @@ pub(crate) fn alter<L: Ledger>(
     change: Change,
     steps: &mut Steps<L>,
 ) -> Reply
-    ensures answer { Carries db.old db.new (λ from to. StepOrMemory (alter from.limits from.state key.now (change_of change)) from (reply_of result) to) }
+    ensures answer { Carries db.old db.new
+        (λ from to. StepOrMemory (alter from.limits from.state key.now (change_of change)) from (reply_of result) to) }
     ensures short { IsShort (reply_of result) }
     ensures steps { steps.new ≤ steps.old + 2 * reach_at db.old key.now }
 {
@@ -51,7 +53,9 @@ pub(crate) fn add<L: Ledger>(
     steps: &mut Steps<L>,
 ) -> Reply
     requires { time ≤ MAX_TIME }
-    ensures answer { Carries db.old db.new (λ from to. StepOrMemory (add from.limits from.state key time value on (spec_of spec)) from (reply_of result) to) }
+    ensures answer { Carries db.old db.new
+        (λ from to. StepOrMemory (add from.limits from.state key time value on (spec_of spec)) from (reply_of result)
+        to) }
     ensures short { IsShort (reply_of result) }
     ensures steps { steps.new ≤ steps.old + write_steps db.old key time }
 {
@@ -68,7 +72,9 @@ pub(crate) fn incr<L: Ledger>(
     steps: &mut Steps<L>,
 ) -> Reply
     requires { time ≤ MAX_TIME }
-    ensures answer { Carries db.old db.new (λ from to. StepOrMemory (incr from.limits from.state key change time (spec_of spec)) from (reply_of result) to) }
+    ensures answer { Carries db.old db.new
+        (λ from to. StepOrMemory (incr from.limits from.state key change time (spec_of spec)) from (reply_of result)
+        to) }
     ensures short { IsShort (reply_of result) }
     ensures steps { steps.new ≤ steps.old + write_steps db.old key time }
 {
@@ -84,7 +90,8 @@ pub(crate) fn delete<L: Ledger>(
     steps: &mut Steps<L>,
 ) -> Reply
     requires time { from ≤ MAX_TIME }
-    ensures answer { Carries db.old db.new (λ h h'. StepOrMemory (delete h.limits h.state key.now from to) h (reply_of result) h') }
+    ensures answer { Carries db.old db.new
+        (λ h h'. StepOrMemory (delete h.limits h.state key.now from to) h (reply_of result) h') }
     ensures short { IsShort (reply_of result) }
     ensures steps { steps.new ≤ steps.old + deletion_steps db.old key.now from to }
 {
@@ -111,7 +118,9 @@ pub(crate) fn create_rule(
     agg: Aggregator,
     grid: Grid,
 ) -> Reply
-    ensures answer { Carries db.old db.new (λ from to. StepOrMemory (create_rule from.limits from.state source.now dest.now agg grid) from (reply_of result) to) }
+    ensures answer { Carries db.old db.new
+        (λ from to. StepOrMemory (create_rule from.limits from.state source.now dest.now agg grid) from
+        (reply_of result) to) }
     ensures short { IsShort (reply_of result) }
 {
     done_reply(db.create_rule(source, dest, agg, grid))
@@ -119,7 +128,8 @@ pub(crate) fn create_rule(
 
 /// The reply to TS.DELETERULE. Allocates nothing.
 pub(crate) fn delete_rule(db: &mut Db, source: &Word, dest: &Word) -> Reply
-    ensures answer { Carries db.old db.new (λ from to. IsStep (delete_rule from.state source.now dest.now) from (reply_of result) to) }
+    ensures answer { Carries db.old db.new
+        (λ from to. IsStep (delete_rule from.state source.now dest.now) from (reply_of result) to) }
     ensures short { IsShort (reply_of result) }
 {
     done_reply(db.delete_rule(source, dest))

@@ -116,6 +116,8 @@ pub(crate) fn execute_near<L: Ledger>(
 
 /// Law: if no triple of TS.MADD runs out of memory, its reply and effect are those of one step of the specification.
 pub fn triples_with_memory_are_one_step()
-    ensures { (reading : ℕ) (triples : List Triple) (old new : Held) (reply : Reply) → (all : HasAllItems reading triples old reply new)
-        → All (λ item. item ≢ memory_reply) all.items → IsStep (step old.limits old.state reading (Madd triples)) old reply new }
+    ensures { (reading : ℕ) (triples : List Triple) (old new : Held) (reply : Reply)
+        → (all : HasAllItems reading triples old reply new)
+        → All (λ item. item ≢ memory_reply) all.items
+        → IsStep (step old.limits old.state reading (Madd triples)) old reply new }
 {}

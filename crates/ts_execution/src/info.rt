@@ -23,7 +23,8 @@ use ts_sample::{Cell, Steps, Units};
 pub(crate) fn put_info<L: Ledger>(db: &Db, key: &Word, out: &mut Out, steps: &mut Steps<L>)
     requires empty { out.old.bytes ≡ [] }
     requires room { 128 ≤ out.old.spare }
-    ensures reply { (from : Held) → Stands db.now from → IsReplyText (info_response from.state key.now (get key.now from.state)) out.new.bytes }
+    ensures reply { (from : Held) → Stands db.now from
+        → IsReplyText (info_response from.state key.now (get key.now from.state)) out.new.bytes }
     ensures room { 128 ≤ length out.new.bytes + out.new.spare }
     ensures steps { steps.new ≤ steps.old + 2 * reach_at db.now key.now }
 {

@@ -18,7 +18,8 @@ use ts_resp::{Out, Reply, Word, put};
 /// Deletes keys in order. Returns how many existed; a repeated key counts once.
 pub(crate) fn drop_keys(db: &mut Db, keys: &[Word]) -> Reply
     requires few { length keys.now < 2 ^ 63 }
-    ensures answer { Carries db.old db.new (λ from to. IsStep (drop_keys from.state 0 keys.now) from (reply_of result) to) }
+    ensures answer { Carries db.old db.new
+        (λ from to. IsStep (drop_keys from.state 0 keys.now) from (reply_of result) to) }
     ensures short { IsShort (reply_of result) }
 {
     let mut count = 0;

@@ -72,7 +72,8 @@ pub fn load<J: Log>(
     requires limits { CanRead limits }
     requires bounded { IsBounded limits }
     requires start { J.place log.old ≡ 0 }
-    ensures loaded { Carries db.old db.new (λ from to. (bytes : List ℕ) → J.content log.old ≡ Some bytes → IsLoaded result limits from to bytes) }
+    ensures loaded { Carries db.old db.new
+        (λ from to. (bytes : List ℕ) → J.content log.old ≡ Some bytes → IsLoaded result limits from to bytes) }
     ensures content { J.content log.new ≡ J.content log.old }
     ensures within { EndsWithin result (J.place log.new) }
     ensures spent { result ≡ Loaded.Budget → J.place log.new ≡ budget }
@@ -106,7 +107,9 @@ pub fn load<J: Log>(
 fn read_piece<J: Log>(loading: &mut Loading, db: &mut Db, log: &mut J, buffer: &mut [u8]) -> Piece
     requires within { fed loading.old.reader + length buffer.old < 2 ^ 64 }
     requires room { 0 < length buffer.old }
-    ensures takes { IfRead result (λ count. Takes count (unread (J.content log.old) (J.place log.old)) (unread (J.content log.new) (J.place log.new))
+    ensures takes { IfRead result
+        (λ count. Takes count (unread (J.content log.old) (J.place log.old))
+        (unread (J.content log.new) (J.place log.new))
         loading.old loading.new db.old db.new) }
     ensures carries { Carries db.old db.new (λ from to. ⊤) }
     ensures at_end { result ≡ Piece.Read 0 → IsAtEnd (unread (J.content log.new) (J.place log.new)) }

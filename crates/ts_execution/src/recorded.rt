@@ -1,5 +1,6 @@
 // Handles a request and makes its journal record.
-ghost use Rattle.std.specs.Prelude.{◌≡◌, ◌+◌, ◌≤◌, true, false, [], length, Option, None, Some, IfOk, IfErr, OnErr, IfSome, IfNone};
+ghost use Rattle.std.specs.Prelude.{◌≡◌, ◌+◌, ◌≤◌, true, false, [], length, Option, None, Some, IfOk, IfErr, OnErr};
+ghost use Rattle.std.specs.Prelude.{IfSome, IfNone};
 ghost use Rattle.ts_spec.specs.Run.{is_quit};
 ghost use Rattle.ts_command.specs.Answers.{HasTime};
 ghost use Rattle.ts_command.specs.Reading.{command_of};
@@ -41,7 +42,8 @@ pub fn take_recorded<C: Clock, L: Ledger>(
     steps: &mut Steps<L>,
 ) -> Taken
     requires { 128 ≤ length room.old.bytes + room.old.spare }
-    ensures recorded { Carries db.old db.new (λ from to. Recorded words.items (record { held = from; readings = C.readings clock.old })
+    ensures recorded { Carries db.old db.new
+        (λ from to. Recorded words.items (record { held = from; readings = C.readings clock.old })
         room.new.bytes (told_by result.entry room.new.bytes) (record { held = to; readings = C.readings clock.new })) }
     ensures quits { result.quits ≡ is_quit words.items }
     ensures room { 128 ≤ length room.new.bytes + room.new.spare }
@@ -75,7 +77,8 @@ fn execute_recorded<C: Clock, L: Ledger>(
 ) -> Option<Record>
     requires room { 128 ≤ length room.old.bytes + room.old.spare }
     requires time { HasTime command }
-    ensures recorded { Carries db.old db.new (λ from to. IsRecorded (command_of command) (record { held = from; readings = C.readings clock.old })
+    ensures recorded { Carries db.old db.new
+        (λ from to. IsRecorded (command_of command) (record { held = from; readings = C.readings clock.old })
         room.new.bytes (told_by result room.new.bytes) (record { held = to; readings = C.readings clock.new })) }
     ensures room { 128 ≤ length room.new.bytes + room.new.spare }
 {

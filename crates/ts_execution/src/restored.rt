@@ -5,7 +5,8 @@ ghost use Rattle.ts_spec.specs.Command as spoken;
 ghost use Rattle.ts_command.specs.Answers.{HasTime};
 ghost use Rattle.ts_command.specs.Reading.{command_of, triple_of, triples_of};
 ghost use Rattle.ts_db.specs.Held.{Carries};
-ghost use Rattle.ts_execution.specs.Restoring.{restored_of_fault, restored_of, restored_of_words, Restores, RestoresTriple, RestoresWords};
+ghost use Rattle.ts_execution.specs.Restoring.{restored_of_fault, restored_of, restored_of_words, Restores};
+ghost use Rattle.ts_execution.specs.Restoring.{RestoresTriple, RestoresWords};
 
 use crate::changes::time_at;
 use crate::keys::drop_keys;
@@ -125,7 +126,8 @@ fn restore_triples<L: Ledger>(
     steps: &mut Steps<L>,
 ) -> Restored
     requires clock { needs_clock (spoken.Madd (triples_of triples.items)) ≡ false }
-    ensures restores { Carries db.old db.new (λ from to. Restores result (spoken.Madd (triples_of triples.items)) from to) }
+    ensures restores { Carries db.old db.new
+        (λ from to. Restores result (spoken.Madd (triples_of triples.items)) from to) }
 {
     for triple in triples {
         match restore_triple(db, hints, triple, steps) {

@@ -29,7 +29,8 @@ pub fn take_turn<C: Clock, L: Ledger>(
     steps: &mut Steps<L>,
 ) -> bool
     requires { 128 ≤ length room.old.bytes + room.old.spare }
-    ensures turn { Carries db.old db.new (λ from to. turn (record { held = from; readings = C.readings clock.old }) words.old.items room.new.bytes
+    ensures turn { Carries db.old db.new
+        (λ from to. turn (record { held = from; readings = C.readings clock.old }) words.old.items room.new.bytes
         (record { held = to; readings = C.readings clock.new })) }
     ensures quits { result ≡ is_quit words.old.items }
     ensures room { 128 ≤ length room.new.bytes + room.new.spare }
@@ -61,7 +62,8 @@ fn take_command<C: Clock, L: Ledger>(
     steps: &mut Steps<L>,
 ) -> bool
     requires { 128 ≤ length room.old.bytes + room.old.spare }
-    ensures turn { Carries db.old db.new (λ from to. turn (record { held = from; readings = C.readings clock.old }) words.items room.new.bytes
+    ensures turn { Carries db.old db.new
+        (λ from to. turn (record { held = from; readings = C.readings clock.old }) words.items room.new.bytes
         (record { held = to; readings = C.readings clock.new })) }
     ensures quits { result ≡ is_quit words.items }
     ensures room { 128 ≤ length room.new.bytes + room.new.spare }

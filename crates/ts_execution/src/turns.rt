@@ -40,10 +40,12 @@ pub trait Turns {
     ) -> Result<bool, Failed>
         requires { 128 ≤ length room.old.bytes + room.old.spare }
         ensures answered { Carries db.old db.new (λ from to. kinds.Answered kind result words.old.items room.new.bytes
-            (world self.old from (C.readings clock.old)) (world self.new to (C.readings clock.new)) (K.has out.old) (K.has out.new)) }
+            (world self.old from (C.readings clock.old)) (world self.new to (C.readings clock.new)) (K.has out.old)
+            (K.has out.new)) }
         ensures quits { IfOk result (λ quits. quits ≡ is_quit words.old.items) }
         ensures room { 128 ≤ length room.new.bytes + room.new.spare }
-        ensures cause { kinds.HasTurnCause kind result (K.faults out.old) (K.faults out.new) (own self.old) (own self.new) }
+        ensures cause { kinds.HasTurnCause kind result (K.faults out.old) (K.faults out.new) (own self.old)
+            (own self.new) }
         ensures lent { lent self.new ≡ lent self.old };
 }
 

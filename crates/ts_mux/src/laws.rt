@@ -5,7 +5,8 @@ ghost use Rattle.ts_spec.specs.Run.{is_quit};
 ghost use Rattle.ts_mux.specs.declared.frame.Frame.{Frame};
 ghost use Rattle.ts_mux.specs.Capture.{Ended, capture, frames_of, ending_of, all_framed};
 ghost use Rattle.ts_mux.specs.Framing.{IsFrame};
-ghost use Rattle.ts_mux.specs.Order.{Item, events_of, until_end, items_of, items_at, without, frames_without, stream, order, open_order, closing};
+ghost use Rattle.ts_mux.specs.Order.{Item, events_of, until_end, items_of, items_at, without, frames_without, stream};
+ghost use Rattle.ts_mux.specs.Order.{order, open_order, closing};
 
 use ts_spec::WireLimits;
 

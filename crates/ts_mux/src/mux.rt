@@ -1,5 +1,6 @@
 // Yields the requests of interleaved connections in order.
-ghost use Rattle.std.specs.Prelude.{◌≡◌, ◌≢◌, ℕ, ◌+◌, ◌^◌, ◌<◌, ◌≤◌, true, false, List, [], ◌∷◌, get_or, length, All, OnOk, OnErr};
+ghost use Rattle.std.specs.Prelude.{◌≡◌, ◌≢◌, ℕ, ◌+◌, ◌^◌, ◌<◌, ◌≤◌, true, false, List, [], ◌∷◌, get_or, length, All};
+ghost use Rattle.std.specs.Prelude.{OnOk, OnErr};
 ghost use Rattle.ts_mux.specs.declared.frame.Frame.{Frame};
 ghost use Rattle.ts_mux.specs.Capture.{MOST_LINKS};
 ghost use Rattle.ts_mux.specs.Links.{AreAsked, AreWithin, Marks, hand_fed, hand_without};
@@ -86,9 +87,11 @@ impl Mux {
     /// Returns the next request or protocol error of the frames delivered so far. An error closes its connection; a
     /// request never does.
     pub fn next(&mut self) -> Turn
-        ensures item { IfItem result (λ item. (frames : List Frame) → ahead self.old frames ≡ item ∷ ahead self.new frames) }
+        ensures item { IfItem result
+            (λ item. (frames : List Frame) → ahead self.old frames ≡ item ∷ ahead self.new frames) }
         ensures words { IfRequest result (λ words. words ≢ []) }
-        ensures closed { IfFault result (λ link. (frames : List Frame) → without link (ahead self.new frames) ≡ ahead self.new frames) }
+        ensures closed { IfFault result
+            (λ link. (frames : List Frame) → without link (ahead self.new frames) ≡ ahead self.new frames) }
         ensures progress { IfItem result (λ _. length (ahead self.new []) < length (ahead self.old [])) }
         ensures same { UnlessItem result ((frames : List Frame) → ahead self.new frames ≡ ahead self.old frames) }
         ensures not_yet { OnNotYet result (ahead self.new [] ≡ []) }

@@ -1,6 +1,7 @@
 // The progress of an incomplete frame.
 ghost use Rattle.std.specs.Prelude.{◌≡◌, ◌+◌, ◌*◌, ◌<◌, ◌≤◌, true, false, IfSome};
-ghost use Rattle.ts_mux.specs.Capture.{Link, Length, move, after_length as length_ends, with_byte as byte_after, within as number_within};
+ghost use Rattle.ts_mux.specs.Capture.{Link, Length, move, after_length as length_ends, with_byte as byte_after};
+ghost use Rattle.ts_mux.specs.Capture.{within as number_within};
 ghost use Rattle.ts_mux.specs.Framing.{IsLink, IsLinkSoFar, IsLengthSoFar, IsPart, IsBegun, move_of};
 
 const MOST_LINKS: u32 = 4096;

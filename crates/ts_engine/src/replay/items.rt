@@ -82,7 +82,8 @@ impl Replay {
     ) -> Option<Course>
         ensures replied { Carries db.old db.new (λ from to. Replied result
             (record { link = link; event = Asked words.items })
-            (record { held = from; readings = C.readings clock.old }) (record { held = to; readings = C.readings clock.new })
+            (record { held = from; readings = C.readings clock.old })
+            (record { held = to; readings = C.readings clock.new })
             (K.has out.old) (K.has out.new)) }
         ensures coming { (frames : List Frame) → coming self.new frames
             ≡ (if is_quit words.items then without link (coming self.old frames) else coming self.old frames) }
@@ -120,7 +121,8 @@ impl Replay {
 
     // Writes a protocol error.
     fn refuse<K: Sink>(&mut self, link: u32, fault: Protocol, out: &mut K) -> Option<Course>
-        ensures wrote { Wrote result (K.has out.old) (K.has out.new) (framed (record { link = link; bytes = fault_text fault.kind })) }
+        ensures wrote { Wrote result (K.has out.old) (K.has out.new)
+            (framed (record { link = link; bytes = fault_text fault.kind })) }
         ensures ends { result ≡ Some Course.More → ⊥ }
         ensures mux { self.new.mux ≡ self.old.mux }
         ensures frames { frames_in self.new ≡ frames_in self.old }
@@ -133,7 +135,8 @@ impl Replay {
 
     // Writes the reply as a frame of the connection.
     fn write<K: Sink>(&self, link: u32, out: &mut K) -> Option<Course>
-        ensures wrote { Wrote result (K.has out.old) (K.has out.new) (framed (record { link = link; bytes = self.now.room.bytes })) }
+        ensures wrote { Wrote result (K.has out.old) (K.has out.new)
+            (framed (record { link = link; bytes = self.now.room.bytes })) }
         ensures ends { result ≡ Some Course.More → ⊥ }
         ensures cause { WroteOrFault (K.faults out.old) (K.faults out.new) result }
     {

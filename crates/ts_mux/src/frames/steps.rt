@@ -1,7 +1,8 @@
 // The steps of the frame parser: one header byte, or the body of a frame.
 ghost use Rattle.std.specs.Prelude.{◌≡◌, ◌+◌, ◌<◌, ◌≤◌, [], length, drop, slice_index, IfSome, MatchOption};
 ghost use Rattle.ts_mux.specs.Capture.{Link, Length, Body, Whole, MOST_BYTES, move, start};
-ghost use Rattle.ts_mux.specs.Framing.{IsLink, IsLinkSoFar, IsLengthSoFar, IsPart, IsBegun, IsOpen, mode_of, goto_of, move_of};
+ghost use Rattle.ts_mux.specs.Framing.{IsLink, IsLinkSoFar, IsLengthSoFar, IsPart, IsBegun, IsOpen, mode_of, goto_of};
+ghost use Rattle.ts_mux.specs.Framing.{move_of};
 ghost use Rattle.ts_mux.specs.NextFrames.{GoesOn, Delivers};
 
 use super::{Frames, NextFrame};
@@ -75,7 +76,8 @@ impl Frames {
     // Reads the last header byte of an empty frame.
     fn take_empty(&mut self, link: u32) -> NextFrame
         requires some { 0 < length self.old.unread }
-        requires whole { move self.old.mode (slice_index self.old.unread 0) ≡ Whole (record { link = link; bytes = [] }) }
+        requires whole { move self.old.mode (slice_index self.old.unread 0)
+            ≡ Whole (record { link = link; bytes = [] }) }
         requires link { IsLink link }
         ensures { Delivers self.old self.new result }
     {

@@ -1,5 +1,6 @@
 // Delivers bytes to an open connection, which becomes the current one.
-ghost use Rattle.std.specs.Prelude.{◌≡◌, ◌+◌, ◌^◌, ◌<◌, ◌≤◌, true, false, List, [], ◌∷◌, get_or, length, Some, None, OnOk, OnErr};
+ghost use Rattle.std.specs.Prelude.{◌≡◌, ◌+◌, ◌^◌, ◌<◌, ◌≤◌, true, false, List, [], ◌∷◌, get_or, length, Some, None};
+ghost use Rattle.std.specs.Prelude.{OnOk, OnErr};
 ghost use Rattle.ts_resp.specs.Reading.{fed};
 ghost use Rattle.ts_mux.specs.declared.frame.Frame.{Frame};
 ghost use Rattle.ts_mux.specs.Links.{ahead_of};
