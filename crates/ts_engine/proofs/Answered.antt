@@ -1,4 +1,4 @@
--- What `pipe` did with an input is how that was answered.
+-- From what `pipe` did to how an input was answered.
 use Rattle.std.specs.Prelude.{Option, Some}
 use Rattle.std.proofs.Common.{◌≡◌, ℕ, List, [], refl, subst}
 use Rattle.ts_spec.specs.declared.wire.WireLimits.{WireLimits}
@@ -14,7 +14,7 @@ use Rattle.ts_engine.proofs.Taking.{piped_alone, writes_of, executed_of, near_of
 use Rattle.ts_engine.proofs.Tops.{by_grammar}
 
 module _ {turns : Turns} (exchange : Exchange turns) (budget : ℕ) (outcome : Outcome) (reads reads' writes writes' : ℕ) (causes : HasCauses outcome.end reads reads' writes writes') (bytes : List ℕ) (left : Option (List ℕ)) where
-  -- an input that told its bytes
+  -- an input whose bytes are known
   pub input_answered : PipedBy turns exchange.limits budget outcome exchange.from exchange.to (Some bytes) left exchange.had exchange.has → InputAnswered exchange budget bytes left outcome reads reads' writes writes'
   input_answered piped = record {
     written = writes_of exchange budget outcome bytes left piped;
@@ -29,7 +29,7 @@ module _ {turns : Turns} (exchange : Exchange turns) (budget : ℕ) (outcome : O
       → InputAnswered exchange budget bytes left outcome reads reads' writes writes'
   answered_told told tells piped = input_answered (subst (λ (o : Option (List ℕ)). PipedBy turns exchange.limits budget outcome exchange.from exchange.to o left exchange.had exchange.has) tells piped)
 
--- a link was served
+-- a connection was served
 module _ {I O : Type 0} (views : StreamViews I O) (limits : WireLimits) (budget : ℕ) (link : Link I O) (from to : World) where
   pub is_served : Piped limits budget link.outcome from to (views.left link.came.input) (views.left link.back.input) (views.has link.came.out) (views.has link.back.out)
       → HasCauses link.outcome.end (views.reads link.came.input) (views.reads link.back.input) (views.writes link.came.out) (views.writes link.back.out)

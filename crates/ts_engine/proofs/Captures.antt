@@ -1,4 +1,4 @@
--- What was done with a capture is what is said of its end.
+-- From what a capture session did to what its end says.
 use Rattle.std.specs.Prelude.{Option, Some, None}
 use Rattle.std.specs.Io.KnownBytes.{IsAtEnd}
 use Rattle.std.proofs.Common.{◌≡◌, ◌≢◌, ◌⊎◌, inl, inr, Bool, true, false, nat_le, ℕ, ◌-◌, ◌<◌, List, [], ◌++◌, length, take, refl, sym, ◌∙◌, ap, subst, arith, length-append, append-nil}
@@ -29,7 +29,7 @@ module _ (exchange : Exchange plain) (last : Spot) (at : last.world ≡ exchange
     pub ends_as : ending bytes ≡ last.ending more
     ends_as = ap ending whole ∙ went.ending more
 
-    -- where nothing further is asked, all items had their replies
+    -- no item is left, so all were answered
     pub end_replied : (end : Capture) → last.items more ≡ [] → last.ending more ≡ end → EndReplied exchange bytes end
     end_replied end none is =
         let all : items exchange.limits bytes ≡ went.done = ap (items exchange.limits) whole ∙ went.items more ∙ ap (λ (l : List Item). went.done ++ l) none ∙ append-nil went.done in
@@ -44,7 +44,7 @@ module _ (exchange : Exchange plain) (last : Spot) (at : last.world ≡ exchange
         }
 
   module _ (bytes front : List ℕ) (left : Option (List ℕ)) (split : Splits bytes left front) where
-    -- the whole of the bytes was taken
+    -- all bytes were read
     pub all_taken : IsAtEnd left → bytes ≡ front ++ []
     all_taken at_end = split.1 ∙ ap (λ (l : List ℕ). front ++ l) (subst IsAtEnd split.2 at_end)
 
@@ -80,7 +80,7 @@ module _ (exchange : Exchange plain) (last : Spot) (at : last.world ≡ exchange
           grown = cut.grown;
         }
 
-    -- what was done over the bytes taken is what is said of the end
+    -- what was done with the bytes read is what the end says
     pub writes : (e : CaptureEnd) → Ends e left (beginning exchange.limits exchange.from) last exchange.had exchange.has front → Writes exchange bytes front e
     writes end.Ended ends =
         let whole = all_taken ends.2 in
@@ -94,7 +94,7 @@ module _ (exchange : Exchange plain) (last : Spot) (at : last.world ≡ exchange
     writes end.Memory ends = some_replied ends
     writes end.WriteFault ends = frame_cut ends
 
--- what was done from the empty database on with an input that told its bytes
+-- a run from the empty database, on an input whose bytes are known
 module _ (seen : Seen) (held : Held) (budget : ℕ) (e : CaptureEnd) (bytes : List ℕ) (left : Option (List ℕ)) where
   captured_of : Replayed seen.limits.wire budget e (exchange_of seen held).from (exchange_of seen held).to (Some bytes) left seen.had seen.has
       → (had has : List ℕ → Type 0) (given : Status) → ReportsIn (Some mode.Mux) (status_of e) (place_of e) given had has → (e ≡ end.Ended → given ≡ status.Ended)
@@ -133,7 +133,7 @@ spent_by None = refl
 spent_by (Some place) = refl
 
 module _ (budget : ℕ) (bytes : List ℕ) where
-  -- the whole of it was read below the budget
+  -- all of it was read, and it is shorter than the budget
   below_by : (end : Capture) → length bytes < budget → ending bytes ≡ end → status_captured budget bytes ≡ status_by false end
   below_by end below is =
       ap (λ (b : Bool). status_by b (ending (take budget bytes))) (lt-leb budget (length bytes) below)
@@ -149,7 +149,7 @@ module _ (budget : ℕ) (bytes : List ℕ) where
     split : Splits bytes left replayed.bytes
     split = splits bytes left replayed.bytes replayed.took
 
-    -- the first bytes of so many are those that were taken, and more
+    -- the first `budget` bytes are those that were read, and more
     first : take budget bytes ≡ replayed.bytes ++ take (budget - length replayed.bytes) split.0
     first = ap (take budget) split.1 ∙ first_bytes replayed.bytes split.0 budget replayed.within
 
@@ -178,7 +178,7 @@ module _ (budget : ℕ) (bytes : List ℕ) where
         ∙ sym (ap (λ (b : Bool). status_by b (ending (take budget bytes))) (le-leb budget (length bytes) (omega (arith, used, ap length split.1, length-append replayed.bytes split.0)))
         ∙ ap (status_by true) (ends_as exchange replayed.last replayed.world replayed.bytes ends.0 (take budget bytes) [] all ∙ ends.1.1.is)))
 
--- where no fault was counted, the status is the capture's, or want of memory
+-- no fault counter rose, so the status is that of the capture, or out of memory
 pub by_capture : (exchange : Exchange plain) (budget : ℕ) (e : CaptureEnd) (bytes : List ℕ) (told left : Option (List ℕ)) → told ≡ Some bytes
     → Replayed exchange.limits budget e exchange.from exchange.to told left exchange.had exchange.has → (reads reads' writes writes' : ℕ)
     → HasCauses e reads reads' writes writes' → (Rose reads reads' → ⊥) → (Rose writes writes' → ⊥) → (status_of e ≡ status.Memory) ⊎ (status_of e ≡ status_captured budget bytes)
@@ -186,7 +186,7 @@ by_capture exchange budget e bytes told left tells replayed reads reads' writes 
     let here = subst (λ (o : Option (List ℕ)). Replayed exchange.limits budget e exchange.from exchange.to o left exchange.had exchange.has) tells replayed in
     by_end budget bytes exchange e left here e refl here.ends reads reads' writes writes' causes no_read no_write
 
--- a capture has no status that only other words can have
+-- a capture never has a status of another mode
 pub record IsOther (given : Status) : Type 0 where
   pub no_usage : given ≢ status.Usage
   pub no_accept : given ≢ status.AcceptFault

@@ -1,4 +1,4 @@
--- What a session does, in each state that the database stands for.
+-- What a session does, in each state that the database represents.
 use Rattle.std.proofs.Common.{◌≡◌, ◌+◌, ℕ, List, refl, subst}
 use Rattle.std.specs.Prelude.{Option, None, IfNone}
 use Rattle.ts_resp.specs.Reading.{Reading}
@@ -6,19 +6,19 @@ use Rattle.ts_spec.specs.Wire.{Request}
 use Rattle.ts_db.specs.Held.{Held, Stock, Carries}
 use Rattle.ts_execution.specs.Turns.{Turns}
 use Rattle.ts_execution.proofs.Carried.{carries_as}
-use Rattle.ts_engine.specs.declared.go.Go.{Go}
+use Rattle.ts_engine.specs.declared.replying.Go.{Go}
 use Rattle.ts_engine.specs.Session.{Spot, TurnedBy, IsEndBy, Replied}
 
--- what holds of a session that goes on
+-- a fact about a session that continues
 pub if_none : {T P : Type 0} (o : Option T) → o ≡ None → IfNone o P → P
 if_none {T} {P} o is holds = subst (λ (x : Option T). IfNone x P) is holds
 
 module _ (turns : Turns) where
-  -- where a session stands in a state
+  -- the state of a session on a database state
   abbrev pub spot_on : (reader : Reading) (executed : ℕ) (world : turns.World) → Spot turns
   spot_on reader executed world = record { reader = reader; executed = executed; world = world }
 
-  -- a request had its turn, and this was written of its reply
+  -- a request was handled, and this much of its reply was written
   pub replies_each : (answer : Option Go) (request : Request) (reader : Reading) (executed executed' : ℕ) (world world' : Held → turns.World) (old new : Stock) (had has : List ℕ → Type 0) (reply : List ℕ)
       → Carries old new (λ from to. TurnedBy turns answer request reply (world from) (world' to) had has)
       → IsEndBy answer request → executed' ≡ executed + 1

@@ -1,4 +1,4 @@
--- A command that was executed, as the laws of a journal speak of it.
+-- An executed command, in the terms of a journal's laws.
 use Rattle.std.proofs.Common.{◌≡◌, inl, inr, ℕ, false, List, [], ◌∷◌, map, refl, sym, ◌∙◌, subst}
 use Rattle.ts_spec.specs.Command.{Triple, Command, Create, Alter, Add, Madd, Incr, DelRange, CreateRule, DeleteRule, Range, MRange, Get, MGet, QueryIndex, InfoOf, Ping, Echo, Quit, Drop, Exists}
 use Rattle.ts_spec.specs.Replies.{listed, item_reply}
@@ -15,11 +15,11 @@ use Rattle.ts_journal.specs.Replay.{IsTaken, DoesOne, DoAll, IsDone}
 use Rattle.ts_journal.specs.Replay as journal
 use Rattle.ts_execution.specs.Turn.{IsStep, HasItem, HaveItems, IsAnswered}
 
--- what is told of one item is the reply of that
+-- the only item has the only reply
 only-reply : (items : List Answer) (item : Answer) (reply : Reply) → items ≡ item ∷ [] → map item_reply items ≡ reply ∷ [] → item_reply item ≡ reply
 only-reply items item reply is says = (cc)
 
--- where the item is a number a sample was written, and else the state stays
+-- if the item is a number a sample was written, otherwise the state stays
 does-item : (limits : Limits) (reading : ℕ) (t : Triple) (old new : State) (item : Answer)
     → item_of (triple_step limits old reading t.key t.at t.value).response ≡ item ∷ []
     → (is_written item ≡ false → (triple_step limits old reading t.key t.at t.value).state ≡ old)
@@ -46,7 +46,7 @@ do-all limits reading (t ∷ ts) old new items have =
 as-step : (o : Outcome) (old new : Held) (reply : Reply) → IsStep o old reply new → journal.IsStep o reply new.state
 as-step o old new reply is = record { says = is.says; state = is.state }
 
--- an answer of a command is one that a journal's laws speak of
+-- the laws of a journal cover how the command was answered
 pub is-done : (c : Command) (reading : ℕ) (old new : Held) (reply : Reply) → IsAnswered reading c old reply new → IsDone old.limits reading c old.state reply new.state
 is-done (Madd triples) reading old new reply is =
     subst (λ (r : Reply). DoAll old.limits reading triples old.state (items_of r) new.state) (sym is.says) (do-all old.limits reading triples old.state new.state is.items is.each)

@@ -1,4 +1,4 @@
--- Frames that are written one after another, and one of which only a front is written.
+-- Frames written one after another, the last one perhaps only in part.
 use Rattle.std.proofs.Common.{◌≡◌, ℕ, ◌+◌, ◌-◌, List, [], ◌∷◌, ◌++◌, length, take, drop, refl, sym, ◌∙◌, ap, subst, append_assoc, length-append, length-drop, arith}
 use Rattle.std.proofs.Math.Seq.{take-append-add}
 use Rattle.std.proofs.lemmas.List.{take_all, take-append-drop, take-append-le}
@@ -12,7 +12,7 @@ pub on_err : {T E P : Type 0} (result : Result T E) → P → OnErr result P
 on_err (Ok x) p = tt
 on_err (Err e) p = p
 
--- the first bytes were written, and a front of the others
+-- the first bytes were written, and a prefix of the rest
 front_after : (had between has : List ℕ → Type 0) (first others : List ℕ) → Grows had between first → GrowsByFront between has others → GrowsByFront had has (first ++ others)
 front_after had between has first others grown front =
     let within = front.within in
@@ -22,12 +22,12 @@ front_after had between has first others grown front =
       grows = subst (λ l. Grows had has l) (sym (take-append-add first others front.len)) (grows_twice had between has first (take front.len others) grown front.grows);
     }
 
--- ---- a header with the first of its bytes, and the others
+-- ---- the header with the first bytes, then the rest
 
 written_apart : (header bytes : List ℕ) (first : ℕ) → (header ++ take first bytes) ++ drop first bytes ≡ header ++ bytes
 written_apart header bytes first = append_assoc header (take first bytes) (drop first bytes) ∙ ap (λ l. header ++ l) (take-append-drop first bytes)
 
--- a front of the first ones was written
+-- a prefix of the first part was written
 pub front_of_first : (had has : List ℕ → Type 0) (header bytes written : List ℕ) (first : ℕ) → written ≡ header ++ take first bytes
     → GrowsByFront had has written → GrowsByFront had has (header ++ bytes)
 front_of_first had has header bytes written first is front =
@@ -38,7 +38,7 @@ front_of_first had has header bytes written first is front =
       grows = subst (λ l. Grows had has l) (sym (take-append-le front.len written (drop first bytes) within)) front.grows;
     })
 
--- the first ones were written, and a front of the others
+-- the first part was written, and a prefix of the rest
 pub front_of_others : (had between has : List ℕ → Type 0) (header bytes written : List ℕ) (first : ℕ) → written ≡ header ++ take first bytes
     → Grows had between written → GrowsByFront between has (take (length bytes - first) (drop first bytes)) → GrowsByFront had has (header ++ bytes)
 front_of_others had between has header bytes written first is grown front =

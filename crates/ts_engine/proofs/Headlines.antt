@@ -1,4 +1,4 @@
--- What `pipe` did is what the headline says.
+-- From what `pipe` did to what the headline says.
 use Rattle.std.specs.Prelude.{Option, Some, None}
 use Rattle.std.specs.Io.KnownBytes.{Consumes, IsAtEnd}
 use Rattle.std.proofs.Common.{◌≡◌, inl, inr, true, false, if◌then◌else◌, take, ℕ, List, [], ◌∷◌, ◌++◌, length, refl, sym, ◌∙◌, ap, subst, arith, append_assoc, length-append}
@@ -16,7 +16,7 @@ use Rattle.ts_engine.specs.Headline.{requests, asks_to_quit, ending, Exchange, A
 use Rattle.ts_engine.proofs.Quits.{has_quit-append, until_quit-append, until_quit-last, has_quit-last}
 use Rattle.ts_engine.proofs.Sessions.{grows_as}
 
--- an input that told its bytes still tells what is left
+-- an input whose bytes are known: what is left of it is known too
 abbrev pub Splits : List ℕ → Option (List ℕ) → List ℕ → Type 0
 Splits bytes left front = (rest : List ℕ) × (bytes ≡ front ++ rest) × (left ≡ Some rest)
 
@@ -26,7 +26,7 @@ splits bytes (Some rest) front took = (rest, took, refl)
 
 module _ {turns : Turns} (exchange : Exchange turns) (last : Spot turns) (at : last.world ≡ exchange.to) where
   module _ (front tail : List ℕ) (went : Went (beginning_of turns exchange.limits exchange.from) last exchange.had exchange.has front tail) where
-    -- the requests in the bytes and whatever follows them
+    -- the requests in the bytes and in whatever follows them
     follows : (more : List ℕ) → stream_at exchange.limits 0 (front ++ more) ≡ then_all went.done (stream_of last.reader more)
     follows more = went.stream more
 
@@ -39,16 +39,16 @@ module _ {turns : Turns} (exchange : Exchange turns) (last : Spot turns) (at : l
     its_ending : (more : List ℕ) → ending exchange.limits (front ++ more) ≡ ending_of (stream_of last.reader more)
     its_ending more = ap ending_of (follows more) ∙ ending_of-then_all went.done (stream_of last.reader more)
 
-    -- they are all requests, where no further one follows
+    -- no request follows, so these are all
     pub all_requests : (bytes more : List ℕ) → bytes ≡ front ++ more → requests_of (stream_of last.reader more) ≡ [] → requests exchange.limits bytes ≡ requests_in went.done
     all_requests bytes more whole none =
         ap (requests exchange.limits) whole ∙ first_requests more ∙ ap (λ (l : List Request). requests_in went.done ++ until_quit l) none ∙ append-nil (requests_in went.done)
 
-    -- and so many were executed
+    -- this many requests were executed
     pub all_executed : (bytes more : List ℕ) → bytes ≡ front ++ more → requests_of (stream_of last.reader more) ≡ [] → last.executed ≡ length (requests exchange.limits bytes)
     all_executed bytes more whole none = omega (arith, went.executed, ap length (all_requests bytes more whole none), length-map went.done (λ (p : Placed). p.request))
 
-    -- all requests had their turns, where no further one follows
+    -- no request follows, so all were handled
     pub all_answered : (bytes more : List ℕ) → bytes ≡ front ++ more → requests_of (stream_of last.reader more) ≡ [] → AllAnswered exchange bytes tail
     all_answered bytes more whole none = record {
       text = went.text;
@@ -59,12 +59,12 @@ module _ {turns : Turns} (exchange : Exchange turns) (last : Spot turns) (at : l
       grown = went.grown;
     }
 
-    -- none of them is QUIT, where no further one follows
+    -- no request follows, and none is QUIT
     pub no_quit : (bytes more : List ℕ) → bytes ≡ front ++ more → requests_of (stream_of last.reader more) ≡ [] → asks_to_quit exchange.limits bytes ≡ false
     no_quit bytes more whole none =
         ap (asks_to_quit exchange.limits) whole ∙ ap has_quit (its_requests more) ∙ has_quit-append (requests_in went.done) (requests_of (stream_of last.reader more)) went.goes_on ∙ ap has_quit none
 
-    -- the ending of the bytes, where the rest of the stream is known
+    -- how the bytes end, from the rest of the stream
     pub ends_as : (bytes more : List ℕ) (stream : Stream) → bytes ≡ front ++ more → stream_of last.reader more ≡ stream → ending exchange.limits bytes ≡ ending_of stream
     ends_as bytes more stream whole is = ap (ending exchange.limits) whole ∙ its_ending more ∙ ap ending_of is
 
@@ -77,7 +77,7 @@ its_own_ending None = refl
 its_own_ending (Some place) = refl
 
 module _ {turns : Turns} (exchange : Exchange turns) (last : Spot turns) (at : last.world ≡ exchange.to) (bytes front : List ℕ) (left : Option (List ℕ)) (split : Splits bytes left front) where
-  -- the whole of the bytes was taken
+  -- all bytes were read
   whole : IsAtEnd left → (bytes ≡ front ++ []) × (left ≡ Some [])
   whole at_end =
       let none : split.0 ≡ [] = subst IsAtEnd split.2 at_end in
@@ -113,7 +113,7 @@ module _ {turns : Turns} (exchange : Exchange turns) (last : Spot turns) (at : l
         grown = went.grown;
       }
 
-  -- the requests of the bytes, with the last one that had its turn
+  -- the requests in the bytes, and the last one that was handled
   pub with_last : {said : OfLast turns} (cut : LastReply said (beginning_of turns exchange.limits exchange.from) last exchange.had exchange.has front)
       → requests_of (stream_at exchange.limits 0 bytes) ≡ requests_in cut.done ++ cut.last.request ∷ requests_of (stream_of last.reader split.0)
   with_last cut =
@@ -137,7 +137,7 @@ module _ {turns : Turns} (exchange : Exchange turns) (last : Spot turns) (at : l
     grown = cut.grown;
   }
 
-  -- the last request that had its turn is the last one of all
+  -- the last request that was handled is the last of all
   quitted_requests : (quitted : Quitted (beginning_of turns exchange.limits exchange.from) last exchange.had exchange.has front) → requests exchange.limits bytes ≡ requests_in quitted.reply.done ++ quitted.reply.last.request ∷ []
   quitted_requests quitted =
       ap until_quit (with_last quitted.reply)
@@ -185,7 +185,7 @@ module _ {turns : Turns} (exchange : Exchange turns) (last : Spot turns) (at : l
     answered = all_answered exchange last at front _ cut.went bytes split.0 split.1 (ap requests_of (cut.broken split.0));
   }
 
-  -- what was done over the bytes taken is what the headline says of its end
+  -- what was done with the bytes read is what the headline says of the end
   abbrev pub writes : (budget : ℕ) (e : End) → (e ≡ end.Budget → length front ≡ budget) → Ends e left (beginning_of turns exchange.limits exchange.from) last exchange.had exchange.has front
       → Writes exchange budget bytes left e
   writes budget end.Ended spent (inl all) = inl (whole_answered Ended refl refl all.went all.ended all.at_end)
@@ -202,7 +202,7 @@ module _ {turns : Turns} (exchange : Exchange turns) (last : Spot turns) (at : l
   writes budget end.WriteFault spent (inl cut) = inl (last_cut cut)
   writes budget end.WriteFault spent (inr cut) = inr (fault_cut cut)
 
-  -- so many requests as were executed had their turns
+  -- as many requests were handled as were executed
   pub executed_writes : (budget : ℕ) (e : End) (spent : e ≡ end.Budget → length front ≡ budget) (ends : Ends e left (beginning_of turns exchange.limits exchange.from) last exchange.had exchange.has front)
       → last.executed ≡ count_done exchange budget bytes left e (writes budget e spent ends)
   executed_writes budget end.Ended spent (inl all) =

@@ -1,4 +1,4 @@
--- What was done by a run with a journal.
+-- The journal after a run: its content, and what each prefix of it loads to.
 use Rattle.std.specs.Prelude.{All, Option, Some}
 use Rattle.std.proofs.Common.{◌≡◌, ◌⊎◌, inl, inr, ◌≤◌, ◌<◌, ◌+◌, ◌-◌, ℕ, Bool, true, false, if◌then◌else◌, min, List, [], ◌∷◌, ◌++◌, length, take, refl, sym, ◌∙◌, ap, subst, arith, append_assoc, append-nil, length-take, take-take}
 use Rattle.std.proofs.lemmas.List.{take_all, take-append-le}
@@ -25,7 +25,7 @@ use Rattle.ts_engine.proofs.Restorings.{GrowsOn, RunFront, none-done, added-to, 
 
 -- ---- the requests of an input
 
--- they are within the limits
+-- they are within the wire limits
 until-within : (limits : WireLimits) (asked : List Request) → All (IsWithin limits) asked → All (IsWithin limits) (until_quit asked)
 until-within limits [] all = all
 until-within limits (request ∷ asked) all =
@@ -38,7 +38,7 @@ until-within limits (request ∷ asked) all =
 pub input-within : (limits : WireLimits) (bytes : List ℕ) → All (IsWithin limits) (requests limits bytes)
 input-within limits bytes = until-within limits (requests_of (stream_at limits 0 bytes)) (requests-within limits 0 0 Start bytes tt)
 
--- those of a front come first
+-- the requests of a prefix come first
 front-requests : (stream other : Stream) → IsFront stream other → (others : List Request) × (requests_of other ≡ requests_of stream ++ others)
 front-requests (Then request place rest) other front =
     let more = front-requests rest front.0 front.2 in
@@ -59,7 +59,7 @@ first-requests limits bytes front rest split none =
 
 -- ---- the run of an input
 
--- the first requests in these bytes had their turns, up to the last world
+-- the first requests in these bytes were handled, up to the last world
 pub record FirstRun (exchange : Exchange journaled) (bytes : List ℕ) : Type 0 where
   pub done : List Request
   pub others : List Request
@@ -93,9 +93,9 @@ module _ (exchange : Exchange journaled) (budget : ℕ) (bytes : List ℕ) (left
   }
   first-run end.WriteFault (inr cut) = all-run cut.answered.text cut.answered.run
 
--- ---- what the journal has, and what its fronts load to
+-- ---- the content of the journal, and what its prefixes load to
 
--- a front of what the first requests did is one of what all did
+-- a prefix of the journal after the first requests is one after all requests
 widened : (limits : Limits) (from : Kept) (done others asked : List Request) (front : List ℕ) → asked ≡ done ++ others → RunFront limits from done front → RunFront limits from asked front
 widened limits from done others asked front split part = record {
   done = part.done;
@@ -109,7 +109,7 @@ widened limits from done others asked front split part = record {
   loads = part.loads;
 }
 
--- the content, and that each of its fronts loads so
+-- the content, and that each of its prefixes loads like this
 pub record Told (limits : Limits) (from : Kept) (asked : List Request) (least : ℕ) (content : Option (List ℕ)) : Type 0 where
   pub journal : List ℕ
   pub told : content ≡ Some journal
@@ -140,7 +140,7 @@ take-twice n m l = go (within-or-past n m)
         let is : min n m ≡ m = omega (arith, past) in
         take_all n (take m l) (omega (arith, past, length-take m l)) ∙ ap (λ (i : ℕ). take i l) (sym is)
 
--- what others did after these turns
+-- what later requests did
 after-run : (limits : Limits) (from mid : Kept) (done asked : List Request) (text front : List ℕ) → Runs IsKept from done text mid → RunFront limits mid asked front → RunFront limits from (done ++ asked) front
 after-run limits from mid done asked text front run rest = record {
   done = done ++ rest.done;
@@ -156,7 +156,7 @@ after-run limits from mid done asked text front run rest = record {
 
 module _ (limits : Limits) (from mid : Kept) (done others : List Request) (last : Request) (text reply : List ℕ) (run : Runs IsKept from done text mid) (loaded more : List ℕ) (to : Kept)
     (its : mid.content ≡ Some (loaded ++ more)) (torn : IsTorn mid last reply to) (grown : GrowsOn limits (loaded ++ more) mid.held to.held torn.record_) where
-  -- the journal with a front of the last record, or with the whole of it
+  -- the journal with a prefix of the last record, or all of it
   torn-part : (m : ℕ) → (m < length torn.record_) ⊎ (length torn.record_ ≤ m) → RunFront limits mid (last ∷ others) ((loaded ++ more) ++ take m torn.record_)
   torn-part m (inl less) =
       none-done limits mid (last ∷ others) (loaded ++ more) ((loaded ++ more) ++ take m torn.record_) its (take-append_seam (loaded ++ more) (take m torn.record_)) (grown.1.torn m less)
@@ -175,7 +175,7 @@ module _ (limits : Limits) (from mid : Kept) (done others : List Request) (last 
     loads = ap (λ (l : List ℕ). load limits ((loaded ++ more) ++ l)) (take_all m torn.record_ all) ∙ grown.1.whole;
   }
 
-  -- a front that ends before the last record, or in it
+  -- a prefix that ends before the last record or in it
   torn-fronts : ((n : ℕ) → length loaded ≤ n → RunFront limits from done (take n (loaded ++ more))) → (n : ℕ) → length loaded ≤ n → (n < length (loaded ++ more)) ⊎ (length (loaded ++ more) ≤ n)
       → RunFront limits from (done ++ last ∷ others) (take n ((loaded ++ more) ++ take torn.kept torn.record_))
   torn-fronts fronts n past (inl before) =
@@ -206,7 +206,7 @@ module _ (limits : Limits) (bounded : IsBounded limits.wire) (exchange : Exchang
         restores = λ n past. widened limits exchange.from first.done first.others (requests exchange.limits bytes) (take n (loaded ++ done.more)) first.first (done.fronts n past);
       }
 
-  -- the journal failed with a front of the next record
+  -- the journal failed within the next record
   pub told-torn : Unkept exchange bytes → Told limits exchange.from (requests exchange.limits bytes) (length loaded) exchange.to.content
   told-torn unkept =
       let all : List Request = unkept.done ++ unkept.last ∷ unkept.others in

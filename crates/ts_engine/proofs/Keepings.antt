@@ -1,4 +1,4 @@
--- A turn with its record, as a journal has it.
+-- A handled request and its record in a journal.
 use Rattle.std.proofs.Common.{◌≡◌, ℕ, Bool, true, List, refl, inl, inr}
 use Rattle.std.specs.Prelude.{Option}
 use Rattle.std.specs.Io.KnownBytes.{append_known}
@@ -13,7 +13,7 @@ use Rattle.ts_execution.proofs.Carried.{carries_as}
 
 module _ (words : Request) (written record_ : List ℕ) (readings left content content' : Option (List ℕ)) (failed : Bool) (old new : Stock)
     (recorded : Carries old new (λ from to. Recorded words (record { held = from; readings = readings }) written record_ (record { held = to; readings = left }))) where
-  -- its reply was written
+  -- the whole reply was written
   pub kept-whole : (had has : List ℕ → Type 0) → content' ≡ append_known content record_ → Grows had has written
       → Carries old new (λ from to. IsKept (kept readings content failed from) words written (kept left content' failed to) × Grows had has written)
   kept-whole had has all grown =
@@ -21,7 +21,7 @@ module _ (words : Request) (written record_ : List ℕ) (readings left content c
       (λ from to. IsKept (kept readings content failed from) words written (kept left content' failed to) × Grows had has written)
       (λ from to is. (record { record_ = record_; recorded = is; content = all; failed = refl }, grown)) recorded
 
-  -- a front of it was
+  -- a prefix of the reply was written
   pub kept-cut : (had has : List ℕ → Type 0) → content' ≡ append_known content record_ → GrowsByFront had has written
       → Carries old new (λ from to. CutShort keeping words written (kept readings content failed from) (kept left content' failed to) had has)
   kept-cut had has all front =

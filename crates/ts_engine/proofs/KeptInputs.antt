@@ -1,4 +1,4 @@
--- How an input is answered over a journal.
+-- How an input is answered with a journal.
 use Rattle.std.specs.Prelude.{Option, Some}
 use Rattle.std.proofs.Common.{◌≡◌, ◌⊎◌, inl, inr, ◌≤◌, ◌<◌, ℕ, Bool, true, false, nat_le, if◌then◌else◌, List, length, take, refl, sym, ◌∙◌, ap, subst, arith}
 use Rattle.std.proofs.lemmas.Bool.{le-leb, lt-leb}
@@ -9,8 +9,8 @@ use Rattle.ts_words.specs.declared.status.Status.{Status}
 use Rattle.ts_words.specs.declared.status.Status.TheVariants as status
 use Rattle.ts_execution.specs.Keeping.{Kept, kept, JournalFaults, keeping, journaled}
 use Rattle.ts_execution.proofs.Carried.{carries_as}
-use Rattle.ts_engine.specs.declared.journal_end.JournalEnd.{JournalEnd}
-use Rattle.ts_engine.specs.declared.journal_end.JournalEnd.TheVariants as ended
+use Rattle.ts_engine.specs.declared.kept.JournalEnd.{JournalEnd}
+use Rattle.ts_engine.specs.declared.kept.JournalEnd.TheVariants as ended
 use Rattle.ts_engine.specs.declared.piped.End.{End}
 use Rattle.ts_engine.specs.declared.piped.End.TheVariants as end
 use Rattle.ts_engine.specs.declared.piped.Outcome.{Outcome}
@@ -25,7 +25,7 @@ use Rattle.ts_engine.proofs.Unkepts.{unkept_of, failed_causes}
 
 -- ---- the status
 
--- that of an input below the budget, or of one that is not
+-- the status of an input, by whether it is shorter than the budget
 pub piped-status : (limits : WireLimits) (budget : ℕ) (bytes : List ℕ) (given : Status)
     → (length bytes < budget → IsMemoryOr given (status_by (asks_to_quit limits bytes) (ending limits bytes)))
     → (budget ≤ length bytes → IsMemoryOr given (status_cut (asks_to_quit limits (take budget bytes)) (ending limits (take budget bytes))))
@@ -46,7 +46,7 @@ piped-status limits budget bytes given below past = go (either (length bytes) bu
 
 -- ---- causes
 
--- where the journal did not fail
+-- the journal did not fail
 pub unfailed-causes : (e : End) (reads reads' writes writes' faults faults' : ℕ) (own own' : JournalFaults) → own.count ≡ faults → own'.count ≡ faults' → own'.failed ≡ false
     → HasCausesBy keeping e reads reads' writes writes' own own' → HasJournalCauses (ended.Answered e) reads reads' writes writes' faults faults'
 unfailed-causes e reads reads' writes writes' faults faults' own own' before after fine causes =
@@ -72,7 +72,7 @@ unfailed-causes e reads reads' writes writes' faults faults' own own' before aft
     not-journal end.Memory is = (cc)
     not-journal end.Budget is = (cc)
 
--- where it did
+-- the journal failed
 pub failed-causes : (e : End) (reads reads' writes writes' faults faults' : ℕ) (own own' : JournalFaults) → own.count ≡ faults → own'.count ≡ faults' → own.failed ≡ false → own'.failed ≡ true
     → HasCausesBy keeping e reads reads' writes writes' own own' → HasJournalCauses ended.NotKept reads reads' writes writes' faults faults'
 failed-causes e reads reads' writes writes' faults faults' own own' before after fine failed causes =
@@ -119,7 +119,7 @@ abbrev pub end-by : (failed : Bool) → End → JournalEnd
 end-by true e = ended.NotKept
 end-by false e = ended.Answered e
 
--- what the journal counts, by whether it failed
+-- the fault counter of the journal, by whether it failed
 abbrev pub counts : (failed : Bool) → ℕ → JournalFaults
 counts failed n = record { failed = failed; count = n }
 
@@ -142,7 +142,7 @@ module _ (limits : WireLimits) (from : Kept) (fine : from.failed ≡ false) (to 
   answered-by false budget outcome bytes told left tells reads reads' writes writes' faults faults' piped causes =
       answered-unfailed exchange-by budget outcome bytes told left tells reads reads' writes writes' faults faults' (counts false faults) (counts false faults') refl refl (is false) refl piped causes
 
--- what was done with an input, for each state that the database stood for
+-- what was done with an input, for each state that the database represented
 pub input-answered : (old new : Stock) (limits : WireLimits) (budget : ℕ) (outcome : Outcome) (readings readings' content content' told left : Option (List ℕ)) (had has : List ℕ → Type 0) (failed : Bool)
     (reads reads' writes writes' faults faults' : ℕ)
     → Carries old new (λ from to. PipedBy keeping limits budget outcome (kept readings content false from) (kept readings' content' failed to) told left had has)

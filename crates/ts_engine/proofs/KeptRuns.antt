@@ -1,4 +1,4 @@
--- What was done by a run with a journal.
+-- From what a run with a journal did to what its end says.
 use Rattle.std.specs.Prelude.{Option, Ok, Err}
 use Rattle.std.proofs.Common.{◌≡◌, ◌≢◌, ◌⊎◌, inl, inr, ◌<◌, ℕ, Bool, true, false, if◌then◌else◌, List, length, take, refl, sym, ◌∙◌, ap, subst, arith, length-take}
 use Rattle.std.proofs.lemmas.Bool.{le-leb, lt-leb}
@@ -13,8 +13,8 @@ use Rattle.ts_journal.proofs.Loads.{load-within}
 use Rattle.ts_words.specs.declared.status.Status.{Status}
 use Rattle.ts_words.specs.declared.status.Status.TheVariants as status
 use Rattle.ts_execution.specs.Keeping.{kept, journaled}
-use Rattle.ts_engine.specs.declared.journal_end.JournalEnd.{JournalEnd}
-use Rattle.ts_engine.specs.declared.journal_end.JournalEnd.TheVariants as ended
+use Rattle.ts_engine.specs.declared.kept.JournalEnd.{JournalEnd}
+use Rattle.ts_engine.specs.declared.kept.JournalEnd.TheVariants as ended
 use Rattle.ts_engine.specs.declared.piped.End.{End}
 use Rattle.ts_engine.specs.declared.piped.End.TheVariants as end
 use Rattle.ts_engine.specs.Answered.{IsMemoryOr}
@@ -24,17 +24,17 @@ use Rattle.ts_engine.specs.Status as input
 use Rattle.ts_engine.proofs.Journalings.{Told, first-run, told-first, told-torn}
 use Rattle.ts_engine.proofs.Restorings.{RunFront}
 
--- ---- what the journal has
+-- ---- the content of the journal
 
 module _ (run : Journals) (bounded : IsBounded run.seen.limits.wire) (bytes : List ℕ) (m : State) (place : ℕ) (loads : load run.seen.limits run.journal ≡ Loads m place) where
-  -- its first bytes are whole changes
+  -- its first bytes are complete changes
   its-size : length (take place run.journal) ≡ place
   its-size = omega (arith, length-take place run.journal, load-within run.seen.limits run.journal m place loads)
 
   its-loads : LoadsTo run.seen.limits (take place run.journal) m
   its-loads = whole-loads run.seen.limits run.journal m place loads ∙ ap (λ (n : ℕ). Loads m n) (sym its-size)
 
-  -- a front of it
+  -- a prefix of it
   as-front : (exchange : Exchange journaled) (front : List ℕ) → RunFront run.seen.limits exchange.from (requests exchange.limits bytes) front → FrontRestores exchange run.seen.limits bytes front
   as-front exchange front part = record {
     done = part.done;
@@ -61,7 +61,7 @@ module _ (run : Journals) (bounded : IsBounded run.seen.limits.wire) (bytes : Li
     restores = λ n past. as-front (exchange_over run m place failed held) (take n told.journal) (told.restores n (omega (arith, past, its-size)));
   }
 
-  -- what was written for the input, with the journal
+  -- the output for the input, together with the journal
   pub did-on : (untouched : Type 0) (budget : ℕ) (left : Option (List ℕ)) (e : JournalEnd) (held : Held) → Wrote e (λ failed. exchange_over run m place failed held) budget bytes left
       → Did run untouched budget bytes left e
   did-on untouched budget left (ended.Answered e) held written =
@@ -77,18 +77,18 @@ module _ (run : Journals) (bounded : IsBounded run.seen.limits.wire) (bytes : Li
   did-on untouched budget left ended.TooLong held written = absurd written
   did-on untouched budget left ended.NoMemory held written = absurd written
 
--- that of a journal below the budget
+-- the status for a journal shorter than the budget
 pub kept-below : (limits : Limits) (budget : ℕ) (journal bytes : List ℕ) (l : Load) → length journal < budget → load limits journal ≡ l
     → status_kept limits budget journal bytes ≡ status_loaded l (status_piped limits.wire budget bytes)
 kept-below limits budget journal bytes l below is =
     ap (λ (b : Bool). if b then status.Budget else status_loaded (load limits journal) (status_piped limits.wire budget bytes)) (lt-leb budget (length journal) below)
     ∙ ap (λ (x : Load). status_loaded x (status_piped limits.wire budget bytes)) is
 
--- the state that a journal loaded to, under these limits
+-- the state that a journal loads to, under these limits
 held-is : (held : Held) (limits : Limits) → held.limits ≡ limits → held ≡ record { limits = limits; state = held.state }
 held-is held limits same = ap (λ (l : Limits). record { limits = l; state = held.state }) same
 
--- the input was answered over what the journal loaded to
+-- the input was answered on the loaded database
 module _ (limits : Limits) (readings readings' between after left : Option (List ℕ)) (had has : List ℕ → Type 0) (journal bytes : List ℕ) (budget : ℕ) (e : JournalEnd) (mid to : Held) (opened : IsOpened (Ok tt) limits.wire budget (record { limits = limits; state = empty }) mid journal between)
     (reads reads' writes writes' faults faults' : ℕ)
     (answered : IsAnswered e (λ failed. record { limits = limits.wire; from = kept readings between false mid; to = kept readings' after failed to; had = had; has = has })
@@ -110,7 +110,7 @@ module _ (limits : Limits) (readings readings' between after left : Option (List
       subst (λ (s : Status). IsMemoryOr (status_of e) s) (sym (kept-below limits budget journal bytes (Loads mid.state opened.0) opened.4 opened.1))
       (answered.complete no_read no_write no_fault)
 
--- where the journal was not loaded
+-- the journal was not loaded
 pub did-not : (run : Journals) (untouched : Type 0) (budget : ℕ) (bytes : List ℕ) (left : Option (List ℕ)) (e : JournalEnd) (to : Held) → untouched
     → IsOpened (Err e) run.seen.limits.wire budget (record { limits = run.seen.limits; state = empty }) to run.journal run.journal_left → Did run untouched budget bytes left e
 did-not run untouched budget bytes left (ended.Answered e) to same opened = absurd opened
@@ -122,7 +122,7 @@ did-not run untouched budget bytes left ended.NoMemory to same opened = (same, o
 
 -- ---- the status
 
--- where the journal was not loaded, and its count of faults did not rise
+-- the journal was not loaded, and its fault counter did not rise
 pub complete-not : (limits : Limits) (budget : ℕ) (journal bytes : List ℕ) (left : Option (List ℕ)) (e : JournalEnd) (to : Held) (faults faults' : ℕ)
     → IsOpened (Err e) limits.wire budget (record { limits = limits; state = empty }) to journal left → (is_unloaded (Err e) ≡ true → Rose faults faults') → (Rose faults faults' → ⊥)
     → IsMemoryOr (status_of e) (status_kept limits budget journal bytes)
@@ -137,7 +137,7 @@ complete-not limits budget journal bytes left ended.NoMemory to faults faults' o
 
 -- ---- causes
 
--- a journal that was not loaded touches no other count
+-- a journal that was not loaded changes no other counter
 pub causes-not : (e : JournalEnd) (reads writes faults faults' : ℕ) → IsUnopened e → (is_unloaded (Err e) ≡ true → Rose faults faults') → (is_unloaded (Err e) ≡ false → faults' ≡ faults)
     → HasJournalCauses e reads reads writes writes faults faults'
 causes-not (ended.Answered e) reads writes faults faults' is rose stays = absurd is
@@ -175,14 +175,14 @@ causes-not ended.NoMemory reads writes faults faults' is rose stays = record {
   unfailed = λ other. stays refl;
 }
 
--- counts of faults that rose before, or after
+-- fault counters that rose before or after
 pub causes-on : (e : JournalEnd) (reads reads' writes writes' faults mid faults' : ℕ) → mid ≡ faults → HasJournalCauses e reads reads' writes writes' mid faults'
     → HasJournalCauses e reads reads' writes writes' faults faults'
 causes-on e reads reads' writes writes' faults mid faults' same causes = subst (λ (n : ℕ). HasJournalCauses e reads reads' writes writes' n faults') same causes
 
--- ---- what is told of it
+-- ---- the reported status
 
--- a run with a journal has no status that only other words can have
+-- a run with a journal never has a status of another mode
 pub record IsOther (given : Status) : Type 0 where
   pub no_usage : given ≢ status.Usage
   pub no_accept : given ≢ status.AcceptFault
@@ -209,7 +209,7 @@ pub never : (e : JournalEnd) (meant given : Status) → meant ≡ status_of e �
 never e meant given means (inl failed) = record { no_usage = λ is. (cc); no_accept = λ is. (cc); no_capture = λ is. (cc) }
 never e meant given means (inr same) = subst IsOther (sym (same ∙ means)) (never-meant e)
 
--- a status of a read or a write is that of the input's end
+-- the status of a read or write fault is that of the input's end
 pub read-meant : (e : JournalEnd) → status_of e ≡ status.ReadFault → e ≡ ended.Answered end.ReadFault
 read-meant (ended.Answered end.ReadFault) is = refl
 read-meant (ended.Answered end.Ended) is = absurd (cc)
@@ -238,7 +238,7 @@ write-meant (ended.Broken place) is = absurd (cc)
 write-meant ended.TooLong is = absurd (cc)
 write-meant ended.NoMemory is = absurd (cc)
 
--- a status that is given and is none of a write is the one meant
+-- a reported status other than a write fault is the intended one
 pub given-as : (e : JournalEnd) (wanted meant given : Status) → wanted ≢ status.WriteFault → given ≡ wanted → meant ≡ status_of e → (given ≡ status.WriteFault) ⊎ (given ≡ meant) → status_of e ≡ wanted
 given-as e wanted meant given other is means (inl failed) = absurd (other (sym is ∙ failed))
 given-as e wanted meant given other is means (inr same) = sym (same ∙ means) ∙ is

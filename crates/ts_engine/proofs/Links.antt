@@ -1,4 +1,4 @@
--- How the serving of links adds up.
+-- Serving connections adds up.
 use Rattle.std.specs.Prelude.{Option, None, Some}
 use Rattle.std.specs.Option.{option_map}
 use Rattle.std.proofs.Common.{◌≡◌, ℕ, ◌+◌, ◌≤◌, List, [], ◌∷◌, ◌++◌, length, map, take, refl, sym, ◌∙◌, ap, subst, arith, append_assoc, append-nil, length-append}
@@ -18,7 +18,7 @@ use Rattle.ts_engine.specs.Asked.{AllServed}
 use Rattle.ts_engine.specs.Headline.{Seen}
 use Rattle.ts_engine.specs.Serving.{line_at, Link, lines_from, StreamViews, Handed, IsServed, AreServed, Lines, Serves}
 
--- the lines of two lists of links
+-- the lines of two lists of connections
 lines_append : {I O : Type 0} (number : ℕ) (xs ys : List (Link I O)) → lines_from number (xs ++ ys) ≡ lines_from number xs ++ lines_from (number + length xs) ys
 lines_append number [] ys = ap (λ (n : ℕ). lines_from n ys) (omega arith)
 lines_append number (x ∷ xs) ys =
@@ -26,19 +26,19 @@ lines_append number (x ∷ xs) ys =
     (lines_append (number + 1) xs ys ∙ ap (λ (n : ℕ). lines_from (number + 1) xs ++ lines_from n ys) (omega arith))
     ∙ sym (append_assoc (line_at number x.outcome) (lines_from (number + 1) xs) (lines_from (number + length (x ∷ xs)) ys))
 
--- no link was handed out
+-- no connection was accepted
 handed_none : {I O : Type 0} (coming closed : Option (List (Ends I O))) → Handed [] coming coming closed closed
 handed_none None None = record { came = refl; back = refl }
 handed_none None (Some back) = record { came = refl; back = ap Some (sym (append-nil back)) }
 handed_none (Some links) None = record { came = refl; back = refl }
 handed_none (Some links) (Some back) = record { came = refl; back = ap Some (sym (append-nil back)) }
 
--- one link was handed out, and handed back
+-- one connection was accepted and closed
 handed_one : {I O : Type 0} (link : Link I O) (coming coming' closed closed' : Option (List (Ends I O))) → TakesFront coming coming' link.came → AddsAtEnd closed closed' link.back
     → Handed (link ∷ []) coming coming' closed closed'
 handed_one link coming coming' closed closed' takes adds = record { came = takes; back = adds }
 
--- what was handed out in two lists of links
+-- the connections accepted in two lists
 came_both : {T : Type 0} (xs ys : List T) (o : Option (List T)) → option_map (λ rest. xs ++ rest) (option_map (λ rest. ys ++ rest) o) ≡ option_map (λ rest. (xs ++ ys) ++ rest) o
 came_both xs ys None = refl
 came_both xs ys (Some rest) = ap Some (sym (append_assoc xs ys rest))
@@ -57,14 +57,14 @@ handed_both {I} {O} xs ys c c1 c2 k k1 k2 one two = record {
       ∙ ap (λ (l : List (Ends I O)). option_map (λ before. before ++ l) k) (sym (map-append (λ (l : Link I O). l.back) xs ys));
 }
 
--- without a fault all were served
+-- without a fault all connections were served
 pub done_by : (served : Served) → (served ≡ AcceptFault → ⊥) → (served ≡ WriteFault → ⊥) → served ≡ Done
 done_by Done no_accept no_write = refl
 done_by AcceptFault no_accept no_write = absurd (no_accept refl)
 done_by WriteFault no_accept no_write = absurd (no_write refl)
 
 module _ {I O : Type 0} (views : StreamViews I O) (limits : WireLimits) (budget : ℕ) where
-  -- by how their serving ended
+  -- by how serving ended
   pub serves_as : (served served' : Served) (number most : ℕ) (from to : World) (c c1 k k1 : Option (List (Ends I O))) (had has : List ℕ → Type 0) → served ≡ served'
       → Serves views limits budget served number most from to c c1 k k1 had has → Serves views limits budget served' number most from to c c1 k k1 had has
   serves_as served served' number most from to c c1 k k1 had has same serves = subst (λ (s : Served). Serves views limits budget s number most from to c c1 k k1 had has) same serves
@@ -101,11 +101,11 @@ module _ {I O : Type 0} (views : StreamViews I O) (limits : WireLimits) (budget 
             (grows_twice had mid has (lines_from number xs) (lines_from (number + n) lines.first ++ cut) grown lines.grown);
       }
 
-  -- nothing was served yet
+  -- no connection was served yet
   pub serves_none : (number : ℕ) (world : World) (coming closed : Option (List (Ends I O))) (has : List ℕ → Type 0) → Serves views limits budget Done number 0 world world coming coming closed closed has has
   serves_none number world coming closed has = record { links = []; run = refl; handed = handed_none coming closed; lines = (refl, grows_none has) }
 
-  -- no link came
+  -- no connection came
   pub serves_fault : (number most : ℕ) (world : World) (coming coming' closed closed' : Option (List (Ends I O))) (has : List ℕ → Type 0) → 1 ≤ most → coming' ≡ coming → closed' ≡ closed
       → Serves views limits budget AcceptFault number most world world coming coming' closed closed' has has
   serves_fault number most world coming coming' closed closed' has some came back = record {
@@ -116,7 +116,7 @@ module _ {I O : Type 0} (views : StreamViews I O) (limits : WireLimits) (budget 
     lines = (omega (arith, some), grows_none has);
   }
 
-  -- one link was served
+  -- one connection was served
   module _ (number : ℕ) (link : Link I O) (from to : World) (coming coming' closed closed' : Option (List (Ends I O))) (had has : List ℕ → Type 0)
       (takes : TakesFront coming coming' link.came) (adds : AddsAtEnd closed closed' link.back) (served : IsServed views limits budget link from to) where
     pub serves_one : Grows had has (line_at number link.outcome) → Serves views limits budget Done number 1 from to coming coming' closed closed' had has
@@ -143,7 +143,7 @@ module _ {I O : Type 0} (views : StreamViews I O) (limits : WireLimits) (budget 
       };
     }
 
-  -- some links were served, and then others
+  -- some connections were served, then others
   pub serves_both : (served : Served) (number n most next : ℕ) (from mid to : World) (c c1 c2 k k1 k2 : Option (List (Ends I O))) (had has' has : List ℕ → Type 0) → next ≡ number + n
       → Serves views limits budget Done number n from mid c c1 k k1 had has' → Serves views limits budget served next most mid to c1 c2 k1 k2 has' has
       → Serves views limits budget served number (n + most) from to c c2 k k2 had has
@@ -155,7 +155,7 @@ module _ {I O : Type 0} (views : StreamViews I O) (limits : WireLimits) (budget 
         (subst (λ (i : ℕ). Lines views limits budget served i most two.links has' has) then two.lines);
   }
 
-  -- by how many they are
+  -- by their number
   pub serves_so_many : (number n most : ℕ) (from to : World) (c c1 k k1 : Option (List (Ends I O))) (had has : List ℕ → Type 0) → n ≡ most
       → Serves views limits budget Done number n from to c c1 k k1 had has → Serves views limits budget Done number most from to c c1 k k1 had has
   serves_so_many number n most from to c c1 k k1 had has same serves = subst (λ (i : ℕ). Serves views limits budget Done number i from to c c1 k k1 had has) same serves
@@ -173,7 +173,7 @@ module _ {I O : Type 0} (views : StreamViews I O) (limits : WireLimits) (budget 
     grown = lines.grown;
   }
 
-  -- a fault that ends the serving of some links ends that of more
+  -- a fault that ends the serving of some connections ends that of more
   pub serves_within : (served : Served) (number n most : ℕ) (from to : World) (c c1 k k1 : Option (List (Ends I O))) (had has : List ℕ → Type 0) → (served ≡ Done → ⊥) → n ≤ most
       → Serves views limits budget served number n from to c c1 k k1 had has → Serves views limits budget served number most from to c c1 k k1 had has
   serves_within served number n most from to c c1 k k1 had has ends within serves = record {
@@ -183,14 +183,14 @@ module _ {I O : Type 0} (views : StreamViews I O) (limits : WireLimits) (budget 
     lines = lines_within served number n most serves.links had has ends within serves.lines;
   }
 
-  -- the listener told the same before that
+  -- the listener showed the same before
   pub serves_from : (served : Served) (number most : ℕ) (from to : World) (c c' c1 k k' k1 : Option (List (Ends I O))) (had has : List ℕ → Type 0) → c' ≡ c → k' ≡ k
       → Serves views limits budget served number most from to c' c1 k' k1 had has → Serves views limits budget served number most from to c c1 k k1 had has
   serves_from served number most from to c c' c1 k k' k1 had has came back serves =
       subst (λ (x : Option (List (Ends I O))). Serves views limits budget served number most from to x c1 k k1 had has) came
       (subst (λ (x : Option (List (Ends I O))). Serves views limits budget served number most from to c' c1 x k1 had has) back serves)
 
--- words that ask for one number of links ask for no other
+-- the arguments give one number of connections
 pub same_links : (mode : Option Mode) (a b : ℕ) → Some (Serve a) ≡ mode → mode ≡ Some (Serve b) → a ≡ b
 same_links mode a b one two = serves_same (one ∙ two)
   where

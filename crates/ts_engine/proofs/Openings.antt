@@ -8,16 +8,16 @@ use Rattle.ts_execution.specs.declared.loading.Loaded.{Loaded}
 use Rattle.ts_execution.specs.declared.loading.Loaded.TheVariants as loaded
 use Rattle.ts_execution.specs.Restoring.{IsLoaded}
 use Rattle.ts_execution.proofs.Carried.{carries_as}
-use Rattle.ts_engine.specs.declared.journal_end.JournalEnd.{JournalEnd}
-use Rattle.ts_engine.specs.declared.journal_end.JournalEnd.TheVariants as ended
+use Rattle.ts_engine.specs.declared.kept.JournalEnd.{JournalEnd}
+use Rattle.ts_engine.specs.declared.kept.JournalEnd.TheVariants as ended
 use Rattle.ts_engine.specs.Journaled.{IsOpened}
 
 module _ (old new : Stock) (limits : WireLimits) (budget : ℕ) (before : Option (List ℕ)) where
-  -- what was loaded of a journal that was told
+  -- the result of loading a journal whose content is known
   abbrev Loads : Loaded → Type 0
   Loads l = Carries old new (λ from to. (bytes : List ℕ) → before ≡ Some bytes → IsLoaded l limits from to bytes)
 
-  -- how a journal that was told was opened
+  -- the result of opening such a journal
   abbrev Opens : Result (Unit {0}) JournalEnd → (after : Option (List ℕ)) → Type 0
   Opens result after = Carries old new (λ from to. (journal : List ℕ) → before ≡ Some journal → IsOpened result limits budget from to journal after)
 
@@ -27,7 +27,7 @@ module _ (old new : Stock) (limits : WireLimits) (budget : ℕ) (before : Option
   cut-to : (between after : Option (List ℕ)) (place : ℕ) (journal : List ℕ) → between ≡ before → after ≡ front place between → before ≡ Some journal → after ≡ Some (take place journal)
   cut-to between after place journal same cut told = cut ∙ ap (front place) (same ∙ told)
 
-  -- it was loaded and cut
+  -- it was loaded and truncated
   pub opened-whole : (place : ℕ) (between after : Option (List ℕ)) → Loads (loaded.Whole place) → between ≡ before → after ≡ front place between → Below → Opens (Ok tt) after
   opened-whole place between after loads same cut below =
       carries_as old new _ (λ from to. (journal : List ℕ) → before ≡ Some journal → IsOpened (Ok tt) limits budget from to journal after)
@@ -53,7 +53,7 @@ module _ (old new : Stock) (limits : WireLimits) (budget : ℕ) (before : Option
       carries_as old new _ (λ from to. (journal : List ℕ) → before ≡ Some journal → IsOpened (Err ended.NoMemory) limits budget from to journal after)
       (λ from to is journal told. same ∙ told) loads
 
--- a journal that was opened before it was loaded
+-- opening a journal, then loading it
 pub opened-as : (old new : Stock) (limits : WireLimits) (budget : ℕ) (before between after : Option (List ℕ)) (result : Result (Unit {0}) JournalEnd) → between ≡ before
     → Opens old new limits budget between result after → Opens old new limits budget before result after
 opened-as old new limits budget before between after result same opens =

@@ -1,4 +1,4 @@
--- How what was read and answered adds up over a whole input.
+-- Reading and answering a whole input adds up.
 use Rattle.std.specs.Prelude.{◌≢◌, true, Option, Some, None, IfSome}
 use Rattle.std.specs.Io.KnownBytes.{Consumes, Keeps, IsAtEnd}
 use Rattle.std.proofs.KnownBytes.{Consumes-nil, Consumes-trans, Consumes-kept}
@@ -12,28 +12,28 @@ use Rattle.ts_engine.specs.declared.piped.Step.{Step}
 use Rattle.ts_io.specs.Causes.{Rose}
 use Rattle.ts_execution.specs.Turn.{plain}
 use Rattle.ts_execution.specs.Turns.{Turns, NoFault, AFault}
-use Rattle.ts_engine.specs.declared.go.Go.{Go}
-use Rattle.ts_engine.specs.declared.go.Go.TheVariants as go
+use Rattle.ts_engine.specs.declared.replying.Go.{Go}
+use Rattle.ts_engine.specs.declared.replying.Go.TheVariants as go
 use Rattle.ts_engine.specs.Ending.{end_at, end_by}
 use Rattle.ts_engine.specs.Session.{Spot, Went, Quitted, IsUpToDate, WentAs}
 use Rattle.ts_engine.specs.Piping.{beginning_of, ReadAll, Ends, EndsOr, PIECE, shown_at, is_of_input, has_ended, Pumped, PipedBy, HasCauses, HasCausesBy}
 use Rattle.ts_engine.proofs.Places.{reply_past, break_past}
 use Rattle.ts_engine.proofs.Sessions.{fed_only, not_fed, went_on, quitted_on, answers_on}
 
--- so the last read went at most one piece past it
+-- the last read went at most one piece past it
 near_by : (shown : Option ℕ) (before taken : ℕ) → taken ≤ before + PIECE → IfSome shown (λ place. before ≤ place) → IfSome shown (λ place. taken ≤ place + PIECE)
 near_by None before taken piece past = tt
 near_by (Some place) before taken piece past = omega (arith, piece, past)
 
 module _ {turns : Turns} where
-  -- so many bytes were taken, and what they hold was answered
+  -- this many bytes were read, and their requests handled
   pub record SoFar (limits : WireLimits) (taken : ℕ) (from : turns.World) (now : Spot turns) (left rest : Option (List ℕ)) (had has : List ℕ → Type 0) : Type 0 where
     pub bytes : List ℕ
     pub count : length bytes ≡ taken
     pub took : Consumes left rest bytes
     pub went : Went (beginning_of turns limits from) now had has bytes []
 
-  -- nothing was taken yet
+  -- nothing was read yet
   pub so_far_none : (limits : WireLimits) (now : Spot turns) (left : Option (List ℕ)) (has : List ℕ → Type 0)
       → ((more : List ℕ) → stream_of now.reader more ≡ stream_at limits 0 more) → now.executed ≡ 0 → SoFar limits 0 now.world now left left has has
   so_far_none limits now left has stream executed = record {
@@ -43,20 +43,20 @@ module _ {turns : Turns} where
     went = fed_only (beginning_of turns limits now.world) now has [] stream executed refl;
   }
 
-  -- the end of the input, or QUIT, after some bytes is that over all of them
+  -- the end of the input, or QUIT, after a prefix is that of all bytes
   abbrev ended_on : (first mid last : Spot turns) (had has' has : List ℕ → Type 0) (x y : List ℕ) (rest : Option (List ℕ))
       → Went first mid had has' x [] → ReadAll rest mid last has' has y ⊎ Quitted mid last has' has y → ReadAll rest first last had has (x ++ y) ⊎ Quitted first last had has (x ++ y)
   ended_on first mid last had has' has x y rest went (inl all) =
       inl (record { went = went_on first mid had has' x went last has y [] all.went; ended = all.ended; at_end = all.at_end })
   ended_on first mid last had has' has x y rest went (inr quitted) = inr (quitted_on first mid had has' x went last has y quitted)
 
-  -- the end of the input, by where it stands
+  -- the end of the input, by where it is
   ends_read : (place : Option ℕ) (left : Option (List ℕ)) (old new : Spot turns) (had has : List ℕ → Type 0) → Went old new had has [] [] → stream_of new.reader [] ≡ ended_at place → IsAtEnd left
       → Ends (end_at place) left old new had has []
   ends_read None left old new had has went is at_end = inl (record { went = went; ended = is; at_end = at_end })
   ends_read (Some place) left old new had has went is at_end = (went, is, at_end)
 
-  -- a read took nothing: that is the end of the input
+  -- a read returned nothing: the end of the input
   pub pumped_end : (now : Spot turns) (left rest : Option (List ℕ)) (has : List ℕ → Type 0) (e : End) → e ≡ end_at (unfinished now.reader) → IsUpToDate now
       → (n : ℕ) (buffer : List ℕ) → n ≡ 0 → Consumes left rest (take n buffer) → IsAtEnd rest
       → Pumped (record { taken = 0; end = Some e }) left rest now now has has
@@ -69,7 +69,7 @@ module _ {turns : Turns} where
     none = λ same. refl;
   }
 
-  -- an end after some bytes is an end over all of them
+  -- an end after a prefix is an end after all bytes
   abbrev ends_on : (e : End) (first mid last : Spot turns) (had has' has : List ℕ → Type 0) (x y : List ℕ) (rest : Option (List ℕ))
       → Went first mid had has' x [] → Ends e rest mid last has' has y → Ends e rest first last had has (x ++ y)
   ends_on end.Ended first mid last had has' has x y rest went ends = ended_on first mid last had has' has x y rest went ends
@@ -80,7 +80,7 @@ module _ {turns : Turns} where
   ends_on end.Memory first mid last had has' has x y rest went ends = answers_on first mid had has' x went go.Memory last has y ends
   ends_on end.Budget first mid last had has' has x y rest went ends = answers_on first mid had has' x went go.More last has y ends
 
-  -- and it shows itself past what the session was fed before
+  -- the input shows it past what the session was fed before
   ends_past : (e : End) (first mid last : Spot turns) (had has' has : List ℕ → Type 0) (x y : List ℕ) (rest : Option (List ℕ))
       → (went : Went first mid had has' x []) → IsUpToDate mid → (ends : Ends e rest mid last has' has y)
       → IfSome (shown_at e rest first last had has (x ++ y) (ends_on e first mid last had has' has x y rest went ends)) (λ place. fed mid.reader ≤ place)
@@ -98,7 +98,7 @@ module _ {turns : Turns} where
   ends_past end.Memory first mid last had has' has x y rest went current ends = tt
   ends_past end.Budget first mid last had has' has x y rest went current ends = tt
 
-  -- and it is that of the input where it was
+  -- it is the end of the input, if it was that after the prefix
   of_input : (e : End) (first mid last : Spot turns) (had has' has : List ℕ → Type 0) (x y : List ℕ) (rest : Option (List ℕ)) (went : Went first mid had has' x []) (ends : Ends e rest mid last has' has y)
       → is_of_input e rest first last had has (x ++ y) (ends_on e first mid last had has' has x y rest went ends) ≡ is_of_input e rest mid last has' has y ends
   of_input end.Ended first mid last had has' has x y rest went (inl all) = refl
@@ -112,7 +112,7 @@ module _ {turns : Turns} where
 
   module _ (limits : WireLimits) (taken : ℕ) (from : turns.World) (mid : Spot turns) (left between : Option (List ℕ)) (had has' : List ℕ → Type 0)
       (so_far : SoFar limits taken from mid left between had has') where
-    -- one more piece was answered
+    -- one more piece was handled
     pub so_far_more : (step : Step) (now : Spot turns) (rest : Option (List ℕ)) (has : List ℕ → Type 0) → step.end ≡ None
         → Pumped step between rest mid now has' has → SoFar limits (taken + step.taken) from now left rest had has
     so_far_more step now rest has is pumped =
@@ -124,7 +124,7 @@ module _ {turns : Turns} where
           went = went_on (beginning_of turns limits from) mid had has' so_far.bytes so_far.went now has pumped.bytes [] ends.0;
         }
 
-    -- the last piece was answered
+    -- the last piece was handled
     pub piped_last : (budget executed count : ℕ) (e : End) (now : Spot turns) (rest : Option (List ℕ)) (has : List ℕ → Type 0)
         → executed ≡ now.executed → taken < budget → taken + count ≤ budget → (e ≡ end.Budget → ⊥) → IsUpToDate mid → fed mid.reader ≡ taken → count ≤ PIECE
         → Pumped (record { taken = count; end = Some e }) between rest mid now has' has
@@ -172,7 +172,7 @@ module _ {turns : Turns} where
       below = λ same. (cc);
     }
 
-  -- there was no memory to begin
+  -- out of memory for the session
   pub piped_none : (limits : WireLimits) (budget : ℕ) (from : turns.World) (left : Option (List ℕ)) (has : List ℕ → Type 0)
       → PipedBy turns limits budget (record { executed = 0; taken = 0; end = end.Memory }) from from left left has has
   piped_none limits budget from left has = record {
@@ -189,7 +189,7 @@ module _ {turns : Turns} where
     below = λ same. (cc);
   }
 
-  -- how the input goes on, or ends, with an answer of the session
+  -- how the input continues or ends, by the session's result
   abbrev ends_by : (answer : Go) (rest : Option (List ℕ)) (old new : Spot turns) (had has : List ℕ → Type 0) (bytes : List ℕ) → WentAs answer old new had has bytes → EndsOr (end_by answer) rest old new had has bytes
   ends_by go.More rest old new had has bytes goes = goes
   ends_by go.Quit rest old new had has bytes goes = inr goes
@@ -197,7 +197,7 @@ module _ {turns : Turns} where
   ends_by go.WriteFault rest old new had has bytes goes = goes
   ends_by go.Memory rest old new had has bytes goes = goes
 
-  -- none of them is the end of the input
+  -- no result of the session is the end of the input
   no_end : (answer : Go) (rest : Option (List ℕ)) (old new : Spot turns) (had has : List ℕ → Type 0) (bytes : List ℕ) (goes : WentAs answer old new had has bytes)
       → has_ended (end_by answer) rest old new had has bytes (ends_by answer rest old new had has bytes goes) ≡ true → ⊥
   no_end go.More rest old new had has bytes goes same = (cc)
@@ -206,7 +206,7 @@ module _ {turns : Turns} where
   no_end go.WriteFault rest old new had has bytes goes same = (cc)
   no_end go.Memory rest old new had has bytes goes same = (cc)
 
-  -- a read took some bytes, and what they hold was answered
+  -- a read returned some bytes, and their requests were handled
   pub pumped_piece : (answer : Go) (e : Option End) (taken : ℕ) (old new : Spot turns) (left rest : Option (List ℕ)) (had has : List ℕ → Type 0) (bytes : List ℕ) → e ≡ end_by answer
       → length bytes ≡ taken → Consumes left rest bytes → WentAs answer old new had has bytes → Pumped (record { taken = taken; end = e }) left rest old new had has
   pumped_piece answer e taken old new left rest had has bytes is count took goes =
@@ -229,12 +229,12 @@ module _ {turns : Turns} where
     none = λ same. refl;
   }
 
--- a session that begins is where an input begins
+-- a new session is the start of an input
 pub begins_current : (reader : Reading) (limits : WireLimits) → ((more : List ℕ) → stream_of reader more ≡ stream_at limits 0 more)
     → unfinished reader ≡ None → stream_of reader [] ≡ ended_at (unfinished reader)
 begins_current reader limits stream none = stream [] ∙ unfold read_on in ap ended_at (sym none)
 
--- the session goes on where it is no end
+-- the session continues if its result is no end
 pub goes_by : (answer : Go) (e : Option End) → e ≡ end_by answer → e ≡ None → answer ≡ go.More
 goes_by go.More e is none = refl
 goes_by go.Quit e is none = (cc)
@@ -242,14 +242,14 @@ goes_by (go.Broken fault) e is none = (cc)
 goes_by go.WriteFault e is none = (cc)
 goes_by go.Memory e is none = (cc)
 
--- counts that are as they were before a piece have the same causes
+-- counters that did not change before a piece have the same causes
 pub causes_from : (turns : Turns) (e : End) (first reads reads' wrote writes writes' : ℕ) (known own own' : turns.Faults) → reads ≡ first → NoFault turns wrote writes known own
     → HasCausesBy turns e reads reads' writes writes' own own' → HasCausesBy turns e first reads' wrote writes' known own'
 causes_from turns e first reads reads' wrote writes writes' known own own' read write causes =
     subst (λ (n : ℕ). HasCausesBy turns e n reads' wrote writes' known own') read
     (subst (λ (n : ℕ). HasCausesBy turns e reads reads' n writes' known own') write.0 (subst (λ (f : turns.Faults). HasCausesBy turns e reads reads' writes writes' f own') write.1 causes))
 
--- plain turns have no counts of their own
+-- the plain handler has no counters of its own
 failed_plain : (before now : ℕ) (own own' : plain.Faults) → AFault plain before now own own' → (before ≤ now) × Rose before now
 failed_plain before now own own' (inl failed) = (failed.0, failed.1)
 failed_plain before now own own' (inr own_failed) = absurd own_failed.1

@@ -1,4 +1,4 @@
--- Where requests and faults of a stream stand: past the bytes that hold neither.
+-- Offsets of requests and errors in a stream: past bytes that contain neither.
 use Rattle.std.proofs.Common.{ℕ, ◌+◌, ◌≤◌, ◌<◌, List, [], ◌∷◌, ◌++◌, length, Option, None, Some, refl, sym, ◌∙◌, ap, subst, append-nil, arith}
 use Rattle.ts_resp.specs.Reading.{stream_of, fed, mode_of, ended_at, unfinished}
 use Rattle.ts_spec.specs.Run.{Placed, then_all}
@@ -10,7 +10,7 @@ use Rattle.ts_execution.specs.Turns.{Turns, OfLast}
 use Rattle.ts_engine.specs.Session.{Spot, Went, LastReply, IsBroken, IsUpToDate}
 use Rattle.ts_resp.specs.declared.protocol.Protocol.{Protocol}
 
--- each request ends past this place, and a fault is not before it
+-- each request ends past this offset, and no error is before it
 abbrev IsPast : ℕ → Stream → Type 0
 IsPast place (Then request after rest) = (place < after) × IsPast place rest
 IsPast place Ended = Unit {0}
@@ -43,7 +43,7 @@ move-past (Whole []) place begin on h = h (place + 1) Start
 move-past (Whole (word ∷ words)) place begin on h = (omega arith, h (place + 1) Start)
 move-past (Fault kind) place begin on h = omega arith
 
--- whatever the bytes are, their requests end past the place of the first one
+-- all requests in these bytes end past their first offset
 read_on-past : (limits : WireLimits) (place begin : ℕ) (mode : Mode) (bytes : List ℕ) → IsPast place (read_on limits place begin mode bytes)
 read_on-past limits place begin mode [] = subst (λ (s : Stream). IsPast place s) (sym (read_on-nil limits place begin mode)) (at_end-past place mode begin)
 read_on-past limits place begin mode (byte ∷ bytes) =
@@ -69,7 +69,7 @@ move-goes (Whole []) place begin q on on' h quiet = h (place + 1) Start quiet
 move-goes (Whole (word ∷ words)) place begin q on on' h quiet = absurd quiet
 move-goes (Fault kind) place begin q on on' h quiet = absurd quiet
 
--- where the bytes hold neither, what follows them ends past them
+-- bytes without a request or an error; what follows ends past them
 read_on-goes : (limits : WireLimits) (place begin : ℕ) (mode : Mode) (bytes more : List ℕ) → IsQuiet (read_on limits place begin mode bytes)
     → IsPast (place + length bytes) (read_on limits place begin mode (bytes ++ more))
 read_on-goes limits place begin mode [] more quiet = lower place (place + 0) (read_on limits place begin mode more) (omega arith) (read_on-past limits place begin mode more)
@@ -88,7 +88,7 @@ fault-past place [] kind at past = past
 fault-past place (first ∷ done) kind at past = fault-past place done kind at past.1
 
 module _ {turns : Turns} where
-  -- where every whole request had its turn, all that comes is past the bytes fed
+  -- every complete request was handled, so all that comes is past the bytes fed
   comes_past : (spot : Spot turns) (bytes : List ℕ) → IsUpToDate spot → IsPast (fed spot.reader) (stream_of spot.reader bytes)
   comes_past spot bytes current =
       let r = spot.reader in
@@ -96,13 +96,13 @@ module _ {turns : Turns} where
       (subst (λ (l : List ℕ). IsQuiet (read_on r.limits r.place r.begin (mode_of r.so_far) l)) (append-nil r.unread)
       (subst IsQuiet (sym current.rest) (ended-quiet (unfinished r))))
 
-  -- a request that comes then ends past the bytes fed
+  -- the next request ends past the bytes fed
   pub reply_past : {said : OfLast turns} (old new : Spot turns) (had has : List ℕ → Type 0) (bytes : List ℕ) → IsUpToDate old → (cut : LastReply said old new had has bytes) → fed old.reader < cut.last.after
   reply_past old new had has bytes current cut =
       last-past (fed old.reader) cut.done cut.last (stream_of new.reader [])
       (subst (λ (s : Stream). IsPast (fed old.reader) s) (cut.stream []) (comes_past old (bytes ++ []) current))
 
-  -- and a fault is not before them
+  -- and an error is not before them
   pub break_past : (old new : Spot turns) (had has : List ℕ → Type 0) (bytes tail : List ℕ) (fault : Protocol) → IsUpToDate old → Went old new had has bytes tail → IsBroken fault new
       → fed old.reader ≤ fault.place
   break_past old new had has bytes tail fault current went broken =

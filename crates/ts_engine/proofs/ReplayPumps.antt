@@ -1,4 +1,4 @@
--- How what was read and replayed adds up over a whole input.
+-- Reading and answering a whole capture adds up.
 use Rattle.std.specs.Prelude.{true, Option, Some, None}
 use Rattle.std.specs.Io.KnownBytes.{Consumes, Keeps, IsAtEnd}
 use Rattle.std.proofs.KnownBytes.{Consumes-nil, Consumes-trans, Consumes-kept}
@@ -11,8 +11,8 @@ use Rattle.ts_mux.specs.Framing.{unfinished, ended_at}
 use Rattle.ts_mux.specs.Order.{closing}
 use Rattle.ts_mux.proofs.FramesWithin.{frames-within}
 use Rattle.ts_execution.specs.Turn.{World}
-use Rattle.ts_engine.specs.declared.course.Course.{Course}
-use Rattle.ts_engine.specs.declared.course.Course.TheVariants as course
+use Rattle.ts_engine.specs.declared.replay.Course.{Course}
+use Rattle.ts_engine.specs.declared.replay.Course.TheVariants as course
 use Rattle.ts_engine.specs.declared.replay.Replay.{Replay as Kept}
 use Rattle.ts_engine.specs.declared.replayed.CaptureEnd.{CaptureEnd}
 use Rattle.ts_engine.specs.declared.replayed.CaptureEnd.TheVariants as end
@@ -22,14 +22,14 @@ use Rattle.ts_engine.specs.Replays.{coming, standing, HasAnswered, Begins}
 use Rattle.ts_engine.proofs.ReplaysOn.{went_none, not_answered, went_on, answers_on}
 use Rattle.ts_engine.proofs.ReplaySteps.{no_frames, its_own_ending}
 
--- so many bytes were taken, and what they hold was answered
+-- this many bytes were read, and their frames answered
 pub record SoFar (limits : WireLimits) (taken : ℕ) (from : World) (now : Spot) (left rest : Option (List ℕ)) (had has : List ℕ → Type 0) : Type 0 where
   pub bytes : List ℕ
   pub count : length bytes ≡ taken
   pub took : Consumes left rest bytes
   pub went : Went (beginning limits from) now had has bytes
 
--- nothing was taken yet
+-- nothing was read yet
 pub so_far_none : (limits : WireLimits) (r : Kept) (held : Held) (readings left : Option (List ℕ)) (has : List ℕ → Type 0) → Begins limits r
     → SoFar limits 0 (record { held = held; readings = readings }) (standing r held readings) left left has has
 so_far_none limits r held readings left has begins = record {
@@ -41,7 +41,7 @@ so_far_none limits r held readings left has begins = record {
       (λ more. ap ending_of (sym (begins.capture more))) refl;
 }
 
--- what is whole was answered
+-- every complete frame was answered
 pub is_at : (r : Kept) (held : Held) (readings : Option (List ℕ)) → HasAnswered r → IsAt (ended_at (unfinished r.frames)) (standing r held readings)
 is_at r held readings answered = record {
   items = ap (λ (rest : Capture). coming r (frames_of rest)) answered.rest
@@ -57,12 +57,12 @@ is_up_to_date r held readings answered = (unfinished r.frames, is_at r held read
 same_spot : (now : Spot) (has : List ℕ → Type 0) → Went now now has has []
 same_spot now has = went_none now now has [] (λ more. refl) (λ more. refl) refl
 
--- the end of the input, by where it stands
+-- the end of the input, by where it is
 ends_read : (place : Option ℕ) (left : Option (List ℕ)) (now : Spot) (has : List ℕ → Type 0) → IsAt (ended_at place) now → IsAtEnd left → Ends (end_at place) left now now has has []
 ends_read None left now has at at_end = (same_spot now has, at, at_end)
 ends_read (Some place) left now has at at_end = (same_spot now has, at, at_end)
 
--- a read took nothing: that is the end of the input
+-- a read returned nothing: the end of the input
 pub pumped_end : (r : Kept) (held : Held) (readings left rest : Option (List ℕ)) (has : List ℕ → Type 0) (e : CaptureEnd) → e ≡ end_at (unfinished r.frames) → HasAnswered r
     → (n : ℕ) (buffer : List ℕ) → n ≡ 0 → Consumes left rest (take n buffer) → IsAtEnd rest
     → Pumped (record { taken = 0; end = Some e }) left rest (standing r held readings) (standing r held readings) has has
@@ -75,7 +75,7 @@ pumped_end r held readings left rest has e is answered n buffer none took at_end
   none = λ same. refl;
 }
 
--- an end after some bytes is an end over all of them
+-- an end after a prefix is an end after all bytes
 ends_on : (e : CaptureEnd) (first mid last : Spot) (had has' has : List ℕ → Type 0) (x y : List ℕ) (rest : Option (List ℕ))
     → Went first mid had has' x → Ends e rest mid last has' has y → Ends e rest first last had has (x ++ y)
 ends_on end.Ended first mid last had has' has x y rest went ends = (went_on first mid had has' x went last has y ends.0, ends.1, ends.2)
@@ -137,7 +137,7 @@ module _ (limits : WireLimits) (taken : ℕ) (from : World) (mid : Spot) (left b
     ends = (so_far.went, current);
   }
 
--- there was no memory to begin
+-- out of memory for the session
 pub replayed_none : (limits : WireLimits) (budget : ℕ) (from : World) (left : Option (List ℕ)) (has : List ℕ → Type 0) → Replayed limits budget end.Memory from from left left has has
 replayed_none limits budget from left has = record {
   bytes = [];
@@ -150,21 +150,21 @@ replayed_none limits budget from left has = record {
   ends = not_answered (beginning limits from) (beginning limits from) has [] refl;
 }
 
--- how the input goes on, or ends, with an answer of the replay
+-- how the input continues or ends, by the session's result
 abbrev ends_by : (answer : Course) (rest : Option (List ℕ)) (old new : Spot) (had has : List ℕ → Type 0) (bytes : List ℕ) → WentAs answer old new had has bytes → EndsOr (end_by answer) rest old new had has bytes
 ends_by course.More rest old new had has bytes goes = goes
 ends_by (course.Broken place) rest old new had has bytes goes = goes
 ends_by course.WriteFault rest old new had has bytes goes = goes
 ends_by course.Memory rest old new had has bytes goes = goes
 
--- none of them is the end of the input
+-- no result of the session is the end of the input
 no_end : (answer : Course) → has_ended (end_by answer) ≡ true → ⊥
 no_end course.More same = (cc)
 no_end (course.Broken place) same = (cc)
 no_end course.WriteFault same = (cc)
 no_end course.Memory same = (cc)
 
--- a read took some bytes, and what they hold was answered
+-- a read returned some bytes, and their frames were answered
 pub pumped_piece : (answer : Course) (e : Option CaptureEnd) (taken : ℕ) (old new : Spot) (left rest : Option (List ℕ)) (had has : List ℕ → Type 0) (bytes : List ℕ) → e ≡ end_by answer
     → length bytes ≡ taken → Consumes left rest bytes → WentAs answer old new had has bytes → Pumped (record { taken = taken; end = e }) left rest old new had has
 pumped_piece answer e taken old new left rest had has bytes is count took goes =
@@ -176,7 +176,7 @@ pumped_piece answer e taken old new left rest had has bytes is count took goes =
       none = λ same. absurd (no_end answer same);
     })
 
--- the replay goes on where it is no end
+-- the session continues if its result is no end
 pub goes_by_end : (answer : Course) (e : Option CaptureEnd) → e ≡ end_by answer → e ≡ None → answer ≡ course.More
 goes_by_end course.More e is none = refl
 goes_by_end (course.Broken place) e is none = (cc)
@@ -194,7 +194,7 @@ pumped_fault r held readings left rest has keeps answered = record {
   none = λ same. refl;
 }
 
--- counts that are as they were before a piece have the same causes
+-- counters that did not change before a piece have the same causes
 pub causes_from : (e : CaptureEnd) (first reads reads' wrote writes writes' : ℕ) → reads ≡ first → writes ≡ wrote
     → HasCauses e reads reads' writes writes' → HasCauses e first reads' wrote writes'
 causes_from e first reads reads' wrote writes writes' read write causes =

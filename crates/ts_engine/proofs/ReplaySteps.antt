@@ -1,4 +1,4 @@
--- What is to be asked of a Mux after one of its items, and of a capture after one of its frames.
+-- The pending items of a capture session after one item, and after one frame.
 use Rattle.std.proofs.Common.{◌≡◌, ℕ, suc, ◌≤◌, Bool, true, false, not, ◌==◌, if◌then◌else◌, List, [], ◌∷◌, length, refl, sym, ◌∙◌, ap, Option, None, Some, arith}
 use Rattle.ts_spec.specs.Wire.{Request}
 use Rattle.ts_spec.specs.Run.{is_quit}
@@ -9,7 +9,7 @@ use Rattle.ts_mux.specs.Framing.{ended_at}
 use Rattle.ts_mux.specs.Order.{Item, Asked, Failed, without, closing}
 use Rattle.ts_mux.proofs.Closings.{closing-without}
 
--- a request was taken, and a QUIT closed its connection
+-- the next item was a request, and a QUIT closed its connection
 pub asked_next : (link : ℕ) (words : Request) (old mid coming : List Frame → List Item)
     → ((frames : List Frame) → old frames ≡ record { link = link; event = Asked words } ∷ mid frames)
     → ((frames : List Frame) → coming frames ≡ (if is_quit words then without link (closing is_quit (mid frames)) else closing is_quit (mid frames)))
@@ -17,7 +17,7 @@ pub asked_next : (link : ℕ) (words : Request) (old mid coming : List Frame →
 asked_next link words old mid coming gives closes frames =
     ap (closing is_quit) (gives frames) ∙ ap (λ (items : List Item). record { link = link; event = Asked words } ∷ items) (sym (closes frames))
 
--- a fault was taken, and its connection is closed
+-- the next item was an error, and its connection is closed
 pub failed_next : (link : ℕ) (fault : Protocol) (old new : List Frame → List Item)
     → ((frames : List Frame) → old frames ≡ record { link = link; event = Failed fault } ∷ new frames)
     → ((frames : List Frame) → without link (new frames) ≡ new frames)
@@ -26,7 +26,7 @@ failed_next link fault old new gives closed frames =
     ap (closing is_quit) (gives frames)
     ∙ ap (λ (items : List Item). record { link = link; event = Failed fault } ∷ items) (sym (closing-without is_quit link (new frames)) ∙ ap (closing is_quit) (closed frames))
 
--- a connection that is closed takes away some items and adds none
+-- closing a connection drops items and adds none
 pub without-shorter : (link : ℕ) (items : List Item) → length (without link items) ≤ length items
 without-shorter link [] = omega arith
 without-shorter link (item ∷ items) = go (not (item.link == link)) (without-shorter link items)
@@ -35,7 +35,7 @@ without-shorter link (item ∷ items) = go (not (item.link == link)) (without-sh
     go true h = omega (arith, h)
     go false h = omega (arith, h)
 
--- a capture that ends has no further frame
+-- a capture that has ended has no further frame
 pub no_frames : (place : Option ℕ) → frames_of (ended_at place) ≡ []
 no_frames None = refl
 no_frames (Some place) = refl

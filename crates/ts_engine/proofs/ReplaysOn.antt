@@ -1,4 +1,4 @@
--- How what a replay did adds up, item by item and piece by piece.
+-- What a capture session did adds up, item by item and piece by piece.
 use Rattle.std.specs.Prelude.{Option, None, Some}
 use Rattle.std.proofs.Common.{◌≡◌, ℕ, List, [], ◌∷◌, ◌++◌, take, refl, sym, ◌∙◌, ap, subst, append_assoc, append-nil}
 use Rattle.ts_io.specs.Sinks.{Grows}
@@ -6,8 +6,8 @@ use Rattle.ts_io.proofs.Growth.{grows_none, grows_twice}
 use Rattle.ts_mux.specs.declared.frame.Frame.{Frame}
 use Rattle.ts_mux.specs.Capture.{framed, all_framed}
 use Rattle.ts_mux.specs.Order.{Item}
-use Rattle.ts_engine.specs.declared.course.Course.{Course}
-use Rattle.ts_engine.specs.declared.course.Course.TheVariants as course
+use Rattle.ts_engine.specs.declared.replay.Course.{Course}
+use Rattle.ts_engine.specs.declared.replay.Course.TheVariants as course
 use Rattle.ts_engine.specs.Replies.{IsReply, reply_frame}
 use Rattle.ts_engine.specs.Replaying.{Spot, Went, WentSome, LastFrame, WentAs, GoesOn, Replied, end_of}
 use Rattle.ts_engine.proofs.FramesWritten.{all_framed-append}
@@ -25,7 +25,7 @@ went_none old new has bytes items ending world = record {
   grown = grows_none has;
 }
 
--- nor may be told what is left
+-- the rest may be unknown
 pub not_answered : (old new : Spot) (has : List ℕ → Type 0) (bytes : List ℕ) → new.world ≡ old.world → WentSome old new has has bytes
 not_answered old new has bytes world = record {
   done = [];
@@ -35,7 +35,7 @@ not_answered old new has bytes world = record {
   grown = grows_none has;
 }
 
--- an item had its reply, and its frame was written
+-- an item was answered, and its frame written
 pub went_one : (old new : Spot) (had has : List ℕ → Type 0) (item : Item) (text : List ℕ) → ((more : List ℕ) → old.items more ≡ item ∷ new.items more)
     → ((more : List ℕ) → old.ending more ≡ new.ending more) → IsReply old.world item.event text new.world → Grows had has (framed (reply_frame item text))
     → Went old new had has []
@@ -64,7 +64,7 @@ module _ (first mid : Spot) (had has' : List ℕ → Type 0) (x : List ℕ) (bef
       (sym (ap (λ (l : List ℕ). l ++ tail) (all_framed-append before.frames frames) ∙ append_assoc (all_framed before.frames) (all_framed frames) tail))
       (grows_twice had has' has (all_framed before.frames) (all_framed frames ++ tail) before.grown grown)
 
-  -- two stretches are one
+  -- two parts make one
   pub went_on : (last : Spot) (has : List ℕ → Type 0) (y : List ℕ) → Went mid last has' has y → Went first last had has (x ++ y)
   went_on last has y after = record {
     done = before.done ++ after.done;
@@ -98,21 +98,21 @@ module _ (first mid : Spot) (had has' : List ℕ → Type 0) (x : List ℕ) (bef
     grown = grew_tail has cut.frames (take cut.kept (framed (reply_frame cut.last cut.text))) cut.grown;
   }
 
-  -- an answer after a stretch is an answer over both
+  -- a result after a part is a result after both
   pub answers_on : (answer : Course) (last : Spot) (has : List ℕ → Type 0) (y : List ℕ) → WentAs answer mid last has' has y → WentAs answer first last had has (x ++ y)
   answers_on course.More last has y after = went_on last has y after
   answers_on (course.Broken place) last has y after = (went_on last has y after.0, after.1)
   answers_on course.WriteFault last has y after = last_on last has y after
   answers_on course.Memory last has y after = some_on last has y after
 
-  -- an answer after a stretch and no more bytes is an answer over the stretch
+  -- a result without more bytes is a result after the part
   pub answers_then : (answer : Course) (last : Spot) (has : List ℕ → Type 0) → WentAs answer mid last has' has [] → WentAs answer first last had has x
   answers_then answer last has after = subst (λ (l : List ℕ). WentAs answer first last had has l) (append-nil x) (answers_on answer last has [] after)
 
   pub went_then : (last : Spot) (has : List ℕ → Type 0) → Went mid last has' has [] → Went first last had has x
   went_then last has after = subst (λ (l : List ℕ). Went first last had has l) (append-nil x) (went_on last has [] after)
 
--- an item was taken, and then answered
+-- the next item was answered
 pub answered_item : (answer : Option Course) (item : Item) (old new : Spot) (had has : List ℕ → Type 0) → ((more : List ℕ) → old.items more ≡ item ∷ new.items more)
     → ((more : List ℕ) → old.ending more ≡ new.ending more) → Replied answer item old.world new.world had has → GoesOn answer old new had has
 answered_item None item old new had has items ending replied = went_one old new had has item replied.text items ending replied.reply replied.wrote
@@ -132,14 +132,14 @@ answered_item (Some course.More) item old new had has items ending replied = abs
 answered_item (Some (course.Broken place)) item old new had has items ending replied = absurd replied.wrote
 answered_item (Some course.Memory) item old new had has items ending replied = absurd replied.wrote
 
--- what answered all items of a frame goes on, where it is no end
+-- the session continues after a frame whose items were all answered
 pub goes_on : (answer : Course) (old new : Spot) (had has : List ℕ → Type 0) → WentAs answer old new had has [] → GoesOn (end_of answer) old new had has
 goes_on course.More old new had has answers = answers
 goes_on (course.Broken place) old new had has answers = answers
 goes_on course.WriteFault old new had has answers = answers
 goes_on course.Memory old new had has answers = answers
 
--- it goes on only where all of them were answered
+-- it continues only if all of them were answered
 pub goes_by : (answer : Course) (e : Option Course) → e ≡ end_of answer → e ≡ None → answer ≡ course.More
 goes_by course.More e is none = refl
 goes_by (course.Broken place) e is none = (cc)

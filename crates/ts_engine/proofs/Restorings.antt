@@ -1,4 +1,4 @@
--- Each front of a journal loads to what the first changes made of the database.
+-- Each prefix of a journal loads to the database after its first changes.
 use Rattle.std.proofs.Common.{◌≡◌, ◌≢◌, ◌⊎◌, inl, inr, ⊎_elim, ◌≤◌, ◌<◌, ◌+◌, ◌-◌, ℕ, List, [], ◌∷◌, ◌++◌, length, take, refl, sym, ◌∙◌, ap, subst, arith, append_assoc, append-nil, length-append}
 use Rattle.std.proofs.lemmas.List.{take_all, take-append-le}
 use Rattle.std.proofs.lemmas.List.Elements.{All-head, All-tail}
@@ -25,13 +25,13 @@ use Rattle.ts_execution.specs.Keeping.{Kept, served, IsUnrecorded, IsRecorded, R
 use Rattle.ts_execution.specs.Turn.{World, IsAnswered, IsLost, IsOutOfMemory}
 use Rattle.ts_engine.proofs.Executions.{is-done, limits-stay}
 
--- ---- one turn
+-- ---- one request
 
 is-some-or-none : (l : List ℕ) → (l ≡ []) ⊎ (l ≢ [])
 is-some-or-none [] = inl refl
 is-some-or-none (x ∷ xs) = inr (λ is. (cc))
 
--- the limits stay, and the journal grows by what was added
+-- the limits stay, and the journal grows by what was appended
 abbrev pub GrowsOn : (limits : Limits) (journal : List ℕ) (from to : Held) (added : List ℕ) → Type 0
 GrowsOn limits journal from to added = (to.limits ≡ limits) × Grows limits journal from.state to.state added
 
@@ -42,7 +42,7 @@ module _ (limits : Limits) (bounded : IsBounded limits.wire) (journal : List ℕ
     torn = λ n below. absurd (omega (arith, below));
   }
 
-  -- nothing was added, and nothing changed
+  -- nothing was appended, and nothing changed
   grows_on_none : (from to : Held) (added : List ℕ) → from.limits ≡ limits → LoadsTo limits journal from.state → to ≡ from → added ≡ [] → GrowsOn limits journal from to added
   grows_on_none from to added same loads is none = (
     ap (λ (h : Held). h.limits) is ∙ same,
@@ -67,7 +67,7 @@ module _ (limits : Limits) (bounded : IsBounded limits.wire) (journal : List ℕ
         (is-some-or-none (record_of c reading reply))),
   )
 
-  -- want of memory was told, which is an error
+  -- out of memory, which is an error
   grows_by_memory : (c : Command) (reading : ℕ) (from to : Held) (reply : Reply) (added : List ℕ) → from.limits ≡ limits → LoadsTo limits journal from.state
       → IsOutOfMemory from reply to → added ≡ record_of c reading reply → GrowsOn limits journal from to added
   grows_by_memory c reading from to reply added same loads out is =
@@ -94,9 +94,9 @@ module _ (limits : Limits) (bounded : IsBounded limits.wire) (journal : List ℕ
   grows_by_turn request from to written added within same loads (inr r) =
       grows_on_none from.held to.held added same loads (ap (λ (w : World). w.held) r.0.same) r.1
 
--- ---- a run of turns
+-- ---- a run of requests
 
--- a front of a journal loads to what the first of these requests made of the database
+-- a prefix of the journal loads to the database after the first of these requests
 pub record RunFront (limits : Limits) (from : Kept) (asked : List Request) (front : List ℕ) : Type 0 where
   pub done : List Request
   pub others : List Request
@@ -108,7 +108,7 @@ pub record RunFront (limits : Limits) (from : Kept) (asked : List Request) (fron
   pub content : mid.content ≡ Some (take place front)
   pub loads : load limits front ≡ Loads mid.held.state place
 
--- what a journal has after a run, and what it and its fronts load to
+-- the journal after a run, and what it and its prefixes load to
 pub record Restores (limits : Limits) (journal : List ℕ) (from : Kept) (asked : List Request) (to : Kept) : Type 0 where
   pub more : List ℕ
   pub content : to.content ≡ Some (journal ++ more)
@@ -116,7 +116,7 @@ pub record Restores (limits : Limits) (journal : List ℕ) (from : Kept) (asked 
   pub loads : LoadsTo limits (journal ++ more) to.held.state
   pub fronts : (n : ℕ) → length journal ≤ n → RunFront limits from asked (take n (journal ++ more))
 
--- none of the requests had its turn in it
+-- no request has its record in it
 pub none-done : (limits : Limits) (from : Kept) (asked : List Request) (journal front : List ℕ) → from.content ≡ Some journal → take (length journal) front ≡ journal
     → load limits front ≡ Loads from.held.state (length journal) → RunFront limits from asked front
 none-done limits from asked journal front told is loads = record {
@@ -131,7 +131,7 @@ none-done limits from asked journal front told is loads = record {
   loads = loads;
 }
 
--- a first turn before others
+-- one request before others
 one-more : (limits : Limits) (from mid : Kept) (request : Request) (asked : List Request) (written front : List ℕ) → IsKept from request written mid → RunFront limits mid asked front
     → RunFront limits from (request ∷ asked) front
 one-more limits from mid request asked written front turned rest = record {
@@ -146,12 +146,12 @@ one-more limits from mid request asked written front turned rest = record {
   loads = rest.loads;
 }
 
--- what was added to a content that is told
+-- what was appended, if the content is known
 pub added-to : (content content' : Option (List ℕ)) (journal added : List ℕ) → content ≡ Some journal → content' ≡ append_known content added → content' ≡ Some (journal ++ added)
 added-to content content' journal added told is = is ∙ ap (λ (o : Option (List ℕ)). append_known o added) told
 
 module _ (limits : Limits) (bounded : IsBounded limits.wire) where
-  -- a front within the first record, or past it
+  -- a prefix that ends within the first record or past it
   fronts-by : (journal added more : List ℕ) (from mid : Kept) (request : Request) (asked : List Request) (written : List ℕ) → IsKept from request written mid
       → from.content ≡ Some journal → Grows limits journal from.held.state mid.held.state added
       → ((n : ℕ) → length (journal ++ added) ≤ n → RunFront limits mid asked (take n ((journal ++ added) ++ more)))

@@ -1,4 +1,4 @@
--- How what a session did adds up, request by request and piece by piece.
+-- What a session did adds up, request by request and piece by piece.
 use Rattle.std.specs.Prelude.{Option, None, Some}
 use Rattle.std.proofs.Common.{◌≡◌, false, ◌<◌, inl, inr, ⊎_elim, ℕ, ◌+◌, List, [], ◌∷◌, ◌++◌, length, take, refl, sym, ◌∙◌, ap, subst, append_assoc, arith, length-append}
 use Rattle.std.proofs.lemmas.List.{append-nil}
@@ -11,17 +11,17 @@ use Rattle.ts_spec.specs.Run.{Placed, Runs, then_all, requests_in, is_quit}
 use Rattle.ts_spec.specs.Wire.{Request, Then}
 use Rattle.ts_spec.proofs.Runs.{Runs-append, Runs-one, then_all-append, requests_in-append}
 use Rattle.ts_execution.specs.Turns.{Turns, OfLast, is_turn}
-use Rattle.ts_engine.specs.declared.go.Go.{Go}
-use Rattle.ts_engine.specs.declared.go.Go.TheVariants as go
+use Rattle.ts_engine.specs.declared.replying.Go.{Go}
+use Rattle.ts_engine.specs.declared.replying.Go.TheVariants as go
 use Rattle.ts_engine.specs.Session.{Spot, Went, WentSome, LastReply, Quitted, CutFault, IsBroken, WentAs, GoesOn, Replied, Refused}
 use Rattle.ts_engine.proofs.Quits.{goes_on-append, goes_on-one}
 
--- a sink that grew by some bytes grew by these, which are the same
+-- the same bytes, written differently
 pub grows_as : (had has : List ℕ → Type 0) (x y : List ℕ) → x ≡ y → Grows had has x → Grows had has y
 grows_as had has x y same grown = subst (λ (l : List ℕ). Grows had has l) same grown
 
 module _ {turns : Turns} where
-  -- bytes were added, and nothing else happened
+  -- bytes were fed, and nothing else happened
   pub fed_only : (old new : Spot turns) (has : List ℕ → Type 0) (bytes : List ℕ) → ((more : List ℕ) → stream_of new.reader more ≡ stream_of old.reader (bytes ++ more))
       → new.executed ≡ old.executed → new.world ≡ old.world → Went old new has has bytes []
   fed_only old new has bytes stream executed world = record {
@@ -34,7 +34,7 @@ module _ {turns : Turns} where
     executed = omega (arith, executed);
   }
 
-  -- a request had its turn, and its text was written
+  -- a request was handled, and its reply written
   pub went_one : (old new : Spot turns) (had has : List ℕ → Type 0) (request : Request) (place : ℕ) (text : List ℕ)
       → ((more : List ℕ) → stream_of old.reader more ≡ Then request place (stream_of new.reader more))
       → turns.turn old.world request text new.world → is_quit request ≡ false → Grows had has text → new.executed ≡ old.executed + 1 → Went old new had has [] []
@@ -69,7 +69,7 @@ module _ {turns : Turns} where
         grows_as had has (before.text ++ (text ++ tail)) ((before.text ++ text) ++ tail) (sym (append_assoc before.text text tail))
         (grows_twice had has' has before.text (text ++ tail) had_text grown)
 
-    -- two stretches are one
+    -- two parts make one
     pub went_on : (last : Spot turns) (has : List ℕ → Type 0) (y tail : List ℕ) → Went mid last has' has y tail → Went first last had has (x ++ y) tail
     went_on last has y tail after = record {
       done = before.done ++ after.done;
@@ -120,7 +120,7 @@ module _ {turns : Turns} where
     abbrev pub cut_fault_on : (last : Spot turns) (has : List ℕ → Type 0) (y : List ℕ) → CutFault mid last has' has y → CutFault first last had has (x ++ y)
     cut_fault_on last has y cut = record { fault = cut.fault; kept = cut.kept; went = went_on last has y _ cut.went; broken = cut.broken }
 
-    -- an answer after a stretch is an answer over both
+    -- a result after a part is a result after both
     abbrev pub answers_on : (answer : Go) (last : Spot turns) (has : List ℕ → Type 0) (y : List ℕ) → WentAs answer mid last has' has y → WentAs answer first last had has (x ++ y)
     answers_on go.More last has y after = (went_on last has y [] after.0, after.1)
     answers_on go.Quit last has y after = quitted_on last has y after
@@ -128,14 +128,14 @@ module _ {turns : Turns} where
     answers_on go.WriteFault last has y after = ⊎_elim (λ cut. inl (last_reply_on turns.cut last has y cut)) (λ cut. inr (cut_fault_on last has y cut)) after
     answers_on go.Memory last has y after = went_some_on last has y after
 
-    -- an answer after a stretch and no more bytes is an answer over the stretch
+    -- a result without more bytes is a result after the part
     pub answers_then : (answer : Go) (last : Spot turns) (has : List ℕ → Type 0) → WentAs answer mid last has' has [] → WentAs answer first last had has x
     answers_then answer last has after = subst (λ (l : List ℕ). WentAs answer first last had has l) (append-nil x) (answers_on answer last has [] after)
 
     pub went_then : (last : Spot turns) (has : List ℕ → Type 0) → Went mid last has' has [] [] → Went first last had has x []
     went_then last has after = subst (λ (l : List ℕ). Went first last had has l []) (append-nil x) (went_on last has [] [] after)
 
-  -- a piece that did not fit the memory: nothing was done
+  -- out of memory for a piece: nothing was done
   pub not_fed : (old new : Spot turns) (has : List ℕ → Type 0) (bytes : List ℕ) → new.executed ≡ old.executed → new.world ≡ old.world → WentSome old new has has bytes
   not_fed old new has bytes executed world = record {
     done = [];
@@ -147,14 +147,14 @@ module _ {turns : Turns} where
     executed = omega (arith, executed);
   }
 
-  -- a piece was fed, and then what was whole was answered
+  -- a piece was fed, and the requests that it completes were answered
   pub piece_answers : (answer : Go) (old fed new : Spot turns) (had has : List ℕ → Type 0) (bytes : List ℕ)
       → ((more : List ℕ) → stream_of fed.reader more ≡ stream_of old.reader (bytes ++ more)) → fed.executed ≡ old.executed → fed.world ≡ old.world
       → WentAs answer fed new had has [] → WentAs answer old new had has bytes
   piece_answers answer old fed new had has bytes stream executed world after =
       answers_then old fed had had bytes (fed_only old fed had bytes stream executed world) answer new has after
 
-  -- a request had its turn, and a front of its text was written
+  -- a request was handled, and a prefix of its reply written
   abbrev last_reply : (said : OfLast turns) (request : Request) (old new : Spot turns) (reader : Reading) (had has : List ℕ → Type 0) (reply : List ℕ) (kept : ℕ)
       → ((more : List ℕ) → stream_of old.reader more ≡ Then request reader.begin (stream_of reader more))
       → said old.world request reply kept new.world → Grows had has (take kept reply) → new.reader ≡ reader → new.executed ≡ old.executed + 1 → LastReply said old new had has []
@@ -173,7 +173,7 @@ module _ {turns : Turns} where
     executed = omega (arith, executed);
   }
 
-  -- a request was taken, and then answered
+  -- the next request was answered
   pub answered_next : (answer : Option Go) (request : Request) (old new : Spot turns) (reader : Reading) (had has : List ℕ → Type 0)
       → ((more : List ℕ) → stream_of old.reader more ≡ Then request reader.begin (stream_of reader more)) → old.reader.begin < reader.begin
       → Replied answer request (record { reader = reader; executed = old.executed; world = old.world }) new had has → GoesOn answer old new had has
@@ -195,7 +195,7 @@ module _ {turns : Turns} where
   answered_next (Some (go.Broken fault)) request old new reader had has stream onward replied = absurd replied.turned
   answered_next (Some go.Memory) request old new reader had has stream onward replied = absurd replied.turned
 
-  -- a fault was found, and then answered
+  -- the next event was a protocol error, and it was answered
   pub refused_next : (answer : Go) (fault : Protocol) (old new : Spot turns) (had has : List ℕ → Type 0)
       → ((more : List ℕ) → stream_of new.reader more ≡ stream_of old.reader more) → IsBroken fault old
       → new.executed ≡ old.executed → new.world ≡ old.world → Refused answer fault had has → GoesOn (Some answer) old new had has

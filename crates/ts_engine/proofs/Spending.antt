@@ -1,4 +1,4 @@
--- How an input that is as long as the budget, or longer, ends.
+-- How an input that is not shorter than the budget ends.
 use Rattle.std.specs.Prelude.{Option, Some, None}
 use Rattle.std.specs.Io.KnownBytes.{IsAtEnd}
 use Rattle.std.proofs.Common.{◌≡◌, ◌⊎◌, Bool, true, false, inl, inr, ℕ, ◌+◌, ◌-◌, ◌<◌, ◌≤◌, List, [], ◌++◌, length, take, refl, sym, ◌∙◌, ap, subst, arith, length-append}
@@ -19,18 +19,18 @@ use Rattle.ts_engine.specs.Status.{status_of}
 use Rattle.ts_engine.specs.Top.{status_cut}
 use Rattle.ts_engine.proofs.Headlines.{splits, no_quit, ends_as, front_answered, quitted_all}
 
--- the first bytes of so many are those that were taken, and more
+-- the first `budget` bytes are those that were read, and more
 pub first_bytes : (front rest : List ℕ) (budget : ℕ) → length front ≤ budget → take budget (front ++ rest) ≡ front ++ take (budget - length front) rest
 first_bytes front rest budget within =
     let same : budget ≡ length front + (budget - length front) = omega (arith, within) in
     ap (λ (n : ℕ). take n (front ++ rest)) same ∙ take-append-add front rest (budget - length front)
 
--- no fault and no QUIT: the budget is used up
+-- no protocol error and no QUIT: the budget is used up
 unbroken : (quits : Bool) (stream : Stream) (place : Option ℕ) → quits ≡ false → stream ≡ ended_at place → status.Budget ≡ status_cut quits stream
 unbroken quits stream None none is = sym (ap (λ (s : Stream). status_cut quits s) is ∙ ap (λ (b : Bool). status_cut b (ended_at None)) none)
 unbroken quits stream (Some place) none is = sym (ap (λ (s : Stream). status_cut quits s) is ∙ ap (λ (b : Bool). status_cut b (ended_at (Some place))) none)
 
--- where the end of the input was read, it has nothing left
+-- the end of the input was read, so nothing is left
 at_end : {turns : Turns} (e : End) (left : Option (List ℕ)) (old new : Spot turns) (had has : List ℕ → Type 0) (bytes : List ℕ) (ends : Ends e left old new had has bytes)
     → is_of_input e left old new had has bytes ends ≡ true → IsAtEnd left
 at_end end.Ended left old new had has bytes (inl all) same = all.at_end
@@ -42,7 +42,7 @@ at_end end.WriteFault left old new had has bytes ends same = (cc)
 at_end end.Memory left old new had has bytes ends same = (cc)
 at_end end.Budget left old new had has bytes ends same = (cc)
 
--- by what was answered over the bytes taken
+-- by what was answered of the bytes read
 module _ {turns : Turns} (exchange : Exchange turns) (last : Spot turns) (at : last.world ≡ exchange.to) (left : Option (List ℕ)) (first front more : List ℕ) (is : first ≡ front ++ more) where
   by_first : (e : End) (reads reads' writes writes' : ℕ) (ends : Ends e left (beginning_of turns exchange.limits exchange.from) last exchange.had exchange.has front)
       → (is_of_input e left (beginning_of turns exchange.limits exchange.from) last exchange.had exchange.has front ends ≡ true → ⊥) → (e ≡ end.Budget → more ≡ [])
@@ -64,7 +64,7 @@ module _ {turns : Turns} (exchange : Exchange turns) (last : Spot turns) (at : l
       inr (unbroken (asks_to_quit exchange.limits first) (ending exchange.limits first) answered.place (ap (asks_to_quit exchange.limits) same ∙ answered.goes_on)
       (ap (ending exchange.limits) same ∙ answered.unbroken))
 
--- what `pipe` did from the empty database with an input that told its bytes
+-- a run of `pipe` from the empty database, on an input whose bytes are known
 module _ {turns : Turns} (exchange : Exchange turns) (budget : ℕ) (outcome : Outcome) (bytes : List ℕ) (left : Option (List ℕ))
     (piped : PipedBy turns exchange.limits budget outcome exchange.from exchange.to (Some bytes) left exchange.had exchange.has) where
   by_piped : (reads reads' writes writes' : ℕ) → HasCauses outcome.end reads reads' writes writes' → budget ≤ length bytes → (Rose reads reads' → ⊥) → (Rose writes writes' → ⊥)

@@ -1,4 +1,4 @@
--- What `pipe` did with an input that it answered whole.
+-- A workload that `pipe` answered to its end.
 use Rattle.std.specs.Prelude.{Option, Some}
 use Rattle.std.proofs.Common.{◌≡◌, inl, inr, ℕ, List, [], ◌∷◌, ◌++◌, length, refl, ◌∙◌, ap, subst, append-nil}
 use Rattle.ts_io.specs.Counts.{Counts, counts_of}
@@ -21,7 +21,7 @@ use Rattle.ts_engine.specs.Piping.{Piped}
 use Rattle.ts_engine.proofs.Taking.{writes_of, executed_of}
 use Rattle.ts_engine.proofs.Sessions.{grows_as}
 
--- all requests of the bytes had their turns, so many as were executed, and the sink has the text of them all
+-- all requests were handled, as many as were executed, and the output has all their replies
 pub record RanAll (limits : Limits) (readings : Option (List ℕ)) (bytes : List ℕ) (executed : ℕ) (to : World) (had has : List ℕ → Type 0) : Type 0 where
   pub text : List ℕ
   pub run : Runs turn (start limits readings) (requests limits.wire bytes) text to
@@ -57,7 +57,7 @@ module _ (limits : Limits) (readings : Option (List ℕ)) (budget : ℕ) (outcom
 same_six : (a b c d e f a' b' c' d' e' f' : ℕ) → a ≡ a' → b ≡ b' → c ≡ c' → d ≡ d' → e ≡ e' → f ≡ f' → a ∷ b ∷ c ∷ d ∷ e ∷ f ∷ [] ≡ a' ∷ b' ∷ c' ∷ d' ∷ e' ∷ f' ∷ []
 same_six a b c d e f a' b' c' d' e' f' p q r s t u = rw (p, q, r, s, t, u) refl
 
--- a workload was answered whole, and what was counted are the numbers of its summary
+-- the workload was answered to its end, and the counters are the numbers of its summary
 pub summed : (limits : Limits) (seed n : ℕ) (wire : WireLimits) (budget : ℕ) (outcome : Outcome) (held : Held) (told left readings readings' : Option (List ℕ)) (before after : Counts)
     (size total errors keys samples : ℕ) → wire ≡ usual.wire → told ≡ Some (script seed n) → readings ≡ Some [] → before ≡ counts_of [] → outcome.end ≡ end.Ended
     → Piped wire budget outcome (start (record limits { wire = wire }) readings) (record { held = held; readings = readings' }) told left (λ w. before ≡ counts_of w) (λ w. after ≡ counts_of w)

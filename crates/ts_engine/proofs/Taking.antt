@@ -1,4 +1,4 @@
--- How much `pipe` takes of an input, by how it answers it.
+-- How many bytes of an input `pipe` reads, by how it answers it.
 use Rattle.std.specs.Prelude.{Option, Some, IfSome}
 use Rattle.std.proofs.Common.{◌≡◌, ◌⊎◌, inl, inr, Bool, true, false, if◌then◌else◌, ℕ, ◌+◌, ◌≤◌, List, [], ◌∷◌, ◌++◌, length, refl, sym, ◌∙◌, ap, subst, arith}
 use Rattle.std.proofs.lemmas.List.{append-nil}
@@ -22,20 +22,20 @@ use Rattle.ts_engine.specs.Top.{Reports}
 use Rattle.ts_engine.proofs.Headlines.{Splits, splits, writes, executed_writes}
 use Rattle.ts_engine.proofs.Quits.{neither}
 
--- the place after QUIT is the one after the request that is QUIT
+-- the offset after QUIT is that after the last request
 quit_place-last : (done : List Placed) (last : Placed) (rest : Stream) → has_quit (requests_in done) ≡ false → is_quit last.request ≡ true → quit_place (then_all (done ++ last ∷ []) rest) ≡ Some last.after
 quit_place-last [] last rest none asked = ap (λ (b : Bool). if b then Some last.after else quit_place rest) asked
 quit_place-last (first ∷ done) last rest none asked =
     let both = neither (is_quit first.request) (has_quit (requests_in done)) none in
     ap (λ (b : Bool). if b then Some first.after else quit_place (then_all (done ++ last ∷ []) rest)) both.0 ∙ quit_place-last done last rest both.1 asked
 
--- the place after a request
+-- the offset after a request
 place_after-last : (done : List Placed) (last : Placed) (rest : Stream) → place_after (then_all (done ++ last ∷ []) rest) (length (requests_in done)) ≡ Some last.after
 place_after-last [] last rest = refl
 place_after-last (first ∷ done) last rest = place_after-last done last rest
 
 module _ {turns : Turns} (exchange : Exchange turns) (last : Spot turns) (at : last.world ≡ exchange.to) (bytes front : List ℕ) (left : Option (List ℕ)) (split : Splits bytes left front) (taken : ℕ) where
-  -- no read was made past an end that showed itself
+  -- at most one piece was read past an end that the input shows
   near_writes : (budget : ℕ) (e : End) (spent : e ≡ end.Budget → length front ≡ budget) (ends : Ends e left (beginning_of turns exchange.limits exchange.from) last exchange.had exchange.has front)
       → IfSome (shown_at e left (beginning_of turns exchange.limits exchange.from) last exchange.had exchange.has front ends) (λ place. taken ≤ place + PIECE)
       → Near exchange bytes left budget e (writes exchange last at bytes front left split budget e spent ends) taken
@@ -59,7 +59,7 @@ module _ {turns : Turns} (exchange : Exchange turns) (last : Spot turns) (at : l
   }
   near_writes budget end.WriteFault spent (inr cut) near = near
 
--- an input that has nothing left ends as one that has
+-- an input with nothing left ends the same
 abbrev read_alone : {turns : Turns} (left : Option (List ℕ)) (old new : Spot turns) (had has : List ℕ → Type 0) (bytes : List ℕ) → ReadAll left old new had has bytes ⊎ Quitted old new had has bytes
     → ReadAll (Some []) old new had has bytes ⊎ Quitted old new had has bytes
 read_alone left old new had has bytes (inl all) = inl (record { went = all.went; ended = all.ended; at_end = refl })
@@ -74,7 +74,7 @@ ends_alone end.WriteFault left old new had has bytes ends = ends
 ends_alone end.Memory left old new had has bytes ends = ends
 ends_alone end.Budget left old new had has bytes ends = ends
 
--- and shows itself there
+-- and shows its end at the same offset
 pub shown_alone : {turns : Turns} (e : End) (left : Option (List ℕ)) (old new : Spot turns) (had has : List ℕ → Type 0) (bytes : List ℕ) (ends : Ends e left old new had has bytes)
     → shown_at e (Some []) old new had has bytes (ends_alone e left old new had has bytes ends) ≡ shown_at e left old new had has bytes ends
 shown_alone end.Ended left old new had has bytes (inl all) = refl
@@ -97,7 +97,7 @@ of_input_alone end.WriteFault left old new had has bytes ends = refl
 of_input_alone end.Memory left old new had has bytes ends = refl
 of_input_alone end.Budget left old new had has bytes ends = refl
 
--- what `pipe` did with an input is what it does with the bytes that it took of it, where there are no others
+-- `pipe` does the same with the bytes that it read, if there are no others
 abbrev pub piped_alone : (turns : Turns) (limits : WireLimits) (budget : ℕ) (outcome : Outcome) (from to : turns.World) (told left : Option (List ℕ)) (had has : List ℕ → Type 0)
     → (piped : PipedBy turns limits budget outcome from to told left had has) → PipedBy turns limits budget outcome from to (Some piped.bytes) (Some []) had has
 piped_alone turns limits budget outcome from to told left had has piped =
@@ -116,7 +116,7 @@ piped_alone turns limits budget outcome from to told left had has piped =
       below = λ is. piped.below (sym (of_input_alone outcome.end left first piped.last had has piped.bytes piped.ends) ∙ is);
     }
 
--- what `pipe` did with an input that told its bytes
+-- a run of `pipe` on an input whose bytes are known
 module _ {turns : Turns} (exchange : Exchange turns) (budget : ℕ) (outcome : Outcome) (bytes : List ℕ) (left : Option (List ℕ))
     (piped : PipedBy turns exchange.limits budget outcome exchange.from exchange.to (Some bytes) left exchange.had exchange.has) where
   abbrev split : Splits bytes left piped.bytes
@@ -139,7 +139,7 @@ pub piped_writes : {turns : Turns} (exchange : Exchange turns) (budget : ℕ) (o
 piped_writes {turns} exchange budget outcome bytes told left tells piped =
     writes_of exchange budget outcome bytes left (subst (λ (o : Option (List ℕ)). PipedBy turns exchange.limits budget outcome exchange.from exchange.to o left exchange.had exchange.has) tells piped)
 
--- a front of the input was taken
+-- a prefix of the input was read
 abbrev pub front_taken : (turns : Turns) (limits : WireLimits) (budget : ℕ) (outcome : Outcome) (from to : turns.World) (bytes : List ℕ) (left : Option (List ℕ)) (had has : List ℕ → Type 0)
     → PipedBy turns limits budget outcome from to (Some bytes) left had has → FrontTaken budget bytes left
 front_taken turns limits budget outcome from to bytes left had has piped =
@@ -147,7 +147,7 @@ front_taken turns limits budget outcome from to bytes left had has piped =
     record { front = piped.bytes; rest = parts.0; split = parts.1; left_is = parts.2; within = omega (arith, piped.count, piped.within) }
 
 module _ {turns : Turns} (exchange : Exchange turns) (budget : ℕ) (outcome : Outcome) (bytes : List ℕ) (left : Option (List ℕ)) where
-  -- it was answered, and so was that front
+  -- the input was answered, and that prefix alone is answered the same
   taken_front : PipedBy turns exchange.limits budget outcome exchange.from exchange.to (Some bytes) left exchange.had exchange.has → TakenBy exchange budget bytes left outcome.end
   taken_front piped = record {
     written = writes_of exchange budget outcome bytes left piped;
@@ -161,7 +161,7 @@ module _ {turns : Turns} (exchange : Exchange turns) (budget : ℕ) (outcome : O
   taken_by told tells piped =
       taken_front (subst (λ (o : Option (List ℕ)). PipedBy turns exchange.limits budget outcome exchange.from exchange.to o left exchange.had exchange.has) tells piped)
 
--- what it did from the empty database on is what the top call says was taken
+-- the clause `taken` of `top`, for a run from the empty database
 pub piped_taken : (seen : Seen) (held : Held) (budget : ℕ) (outcome : Outcome) (bytes : List ℕ) (left told : Option (List ℕ)) → told ≡ Some bytes
     → Piped seen.limits.wire budget outcome (exchange_of seen held).from (exchange_of seen held).to told left seen.had seen.has
     → (had has : List ℕ → Type 0) (given : Status) → Reports (status_of outcome.end) (place_of outcome.end) given had has → (outcome.end ≡ end.Ended → given ≡ status.Ended)

@@ -19,7 +19,7 @@ use Rattle.ts_engine.specs.Headline.{Exchange, Writes, ending, asks_to_quit}
 by_ending : (quits : Bool) (stream end : Stream) → quits ≡ false → stream ≡ end → status_at end ≡ status_by quits stream
 by_ending quits stream end none is = ap status_at (sym is) ∙ ap (λ (b : Bool). status_by b stream) (sym none)
 
--- where no fault was counted and the budget is not reached, the status is the grammar's, or want of memory
+-- no fault counter rose and the budget is not reached, so the status is that of the grammar, or out of memory
 pub by_grammar : {turns : Turns} (exchange : Exchange turns) (budget : ℕ) (bytes : List ℕ) (left : Option (List ℕ)) (e : End) (reads reads' writes writes' : ℕ)
     → Writes exchange budget bytes left e → HasCauses e reads reads' writes writes' → length bytes < budget → (Rose reads reads' → ⊥) → (Rose writes writes' → ⊥)
     → (status_of e ≡ status.Memory) ⊎ (status_of e ≡ status_by (asks_to_quit exchange.limits bytes) (ending exchange.limits bytes))
@@ -37,40 +37,40 @@ by_grammar exchange budget bytes left end.Memory reads reads' writes writes' wro
 by_grammar exchange budget bytes left end.Budget reads reads' writes writes' wrote causes below no_read no_write =
     absurd (omega (arith, ap length wrote.0.split, length-append wrote.0.front wrote.0.rest, wrote.1))
 
--- what holds of the status meant holds of the one given
+-- a fact about the intended status holds of the reported one
 pub as_meant : (meant given wanted : Status) → given ≡ meant → (meant ≡ status.Memory) ⊎ (meant ≡ wanted) → (given ≡ status.Memory) ⊎ (given ≡ wanted)
 as_meant meant given wanted same (inl memory) = inl (same ∙ memory)
 as_meant meant given wanted same (inr is) = inr (same ∙ is)
 
--- the status that was answered is the one meant, where no write of its line failed
+-- the reported status is the intended one, unless writing its line failed
 pub answered_as : (meant given : Status) (told told' : ℕ) → (given ≡ status.WriteFault → (meant ≡ status.WriteFault) ⊎ Rose told told') → (given ≡ status.WriteFault) ⊎ (given ≡ meant)
     → (Rose told told' → ⊥) → given ≡ meant
 answered_as meant given told told' cause same none =
     ⊎_elim (λ (failed : given ≡ status.WriteFault). ⊎_elim (λ (was : meant ≡ status.WriteFault). failed ∙ sym was) (λ (rose : Rose told told'). absurd (none rose)) (cause failed))
     (λ (is : given ≡ meant). is) same
 
--- a workload whose status is no write fault was answered, or there was no memory
+-- a workload whose status is no write fault was answered, or memory ran out
 pub answered_or_memory : {A B : Type 0} (given : Status) → (given ≡ status.Ended) ⊎ (given ≡ status.WriteFault) ⊎ (given ≡ status.Memory) → (given ≡ status.WriteFault → A ⊎ B) → (A → ⊥) → (B → ⊥)
     → (given ≡ status.Memory) ⊎ (given ≡ status.Ended)
 answered_or_memory given (inl good) cause no_a no_b = inr good
 answered_or_memory given (inr (inl failed)) cause no_a no_b = absurd (⊎_elim no_a no_b (cause failed))
 answered_or_memory given (inr (inr memory)) cause no_a no_b = inl memory
 
--- where the status given is neither that of a write nor that of this fault, the end was another
+-- a status other than a write fault or this fault means another end
 pub not_meant : {E : Type 0} (view : E → Status) (e fault : E) (meant given : Status) → meant ≡ view e
     → (given ≡ status.WriteFault) ⊎ (given ≡ meant) → given ≢ status.WriteFault → given ≢ view fault → e ≢ fault
 not_meant view e fault meant given means (inl failed) no_write other is = no_write failed
 not_meant view e fault meant given means (inr same) no_write other is = other (same ∙ means ∙ ap view is)
 
--- ---- the words
+-- ---- the arguments
 
--- one word asks for no journal
+-- one argument does not select `keep`
 one-not-keep : (pipe mux : Bool) → (if pipe then Some mode.Pipe else (if mux then Some mode.Mux else None)) ≡ Some mode.Keep → ⊥
 one-not-keep true mux is = (cc)
 one-not-keep false true is = (cc)
 one-not-keep false false is = (cc)
 
--- the name of a journal is the second word
+-- the journal's name is the second argument
 pub keep-words : (words : List (List ℕ)) → Some mode.Keep ≡ mode_of words → 1 < length words
 keep-words [] is = absurd (cc)
 keep-words (word ∷ []) is = absurd (one-not-keep (same word (codes "pipe")) (same word (codes "mux")) (sym is))

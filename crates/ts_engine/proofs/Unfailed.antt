@@ -1,4 +1,4 @@
--- What was done with an input by a server that keeps a journal, where the journal did not fail.
+-- An input that was answered with a journal that did not fail.
 use Rattle.std.specs.Prelude.{◌≢◌, Option, Some, IfSome}
 use Rattle.std.proofs.Common.{◌≡◌, ◌⊎◌, inl, inr, Bool, true, false, ℕ, ◌+◌, ◌≤◌, List, [], ◌∷◌, refl, sym, ◌∙◌, ap, subst, arith}
 use Rattle.ts_io.specs.Causes.{Rose}
@@ -21,19 +21,19 @@ use Rattle.ts_engine.proofs.Taking.{taken_by}
 pub not_both : (failed : Bool) → failed ≡ false → failed ≡ true → ⊥
 not_both failed fine is = (cc)
 
--- ---- turns
+-- ---- requests
 
--- a journal that had not failed has not failed after a run
+-- a journal that has not failed before a run has not failed after it
 pub kept_runs : (from to : Kept) (requests : List Request) (text : List ℕ) → Runs IsKept from requests text to → to.failed ≡ from.failed
 kept_runs from to [] text run = ap (λ (k : Kept). k.failed) run.1
 kept_runs from to (request ∷ requests) text run = kept_runs run.mid to requests run.rest run.after ∙ run.here.failed
 
--- where it has not failed, the record of a turn is in it
+-- it has not failed, so the record of each request is in it
 pub whole-kept : (from : Kept) (request : Request) (written : List ℕ) (kept : ℕ) (to : Kept) → to.failed ≡ false → IsCut from request written kept to → IsKept from request written to
 whole-kept from request written kept to fine (inl is) = is
 whole-kept from request written kept to fine (inr torn) = absurd (not_both to.failed fine torn.1.failed)
 
--- ---- how the turns went
+-- ---- how the requests were handled
 
 abbrev same : Spot keeping → Spot journaled
 same spot = record { reader = spot.reader; executed = spot.executed; world = spot.world }
@@ -124,7 +124,7 @@ module _ (old new : Spot keeping) (had has : List ℕ → Type 0) (bytes : List 
   of_input_same end.Memory left fine ends = refl
   of_input_same end.Budget left fine ends = refl
 
--- where the journal did not fail, each turn that was made has its record in it
+-- the journal did not fail, so every handled request has its record in it
 pub unfailed : (limits : WireLimits) (budget : ℕ) (outcome : Outcome) (from to : Kept) (left rest : Option (List ℕ)) (had has : List ℕ → Type 0) → to.failed ≡ false
     → PipedBy keeping limits budget outcome from to left rest had has → PipedBy journaled limits budget outcome from to left rest had has
 unfailed limits budget outcome from to left rest had has fine piped =
@@ -146,7 +146,7 @@ unfailed limits budget outcome from to left rest had has fine piped =
 
 -- ---- counts of faults
 
--- a write that failed was one of the output
+-- a failed write was one of the output
 write_failed : (writes writes' : ℕ) (own own' : JournalFaults) → own'.failed ≡ false → AFault keeping writes writes' own own' → (writes ≤ writes') × Rose writes writes' × (own' ≡ own)
 write_failed writes writes' own own' fine (inl failed) = failed
 write_failed writes writes' own own' fine (inr failed) = absurd (not_both own'.failed fine failed.1.failed)
@@ -154,7 +154,7 @@ write_failed writes writes' own own' fine (inr failed) = absurd (not_both own'.f
 no_fault : (writes writes' : ℕ) (own own' : JournalFaults) → NoFault keeping writes writes' own own' → (writes ≤ writes') × (own' ≡ own)
 no_fault writes writes' own own' none = (omega (arith, none.0), none.1)
 
--- the count of the output did not fall, and that of the journal is as it was
+-- the output's counter did not fall, and the journal's did not change
 unfailed_counts : (e : End) (writes writes' : ℕ) (own own' : JournalFaults) → own'.failed ≡ false → (e ≡ end.WriteFault → AFault keeping writes writes' own own')
     → (e ≢ end.WriteFault → NoFault keeping writes writes' own own') → (writes ≤ writes') × (own' ≡ own)
 unfailed_counts end.WriteFault writes writes' own own' fine failed none =
@@ -167,7 +167,7 @@ unfailed_counts end.ReadFault writes writes' own own' fine failed none = no_faul
 unfailed_counts end.Memory writes writes' own own' fine failed none = no_fault writes writes' own own' (none (λ is. (cc)))
 unfailed_counts end.Budget writes writes' own own' fine failed none = no_fault writes writes' own own' (none (λ is. (cc)))
 
--- the causes of an end are those of plain turns, and the journal's count of faults is as it was
+-- the causes of an end are those of the plain handler, and the journal's counter did not change
 pub unfailed_causes : (e : End) (reads reads' writes writes' : ℕ) (own own' : JournalFaults) → own'.failed ≡ false → HasCausesBy keeping e reads reads' writes writes' own own'
     → HasCauses e reads reads' writes writes' × (own'.count ≡ own.count)
 unfailed_causes e reads reads' writes writes' own own' fine causes =
@@ -185,7 +185,7 @@ unfailed_causes e reads reads' writes writes' own own' fine causes =
 
 -- ---- a whole input
 
--- where the journal did not fail, what was done with an input that told its bytes is how that was answered
+-- the journal did not fail: how an input whose bytes are known was answered
 module _ (exchange : Exchange journaled) (budget : ℕ) (outcome : Outcome) (bytes : List ℕ) (told left : Option (List ℕ)) (tells : told ≡ Some bytes) (fine : exchange.to.failed ≡ false)
     (piped : PipedBy keeping exchange.limits budget outcome exchange.from exchange.to told left exchange.had exchange.has) where
   here : PipedBy journaled exchange.limits budget outcome exchange.from exchange.to told left exchange.had exchange.has

@@ -1,4 +1,4 @@
--- What was done with an input by a server that keeps a journal, where the journal failed.
+-- An input that was answered with a journal that failed.
 use Rattle.std.specs.Prelude.{Option, Some}
 use Rattle.std.proofs.Common.{◌≡◌, inl, inr, true, false, ℕ, ◌+◌, ◌≤◌, List, [], ◌++◌, length, take, refl, sym, ◌∙◌, ap, subst}
 use Rattle.std.proofs.lemmas.List.{append-nil}
@@ -18,11 +18,11 @@ use Rattle.ts_engine.proofs.Sessions.{grows_as}
 use Rattle.ts_engine.proofs.Taking.{piped_alone, front_taken, writes_of, executed_of, near_of}
 use Rattle.ts_engine.proofs.Unfailed.{not_both, kept_runs}
 
--- the same exchange, with the turn in which the journal fails
+-- the same exchange, with the request at which the journal fails
 abbrev in_keeping : Exchange journaled → Exchange keeping
 in_keeping exchange = record { limits = exchange.limits; from = exchange.from; to = exchange.to; had = exchange.had; has = exchange.has }
 
--- what was written, by an end, is what is said of a journal that failed
+-- what was written, by the end, is what is said of a failed journal
 record IsUnkept (exchange : Exchange journaled) (bytes : List ℕ) (budget : ℕ) (left : Option (List ℕ)) (taken : ℕ) (e : End) (written : Writes (in_keeping exchange) budget bytes left e) : Type 0 where
   end : e ≡ end.WriteFault
   unkept : Unkept exchange bytes
@@ -30,11 +30,11 @@ record IsUnkept (exchange : Exchange journaled) (bytes : List ℕ) (budget : ℕ
   near : Near (in_keeping exchange) bytes left budget e written taken → IsNear (place_after (stream_at exchange.limits 0 bytes) (length unkept.done)) taken
 
 module _ (exchange : Exchange journaled) (fine : exchange.from.failed ≡ false) (failed : exchange.to.failed ≡ true) (bytes : List ℕ) (budget : ℕ) (left : Option (List ℕ)) (taken : ℕ) where
-  -- not each turn has its record in the journal
+  -- not every request has its record in the journal
   not_kept : (requests : List Request) (text : List ℕ) → Runs IsKept exchange.from requests text exchange.to → ⊥
   not_kept requests text run = not_both exchange.to.failed (kept_runs exchange.from exchange.to requests text run ∙ fine) failed
 
-  -- the last one has not
+  -- the last one has none
   unkept_last : (cut : LastCut (in_keeping exchange) bytes) → IsCut cut.mid cut.last cut.reply cut.kept exchange.to → IsUnkept exchange bytes budget left taken end.WriteFault (inl cut)
   unkept_last cut (inl turned) = absurd (not_both exchange.to.failed (turned.failed ∙ kept_runs exchange.from cut.mid cut.done cut.text cut.run ∙ fine) failed)
   unkept_last cut (inr turned) = record {
@@ -67,7 +67,7 @@ module _ (exchange : Exchange journaled) (fine : exchange.from.failed ≡ false)
   unkept_by end.WriteFault (inl cut) = unkept_last cut cut.turned
   unkept_by end.WriteFault (inr cut) = absurd (not_kept _ cut.answered.text cut.answered.run)
 
--- the journal failed, and that ended an input with these bytes
+-- the journal failed, and that ended the input
 pub record EndedByJournal (exchange : Exchange journaled) (budget : ℕ) (outcome : Outcome) (bytes : List ℕ) (left : Option (List ℕ)) : Type 0 where
   pub end : outcome.end ≡ end.WriteFault
   pub all : UnkeptTaken exchange budget bytes left
@@ -97,7 +97,7 @@ module _ (exchange : Exchange journaled) (budget : ℕ) (outcome : Outcome) (byt
 
 -- ---- counts of faults
 
--- the end was the journal's: its count rose, and the others are as they were
+-- the journal ended the input: its counter rose, and the others did not change
 pub record HasJournalCause (e : End) (reads reads' writes writes' : ℕ) (own own' : JournalFaults) : Type 0 where
   pub end : e ≡ end.WriteFault
   pub unread : reads' ≡ reads

@@ -1,4 +1,4 @@
--- How an input was answered whose counts of faults are known.
+-- How an input was answered, given its fault counters.
 use Rattle.std.specs.Prelude.{◌≡◌, ◌⊎◌, ℕ, ◌≤◌, ◌<◌, List, length, take, Option}
 use Rattle.ts_io.specs.Causes.{Rose}
 use Rattle.ts_engine.specs.declared.piped.Outcome.{Outcome}
@@ -10,12 +10,12 @@ use Rattle.ts_engine.specs.Status.{status_of}
 use Rattle.ts_engine.specs.Taken.{Near}
 use Rattle.ts_engine.specs.Top.{status_by, status_cut}
 
--- no memory, or this one
+-- out of memory, or this status
 abbrev pub IsMemoryOr : (given wanted : Status) → Type 0
 IsMemoryOr given wanted = (given ≡ status.Memory) ⊎ (given ≡ wanted)
 
--- What was written for an input with these bytes, of which so many may be taken, is what its end says, for so many requests; and no read was made
--- past an end that showed itself. Where no count of faults rose, the end is want of memory, or the one that the bytes give.
+-- The output is what the end says, for `executed` requests, and at most one piece was read past an end that the input
+-- shows. If no fault counter rose, the end is out of memory or the one that the bytes determine.
 pub record InputAnswered {turns : Turns} (exchange : Exchange turns) (budget : ℕ) (bytes : List ℕ) (left : Option (List ℕ)) (outcome : Outcome) (reads reads' writes writes' : ℕ) : Type 0 where
   pub written : Writes exchange budget bytes left outcome.end
   pub executed : outcome.executed ≡ count_done exchange budget bytes left outcome.end written

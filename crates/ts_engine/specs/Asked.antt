@@ -1,4 +1,4 @@
--- What the words of the command line ask for, and what the top call does where they ask to serve.
+-- The mode that the command line selects, and what `top` does in the mode `serve`.
 use Rattle.std.specs.Prelude.{◌≡◌, ℕ, List, map, Option, Some, String}
 use Rattle.std.specs.String.{string_bytes}
 use Rattle.std.specs.declared.alloc.Global.{Global}
@@ -15,26 +15,26 @@ use Rattle.ts_engine.specs.Headline.{Seen, start}
 use Rattle.ts_engine.specs.Serving.{StreamViews, Serves}
 use Rattle.ts_engine.specs.Top.{Reports}
 
--- the mode that the words ask for, if they ask for one
+-- the mode that the arguments select, if they are valid
 abbrev pub asked : List (String Global) → Option Mode
 asked words = mode_of (map string_bytes words)
 
--- the words ask to serve
+-- the arguments select `serve`
 abbrev pub IsServe : List (String Global) → Type 0
 IsServe words = (links : ℕ) × (asked words ≡ Some (Serve links))
 
--- the words ask for a workload
+-- the arguments select `gen`
 abbrev pub IsGen : List (String Global) → Type 0
 IsGen words = (seed : ℕ) × (n : ℕ) × (asked words ≡ Some (Gen seed n))
 
--- the status of a run, by how its serving ended
+-- the status, by how serving ended
 abbrev pub status_served : Served → Status
 status_served Done = status.Ended
 status_served AcceptFault = status.AcceptFault
 status_served WriteFault = status.WriteFault
 
--- How links were served, from the empty database and the first link on, and how the ending was reported. Where so many were served and their
--- lines were written, the status is the good one.
+-- Connections were served, the first on the empty database, and the ending was reported. If all were served and their
+-- lines written, the status is the good one.
 pub record Connections {I O : Type 0} (views : StreamViews I O) (seen : Seen) (budget most : ℕ) (coming coming' closed closed' : Option (List (Ends I O))) (had has : List ℕ → Type 0) (given : Status) : Type 0 where
   pub served : Served
   pub held : Held
@@ -42,7 +42,8 @@ pub record Connections {I O : Type 0} (views : StreamViews I O) (seen : Seen) (b
   pub reported : Reports (status_served served) 0 given had has
   pub quiet : served ≡ Done → given ≡ status.Ended
 
--- So many links were served, from the empty database and the first link on, and their lines were written. That is a good end.
+-- All `most` connections were served, the first on the empty database, and their lines were written. The status is the
+-- good one.
 pub record AllServed {I O : Type 0} (views : StreamViews I O) (seen : Seen) (budget most : ℕ) (coming coming' closed closed' : Option (List (Ends I O))) (given : Status) : Type 0 where
   pub good : given ≡ status.Ended
   pub held : Held

@@ -1,4 +1,4 @@
--- What is written for a capture of interleaved connections, by its end.
+-- What is written for a capture, by how it ended.
 use Rattle.std.specs.Prelude.{◌≡◌, Bool, true, false, ℕ, ◌≤◌, nat_le, List, [], ◌∷◌, ◌++◌, length, take, map, codes, Option, Some, String}
 use Rattle.std.specs.String.{string_bytes}
 use Rattle.std.specs.declared.alloc.Global.{Global}
@@ -20,11 +20,11 @@ use Rattle.ts_engine.specs.Headline.{Exchange, Seen, exchange_of}
 use Rattle.ts_engine.specs.Replies.{Replies, IsReply, reply_frame}
 use Rattle.ts_engine.specs.Top.{ReportsIn}
 
--- the one word `mux`
+-- the single argument `mux`
 abbrev pub IsMux : List (String Global) → Type 0
 IsMux words = map string_bytes words ≡ codes "mux" ∷ []
 
--- what the connections in these bytes ask, in order, with their faults
+-- the requests and errors of the connections in these bytes, in order
 abbrev pub items : WireLimits → List ℕ → List Item
 items limits bytes = order limits (frames_of (capture.capture bytes))
 
@@ -33,13 +33,13 @@ abbrev pub ending : List ℕ → Capture
 ending bytes = capture.ending_of (capture.capture bytes)
 
 module _ (exchange : Exchange plain) where
-  -- the sink has a frame for each item in these bytes
+  -- the output has a frame for each item of these bytes
   pub record AllReplied (bytes : List ℕ) : Type 0 where
     pub frames : List Frame
     pub replies : Replies exchange.from (items exchange.limits bytes) frames exchange.to
     pub grown : Grows exchange.had exchange.has (all_framed frames)
 
-  -- the sink has a frame for each of the first items in these bytes
+  -- the output has a frame for each of the first items of these bytes
   pub record SomeReplied (bytes : List ℕ) : Type 0 where
     pub done : List Item
     pub others : List Item
@@ -48,7 +48,7 @@ module _ (exchange : Exchange plain) where
     pub replies : Replies exchange.from done frames exchange.to
     pub grown : Grows exchange.had exchange.has (all_framed frames)
 
-  -- the sink has such frames, and only bytes at the end of the last item's frame are missing
+  -- the same, and a prefix of the next item's frame
   pub record FrameCut (bytes : List ℕ) : Type 0 where
     pub done : List Item
     pub last : Item
@@ -62,12 +62,12 @@ module _ (exchange : Exchange plain) where
     pub reply : IsReply mid last.event text exchange.to
     pub grown : Grows exchange.had exchange.has (all_framed frames ++ take kept (framed (reply_frame last text)))
 
-  -- all items of these bytes have their frames, and the bytes end so
+  -- the output has a frame for each item, and the bytes end like this
   pub record EndReplied (bytes : List ℕ) (end : Capture) : Type 0 where
     pub replied : AllReplied bytes
     pub ended : ending bytes ≡ end
 
-  -- what is written for a capture with these bytes, of which these were taken
+  -- what is written for a capture with these bytes, if this prefix of them was read
   abbrev pub Writes : (bytes front : List ℕ) → CaptureEnd → Type 0
   Writes bytes front end.Ended = EndReplied bytes capture.Ended × (front ≡ bytes)
   Writes bytes front (end.Truncated place) = EndReplied bytes (capture.Inside place) × (front ≡ bytes)
@@ -87,7 +87,7 @@ status_of end.WriteFault = status.WriteFault
 status_of end.Memory = status.Memory
 status_of end.Budget = status.Budget
 
--- the place that the line of an end tells, 0 where it tells none
+-- the offset in the status line of an end; 0 if it has none
 abbrev pub place_of : CaptureEnd → ℕ
 place_of (end.Truncated place) = place
 place_of (end.Broken place) = place
@@ -97,8 +97,8 @@ place_of end.WriteFault = 0
 place_of end.Memory = 0
 place_of end.Budget = 0
 
--- How a capture with these bytes was answered, from the empty database on, and what was taken of it: a front of at most the budget. What its end
--- says was written, and the end was reported. A good end is not reported otherwise.
+-- How a capture with these bytes was answered on the empty database. A prefix of at most `budget` bytes was read. The
+-- output is what the end says, and the end was reported. A good end always has the good status.
 pub record Captured (seen : Seen) (budget : ℕ) (bytes : List ℕ) (left : Option (List ℕ)) (had has : List ℕ → Type 0) (given : Status) : Type 0 where
   pub held : Held
   pub ended : CaptureEnd
@@ -112,14 +112,14 @@ pub record Captured (seen : Seen) (budget : ℕ) (bytes : List ℕ) (left : Opti
   pub reported : ReportsIn (Some mode.Mux) (status_of ended) (place_of ended) given had has
   pub quiet : ended ≡ end.Ended → given ≡ status.Ended
 
--- an end of a capture was reported by its status and line, whatever the input tells of itself
+-- An end was reported by its status and line. Holds even if the input's bytes are unknown.
 pub record HasCaptureLine (had has : List ℕ → Type 0) (given : Status) : Type 0 where
   pub ended : CaptureEnd
   pub reported : ReportsIn (Some mode.Mux) (status_of ended) (place_of ended) given had has
   pub quiet : ended ≡ end.Ended → given ≡ status.Ended
 
--- The status of a capture of which these first bytes may be taken, by their ending and by whether the budget is used up with them: that of a
--- break in them, else that of a used up budget, else that of the ending.
+-- The status for these bytes, by their ending and whether the budget is used up: an error in them comes first, then a
+-- used-up budget, then the ending.
 abbrev pub status_by : (spent : Bool) → Capture → Status
 status_by spent (capture.Broken place) = status.CaptureBroken
 status_by true (capture.Inside place) = status.Budget
@@ -129,6 +129,6 @@ status_by false (capture.Inside place) = status.Truncated
 status_by false capture.Ended = status.Ended
 status_by false (capture.Then frame rest) = status.Ended
 
--- the same of a capture with these bytes
+-- the same for a whole capture, of which at most `budget` bytes are read
 abbrev pub status_captured : (budget : ℕ) → List ℕ → Status
 status_captured budget bytes = status_by (nat_le budget (length bytes)) (ending (take budget bytes))

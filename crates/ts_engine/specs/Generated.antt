@@ -1,4 +1,4 @@
--- What the top call does where the words of the command line ask for a workload.
+-- What `top` does in the mode `gen`.
 use Rattle.std.specs.Prelude.{◌≡◌, ℕ, List, [], ◌∷◌, length, Some}
 use Rattle.ts_io.specs.Counts.{counts_of}
 use Rattle.ts_io.specs.Sinks.{Grows, GrowsByFront}
@@ -15,13 +15,13 @@ use Rattle.ts_execution.specs.Turn.{World, turn}
 use Rattle.ts_engine.specs.Headline.{requests, start}
 use Rattle.ts_engine.specs.Top.{Reports}
 
--- these limits, under the usual ones of requests
+-- these limits, with the usual wire limits
 abbrev pub with_usual_wire : Limits → Limits
 with_usual_wire limits = record limits { wire = usual.wire }
 
--- The requests of a workload were answered by a run from the empty database, without readings of a clock, and these are the numbers of its
--- summary: the requests executed, the bytes of the requests, the bytes of the replies and the error replies, both at most the greatest u64,
--- the keys, and the samples that all keys show.
+-- The numbers of a workload's summary, from a run on the empty database without clock readings: requests executed,
+-- bytes of the requests, bytes of the replies and error replies (both capped at the greatest u64), keys, and visible
+-- samples of all keys.
 pub record IsSummary (limits : Limits) (seed n : ℕ) (numbers : List ℕ) : Type 0 where
   pub text : List ℕ
   pub to : World
@@ -29,7 +29,7 @@ pub record IsSummary (limits : Limits) (seed n : ℕ) (numbers : List ℕ) : Typ
   pub are : numbers ≡ length (requests usual.wire (script seed n)) ∷ length (script seed n) ∷ (counts_of text).total ∷ (counts_of text).errors
       ∷ count_keys to.held.state ∷ total_shown to.held.state ∷ []
 
--- what an output has of a workload, by the status that is meant: the whole summary, a front of it, or nothing
+-- what the output has of the summary, by the intended status: all of it, a prefix, or nothing
 abbrev pub Sums : (meant : Status) → Limits → (seed n : ℕ) → (had has : List ℕ → Type 0) → Type 0
 Sums status.Ended limits seed n had has = (numbers : List ℕ) × IsSummary limits seed n numbers × Grows had has (summary_of numbers)
 Sums status.WriteFault limits seed n had has = (numbers : List ℕ) × IsSummary limits seed n numbers × GrowsByFront had has (summary_of numbers)
@@ -44,7 +44,8 @@ Sums status.JournalFault limits seed n had has = ⊥
 Sums status.JournalBroken limits seed n had has = ⊥
 Sums status.CaptureBroken limits seed n had has = ⊥
 
--- What was written of a workload, and how that was reported. Where its summary was written, the status is the good one.
+-- What was written of a workload's summary, and how that was reported. If all of it was written, the status is the good
+-- one.
 pub record Workload (limits : Limits) (seed n : ℕ) (had has err_had err_has : List ℕ → Type 0) (given : Status) : Type 0 where
   pub meant : Status
   pub sums : Sums meant limits seed n had has

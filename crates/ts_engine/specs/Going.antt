@@ -1,9 +1,9 @@
--- Which answers of a session are its end.
+-- Which results end a session.
 use Rattle.std.specs.Prelude.{Option, None, Some}
-use Rattle.ts_engine.specs.declared.go.Go.{Go}
-use Rattle.ts_engine.specs.declared.go.Go.TheVariants as go
+use Rattle.ts_engine.specs.declared.replying.Go.{Go}
+use Rattle.ts_engine.specs.declared.replying.Go.TheVariants as go
 
--- any answer but that more may come
+-- any result but `More`
 abbrev pub end_of : Go → Option Go
 end_of go.More = None
 end_of go.Quit = Some go.Quit

@@ -1,4 +1,5 @@
--- What is written for an input, by its end: the replies of turns of any kind, which are those of a database of plain sample lists.
+-- What is written for an input, by how it ended: the replies of a database of plain sample lists, with any kind of
+-- request handler.
 use Rattle.std.specs.Prelude.{◌≡◌, ◌⊎◌, Bool, true, false, ℕ, ◌+◌, List, [], ◌∷◌, ◌++◌, length, take, Option, Some}
 use Rattle.std.proofs.Common.{inl, inr}
 use Rattle.ts_io.specs.Sinks.{Grows}
@@ -16,11 +17,11 @@ use Rattle.ts_execution.specs.Turns.{Turns}
 use Rattle.ts_engine.specs.declared.piped.End.{End}
 use Rattle.ts_engine.specs.declared.piped.End.TheVariants as end
 
--- the requests in these bytes, up to and with the first QUIT
+-- the requests in these bytes, up to and including the first QUIT
 abbrev pub requests : WireLimits → List ℕ → List Request
 requests limits bytes = until_quit (requests_of (stream_at limits 0 bytes))
 
--- whether there is a QUIT
+-- whether these bytes contain a QUIT
 abbrev pub asks_to_quit : WireLimits → List ℕ → Bool
 asks_to_quit limits bytes = has_quit (requests_of (stream_at limits 0 bytes))
 
@@ -28,12 +29,11 @@ asks_to_quit limits bytes = has_quit (requests_of (stream_at limits 0 bytes))
 abbrev pub ending : WireLimits → List ℕ → Stream
 ending limits bytes = ending_of (stream_at limits 0 bytes)
 
--- the empty database under these limits, with these readings of the clock to come
+-- the empty database under these limits, with these clock readings to come
 abbrev pub start : Limits → Option (List ℕ) → World
 start limits readings = record { held = record { limits = limits; state = empty }; readings = readings }
 
--- an exchange of requests and replies by turns of a kind: the limits of requests, the worlds before and after, and what the sink of the
--- replies had and has
+-- an exchange of requests and replies: the wire limits, the worlds before and after, and the output before and after
 pub record Exchange (turns : Turns) : Type 1 where
   pub limits : WireLimits
   pub from : turns.World
@@ -41,7 +41,7 @@ pub record Exchange (turns : Turns) : Type 1 where
   pub had : List ℕ → Type 0
   pub has : List ℕ → Type 0
 
--- what was read by a run of the program, from a clock that has these readings left, and what a sink had and has
+-- what a run shows: its limits, the clock readings before and after, and the output before and after
 pub record Seen : Type 1 where
   pub limits : Limits
   pub readings : Option (List ℕ)
@@ -49,7 +49,7 @@ pub record Seen : Type 1 where
   pub had : List ℕ → Type 0
   pub has : List ℕ → Type 0
 
--- that is an exchange by plain turns, from the empty database to this one
+-- the exchange of such a run with the plain handler, from the empty database to `held`
 abbrev pub exchange_of : Seen → Held → Exchange plain
 exchange_of seen held = record {
   limits = seen.limits.wire;
@@ -60,13 +60,13 @@ exchange_of seen held = record {
 }
 
 module _ {turns : Turns} (exchange : Exchange turns) where
-  -- the sink has the text of a run of all requests in these bytes, and then the tail
+  -- the output has the replies to all requests in these bytes, then the tail
   pub record AllAnswered (bytes tail : List ℕ) : Type 0 where
     pub text : List ℕ
     pub run : Runs turns.turn exchange.from (requests exchange.limits bytes) text exchange.to
     pub grown : Grows exchange.had exchange.has (text ++ tail)
 
-  -- the sink has the text of a run of the first requests in these bytes
+  -- the output has the replies to the first requests in these bytes
   pub record SomeAnswered (bytes : List ℕ) : Type 0 where
     pub done : List Request
     pub others : List Request
@@ -75,7 +75,7 @@ module _ {turns : Turns} (exchange : Exchange turns) where
     pub run : Runs turns.turn exchange.from done text exchange.to
     pub grown : Grows exchange.had exchange.has text
 
-  -- the sink has such a text, in which only bytes at the end of the last request's text are missing
+  -- the same, but the last reply is cut short
   pub record LastCut (bytes : List ℕ) : Type 0 where
     pub done : List Request
     pub last : Request
@@ -89,7 +89,7 @@ module _ {turns : Turns} (exchange : Exchange turns) where
     pub turned : turns.cut mid last reply kept exchange.to
     pub grown : Grows exchange.had exchange.has (text ++ take kept reply)
 
-  -- the sink has the text of a run of all requests, and the fault's text, in which only bytes at its end are missing
+  -- the output has the replies to all requests, then a prefix of the protocol error
   pub record FaultCut (bytes : List ℕ) : Type 0 where
     pub kind : Kind
     pub place : ℕ
@@ -98,7 +98,7 @@ module _ {turns : Turns} (exchange : Exchange turns) where
     pub goes_on : asks_to_quit exchange.limits bytes ≡ false
     pub answered : AllAnswered bytes (take kept (fault_text kind))
 
-  -- a front of the bytes was taken, and all requests in it were answered; there is no fault and no QUIT in it
+  -- A prefix of the bytes was read, and all its requests were answered. It contains no protocol error and no QUIT.
   pub record FrontAnswered (bytes : List ℕ) (left : Option (List ℕ)) : Type 0 where
     pub front : List ℕ
     pub rest : List ℕ
@@ -109,14 +109,15 @@ module _ {turns : Turns} (exchange : Exchange turns) where
     pub goes_on : asks_to_quit exchange.limits front ≡ false
     pub answered : AllAnswered front []
 
-  -- the whole of the bytes was taken, all requests in them were answered, and none is QUIT
+  -- all bytes were read and all their requests answered, and none is QUIT
   pub record WholeAnswered (bytes : List ℕ) (left : Option (List ℕ)) (end : Stream) : Type 0 where
     pub answered : AllAnswered bytes []
     pub goes_on : asks_to_quit exchange.limits bytes ≡ false
     pub ended : ending exchange.limits bytes ≡ end
     pub left_is : left ≡ Some []
 
-  -- what is written for an input with these bytes, of which so many may be taken; left is what it has at the end
+  -- What is written for an input with these bytes, of which at most `budget` are read. `left` is what the input has
+  -- left.
   abbrev pub Writes : (budget : ℕ) → List ℕ → Option (List ℕ) → End → Type 0
   Writes budget bytes left end.Ended = WholeAnswered bytes left Ended ⊎ (AllAnswered bytes [] × (asks_to_quit exchange.limits bytes ≡ true))
   Writes budget bytes left (end.Truncated place) = WholeAnswered bytes left (Inside place)
@@ -126,12 +127,12 @@ module _ {turns : Turns} (exchange : Exchange turns) where
   Writes budget bytes left end.Memory = SomeAnswered bytes
   Writes budget bytes left end.WriteFault = LastCut bytes ⊎ FaultCut bytes
 
-  -- how many requests had their turns where a write failed: the one whose reply was cut among them
+  -- how many requests were executed if a write failed; the one whose reply was cut counts
   abbrev pub count_cut : (bytes : List ℕ) → LastCut bytes ⊎ FaultCut bytes → ℕ
   count_cut bytes (inl cut) = length cut.done + 1
   count_cut bytes (inr cut) = length (requests exchange.limits bytes)
 
-  -- how many had their turns
+  -- how many requests were executed
   abbrev pub count_done : (budget : ℕ) (bytes : List ℕ) (left : Option (List ℕ)) (e : End) → Writes budget bytes left e → ℕ
   count_done budget bytes left end.Ended written = length (requests exchange.limits bytes)
   count_done budget bytes left (end.Truncated place) written = length (requests exchange.limits bytes)

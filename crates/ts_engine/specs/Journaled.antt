@@ -1,5 +1,5 @@
--- What is done where the words ask for a journal: the database is what the journal loads to, the input is answered over it, and the record of
--- each change is added to the journal before its reply is written.
+-- What `top` does in the mode `keep`: it loads the journal, answers the input on that database, and appends the record
+-- of each change before it writes the reply.
 use Rattle.std.specs.Prelude.{⊤, ◌≡◌, ◌≢◌, ◌<◌, ◌≤◌, false, true, Bool, ℕ, nat_le, if◌then◌else◌, List, ◌++◌, length, take, Option, Some, Result, Ok, Err, String}
 use Rattle.std.specs.declared.alloc.Global.{Global}
 use Rattle.ts_io.specs.Causes.{Rose}
@@ -14,8 +14,8 @@ use Rattle.ts_words.specs.declared.mode.Mode.TheVariants as mode
 use Rattle.ts_words.specs.declared.status.Status.{Status}
 use Rattle.ts_words.specs.declared.status.Status.TheVariants as status
 use Rattle.ts_execution.specs.Keeping.{Kept, kept, IsKept, journaled}
-use Rattle.ts_engine.specs.declared.journal_end.JournalEnd.{JournalEnd}
-use Rattle.ts_engine.specs.declared.journal_end.JournalEnd.TheVariants as end
+use Rattle.ts_engine.specs.declared.kept.JournalEnd.{JournalEnd}
+use Rattle.ts_engine.specs.declared.kept.JournalEnd.TheVariants as end
 use Rattle.ts_engine.specs.declared.piped.End.TheVariants as piped
 use Rattle.ts_engine.specs.Answered.{IsMemoryOr}
 use Rattle.ts_engine.specs.Asked.{asked}
@@ -25,7 +25,7 @@ use Rattle.ts_engine.specs.Taken.{TakenBy}
 use Rattle.ts_engine.specs.Top.{ReportsIn, status_by, status_cut}
 use Rattle.ts_engine.specs.Unkept.{UnkeptTaken}
 
--- the words ask for a journal
+-- the arguments select `keep`
 abbrev pub IsKeep : List (String Global) → Type 0
 IsKeep words = asked words ≡ Some mode.Keep
 
@@ -40,7 +40,7 @@ status_of (end.Broken place) = status.JournalBroken
 status_of end.TooLong = status.Budget
 status_of end.NoMemory = status.Memory
 
--- the place that its line tells, 0 where it tells none
+-- the offset in the status line of an end; 0 if it has none
 abbrev pub place_of : JournalEnd → ℕ
 place_of (end.Answered e) = input.place_of e
 place_of (end.Broken place) = place
@@ -49,15 +49,15 @@ place_of end.NotLoaded = 0
 place_of end.TooLong = 0
 place_of end.NoMemory = 0
 
--- ---- what was done
+-- ---- the run
 
--- what a run read and wrote, what its journal had, and what that has now
+-- what a run shows, with the journal before and after
 pub record Journals : Type 1 where
   pub seen : Seen
   pub journal : List ℕ
   pub journal_left : Option (List ℕ)
 
--- from what the first bytes of the journal loaded to, to this database
+-- the exchange from the loaded database to `held`; the first `place` bytes of the journal are its complete requests
 abbrev pub exchange_over : Journals → State → (place : ℕ) → (failed : Bool) → Held → Exchange journaled
 exchange_over run loaded place failed held = record {
   limits = run.seen.limits.wire;
@@ -67,8 +67,8 @@ exchange_over run loaded place failed held = record {
   has = run.seen.has;
 }
 
--- A front of a journal loads to what the first requests in these bytes made of the database. Its whole requests are what was loaded, and the
--- records of these.
+-- A prefix of the journal loads to the database after the first requests in these bytes. Its complete requests are
+-- those loaded at the start and the records of these.
 pub record FrontRestores (exchange : Exchange journaled) (limits : Limits) (bytes front : List ℕ) : Type 0 where
   pub done : List Request
   pub others : List Request
@@ -80,8 +80,8 @@ pub record FrontRestores (exchange : Exchange journaled) (limits : Limits) (byte
   pub content : mid.content ≡ Some (take place front)
   pub loads : load limits front ≡ Loads mid.held.state place
 
--- The journal was loaded, and cut after its last whole request; then this was written for the input with these bytes. Each front of what the
--- journal has, from there on, loads to what the first of the requests made of the database.
+-- The journal was loaded and truncated after its last complete request, and the input was answered. Each longer prefix
+-- of the final journal loads to the database after a prefix of the requests.
 pub record GoesOn (run : Journals) (bytes : List ℕ) (failed : Bool) (writes : Exchange journaled → Type 0) : Type 0 where
   pub loaded : State
   pub place : ℕ
@@ -92,7 +92,7 @@ pub record GoesOn (run : Journals) (bytes : List ℕ) (failed : Bool) (writes : 
   pub told : run.journal_left ≡ Some journal
   pub restores : (n : ℕ) → place ≤ n → FrontRestores (exchange_over run loaded place failed held) run.seen.limits bytes (take n journal)
 
--- what was done with an input with these bytes, by the end; or else nothing was touched, and the journal has what it had
+-- what the run did, by how it ended; it either answered the input, or changed nothing and left the journal as it was
 module _ (run : Journals) (untouched : Type 0) (budget : ℕ) (bytes : List ℕ) (left : Option (List ℕ)) where
   abbrev pub Untouched : Type 0
   Untouched = untouched × (run.journal_left ≡ Some run.journal)
@@ -105,41 +105,42 @@ module _ (run : Journals) (untouched : Type 0) (budget : ℕ) (bytes : List ℕ)
   Did end.TooLong = (budget ≤ length run.journal) × Untouched
   Did end.NoMemory = Untouched
 
--- how a run with a journal ended, and how that was reported; a good end is not reported otherwise
+-- how a run with a journal ended, and how that was reported; a good end always has the good status
 pub record Journaled (run : Journals) (untouched : Type 0) (budget : ℕ) (bytes : List ℕ) (left : Option (List ℕ)) (had has : List ℕ → Type 0) (given : Status) : Type 0 where
   pub ended : JournalEnd
   pub did : Did run untouched budget bytes left ended
   pub reported : ReportsIn (Some mode.Keep) (status_of ended) (place_of ended) given had has
   pub quiet : ended ≡ end.Answered piped.Ended → given ≡ status.Ended
 
--- an end was reported by its status and line, whatever the input and the journal tell of themselves
+-- An end was reported by its status and line. Holds even if the bytes of the input and of the journal are unknown.
 pub record HasJournalLine (had has : List ℕ → Type 0) (given : Status) : Type 0 where
   pub ended : JournalEnd
   pub reported : ReportsIn (Some mode.Keep) (status_of ended) (place_of ended) given had has
   pub quiet : ended ≡ end.Answered piped.Ended → given ≡ status.Ended
 
--- ---- the status where no device fails
+-- ---- the status if no device fails
 
--- that of an input with these bytes, of which so many may be taken
+-- the status for an input with these bytes, of which at most `budget` are read
 abbrev pub status_piped : WireLimits → (budget : ℕ) → List ℕ → Status
 status_piped limits budget bytes =
     if nat_le budget (length bytes)
     then status_cut (asks_to_quit limits (take budget bytes)) (ending limits (take budget bytes))
     else status_by (asks_to_quit limits bytes) (ending limits bytes)
 
--- that of a journal that breaks; else that of the input
+-- the status for a broken journal, or else that of the input
 abbrev pub status_loaded : Load → Status → Status
 status_loaded (BreaksAt place) other = status.JournalBroken
 status_loaded (Loads m place) other = other
 
--- that of a journal that is as long as may be read; else that of what it loads to
+-- the status if the journal is not shorter than the budget, or else by what it loads to
 abbrev pub status_kept : Limits → (budget : ℕ) → (journal bytes : List ℕ) → Status
 status_kept limits budget journal bytes =
     if nat_le budget (length journal) then status.Budget else status_loaded (load limits journal) (status_piped limits.wire budget bytes)
 
--- ---- its two parts
+-- ---- loading and answering
 
--- How a journal with these bytes was opened, by the answer: what it loads to, and what it has now. It is judged where it was read to its end.
+-- How a journal with these bytes was opened: what it loads to, and what it has now. It is called broken only after it
+-- was read to its end.
 abbrev pub IsOpened : Result (Unit {0}) JournalEnd → WireLimits → (budget : ℕ) → (from to : Held) → (journal : List ℕ) → (left : Option (List ℕ)) → Type 0
 IsOpened (Ok done) wire budget from to journal left =
     (place : ℕ) × (load_from from.limits wire from.state journal ≡ Loads to.state place) × (to.limits ≡ from.limits) × (left ≡ Some (take place journal)) × (length journal < budget)
@@ -149,7 +150,7 @@ IsOpened (Err end.NotLoaded) wire budget from to journal left = left ≡ Some jo
 IsOpened (Err end.NoMemory) wire budget from to journal left = left ≡ Some journal
 IsOpened (Err other) wire budget from to journal left = ⊥
 
--- an end that comes before the input is looked at
+-- the run ended before it read the input
 abbrev pub IsUnopened : JournalEnd → Type 0
 IsUnopened (end.Answered e) = ⊥
 IsUnopened end.NotKept = ⊥
@@ -158,24 +159,26 @@ IsUnopened (end.Broken place) = ⊤
 IsUnopened end.TooLong = ⊤
 IsUnopened end.NoMemory = ⊤
 
--- an answer that is no end is no fault; nor is any end but that it was not loaded
+-- whether opening failed with a journal fault
 abbrev pub is_unloaded : Result (Unit {0}) JournalEnd → Bool
 is_unloaded (Ok done) = false
 is_unloaded (Err end.NotLoaded) = true
 is_unloaded (Err other) = false
 
--- what was written for an input with these bytes, by the end; the exchange tells whether the journal failed
+-- what was written for an input with these bytes, by the end; `failed` gives the exchange, by whether the journal
+-- failed
 abbrev pub Wrote : JournalEnd → (failed : Bool → Exchange journaled) → (budget : ℕ) → List ℕ → (left : Option (List ℕ)) → Type 0
 Wrote (end.Answered e) failed budget bytes left = TakenBy (failed false) budget bytes left e
 Wrote end.NotKept failed budget bytes left = UnkeptTaken (failed true) budget bytes left
 Wrote other failed budget bytes left = ⊥
 
--- How an input with these bytes was answered over a database. Where no count of faults rose, the status is that of the input, or want of memory.
+-- How an input with these bytes was answered. If no fault counter rose, the status is that of the input, or out of
+-- memory.
 pub record IsAnswered (ended : JournalEnd) (failed : Bool → Exchange journaled) (limits : WireLimits) (budget : ℕ) (bytes : List ℕ) (left : Option (List ℕ)) (reads reads' writes writes' faults faults' : ℕ) : Type 0 where
   pub written : Wrote ended failed budget bytes left
   pub complete : (Rose reads reads' → ⊥) → (Rose writes writes' → ⊥) → (Rose faults faults' → ⊥) → IsMemoryOr (status_of ended) (status_piped limits budget bytes)
 
--- a fault is the end only where its count rose, and else that is as it was
+-- an end is a fault if and only if its fault counter rose
 pub record HasJournalCauses (ended : JournalEnd) (reads reads' writes writes' faults faults' : ℕ) : Type 0 where
   pub read : ended ≡ end.Answered piped.ReadFault → Rose reads reads'
   pub write : ended ≡ end.Answered piped.WriteFault → Rose writes writes'

@@ -1,4 +1,4 @@
--- What `pipe` does to an input, an output and a database, and what answers a whole input by turns of any kind.
+-- What `pipe` does to an input, an output and a database; and the same with any kind of request handler.
 use Rattle.std.specs.Prelude.{◌≡◌, ◌≢◌, ◌⊎◌, Bool, true, false, ℕ, ◌+◌, ◌<◌, ◌≤◌, List, [], length, Option, None, Some, IfSome}
 use Rattle.std.specs.Io.KnownBytes.{Consumes, IsAtEnd}
 use Rattle.std.proofs.Common.{inl, inr}
@@ -12,10 +12,10 @@ use Rattle.ts_engine.specs.declared.piped.End.{End}
 use Rattle.ts_engine.specs.declared.piped.End.TheVariants as end
 use Rattle.ts_engine.specs.declared.piped.Outcome.{Outcome}
 use Rattle.ts_engine.specs.declared.piped.Step.{Step}
-use Rattle.ts_engine.specs.declared.go.Go.TheVariants as go
+use Rattle.ts_engine.specs.declared.replying.Go.TheVariants as go
 use Rattle.ts_engine.specs.Session.{Spot, Went, LastReply, Quitted, CutFault, WentAs}
 
--- where a session begins: nothing was read or executed
+-- the start of a session: nothing read, nothing executed
 abbrev pub beginning_of : (turns : Turns) → WireLimits → turns.World → Spot turns
 beginning_of turns limits world = record {
   reader = record { limits = limits; begin = 0; place = 0; so_far = None; unread = [] };
@@ -23,7 +23,7 @@ beginning_of turns limits world = record {
   world = world;
 }
 
--- the same where requests are executed over a database alone
+-- the same with the plain handler
 abbrev pub beginning : WireLimits → World → Spot plain
 beginning limits world = beginning_of plain limits world
 
@@ -34,7 +34,7 @@ module _ {turns : Turns} where
     pub ended : stream_of new.reader [] ≡ Ended
     pub at_end : IsAtEnd left
 
-  -- how the requests in these bytes went, by the end; left is what the input still has
+  -- how the requests in these bytes were handled, by the end; `left` is what the input has left
   abbrev pub Ends : End → Option (List ℕ) → Spot turns → Spot turns → (List ℕ → Type 0) → (List ℕ → Type 0) → List ℕ → Type 0
   Ends end.Ended left old new had has bytes = ReadAll left old new had has bytes ⊎ Quitted old new had has bytes
   Ends (end.Truncated place) left old new had has bytes = Went old new had has bytes [] × (stream_of new.reader [] ≡ Inside place) × IsAtEnd left
@@ -44,17 +44,17 @@ module _ {turns : Turns} where
   Ends end.Memory left old new had has bytes = WentAs go.Memory old new had has bytes
   Ends end.Budget left old new had has bytes = WentAs go.More old new had has bytes
 
-  -- the input goes on, or it has ended so
+  -- the input continues, or ended like this
   abbrev pub EndsOr : Option End → Option (List ℕ) → Spot turns → Spot turns → (List ℕ → Type 0) → (List ℕ → Type 0) → List ℕ → Type 0
   EndsOr None left old new had has bytes = WentAs go.More old new had has bytes
   EndsOr (Some e) left old new had has bytes = Ends e left old new had has bytes
 
-  -- whether the end of the input was read, and no QUIT
+  -- whether the input's end was read, rather than a QUIT
   abbrev pub was_read : (left : Option (List ℕ)) (old new : Spot turns) (had has : List ℕ → Type 0) (bytes : List ℕ) → ReadAll left old new had has bytes ⊎ Quitted old new had has bytes → Bool
   was_read left old new had has bytes (inl all) = true
   was_read left old new had has bytes (inr quitted) = false
 
-  -- whether an end is that of the input
+  -- whether this end is the end of the input
   abbrev pub is_of_input : (e : End) (left : Option (List ℕ)) (old new : Spot turns) (had has : List ℕ → Type 0) (bytes : List ℕ) → Ends e left old new had has bytes → Bool
   is_of_input end.Ended left old new had has bytes ends = was_read left old new had has bytes ends
   is_of_input (end.Truncated place) left old new had has bytes ends = true
@@ -69,7 +69,7 @@ module _ {turns : Turns} where
   has_ended None left old new had has bytes ends = false
   has_ended (Some e) left old new had has bytes ends = is_of_input e left old new had has bytes ends
 
-  -- one read took these bytes, none at the end of the input, and what they hold was answered
+  -- one read took these bytes (none at the end of the input), and the requests that they complete were handled
   pub record Pumped (step : Step) (left rest : Option (List ℕ)) (old new : Spot turns) (had has : List ℕ → Type 0) : Type 0 where
     pub bytes : List ℕ
     pub count : length bytes ≡ step.taken
@@ -77,17 +77,17 @@ module _ {turns : Turns} where
     pub ends : EndsOr step.end rest old new had has bytes
     pub none : has_ended step.end rest old new had has bytes ends ≡ true → step.taken ≡ 0
 
-  -- the place after the request whose reply failed, or of the fault whose text did
+  -- the offset after the request whose reply was cut, or of the protocol error whose text was
   abbrev pub cut_at : (old new : Spot turns) (had has : List ℕ → Type 0) (bytes : List ℕ) → LastReply turns.cut old new had has bytes ⊎ CutFault old new had has bytes → ℕ
   cut_at old new had has bytes (inl cut) = cut.last.after
   cut_at old new had has bytes (inr cut) = cut.fault.place
 
-  -- the place after QUIT, if there is one
+  -- the offset after QUIT, if there is one
   abbrev pub quit_at : (left : Option (List ℕ)) (old new : Spot turns) (had has : List ℕ → Type 0) (bytes : List ℕ) → ReadAll left old new had has bytes ⊎ Quitted old new had has bytes → Option ℕ
   quit_at left old new had has bytes (inl all) = None
   quit_at left old new had has bytes (inr quitted) = Some quitted.reply.last.after
 
-  -- where an end shows itself in the input, if it does before the input ends
+  -- the offset at which the input shows this end, if it does
   abbrev pub shown_at : (e : End) (left : Option (List ℕ)) (old new : Spot turns) (had has : List ℕ → Type 0) (bytes : List ℕ) → Ends e left old new had has bytes → Option ℕ
   shown_at end.Ended left old new had has bytes ends = quit_at left old new had has bytes ends
   shown_at (end.Truncated place) left old new had has bytes ends = None
@@ -101,8 +101,8 @@ module _ {turns : Turns} where
 abbrev pub PIECE : ℕ
 PIECE = 4096
 
--- These bytes were taken, at most the budget, and fewer where the end of the input was read. What they hold was answered from the start on.
--- No read was made past an end that showed itself.
+-- These bytes were read: at most the budget, and fewer if the end of the input was read. Their requests were handled.
+-- At most one piece was read past an end that the input shows.
 pub record PipedBy (turns : Turns) (limits : WireLimits) (budget : ℕ) (outcome : Outcome) (from to : turns.World) (left rest : Option (List ℕ)) (had has : List ℕ → Type 0) : Type 0 where
   pub bytes : List ℕ
   pub last : Spot turns
@@ -116,11 +116,11 @@ pub record PipedBy (turns : Turns) (limits : WireLimits) (budget : ℕ) (outcome
   pub near : IfSome (shown_at outcome.end rest (beginning_of turns limits from) last had has bytes ends) (λ place. outcome.taken ≤ place + PIECE)
   pub below : is_of_input outcome.end rest (beginning_of turns limits from) last had has bytes ends ≡ true → outcome.taken < budget
 
--- the same by plain turns
+-- the same with the plain handler
 abbrev pub Piped : WireLimits → (budget : ℕ) → Outcome → (from to : World) → (left rest : Option (List ℕ)) → (had has : List ℕ → Type 0) → Type 0
 Piped limits budget outcome from to left rest had has = PipedBy plain limits budget outcome from to left rest had has
 
--- the counts of faults did not fall: a fault is the end only where its count rose, and any other end comes only where that is as it was
+-- fault counters never fall; an end is a fault if and only if its counter rose
 pub record HasCauses (e : End) (reads reads' writes writes' : ℕ) : Type 0 where
   pub reads_later : reads ≤ reads'
   pub writes_later : writes ≤ writes'
@@ -129,7 +129,7 @@ pub record HasCauses (e : End) (reads reads' writes writes' : ℕ) : Type 0 wher
   pub unread : e ≢ end.ReadFault → reads' ≡ reads
   pub unwritten : e ≢ end.WriteFault → writes' ≡ writes
 
--- the same with turns that have counts of their own
+-- the same with a handler that has its own fault counters
 module _ (turns : Turns) where
   pub record HasCausesBy (e : End) (reads reads' writes writes' : ℕ) (own own' : turns.Faults) : Type 0 where
     pub reads_later : reads ≤ reads'

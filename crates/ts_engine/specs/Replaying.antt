@@ -1,4 +1,4 @@
--- What the replay of a capture does over a piece of it.
+-- What a capture session does with a piece of a capture.
 use Rattle.std.specs.Prelude.{◌≡◌, ◌≢◌, true, false, Bool, ℕ, ◌≤◌, ◌<◌, List, [], ◌∷◌, ◌++◌, length, take, Option, None, Some}
 use Rattle.std.specs.Io.KnownBytes.{Consumes, IsAtEnd}
 use Rattle.ts_io.specs.Causes.{Rose}
@@ -10,25 +10,26 @@ use Rattle.ts_mux.specs.Capture.{Capture, framed, all_framed}
 use Rattle.ts_mux.specs.Framing.{ended_at}
 use Rattle.ts_mux.specs.Order.{Item}
 use Rattle.ts_execution.specs.Turn.{World}
-use Rattle.ts_engine.specs.declared.course.Course.{Course}
-use Rattle.ts_engine.specs.declared.course.Course.TheVariants as course
+use Rattle.ts_engine.specs.declared.replay.Course.{Course}
+use Rattle.ts_engine.specs.declared.replay.Course.TheVariants as course
 use Rattle.ts_engine.specs.declared.replayed.CaptureEnd.{CaptureEnd}
 use Rattle.ts_engine.specs.declared.replayed.CaptureEnd.TheVariants as end
 use Rattle.ts_engine.specs.declared.replayed.Read.{Read}
 use Rattle.ts_engine.specs.Captured as captured
 use Rattle.ts_engine.specs.Replies.{IsReply, Replies, reply_frame}
 
--- where a replay stands: what is still to be asked and how the capture ends, by the bytes that follow, and the world
+-- The state of a capture session: the items still to answer and how the capture ends, both as functions of the bytes
+-- that follow; and the world.
 pub record Spot : Type 0 where
   pub items : List ℕ → List Item
   pub ending : List ℕ → Capture
   pub world : World
 
--- where a replay begins
+-- the start of a capture session
 abbrev pub beginning : WireLimits → World → Spot
 beginning limits world = record { items = captured.items limits; ending = captured.ending; world = world }
 
--- over these bytes these items had their replies
+-- these bytes yielded these items, and all were answered
 pub record Went (old new : Spot) (had has : List ℕ → Type 0) (bytes : List ℕ) : Type 0 where
   pub done : List Item
   pub frames : List Frame
@@ -37,7 +38,7 @@ pub record Went (old new : Spot) (had has : List ℕ → Type 0) (bytes : List �
   pub replies : Replies old.world done frames new.world
   pub grown : Grows had has (all_framed frames)
 
--- these items come first over the bytes, and had their replies; what else there is was left
+-- the first items of these bytes were answered; the rest was dropped
 pub record WentSome (old new : Spot) (had has : List ℕ → Type 0) (bytes : List ℕ) : Type 0 where
   pub done : List Item
   pub frames : List Frame
@@ -45,7 +46,7 @@ pub record WentSome (old new : Spot) (had has : List ℕ → Type 0) (bytes : Li
   pub replies : Replies old.world done frames new.world
   pub grown : Grows had has (all_framed frames)
 
--- and a front of the frame of the item after them was written
+-- the same, and a prefix of the next item's frame was written
 pub record LastFrame (old new : Spot) (had has : List ℕ → Type 0) (bytes : List ℕ) : Type 0 where
   pub done : List Item
   pub frames : List Frame
@@ -58,59 +59,59 @@ pub record LastFrame (old new : Spot) (had has : List ℕ → Type 0) (bytes : L
   pub reply : IsReply mid last.event text new.world
   pub grown : Grows had has (all_framed frames ++ take kept (framed (reply_frame last text)))
 
--- the capture is broken here, and nothing is left to be asked
+-- the capture is broken at this offset, and no item is left
 pub record IsBroken (place : ℕ) (spot : Spot) : Type 0 where
   pub ending : (more : List ℕ) → spot.ending more ≡ capture.Broken place
   pub items : (more : List ℕ) → spot.items more ≡ []
 
--- how a replay went over a piece, by its answer
+-- how a capture session handled a piece, by its result
 abbrev pub WentAs : Course → Spot → Spot → (List ℕ → Type 0) → (List ℕ → Type 0) → List ℕ → Type 0
 WentAs course.More old new had has bytes = Went old new had has bytes
 WentAs (course.Broken place) old new had has bytes = Went old new had has bytes × IsBroken place new
 WentAs course.WriteFault old new had has bytes = LastFrame old new had has bytes
 WentAs course.Memory old new had has bytes = WentSome old new had has bytes
 
--- there may be more of the piece, or the replay answered
+-- the session continues within the piece, or returned this result
 abbrev pub GoesOn : Option Course → Spot → Spot → (List ℕ → Type 0) → (List ℕ → Type 0) → Type 0
 GoesOn None old new had has = Went old new had has []
 GoesOn (Some answer) old new had has = WentAs answer old new had has []
 
--- any answer but that more may come
+-- any result but `More`
 abbrev pub end_of : Course → Option Course
 end_of course.More = None
 end_of (course.Broken place) = Some (course.Broken place)
 end_of course.WriteFault = Some course.WriteFault
 end_of course.Memory = Some course.Memory
 
--- the whole frame was written, or a write failed after a front of it
+-- the whole frame was written, or a write failed after a prefix of it
 abbrev pub Wrote : Option Course → (List ℕ → Type 0) → (List ℕ → Type 0) → List ℕ → Type 0
 Wrote None had has text = Grows had has text
 Wrote (Some course.WriteFault) had has text = GrowsByFront had has text
 Wrote (Some other) had has text = ⊥
 
--- an item had its reply, and its frame was written unless a write failed
+-- the item was answered, and its frame written unless a write failed
 pub record Replied (answer : Option Course) (item : Item) (old new : World) (had has : List ℕ → Type 0) : Type 0 where
   pub text : List ℕ
   pub reply : IsReply old item.event text new
   pub wrote : Wrote answer had has (framed (reply_frame item text))
 
--- the count of faults did not fall: a write fault comes only where it rose, and anything else only where it is as it was
+-- the result is a write fault if and only if the fault counter rose; the counter never falls
 abbrev pub WroteOrFault : ℕ → ℕ → Option Course → Type 0
 WroteOrFault before now (Some course.WriteFault) = (before ≤ now) × Rose before now
 WroteOrFault before now other = now ≡ before
 
 -- ---- a whole capture
 
--- nothing is left to be asked, and the capture ends so
+-- no item is left, and the capture ends like this
 pub record IsAt (ending : Capture) (spot : Spot) : Type 0 where
   pub items : spot.items [] ≡ []
   pub is : spot.ending [] ≡ ending
 
--- every whole frame was answered, and the rest is no whole frame
+-- every complete frame was answered, and the rest is no complete frame
 abbrev pub IsUpToDate : Spot → Type 0
 IsUpToDate spot = (place : Option ℕ) × IsAt (ended_at place) spot
 
--- how a capture was answered over these bytes, by the end; left is what the input still has
+-- how a capture with these bytes was answered, by the end; `left` is what the input has left
 abbrev pub Ends : CaptureEnd → Option (List ℕ) → Spot → Spot → (List ℕ → Type 0) → (List ℕ → Type 0) → List ℕ → Type 0
 Ends end.Ended left old new had has bytes = Went old new had has bytes × IsAt capture.Ended new × IsAtEnd left
 Ends (end.Truncated place) left old new had has bytes = Went old new had has bytes × IsAt (capture.Inside place) new × IsAtEnd left
@@ -120,12 +121,12 @@ Ends end.WriteFault left old new had has bytes = WentAs course.WriteFault old ne
 Ends end.Memory left old new had has bytes = WentAs course.Memory old new had has bytes
 Ends end.Budget left old new had has bytes = Went old new had has bytes × IsUpToDate new
 
--- the input goes on, or it has ended so
+-- the input continues, or ended like this
 abbrev pub EndsOr : Option CaptureEnd → Option (List ℕ) → Spot → Spot → (List ℕ → Type 0) → (List ℕ → Type 0) → List ℕ → Type 0
 EndsOr None left old new had has bytes = Went old new had has bytes
 EndsOr (Some e) left old new had has bytes = Ends e left old new had has bytes
 
--- whether an end is that of the input
+-- whether this end is the end of the input
 abbrev pub is_of_input : CaptureEnd → Bool
 is_of_input end.Ended = true
 is_of_input (end.Truncated place) = true
@@ -135,12 +136,12 @@ is_of_input end.WriteFault = false
 is_of_input end.Memory = false
 is_of_input end.Budget = false
 
--- whether there is an end, and it is that of the input
+-- whether the input has ended
 abbrev pub has_ended : Option CaptureEnd → Bool
 has_ended None = false
 has_ended (Some e) = is_of_input e
 
--- one read took these bytes, none at the end of the input, and what they hold was answered
+-- one read took these bytes (none at the end of the input), and the frames that they complete were answered
 pub record Pumped (read : Read) (left rest : Option (List ℕ)) (old new : Spot) (had has : List ℕ → Type 0) : Type 0 where
   pub bytes : List ℕ
   pub count : length bytes ≡ read.taken
@@ -148,7 +149,7 @@ pub record Pumped (read : Read) (left rest : Option (List ℕ)) (old new : Spot)
   pub ends : EndsOr read.end rest old new had has bytes
   pub none : has_ended read.end ≡ true → read.taken ≡ 0
 
--- These bytes were taken, at most the budget, and fewer where the end of the input was read. What they hold was answered from the start on.
+-- These bytes were read: at most the budget, and fewer if the end of the input was read. Their frames were answered.
 pub record Replayed (limits : WireLimits) (budget : ℕ) (e : CaptureEnd) (from to : World) (left rest : Option (List ℕ)) (had has : List ℕ → Type 0) : Type 0 where
   pub bytes : List ℕ
   pub last : Spot
@@ -159,7 +160,7 @@ pub record Replayed (limits : WireLimits) (budget : ℕ) (e : CaptureEnd) (from 
   pub world : last.world ≡ to
   pub ends : Ends e rest (beginning limits from) last had has bytes
 
--- the counts of faults did not fall: a fault is the end only where its count rose, and any other end comes only where that is as it was
+-- fault counters never fall; an end is a fault if and only if its counter rose
 pub record HasCauses (e : CaptureEnd) (reads reads' writes writes' : ℕ) : Type 0 where
   pub reads_later : reads ≤ reads'
   pub writes_later : writes ≤ writes'
@@ -168,17 +169,17 @@ pub record HasCauses (e : CaptureEnd) (reads reads' writes writes' : ℕ) : Type
   pub unread : e ≢ end.ReadFault → reads' ≡ reads
   pub unwritten : e ≢ end.WriteFault → writes' ≡ writes
 
--- the same of an end, if there is one; else no count of faults changed
+-- the same if there is an end; otherwise no counter changed
 abbrev pub HasCausesOr : Option CaptureEnd → (reads reads' writes writes' : ℕ) → Type 0
 HasCausesOr None reads reads' writes writes' = (reads' ≡ reads) × (writes' ≡ writes)
 HasCausesOr (Some e) reads reads' writes writes' = HasCauses e reads reads' writes writes'
 
--- how the input ends a capture, between two frames or inside the one that begins at a place
+-- the end of the input: between frames, or inside the one that begins at this offset
 abbrev pub end_at : Option ℕ → CaptureEnd
 end_at None = end.Ended
 end_at (Some place) = end.Truncated place
 
--- with an answer of the replay, if that is an end
+-- the end that a session's result means, if it is one
 abbrev pub end_by : Course → Option CaptureEnd
 end_by course.More = None
 end_by (course.Broken place) = Some (end.Broken place)

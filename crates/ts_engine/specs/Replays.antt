@@ -1,4 +1,4 @@
--- What a replay shows: what its readers still give.
+-- What a capture session shows: the items that its readers still yield.
 use Rattle.std.specs.Prelude.{◌≡◌, ℕ, List, [], length, All, Option}
 use Rattle.ts_spec.specs.Run.{is_quit}
 use Rattle.ts_spec.specs.declared.wire.WireLimits.{WireLimits}
@@ -11,19 +11,19 @@ use Rattle.ts_mux.specs.Order.{Item, order, closing}
 use Rattle.ts_engine.specs.declared.replay.Replay.{Replay as Kept}
 use Rattle.ts_engine.specs.Replaying.{Spot}
 
--- the frames of a capture as far as a replay has read them
+-- the frame parser's state
 abbrev pub frames_in : Kept → Framing
 frames_in r = r.frames
 
--- what is still to be asked where these frames follow: a QUIT and a fault close their connection
+-- the items still to answer if these frames follow; a QUIT or an error closes its connection
 abbrev pub coming : Kept → List Frame → List Item
 coming r frames = closing is_quit (ahead r.mux frames)
 
--- how many requests and faults are whole
+-- how many complete requests and errors are pending
 abbrev pub waiting : Kept → ℕ
 waiting r = length (ahead r.mux [])
 
--- where it stands over this database, with these readings left
+-- its state on this database, with these clock readings left
 abbrev pub standing : Kept → Held → Option (List ℕ) → Spot
 standing r held readings = record {
   items = λ more. coming r (frames_of (capture_of r.frames more));
@@ -31,12 +31,12 @@ standing r held readings = record {
   world = record { held = held; readings = readings };
 }
 
--- every whole frame was answered, and the rest is no whole frame
+-- every complete frame was answered, and the rest is no complete frame
 pub record HasAnswered (r : Kept) : Type 0 where
   pub asked : ahead r.mux [] ≡ []
   pub rest : capture_of r.frames [] ≡ ended_at (unfinished r.frames)
 
--- a replay to which no byte came
+-- a new capture session
 pub record Begins (limits : WireLimits) (r : Kept) : Type 0 where
   pub capture : (more : List ℕ) → capture_of r.frames more ≡ capture more
   pub coming : (frames : List Frame) → All IsFrame frames → coming r frames ≡ order limits frames

@@ -1,4 +1,4 @@
--- What `serve` does to a listener, an output and a database: links are served one after another.
+-- What `serve` does to a listener, an output and a database: it serves connections one after another.
 use Rattle.std.specs.Prelude.{◌≡◌, ℕ, ◌+◌, ◌≤◌, ◌<◌, List, [], ◌∷◌, ◌++◌, length, map, take, Option, Some}
 use Rattle.std.specs.Io.KnownBytes.{Consumes}
 use Rattle.std.specs.Option.{option_map}
@@ -20,7 +20,7 @@ use Rattle.ts_engine.specs.Piping.{HasCauses}
 
 -- ---- lines
 
--- how a line says that a stream ended
+-- how the line of a connection names the end of its stream
 abbrev pub link_end_of : End → LinkEnd
 link_end_of end.Ended = word.Ended
 link_end_of (end.Truncated place) = word.Truncated
@@ -30,48 +30,48 @@ link_end_of end.WriteFault = word.WriteFault
 link_end_of end.Memory = word.Memory
 link_end_of end.Budget = word.Budget
 
--- the line of the link with this number
+-- the line of the connection with this number
 abbrev pub line_at : (number : ℕ) → Outcome → List ℕ
 line_at number outcome = link_line_of number outcome.executed (link_end_of outcome.end)
 
--- a link that was served: as it was handed out, as it was handed back, and what became of its stream
+-- a served connection: as accepted, as closed, and the outcome of its stream
 pub record Link (I O : Type 0) : Type 0 where
   pub came : Ends I O
   pub back : Ends I O
   pub outcome : Outcome
 
--- the lines of links, of which the first has this number
+-- the lines of these connections, the first of which has this number
 abbrev pub lines_from : {I O : Type 0} → (number : ℕ) → List (Link I O) → List ℕ
 lines_from number [] = []
 lines_from number (link ∷ links) = line_at number link.outcome ++ lines_from (number + 1) links
 
--- ---- links
+-- ---- connections
 
--- what the ends of links tell: what an input has left, what an output has, and their counts of faults
+-- what the streams of a connection show: the input's bytes left, the output's bytes, and their fault counters
 pub record StreamViews (I O : Type 0) : Type 1 where
   pub left : I → Option (List ℕ)
   pub reads : I → ℕ
   pub has : O → List ℕ → Type 0
   pub writes : O → ℕ
 
--- the links to come began with these, in order, and lost them; and as they were handed back these joined the closed ones, at their end
+-- the listener handed out these connections in order, and got them back closed in the same order
 pub record Handed {I O : Type 0} (links : List (Link I O)) (coming coming' closed closed' : Option (List (Ends I O))) : Type 0 where
   pub came : coming ≡ option_map (λ rest. map (λ link. link.came) links ++ rest) coming'
   pub back : closed' ≡ option_map (λ before. before ++ map (λ link. link.back) links) closed
 
 module _ {I O : Type 0} (views : StreamViews I O) (limits : WireLimits) (budget : ℕ) where
-  -- what is exchanged over a link, from one world to another
+  -- the exchange over a connection, between two worlds
   abbrev pub link_exchange : Link I O → (from to : World) → Exchange plain
   link_exchange link from to = record { limits = limits; from = from; to = to; had = views.has link.came.out; has = views.has link.back.out }
 
-  -- these bytes of its input, which has this left at the end, were answered
+  -- these bytes of the connection's input were answered; `left` is what it has left
   abbrev pub LinkAnswered : (link : Link I O) → (from to : World) → List ℕ → (left : Option (List ℕ)) → Type 0
   LinkAnswered link from to bytes left =
       InputAnswered (link_exchange link from to) budget bytes left link.outcome
       (views.reads link.came.input) (views.reads link.back.input) (views.writes link.came.out) (views.writes link.back.out)
 
-  -- So many bytes were taken of a link's input, at most the budget. They were answered as an input that has no others; and where the input told
-  -- its bytes, these were answered. A fault is the end only where its own count rose, and else that is as it was.
+  -- At most `budget` bytes of the connection's input were read. They were answered like an input that ends there; and
+  -- if all bytes of the input are known, those were answered. An end is a fault if and only if its counter rose.
   pub record IsServed (link : Link I O) (from to : World) : Type 0 where
     pub front : List ℕ
     pub count : length front ≡ link.outcome.taken
@@ -81,12 +81,12 @@ module _ {I O : Type 0} (views : StreamViews I O) (limits : WireLimits) (budget 
     pub answered : (bytes : List ℕ) → views.left link.came.input ≡ Some bytes → LinkAnswered link from to bytes (views.left link.back.input)
     pub causes : HasCauses link.outcome.end (views.reads link.came.input) (views.reads link.back.input) (views.writes link.came.out) (views.writes link.back.out)
 
-  -- links were served one after another, each in the world that the one before left
+  -- the connections were served in order, each in the world that the one before left
   abbrev pub AreServed : List (Link I O) → (from to : World) → Type 0
   AreServed [] from to = to ≡ from
   AreServed (link ∷ links) from to = (mid : World) × IsServed link from mid × AreServed links mid to
 
-  -- the output has the lines of these links, and of the last one's line maybe only a front
+  -- the output has the lines of these connections, but perhaps only a prefix of the last line
   pub record LineCut (number most : ℕ) (links : List (Link I O)) (had has : List ℕ → Type 0) : Type 0 where
     pub first : List (Link I O)
     pub last : Link I O
@@ -95,13 +95,13 @@ module _ {I O : Type 0} (views : StreamViews I O) (limits : WireLimits) (budget 
     pub kept : ℕ
     pub grown : Grows had has (lines_from number first ++ take kept (line_at (number + length first) last.outcome))
 
-  -- how many links there are, and what the output has of their lines, by how the serving ended
+  -- how many connections were served, and which lines were written, by how serving ended
   abbrev pub Lines : Served → (number most : ℕ) → List (Link I O) → (had has : List ℕ → Type 0) → Type 0
   Lines Done number most links had has = (length links ≡ most) × Grows had has (lines_from number links)
   Lines AcceptFault number most links had has = (length links < most) × Grows had has (lines_from number links)
   Lines WriteFault number most links had has = LineCut number most links had has
 
-  -- Links were served, of which the first has this number: so many, or fewer where a fault ended that.
+  -- Connections were served, the first of which has this number: `most` of them, or fewer if a fault ended that.
   pub record Serves (served : Served) (number most : ℕ) (from to : World) (coming coming' closed closed' : Option (List (Ends I O))) (had has : List ℕ → Type 0) : Type 0 where
     pub links : List (Link I O)
     pub run : AreServed links from to

@@ -1,40 +1,40 @@
--- What a session shows: what its reader holds, how many requests it executed, and how it ended.
+-- What a session shows: its reader, the number of requests executed, and how it ended.
 use Rattle.std.specs.Prelude.{◌≡◌, ℕ, List, [], Option, None}
 use Rattle.ts_resp.specs.Reading.{Reading, stream_of, fed, unfinished, ended_at}
 use Rattle.ts_spec.specs.Wire.{stream_at}
 use Rattle.ts_spec.specs.declared.wire.WireLimits.{WireLimits}
-use Rattle.ts_engine.specs.declared.go.Go.{Go}
+use Rattle.ts_engine.specs.declared.replying.Go.{Go}
 use Rattle.ts_engine.specs.declared.session.Session.{Session as Kept}
 use Rattle.ts_db.specs.Held.{Held}
 use Rattle.ts_execution.specs.Turn.{plain}
 use Rattle.ts_execution.specs.Turns.{Turns}
 use Rattle.ts_engine.specs.Session.{Spot}
 
--- the reader of a session
+-- the reader's state
 abbrev pub reader_of : Kept → Reading
 reader_of s = s.reader
 
--- how many requests a session has executed
+-- how many requests were executed
 abbrev pub executed_by : Kept → ℕ
 executed_by s = s.executed
 
--- how a session ended, if it has
+-- how the session ended, if it has
 abbrev pub ended_of : Kept → Option Go
 ended_of s = s.ended
 
--- where it stands in this world
+-- its state in this world
 abbrev pub spot_in : (turns : Turns) → Kept → turns.World → Spot turns
 spot_in turns s world = record { reader = s.reader; executed = s.executed; world = world }
 
--- where it stands over this database, with these readings left
+-- its state on this database, with these clock readings left
 abbrev pub spot : Kept → Held → Option (List ℕ) → Spot plain
 spot s held readings = record { reader = s.reader; executed = s.executed; world = record { held = held; readings = readings } }
 
--- every whole request had its turn, and the rest is no whole request
+-- every complete request was handled, and the rest is no complete request
 abbrev pub HasAnswered : Kept → Type 0
 HasAnswered s = stream_of s.reader [] ≡ ended_at (unfinished s.reader)
 
--- a session to which no byte came
+-- a new session
 pub record Begins (limits : WireLimits) (s : Kept) : Type 0 where
   pub stream : (more : List ℕ) → stream_of s.reader more ≡ stream_at limits 0 more
   pub fed : fed s.reader ≡ 0

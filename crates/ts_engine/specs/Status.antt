@@ -1,4 +1,4 @@
--- The exit status of each end of a stream, and the place that its line tells.
+-- The exit status for each end of a stream, and the offset in the status line.
 use Rattle.std.specs.Prelude.{ℕ}
 use Rattle.ts_words.specs.declared.status.Status.{Status}
 use Rattle.ts_words.specs.declared.status.Status.TheVariants as status
@@ -15,7 +15,7 @@ status_of end.WriteFault = status.WriteFault
 status_of end.Memory = status.Memory
 status_of end.Budget = status.Budget
 
--- the place that the line of an end tells, 0 where it tells none
+-- the offset in the status line of an end; 0 if it has none
 abbrev pub place_of : End → ℕ
 place_of (end.Truncated place) = place
 place_of (end.Protocol fault) = fault.place

@@ -1,4 +1,4 @@
--- How much of an input is taken, by how it is answered.
+-- How many bytes of an input are read, by how it is answered.
 use Rattle.std.specs.Prelude.{◌≡◌, ◌⊎◌, ⊤, true, ℕ, zero, suc, ◌+◌, ◌≤◌, if◌then◌else◌, List, [], ◌++◌, length, Option, None, Some}
 use Rattle.std.proofs.Common.{inl, inr}
 use Rattle.ts_spec.specs.Run.{is_quit}
@@ -13,14 +13,14 @@ use Rattle.ts_engine.specs.Piping.{PIECE}
 use Rattle.ts_engine.specs.Status.{status_of, place_of}
 use Rattle.ts_engine.specs.Top.{Headline, Reports}
 
--- the place after the first QUIT, if there is one
+-- the offset after the first QUIT, if there is one
 abbrev pub quit_place : Stream → Option ℕ
 quit_place (Then request after rest) = if is_quit request then Some after else quit_place rest
 quit_place Ended = None
 quit_place (Inside place) = None
 quit_place (Broken kind place) = None
 
--- the place after the request that so many others come before
+-- the offset after the request with this index, counted from 0
 abbrev pub place_after : Stream → ℕ → Option ℕ
 place_after (Then request after rest) zero = Some after
 place_after (Then request after rest) (suc n) = place_after rest n
@@ -28,24 +28,24 @@ place_after Ended n = None
 place_after (Inside place) n = None
 place_after (Broken kind place) n = None
 
--- there is such a place, and at most one piece was taken past it
+-- there is such an offset, and at most one piece was read past it
 pub record IsNear (place : Option ℕ) (taken : ℕ) : Type 0 where
   pub at : ℕ
   pub is : place ≡ Some at
   pub near : taken ≤ at + PIECE
 
 module _ {turns : Turns} (exchange : Exchange turns) (bytes : List ℕ) (left : Option (List ℕ)) where
-  -- past a QUIT
+  -- at most one piece was read past a QUIT
   abbrev pub QuitNear : WholeAnswered exchange bytes left Ended ⊎ (AllAnswered exchange bytes [] × (asks_to_quit exchange.limits bytes ≡ true)) → ℕ → Type 0
   QuitNear (inl whole) taken = ⊤
   QuitNear (inr quits) taken = IsNear (quit_place (stream_at exchange.limits 0 bytes)) taken
 
-  -- past the request whose reply failed, or past the fault whose text did
+  -- at most one piece was read past the request whose reply was cut, or past the protocol error whose text was
   abbrev pub CutNear : LastCut exchange bytes ⊎ FaultCut exchange bytes → ℕ → Type 0
   CutNear (inl cut) taken = IsNear (place_after (stream_at exchange.limits 0 bytes) (length cut.done)) taken
   CutNear (inr cut) taken = taken ≤ cut.place + PIECE
 
-  -- no read was made past an end that showed itself in the input
+  -- at most one piece was read past an end that the input shows
   abbrev pub Near : (budget : ℕ) (e : End) → Writes exchange budget bytes left e → (taken : ℕ) → Type 0
   Near budget end.Ended written taken = QuitNear written taken
   Near budget (end.Truncated place) written taken = ⊤
@@ -55,7 +55,7 @@ module _ {turns : Turns} (exchange : Exchange turns) (bytes : List ℕ) (left : 
   Near budget end.Memory written taken = ⊤
   Near budget end.WriteFault written taken = CutNear written taken
 
--- a front of these bytes was taken, at most the budget; left is what the input has at the end
+-- A prefix of these bytes was read, at most the budget. `left` is what the input has left.
 pub record FrontTaken (budget : ℕ) (bytes : List ℕ) (left : Option (List ℕ)) : Type 0 where
   pub front : List ℕ
   pub rest : List ℕ
@@ -63,15 +63,16 @@ pub record FrontTaken (budget : ℕ) (bytes : List ℕ) (left : Option (List ℕ
   pub left_is : left ≡ Some rest
   pub within : length front ≤ budget
 
--- What was written for an input with these bytes, by its end, and what was taken of it: a front, which alone would be answered so.
+-- What was written for an input with these bytes, by its end, and which prefix of it was read. That prefix alone would
+-- be answered the same.
 pub record TakenBy {turns : Turns} (exchange : Exchange turns) (budget : ℕ) (bytes : List ℕ) (left : Option (List ℕ)) (e : End) : Type 0 where
   pub written : Writes exchange budget bytes left e
   pub taken : FrontTaken budget bytes left
   pub alone : Writes exchange budget taken.front (Some []) e
   pub near : Near exchange bytes left budget e written (length taken.front)
 
--- How an input with these bytes was answered, and what was taken of it: a front of at most the budget, which alone would be answered so.
--- A good end is not reported otherwise.
+-- How an input with these bytes was answered, and which prefix of it was read: at most the budget. That prefix alone
+-- would be answered the same. A good end always has the good status.
 pub record Taken (seen : Seen) (budget : ℕ) (bytes : List ℕ) (left : Option (List ℕ)) (had has : List ℕ → Type 0) (given : Status) : Type 0 where
   pub headline : Headline seen budget bytes left had has given
   pub front : List ℕ
@@ -83,7 +84,8 @@ pub record Taken (seen : Seen) (budget : ℕ) (bytes : List ℕ) (left : Option 
   pub near : Near (exchange_of seen headline.held) bytes left budget headline.end headline.written (length front)
   pub quiet : headline.end ≡ end.Ended → given ≡ status.Ended
 
--- An end was reported by its status and line, whatever the input tells of itself. A good end is not reported otherwise.
+-- An end was reported by its status and line. Holds even if the input's bytes are unknown. A good end always has the
+-- good status.
 pub record HasStatusLine (had has : List ℕ → Type 0) (given : Status) : Type 0 where
   pub ended : End
   pub reported : Reports (status_of ended) (place_of ended) given had has

@@ -1,4 +1,4 @@
--- What is written for an input where the journal fails.
+-- What is written for an input if the journal fails.
 use Rattle.std.specs.Prelude.{◌≡◌, ℕ, List, ◌∷◌, ◌++◌, length, Option}
 use Rattle.ts_io.specs.Sinks.{Grows}
 use Rattle.ts_spec.specs.Run.{Runs}
@@ -8,8 +8,8 @@ use Rattle.ts_engine.specs.Headline.{Exchange, requests}
 use Rattle.ts_engine.specs.Taken.{FrontTaken, IsNear, place_after}
 
 module _ (exchange : Exchange journaled) where
-  -- The first requests in these bytes had their turns: their records are in the journal, and their text is in the sink. The next one had its turn
-  -- too; the journal failed with a front of its record, and nothing of its reply was written.
+  -- The first requests in these bytes were handled: their records are in the journal and their replies in the output.
+  -- The next one was executed too, but the journal failed within its record, and nothing of its reply was written.
   pub record Unkept (bytes : List ℕ) : Type 0 where
     pub done : List Request
     pub last : Request
@@ -22,8 +22,8 @@ module _ (exchange : Exchange journaled) where
     pub torn : IsTorn mid last reply exchange.to
     pub grown : Grows exchange.had exchange.has text
 
-  -- That was so, and a front of the bytes was taken, which alone would be answered so, and at most one piece past the request whose record is
-  -- torn.
+  -- That happened, and a prefix of the bytes was read that alone would be answered the same. It ends at most one piece
+  -- past the request whose record is torn.
   pub record UnkeptTaken (budget : ℕ) (bytes : List ℕ) (left : Option (List ℕ)) : Type 0 where
     pub taken : FrontTaken budget bytes left
     pub unkept : Unkept bytes

@@ -1,4 +1,4 @@
-// What is done where the words of the command line ask to serve.
+// The mode `serve`.
 ghost use Rattle.std.specs.Prelude.{◌≡◌, ◌≢◌, ◌⊎◌, ◌≤◌, false};
 ghost use Rattle.ts_io.specs.Causes.{Rose};
 ghost use Rattle.ts_engine.specs.Asked.{Connections, AllServed};
@@ -12,7 +12,8 @@ use ts_db::{Db, Limits};
 use ts_io::{Clock, Listener, Sink};
 use ts_words::Status;
 
-// Serves so many connections at the address, over a new database. A status other than `Ended` has its line on `err`.
+// Serves `links` connections at the address, one after another, on one new database. Any status other than `Ended`
+// writes its line to `err`.
 pub(crate) fn serve_address<N: Listener, K: Sink, E: Sink, C: Clock>(
     alloc: Global,
     address: &str,
@@ -28,20 +29,37 @@ pub(crate) fn serve_address<N: Listener, K: Sink, E: Sink, C: Clock>(
     requires budget { 1 ≤ budget }
     requires net { N.is_out net.old ≡ false }
     requires links { 1 ≤ links }
-    ensures served { Connections (record { left = N.In.left; reads = N.In.faults; has = N.Out.has; writes = N.Out.faults })
-        (record { limits = limits; readings = C.readings clock.old; readings_left = C.readings clock.new; had = K.has out.old; has = K.has out.new })
-        budget links (N.coming net.old) (N.coming net.new) (N.closed net.old) (N.closed net.new) (E.has err.old) (E.has err.new) result }
-    ensures complete { (Rose (N.faults net.old) (N.faults net.new) → ⊥) → (Rose (K.faults out.old) (K.faults out.new) → ⊥)
+    ensures served { Connections
+        (record { left = N.In.left; reads = N.In.faults; has = N.Out.has; writes = N.Out.faults })
+        (record {
+          limits = limits;
+          readings = C.readings clock.old;
+          readings_left = C.readings clock.new;
+          had = K.has out.old;
+          has = K.has out.new;
+        })
+        budget links (N.coming net.old) (N.coming net.new) (N.closed net.old) (N.closed net.new) (E.has err.old)
+        (E.has err.new) result }
+    ensures complete { (Rose (N.faults net.old) (N.faults net.new) → ⊥)
+        → (Rose (K.faults out.old) (K.faults out.new) → ⊥)
         → AllServed (record { left = N.In.left; reads = N.In.faults; has = N.Out.has; writes = N.Out.faults })
-        (record { limits = limits; readings = C.readings clock.old; readings_left = C.readings clock.new; had = K.has out.old; has = K.has out.new })
+        (record {
+          limits = limits;
+          readings = C.readings clock.old;
+          readings_left = C.readings clock.new;
+          had = K.has out.old;
+          has = K.has out.new;
+        })
         budget links (N.coming net.old) (N.coming net.new) (N.closed net.old) (N.closed net.new) result }
     ensures net { N.is_out net.new ≡ false }
     ensures statuses { (result ≡ Status.Ended) ⊎ (result ≡ Status.AcceptFault) ⊎ (result ≡ Status.WriteFault) }
     ensures accept_fault { result ≡ Status.AcceptFault → Rose (N.faults net.old) (N.faults net.new) }
     ensures write_fault { result ≡ Status.WriteFault
         → Rose (K.faults out.old) (K.faults out.new) ⊎ Rose (E.faults err.old) (E.faults err.new) }
-    ensures no_accept_fault { result ≢ Status.AcceptFault → result ≢ Status.WriteFault → N.faults net.new ≡ N.faults net.old }
-    ensures no_write_fault { result ≢ Status.WriteFault → (K.faults out.new ≡ K.faults out.old) × (E.faults err.new ≡ E.faults err.old) }
+    ensures no_accept_fault { result ≢ Status.AcceptFault → result ≢ Status.WriteFault
+        → N.faults net.new ≡ N.faults net.old }
+    ensures no_write_fault { result ≢ Status.WriteFault → (K.faults out.new ≡ K.faults out.old)
+        × (E.faults err.new ≡ E.faults err.old) }
 {
     match net.open(address) {
         Ok(()) => {
@@ -54,7 +72,6 @@ pub(crate) fn serve_address<N: Listener, K: Sink, E: Sink, C: Clock>(
     }
 }
 
-// The status of a run, by how its serving ended.
 fn status_served(served: Served) -> Status
     ensures { result ≡ asked.status_served served }
 {

@@ -1,4 +1,4 @@
-// What is done where the words of the command line ask for a capture.
+// The mode `mux`.
 ghost use Rattle.std.specs.Prelude.{◌≡◌, ◌≢◌, ◌⊎◌, ◌≤◌, ℕ, List, Some};
 ghost use Rattle.ts_io.specs.Causes.{Rose};
 ghost use Rattle.ts_engine.specs.Captured.{Captured, HasCaptureLine, status_captured};
@@ -11,8 +11,8 @@ use ts_db::{Db, Limits};
 use ts_io::{Clock, Sink, Source};
 use ts_words::{Mode, Status};
 
-// Answers what interleaved connections ask in the capture, over a new database, at most `budget` bytes of it. A status other
-// than `Ended` has its line on `err`.
+// Answers the interleaved connections of a capture on a new database. Reads at most `budget` bytes. Any status other
+// than `Ended` writes its line to `err`.
 pub(crate) fn answer_capture<S: Source, K: Sink, E: Sink, C: Clock>(
     alloc: Global,
     input: &mut S,
@@ -25,10 +25,17 @@ pub(crate) fn answer_capture<S: Source, K: Sink, E: Sink, C: Clock>(
     requires limits { AreUsable limits }
     requires budget { 1 ≤ budget }
     ensures captured { (bytes : List ℕ) → S.left input.old ≡ Some bytes → Captured
-        (record { limits = limits; readings = C.readings clock.old; readings_left = C.readings clock.new; had = K.has out.old; has = K.has out.new })
+        (record {
+          limits = limits;
+          readings = C.readings clock.old;
+          readings_left = C.readings clock.new;
+          had = K.has out.old;
+          has = K.has out.new;
+        })
         budget bytes (S.left input.new) (E.has err.old) (E.has err.new) result }
     ensures complete { (bytes : List ℕ) → S.left input.old ≡ Some bytes
-        → NoneRose (S.faults input.old) (S.faults input.new) (K.faults out.old) (K.faults out.new) (E.faults err.old) (E.faults err.new)
+        → NoneRose (S.faults input.old) (S.faults input.new) (K.faults out.old) (K.faults out.new) (E.faults err.old)
+        (E.faults err.new)
         → (result ≡ Status.Memory) ⊎ (result ≡ status_captured budget bytes) }
     ensures line { HasCaptureLine (E.has err.old) (E.has err.new) result }
     ensures no_usage { result ≢ Status.Usage }
@@ -38,8 +45,10 @@ pub(crate) fn answer_capture<S: Source, K: Sink, E: Sink, C: Clock>(
     ensures read_fault { result ≡ Status.ReadFault → Rose (S.faults input.old) (S.faults input.new) }
     ensures write_fault { result ≡ Status.WriteFault
         → Rose (K.faults out.old) (K.faults out.new) ⊎ Rose (E.faults err.old) (E.faults err.new) }
-    ensures no_read_fault { result ≢ Status.ReadFault → result ≢ Status.WriteFault → S.faults input.new ≡ S.faults input.old }
-    ensures no_write_fault { result ≢ Status.WriteFault → (K.faults out.new ≡ K.faults out.old) × (E.faults err.new ≡ E.faults err.old) }
+    ensures no_read_fault { result ≢ Status.ReadFault → result ≢ Status.WriteFault
+        → S.faults input.new ≡ S.faults input.old }
+    ensures no_write_fault { result ≢ Status.WriteFault → (K.faults out.new ≡ K.faults out.old)
+        × (E.faults err.new ≡ E.faults err.old) }
 {
     let mut db = Db::new(alloc, limits);
     let end = replay(alloc, &mut db, input, out, clock, limits.wire, budget);

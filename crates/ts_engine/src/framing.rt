@@ -1,4 +1,4 @@
-// A frame of the output.
+// Writes the frames of a capture's replies.
 ghost use Rattle.std.specs.Prelude.{◌≡◌, ◌+◌, ◌≤◌, ◌++◌, length, take, OnOk, OnErr};
 ghost use Rattle.ts_io.specs.Causes.{HasCause};
 ghost use Rattle.ts_io.specs.Sinks.{Grows, GrowsByFront};
@@ -7,13 +7,15 @@ ghost use Rattle.ts_mux.specs.Capture.{framed};
 use ts_io::{Failed, Sink, write_all_counted};
 use ts_mux::Header;
 
-// How many bytes of a frame leave together, its header among them.
+// The first write of a frame has at most this many bytes, its header included.
 const TOGETHER: usize = 512;
 
-// Writes a frame of this connection with these bytes: its header together with the first of the bytes, and then the others.
+// Writes a frame: the header together with the first bytes, then the rest.
 pub(crate) fn write_frame<K: Sink>(out: &mut K, link: u32, bytes: &[u8]) -> Result<(), Failed>
-    ensures all { OnOk result (Grows (K.has out.old) (K.has out.new) (framed (record { link = link; bytes = bytes.now }))) }
-    ensures front { OnErr result (GrowsByFront (K.has out.old) (K.has out.new) (framed (record { link = link; bytes = bytes.now }))) }
+    ensures all { OnOk result
+        (Grows (K.has out.old) (K.has out.new) (framed (record { link = link; bytes = bytes.now }))) }
+    ensures front { OnErr result
+        (GrowsByFront (K.has out.old) (K.has out.new) (framed (record { link = link; bytes = bytes.now }))) }
     ensures cause { HasCause (K.faults out.old) (K.faults out.new) result }
 {
     let header = Header::new(link, bytes.len());
@@ -24,7 +26,7 @@ pub(crate) fn write_frame<K: Sink>(out: &mut K, link: u32, bytes: &[u8]) -> Resu
     Ok(())
 }
 
-// Puts a header and the first of the bytes into the room, as many as there is room for, and answers how many these are.
+// Copies a header and as many bytes as fit after it into the buffer. Returns the number of these bytes.
 fn put_front(room: &mut [u8; TOGETHER], header: &[u8], bytes: &[u8]) -> usize
     requires { length header.now ≤ 512 }
     ensures text { take (length header.now + result) room.new ≡ header.now ++ take result bytes.now }
@@ -37,7 +39,7 @@ fn put_front(room: &mut [u8; TOGETHER], header: &[u8], bytes: &[u8]) -> usize
     first
 }
 
-// Puts a text at a place of the room, and gives the place after it.
+// Copies `text` to offset `at`. Returns the offset after it.
 fn put(room: &mut [u8], at: usize, text: &[u8]) -> usize
     requires { at + length text.now ≤ length room.old }
     ensures text { take result room.new ≡ take at room.old ++ text.now }

@@ -1,4 +1,4 @@
-// What is done where the words of the command line ask for a workload.
+// The mode `gen`.
 ghost use Rattle.std.specs.Prelude.{◌≡◌, ◌≢◌, ◌⊎◌, ◌<◌, ◌≤◌, IfSome};
 ghost use Rattle.ts_io.specs.Causes.{Rose};
 ghost use Rattle.ts_spec.specs.Totals.{total_shown};
@@ -20,11 +20,11 @@ use ts_words::{Status, summary};
 /// The most bytes of a summary.
 const ROOM: usize = 192;
 
-/// How many bytes of a workload are read at once.
+/// The most bytes of a workload that one read takes.
 const PIECE: usize = 4096;
 
-// Answers the workload of this seed with `n` changes over a new database, and writes its summary to `out`. A status
-// other than `Ended` has its line on `err`.
+// Runs the workload of this seed with `n` changes on a new database, and writes its summary to `out`. Any status other
+// than `Ended` writes its line to `err`.
 pub(crate) fn answer_workload<K: Sink, E: Sink>(
     alloc: Global,
     seed: u64,
@@ -39,13 +39,14 @@ pub(crate) fn answer_workload<K: Sink, E: Sink>(
     ensures statuses { (result ≡ Status.Ended) ⊎ (result ≡ Status.WriteFault) ⊎ (result ≡ Status.Memory) }
     ensures write_fault { result ≡ Status.WriteFault
         → Rose (K.faults out.old) (K.faults out.new) ⊎ Rose (E.faults err.old) (E.faults err.new) }
-    ensures no_write_fault { result ≢ Status.WriteFault → (K.faults out.new ≡ K.faults out.old) × (E.faults err.new ≡ E.faults err.old) }
+    ensures no_write_fault { result ≢ Status.WriteFault → (K.faults out.new ≡ K.faults out.old)
+        × (E.faults err.new ≡ E.faults err.old) }
 {
     let status = tell_workload(alloc, seed, n, out, limits);
     report(err, status, 0)
 }
 
-// Writes the summary of the workload.
+// Runs the workload and writes its summary.
 fn tell_workload<K: Sink>(alloc: Global, seed: u64, n: u32, out: &mut K, limits: Limits) -> Status
     requires limits { AreUsable limits }
     requires changes { n ≤ 1000000 }
@@ -64,7 +65,7 @@ fn tell_workload<K: Sink>(alloc: Global, seed: u64, n: u32, out: &mut K, limits:
     }
 }
 
-// Answers the workload, and gives the numbers of its summary, where there is memory for that.
+// Runs the workload. Returns the numbers of its summary, or `None` if memory runs out.
 fn sum_up(alloc: Global, seed: u64, n: u32, limits: Limits) -> Option<[u64; 6]>
     requires limits { AreUsable limits }
     requires changes { n ≤ 1000000 }
@@ -101,7 +102,7 @@ fn sum_up(alloc: Global, seed: u64, n: u32, limits: Limits) -> Option<[u64; 6]>
     }
 }
 
-// How many samples all keys show together.
+// Counts the visible samples of all keys.
 fn count_samples<L: Ledger>(db: &Db, blank: Blank) -> u64
     requires name { blank.name ≡ L.name }
     requires parts { blank.parts ≡ L.parts }

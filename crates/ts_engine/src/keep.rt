@@ -1,4 +1,4 @@
-// What is done where the words of the command line ask for a journal.
+// The mode `keep`.
 ghost use Rattle.std.specs.Prelude.{◌≡◌, ◌≢◌, ◌⊎◌, ◌<◌, ◌≤◌, ℕ, false, List, length, Some};
 ghost use Rattle.ts_io.specs.Causes.{Rose};
 ghost use Rattle.ts_journal.specs.Limits.{IsBounded};
@@ -10,8 +10,7 @@ ghost use Rattle.ts_engine.specs.Journaled as journaled;
 ghost use Rattle.ts_engine.specs.Journaled.{Journaled, HasJournalLine, HasJournalCauses, IsAnswered, Did, status_kept};
 ghost use Rattle.ts_engine.specs.Top.{AreUsable, NoneRose};
 
-use crate::journal_end::JournalEnd;
-use crate::kept::pipe_kept;
+use crate::kept::{JournalEnd, pipe_kept};
 use crate::opened::open_journal;
 use crate::status::report_in;
 use std::alloc::Global;
@@ -20,8 +19,9 @@ use ts_io::{Clock, Log, Sink, Source};
 use ts_resp::WireLimits;
 use ts_words::{Mode, Status};
 
-// Answers the requests of `input` over what the journal of this name loads to, at most `budget` bytes of either one, and adds
-// the record of each change to the journal before its reply is written. A status other than `Ended` has its line on `err`.
+// Loads the journal `name` and answers the requests of `input` on that database. Reads at most `budget` bytes of each.
+// Appends the record of each change to the journal before it writes the reply. Any status other than `Ended` writes its
+// line to `err`.
 pub(crate) fn answer_kept<S: Source, K: Sink, E: Sink, C: Clock, J: Log>(
     alloc: Global,
     name: &str,
@@ -36,16 +36,24 @@ pub(crate) fn answer_kept<S: Source, K: Sink, E: Sink, C: Clock, J: Log>(
     requires limits { AreUsable limits }
     requires bounded { IsBounded limits.wire }
     requires budget { 1 ≤ budget }
-    ensures journaled { (journal bytes : List ℕ) → J.content log.old ≡ Some journal → S.left input.old ≡ Some bytes → Journaled
+    ensures journaled { (journal bytes : List ℕ) → J.content log.old ≡ Some journal → S.left input.old ≡ Some bytes
+        → Journaled
         (record {
-          seen = record { limits = limits; readings = C.readings clock.old; readings_left = C.readings clock.new; had = K.has out.old; has = K.has out.new };
+          seen = record {
+            limits = limits;
+            readings = C.readings clock.old;
+            readings_left = C.readings clock.new;
+            had = K.has out.old;
+            has = K.has out.new;
+          };
           journal = journal;
           journal_left = J.content log.new;
         })
         ((input.new ≡ input.old) × (out.new ≡ out.old) × (clock.new ≡ clock.old))
         budget bytes (S.left input.new) (E.has err.old) (E.has err.new) result }
     ensures complete { (journal bytes : List ℕ) → J.content log.old ≡ Some journal → S.left input.old ≡ Some bytes
-        → NoneRose (S.faults input.old) (S.faults input.new) (K.faults out.old) (K.faults out.new) (E.faults err.old) (E.faults err.new)
+        → NoneRose (S.faults input.old) (S.faults input.new) (K.faults out.old) (K.faults out.new) (E.faults err.old)
+        (E.faults err.new)
         → (Rose (J.faults log.old) (J.faults log.new) → ⊥)
         → (result ≡ Status.Memory) ⊎ (result ≡ status_kept limits budget journal bytes) }
     ensures line { HasJournalLine (E.has err.old) (E.has err.new) result }
@@ -56,15 +64,18 @@ pub(crate) fn answer_kept<S: Source, K: Sink, E: Sink, C: Clock, J: Log>(
     ensures write_fault { result ≡ Status.WriteFault
         → Rose (K.faults out.old) (K.faults out.new) ⊎ Rose (E.faults err.old) (E.faults err.new) }
     ensures journal_fault { result ≡ Status.JournalFault → Rose (J.faults log.old) (J.faults log.new) }
-    ensures no_read_fault { result ≢ Status.ReadFault → result ≢ Status.WriteFault → S.faults input.new ≡ S.faults input.old }
-    ensures no_write_fault { result ≢ Status.WriteFault → (K.faults out.new ≡ K.faults out.old) × (E.faults err.new ≡ E.faults err.old) }
-    ensures no_journal_fault { result ≢ Status.JournalFault → result ≢ Status.WriteFault → J.faults log.new ≡ J.faults log.old }
+    ensures no_read_fault { result ≢ Status.ReadFault → result ≢ Status.WriteFault
+        → S.faults input.new ≡ S.faults input.old }
+    ensures no_write_fault { result ≢ Status.WriteFault → (K.faults out.new ≡ K.faults out.old)
+        × (E.faults err.new ≡ E.faults err.old) }
+    ensures no_journal_fault { result ≢ Status.JournalFault → result ≢ Status.WriteFault
+        → J.faults log.new ≡ J.faults log.old }
 {
     let end = keep(alloc, name, input, out, clock, log, limits, budget);
     report_in(Some(Mode::Keep), err, end.status(), end.place())
 }
 
-// Loads the journal of this name into a new database, and answers the input over that.
+// Loads the journal into a new database, and answers the input.
 fn keep<S: Source, K: Sink, C: Clock, J: Log>(
     alloc: Global,
     name: &str,
@@ -80,7 +91,13 @@ fn keep<S: Source, K: Sink, C: Clock, J: Log>(
     requires budget { 1 ≤ budget }
     ensures did { (journal bytes : List ℕ) → J.content log.old ≡ Some journal → S.left input.old ≡ Some bytes → Did
         (record {
-          seen = record { limits = limits; readings = C.readings clock.old; readings_left = C.readings clock.new; had = K.has out.old; has = K.has out.new };
+          seen = record {
+            limits = limits;
+            readings = C.readings clock.old;
+            readings_left = C.readings clock.new;
+            had = K.has out.old;
+            has = K.has out.new;
+          };
           journal = journal;
           journal_left = J.content log.new;
         })
@@ -90,7 +107,8 @@ fn keep<S: Source, K: Sink, C: Clock, J: Log>(
         → (Rose (S.faults input.old) (S.faults input.new) → ⊥) → (Rose (K.faults out.old) (K.faults out.new) → ⊥)
         → (Rose (J.faults log.old) (J.faults log.new) → ⊥)
         → IsMemoryOr (journaled.status_of result) (status_kept limits budget journal bytes) }
-    ensures causes { HasJournalCauses result (S.faults input.old) (S.faults input.new) (K.faults out.old) (K.faults out.new)
+    ensures causes { HasJournalCauses result (S.faults input.old) (S.faults input.new) (K.faults out.old)
+        (K.faults out.new)
         (J.faults log.old) (J.faults log.new) }
 {
     let mut db = Db::new(alloc, limits);
@@ -101,7 +119,7 @@ fn keep<S: Source, K: Sink, C: Clock, J: Log>(
     }
 }
 
-// Answers the input over what the journal loaded to.
+// Answers the input on the loaded database.
 fn answer_input<S: Source, K: Sink, C: Clock, J: Log>(
     alloc: Global,
     db: &mut Db,
@@ -114,7 +132,8 @@ fn answer_input<S: Source, K: Sink, C: Clock, J: Log>(
 ) -> JournalEnd
     requires limits { CanRead limits }
     requires budget { 1 ≤ budget }
-    ensures answered { Carries db.old db.new (λ from to. (bytes : List ℕ) → S.left input.old ≡ Some bytes → IsAnswered result
+    ensures answered { Carries db.old db.new
+        (λ from to. (bytes : List ℕ) → S.left input.old ≡ Some bytes → IsAnswered result
         (λ failed. record {
           limits = limits;
           from = kept (C.readings clock.old) (J.content log.old) false from;
@@ -123,8 +142,10 @@ fn answer_input<S: Source, K: Sink, C: Clock, J: Log>(
           has = K.has out.new;
         })
         limits budget bytes (S.left input.new)
-        (S.faults input.old) (S.faults input.new) (K.faults out.old) (K.faults out.new) (J.faults log.old) (J.faults log.new)) }
-    ensures causes { HasJournalCauses result (S.faults input.old) (S.faults input.new) (K.faults out.old) (K.faults out.new)
+        (S.faults input.old) (S.faults input.new) (K.faults out.old) (K.faults out.new) (J.faults log.old)
+        (J.faults log.new)) }
+    ensures causes { HasJournalCauses result (S.faults input.old) (S.faults input.new) (K.faults out.old)
+        (K.faults out.new)
         (J.faults log.old) (J.faults log.new) }
 {
     let kept = pipe_kept(alloc, db, input, out, clock, log, limits, budget);

@@ -1,4 +1,4 @@
-// Turns that keep a journal.
+// A run with a journal: how it ends, and the request handler that appends records.
 ghost use Rattle.std.specs.Prelude.{◌≡◌, ◌≤◌, List, ℕ, false, OnOk, OnErr, Option};
 ghost use Rattle.std.specs.Io.KnownBytes.{append_known};
 ghost use Rattle.ts_io.specs.Causes.{HasCause};
@@ -8,8 +8,9 @@ ghost use Rattle.ts_execution.specs.Keeping.{keeping, kept};
 ghost use Rattle.ts_execution.specs.Limits.{CanRead};
 ghost use Rattle.ts_execution.specs.Recording.{told_by};
 ghost use Rattle.ts_engine.specs.Piping.{PipedBy, HasCausesBy};
+ghost use Rattle.ts_engine.specs.Journaled as journaled;
 
-use crate::piped::{Outcome, pipe_by};
+use crate::piped::{End, Outcome, pipe_by};
 use std::alloc::Global;
 use std::mem;
 use std::sync::ledger::Ledger;
@@ -19,9 +20,56 @@ use ts_io::{Clock, Failed, Log, Sink, Source, append_all_counted, write_all_coun
 use ts_journal::Record;
 use ts_resp::{Out, WireLimits, Word};
 use ts_sample::Steps;
+use ts_words::Status;
 
-/// Turns whose records are added to a journal, each before its reply is written. Where the journal fails, the reply is not
-/// written, and `failed` says so.
+/// How a run with a journal ended.
+#[derive(Clone, Copy, Debug, PartialEq, Eq)]
+pub(crate) enum JournalEnd {
+    /// The journal was loaded, and the input ended like this.
+    Answered(End),
+    /// The journal was loaded, but later a record could not be appended.
+    NotKept,
+    /// The journal could not be opened, read or truncated.
+    NotLoaded,
+    /// The journal was read to its end, and breaks at this offset.
+    Broken(u64),
+    /// The journal is not shorter than the budget.
+    TooLong,
+    /// Out of memory while loading the journal.
+    NoMemory,
+}
+
+impl JournalEnd {
+    /// The exit status for this end.
+    pub(crate) fn status(self) -> Status
+        ensures { result ≡ journaled.status_of self }
+    {
+        match self {
+            JournalEnd::Answered(end) => end.status(),
+            JournalEnd::NotKept | JournalEnd::NotLoaded => Status::JournalFault,
+            JournalEnd::Broken(_) => Status::JournalBroken,
+            JournalEnd::TooLong => Status::Budget,
+            JournalEnd::NoMemory => Status::Memory,
+        }
+    }
+
+    /// The offset in the status line; 0 if it has none.
+    pub(crate) fn place(self) -> u64
+        ensures { result ≡ journaled.place_of self }
+    {
+        match self {
+            JournalEnd::Answered(end) => end.place(),
+            JournalEnd::Broken(place) => place,
+            JournalEnd::NotKept
+            | JournalEnd::NotLoaded
+            | JournalEnd::TooLong
+            | JournalEnd::NoMemory => 0,
+        }
+    }
+}
+
+/// Handles requests with a journal: appends the record of each change before it writes the reply. If the journal fails,
+/// it writes no reply and sets `failed`.
 #[derive(Drop)]
 pub(crate) struct Journaled<'a, J: Log> {
     pub(crate) log: &'a mut J,
@@ -31,7 +79,8 @@ pub(crate) struct Journaled<'a, J: Log> {
 impl<J: Log> Turns for Journaled<'_, J> {
     ghost kind = { keeping };
 
-    ghost world = { λ s held readings. record { held = held; readings = readings; content = J.content s.log.now; failed = s.failed } };
+    ghost world = { λ s held readings.
+        record { held = held; readings = readings; content = J.content s.log.now; failed = s.failed } };
 
     ghost own = { λ s. record { failed = s.failed; count = J.faults s.log.now } };
 
@@ -72,16 +121,16 @@ impl<J: Log> Turns for Journaled<'_, J> {
     }
 }
 
-/// What became of a stream whose changes were kept in a journal.
+/// The outcome of a stream with a journal.
 #[derive(Clone, Copy, Debug, PartialEq, Eq)]
 pub(crate) struct KeptOutcome {
-    /// The end is that a reply could not be written where the journal failed before it.
+    /// If the journal failed, its end is a write fault.
     pub(crate) outcome: Outcome,
     pub(crate) failed: bool,
 }
 
-/// Answers the requests of an input as `pipe` does, and adds the record of what each one changed to the journal, before
-/// its reply is written. Where the journal fails nothing is written of that reply, and the stream ends.
+/// Answers the requests of an input like `pipe`, and appends the record of each change to the journal before it writes
+/// the reply. If the journal fails, it writes nothing of that reply, and the stream ends.
 pub(crate) fn pipe_kept<S: Source, K: Sink, C: Clock, J: Log>(
     alloc: Global,
     db: &mut Db,
@@ -95,10 +144,13 @@ pub(crate) fn pipe_kept<S: Source, K: Sink, C: Clock, J: Log>(
     requires limits { CanRead limits }
     requires budget { 1 ≤ budget }
     ensures kept { Carries db.old db.new (λ from to. PipedBy keeping limits budget result.outcome
-        (kept (C.readings clock.old) (J.content log.old) false from) (kept (C.readings clock.new) (J.content log.new) result.failed to)
+        (kept (C.readings clock.old) (J.content log.old) false from)
+        (kept (C.readings clock.new) (J.content log.new) result.failed to)
         (S.left input.old) (S.left input.new) (K.has out.old) (K.has out.new)) }
-    ensures causes { HasCausesBy keeping result.outcome.end (S.faults input.old) (S.faults input.new) (K.faults out.old) (K.faults out.new)
-        (record { failed = false; count = J.faults log.old }) (record { failed = result.failed; count = J.faults log.new }) }
+    ensures causes { HasCausesBy keeping result.outcome.end (S.faults input.old) (S.faults input.new)
+        (K.faults out.old) (K.faults out.new)
+        (record { failed = false; count = J.faults log.old })
+        (record { failed = result.failed; count = J.faults log.new }) }
 {
     let mut turns = Journaled { log, failed: false };
     let outcome = pipe_by(alloc, &mut turns, db, input, out, clock, limits, budget);
@@ -108,7 +160,7 @@ pub(crate) fn pipe_kept<S: Source, K: Sink, C: Clock, J: Log>(
     }
 }
 
-// Adds a record to the journal, where the reply has this text.
+// Appends a record to the journal, given the reply's text.
 fn append_record<J: Log>(log: &mut J, entry: Option<Record>, reply: &[u8]) -> Result<(), Failed>
     ensures all { OnOk result (J.content log.new ≡ append_known (J.content log.old) (told_by entry reply.now)) }
     ensures front { OnErr result (AddsFront (J.content log.old) (J.content log.new) (told_by entry reply.now)) }

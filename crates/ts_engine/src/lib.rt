@@ -1,14 +1,10 @@
-//! The engine: sessions over a stream, what is answered over it, and the top call.
+//! The engine: sessions, the modes of the program, and the function `top` that runs them.
 #![tactic(auto)]
 
 mod address;
-mod budget;
 mod capture;
-mod course;
 mod framing;
 mod generated;
-mod go;
-mod journal_end;
 mod keep;
 mod kept;
 mod opened;
@@ -21,10 +17,9 @@ mod serving;
 mod session;
 mod status;
 
-pub use budget::usual_budget;
-pub use go::Go;
 pub use piped::{End, Outcome, pipe};
-pub use running::top;
+pub use replying::Go;
+pub use running::{top, usual_budget};
 pub use serving::{Served, serve};
 pub use session::Session;
 pub use ts_command::{Command, CommandFault, read};

@@ -1,4 +1,4 @@
-// A journal that is opened and loaded.
+// Opens and loads a journal.
 ghost use Rattle.std.specs.Prelude.{◌≡◌, ◌≤◌, ◌<◌, ℕ, List, Some, IfErr, true, false};
 ghost use Rattle.ts_io.specs.Causes.{Rose};
 ghost use Rattle.ts_db.specs.Held.{Carries};
@@ -6,14 +6,14 @@ ghost use Rattle.ts_journal.specs.Limits.{IsBounded};
 ghost use Rattle.ts_execution.specs.Limits.{CanRead};
 ghost use Rattle.ts_engine.specs.Journaled.{IsOpened, IsUnopened, is_unloaded};
 
-use crate::journal_end::JournalEnd;
+use crate::kept::JournalEnd;
 use std::alloc::Global;
 use ts_db::Db;
 use ts_execution::{Loaded, load};
 use ts_io::Log;
 use ts_resp::WireLimits;
 
-// Opens the journal of this name, does again what the changes in it did, and cuts it after the last whole one.
+// Opens the journal, replays its changes, and truncates it after the last complete one.
 pub(crate) fn open_journal<J: Log>(
     alloc: Global,
     db: &mut Db,
@@ -37,7 +37,7 @@ pub(crate) fn open_journal<J: Log>(
     }
 }
 
-// The same of a journal that is open.
+// The same for an open journal.
 fn load_journal<J: Log>(
     alloc: Global,
     db: &mut Db,

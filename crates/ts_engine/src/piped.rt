@@ -1,4 +1,4 @@
-// What answers a whole input.
+// Answers a whole input.
 ghost use Rattle.std.specs.Prelude.{◌≡◌, ◌+◌, ◌<◌, ◌≤◌, ◌^◌, length, None, Some};
 ghost use Rattle.ts_resp.specs.Reading.{fed, unfinished};
 ghost use Rattle.ts_db.specs.Held.{Carries};
@@ -7,7 +7,7 @@ ghost use Rattle.ts_engine.specs.Standing.{spot_in, reader_of, ended_of, HasAnsw
 ghost use Rattle.ts_engine.specs.Piping.{Piped, PipedBy, Pumped, HasCauses, HasCausesBy, HasCausesByOr};
 ghost use Rattle.ts_engine.specs.Ending.{end_at, end_by};
 
-use crate::go::Go;
+use crate::replying::Go;
 use crate::session::Session;
 use std::alloc::Global;
 use ts_db::Db;
@@ -18,33 +18,33 @@ use ts_resp::{Protocol, WireLimits};
 /// How a stream ended.
 #[derive(Clone, Copy, Debug, PartialEq, Eq)]
 pub enum End {
-    /// The input ends between requests, or QUIT was answered.
+    /// The input ended between requests, or QUIT was answered.
     Ended,
-    /// The input ends inside the request that begins at this place.
+    /// The input ended inside the request that begins at this offset.
     Truncated(u64),
-    /// The stream is broken.
+    /// The stream is broken. The error was written.
     Protocol(Protocol),
     /// A read failed.
     ReadFault,
-    /// A reply could not be written.
+    /// A write failed.
     WriteFault,
-    /// There was no memory to read a request.
+    /// Out of memory while reading a request.
     Memory,
-    /// As many bytes were taken as may be.
+    /// The budget was read.
     Budget,
 }
 
-/// What became of a stream.
+/// The outcome of a stream.
 #[derive(Clone, Copy, Debug, PartialEq, Eq)]
 pub struct Outcome {
-    /// How many requests were executed, the one whose reply failed among them.
+    /// How many requests were executed. One whose reply failed counts.
     pub executed: u64,
-    /// How many bytes were taken from the input.
+    /// How many bytes were read from the input.
     pub taken: u64,
     pub end: End,
 }
 
-// What one read and the answers to its bytes came to.
+// The result of one read and of the requests that it completes.
 #[derive(Clone, Copy)]
 struct Step {
     taken: usize,
@@ -54,9 +54,9 @@ struct Step {
 /// The most bytes that one read asks for.
 const PIECE: usize = 4096;
 
-/// Answers the requests of an input, at most `budget` bytes of it. Each reply is written before the next request
-/// is executed, and a read is made only when every whole request was answered. So where the stream breaks or a reply
-/// can't be written, at most 4096 bytes were taken past the fault, or past that reply's request.
+/// Answers the requests of an input. Reads at most `budget` bytes. Writes each reply before it executes the next
+/// request, and reads on only after every complete request was answered. So at most 4096 bytes are read past a protocol
+/// error, past QUIT, or past a request whose reply could not be written.
 pub fn pipe<S: Source, K: Sink, C: Clock>(
     alloc: Global,
     db: &mut Db,
@@ -72,12 +72,13 @@ pub fn pipe<S: Source, K: Sink, C: Clock>(
         (record { held = from; readings = C.readings clock.old }) (record { held = to; readings = C.readings clock.new })
         (S.left input.old) (S.left input.new) (K.has out.old) (K.has out.new)) }
     ensures within { result.taken ≤ budget }
-    ensures causes { HasCauses result.end (S.faults input.old) (S.faults input.new) (K.faults out.old) (K.faults out.new) }
+    ensures causes { HasCauses result.end (S.faults input.old) (S.faults input.new) (K.faults out.old)
+        (K.faults out.new) }
 {
     pipe_by(alloc, &mut Plain, db, input, out, clock, limits, budget)
 }
 
-/// The same, by turns of any kind.
+/// The same with any request handler.
 pub(crate) fn pipe_by<T: Turns, S: Source, K: Sink, C: Clock>(
     alloc: Global,
     turns: &mut T,
@@ -94,7 +95,8 @@ pub(crate) fn pipe_by<T: Turns, S: Source, K: Sink, C: Clock>(
         (T.world turns.old from (C.readings clock.old)) (T.world turns.new to (C.readings clock.new))
         (S.left input.old) (S.left input.new) (K.has out.old) (K.has out.new)) }
     ensures within { result.taken ≤ budget }
-    ensures causes { HasCausesBy T.kind result.end (S.faults input.old) (S.faults input.new) (K.faults out.old) (K.faults out.new)
+    ensures causes { HasCausesBy T.kind result.end (S.faults input.old) (S.faults input.new) (K.faults out.old)
+        (K.faults out.new)
         (T.own turns.old) (T.own turns.new) }
     ensures lent { T.lent turns.new ≡ T.lent turns.old }
 {
@@ -127,7 +129,7 @@ pub(crate) fn pipe_by<T: Turns, S: Source, K: Sink, C: Clock>(
     }
 }
 
-// Reads one piece and answers what is whole with it.
+// Reads one piece and answers the requests that it completes.
 fn pump<T: Turns, S: Source, K: Sink, C: Clock>(
     session: &mut Session,
     turns: &mut T,
@@ -145,7 +147,8 @@ fn pump<T: Turns, S: Source, K: Sink, C: Clock>(
         (spot_in T.kind session.old (T.world turns.old from (C.readings clock.old)))
         (spot_in T.kind session.new (T.world turns.new to (C.readings clock.new))) (K.has out.old) (K.has out.new)) }
     ensures current { result.end ≡ None → HasAnswered session.new }
-    ensures causes { HasCausesByOr T.kind result.end (S.faults input.old) (S.faults input.new) (K.faults out.old) (K.faults out.new)
+    ensures causes { HasCausesByOr T.kind result.end (S.faults input.old) (S.faults input.new) (K.faults out.old)
+        (K.faults out.new)
         (T.own turns.old) (T.own turns.new) }
     ensures lent { T.lent turns.new ≡ T.lent turns.old }
     ensures ended { result.end ≡ None → ended_of session.new ≡ None }
@@ -173,7 +176,7 @@ fn pump<T: Turns, S: Source, K: Sink, C: Clock>(
     }
 }
 
-// How the stream ends where the input does.
+// The end of the stream, if the input has ended.
 fn end_of_input(session: &Session) -> End
     ensures { result ≡ end_at (unfinished (reader_of session.now)) }
 {
@@ -183,7 +186,7 @@ fn end_of_input(session: &Session) -> End
     }
 }
 
-// How the stream ends with an answer of the session, if it does.
+// The end that a session's result means, if it is one.
 fn end_of_piece(go: Go) -> Option<End>
     ensures { result ≡ end_by go }
 {

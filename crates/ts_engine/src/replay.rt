@@ -1,9 +1,8 @@
-// The frames of one capture.
+// A capture session: answers the interleaved connections of one capture.
 ghost use Rattle.std.specs.Prelude.{◌≡◌, ◌+◌, ◌<◌, ◌≤◌, ◌^◌, [], length, None, Some, IfOk};
 ghost use Rattle.ts_mux.specs.Muxing.{ahead, delivered_to};
 ghost use Rattle.ts_execution.specs.Limits.{CanRead};
 
-use crate::course::Course;
 use std::alloc::{AllocError, Global};
 use std::marker::Brand;
 use std::sync::ledger::{Blank, Ledger};
@@ -15,7 +14,34 @@ use ts_sample::Steps;
 
 mod items;
 
-/// Answers what interleaved connections ask in a capture, which comes in pieces.
+/// The result of a capture session after a piece.
+#[derive(Clone, Copy, Debug, PartialEq, Eq)]
+pub(crate) enum Course {
+    /// Every complete frame was answered. More bytes may follow.
+    More,
+    /// The byte at this offset cannot continue the capture.
+    Broken(u64),
+    /// A write failed.
+    WriteFault,
+    /// Out of memory while reading a frame or a request.
+    Memory,
+}
+
+impl Course {
+    ghost use Rattle.ts_engine.specs.Replaying.{end_of};
+
+    // This result, unless it is `More`.
+    pub(crate) fn end(self) -> Option<Course>
+        ensures { result ≡ end_of self }
+    {
+        match self {
+            Course::More => None,
+            end => Some(end),
+        }
+    }
+}
+
+/// Answers the interleaved connections of a capture that arrives in pieces.
 #[derive(Drop)]
 pub(crate) struct Replay {
     frames: Frames,
@@ -32,7 +58,7 @@ impl Replay {
     ghost use Rattle.ts_engine.specs.Replaying.{WentAs, GoesOn, WroteOrFault};
     ghost use Rattle.ts_engine.specs.Replays.{frames_in, standing, HasAnswered, Begins};
 
-    // A replay to which no byte came.
+    // A new capture session.
     pub(crate) fn new(alloc: Global, limits: WireLimits) -> Result<Replay, AllocError>
         requires limits { CanRead limits }
         ensures { IfOk result (Begins limits) }
@@ -46,7 +72,7 @@ impl Replay {
         })
     }
 
-    // Answers the frames that are whole with these further bytes, each request before the next one has its turn.
+    // Answers the frames that these bytes complete. Writes each reply before it executes the next request.
     pub(crate) fn piece<C: Clock, K: Sink>(
         &mut self,
         db: &mut Db,
@@ -69,14 +95,14 @@ impl Replay {
         }
     }
 
-    // Where an unfinished frame begins, or `None` between frames.
+    // The offset of the incomplete frame, or `None` between frames.
     pub(crate) fn place(&self) -> Option<u64>
         ensures { result ≡ unfinished (frames_in self.now) }
     {
         self.frames.place()
     }
 
-    // Answers every frame that is whole.
+    // Answers every complete frame.
     fn answer_all<C: Clock, K: Sink, L: Ledger>(
         &mut self,
         db: &mut Db,
@@ -103,7 +129,7 @@ impl Replay {
         }
     }
 
-    // Takes the next frame and answers what is whole with it. None: it was answered, and there may be more.
+    // Answers the next frame. Returns `None` if more may follow.
     fn answer_next<C: Clock, K: Sink, L: Ledger>(
         &mut self,
         db: &mut Db,

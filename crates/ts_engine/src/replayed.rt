@@ -1,4 +1,4 @@
-// What answers a whole capture.
+// Answers a whole capture.
 ghost use Rattle.std.specs.Prelude.{◌≡◌, ◌+◌, ◌<◌, ◌≤◌, ◌^◌, length, None, Some};
 ghost use Rattle.ts_mux.specs.Framing.{fed, unfinished};
 ghost use Rattle.ts_db.specs.Held.{Carries};
@@ -7,8 +7,7 @@ ghost use Rattle.ts_engine.specs.Captured as captured;
 ghost use Rattle.ts_engine.specs.Replaying.{Replayed, Pumped, HasCauses, HasCausesOr, end_at, end_by};
 ghost use Rattle.ts_engine.specs.Replays.{standing, frames_in, HasAnswered};
 
-use crate::course::Course;
-use crate::replay::Replay;
+use crate::replay::{Course, Replay};
 use std::alloc::Global;
 use ts_db::Db;
 use ts_io::{Clock, Sink, Source};
@@ -18,24 +17,24 @@ use ts_words::Status;
 /// How a capture ended.
 #[derive(Clone, Copy, Debug, PartialEq, Eq)]
 pub(crate) enum CaptureEnd {
-    /// It ends between frames.
+    /// The capture ended between frames.
     Ended,
-    /// It ends inside the frame that begins at this place.
+    /// The capture ended inside the frame that begins at this offset.
     Truncated(u64),
-    /// The byte at this place can't continue it.
+    /// The byte at this offset cannot continue the capture.
     Broken(u64),
     /// A read failed.
     ReadFault,
-    /// A frame could not be written.
+    /// A write failed.
     WriteFault,
-    /// There was no memory to read a frame or a request.
+    /// Out of memory while reading a frame or a request.
     Memory,
-    /// As many bytes were taken as may be.
+    /// The budget was read.
     Budget,
 }
 
 impl CaptureEnd {
-    // The status of a run that ends so.
+    // The exit status for this end.
     pub(crate) fn status(self) -> Status
         ensures { result ≡ captured.status_of self }
     {
@@ -50,7 +49,7 @@ impl CaptureEnd {
         }
     }
 
-    // The place that the line of that status tells, 0 where it tells none.
+    // The offset in the status line; 0 if it has none.
     pub(crate) fn place(self) -> u64
         ensures { result ≡ captured.place_of self }
     {
@@ -65,7 +64,7 @@ impl CaptureEnd {
     }
 }
 
-// What one read and the answers to its bytes came to.
+// The result of one read and of the frames that it completes.
 #[derive(Clone, Copy)]
 struct Read {
     taken: usize,
@@ -75,8 +74,8 @@ struct Read {
 /// The most bytes that one read asks for.
 const PIECE: usize = 4096;
 
-/// Answers what interleaved connections ask in a capture, at most `budget` bytes of it. Each reply is written, in a frame of
-/// its connection, before the next request has its turn, and a read is made only when every whole frame was answered.
+/// Answers the interleaved connections of a capture. Reads at most `budget` bytes. Writes each reply, as a frame of its
+/// connection, before it executes the next request, and reads on only after every complete frame was answered.
 pub(crate) fn replay<S: Source, K: Sink, C: Clock>(
     alloc: Global,
     db: &mut Db,
@@ -89,7 +88,8 @@ pub(crate) fn replay<S: Source, K: Sink, C: Clock>(
     requires limits { CanRead limits }
     requires budget { 1 ≤ budget }
     ensures replayed { Carries db.old db.new (λ from to. Replayed limits budget result
-        (record { held = from; readings = C.readings clock.old }) (record { held = to; readings = C.readings clock.new })
+        (record { held = from; readings = C.readings clock.old })
+        (record { held = to; readings = C.readings clock.new })
         (S.left input.old) (S.left input.new) (K.has out.old) (K.has out.new)) }
     ensures causes { HasCauses result (S.faults input.old) (S.faults input.new) (K.faults out.old) (K.faults out.new) }
 {
@@ -109,7 +109,7 @@ pub(crate) fn replay<S: Source, K: Sink, C: Clock>(
     CaptureEnd::Budget
 }
 
-// Reads one piece and answers the frames that are whole with it.
+// Reads one piece and answers the frames that it completes.
 fn pump<S: Source, K: Sink, C: Clock>(
     replay: &mut Replay,
     db: &mut Db,
@@ -122,9 +122,11 @@ fn pump<S: Source, K: Sink, C: Clock>(
     requires within { fed (frames_in replay.old) + length buffer.old < 2 ^ 64 }
     requires room { 0 < length buffer.old }
     ensures pumped { Carries db.old db.new (λ from to. Pumped result (S.left input.old) (S.left input.new)
-        (standing replay.old from (C.readings clock.old)) (standing replay.new to (C.readings clock.new)) (K.has out.old) (K.has out.new)) }
+        (standing replay.old from (C.readings clock.old)) (standing replay.new to (C.readings clock.new))
+        (K.has out.old) (K.has out.new)) }
     ensures answered { result.end ≡ None → HasAnswered replay.new }
-    ensures causes { HasCausesOr result.end (S.faults input.old) (S.faults input.new) (K.faults out.old) (K.faults out.new) }
+    ensures causes { HasCausesOr result.end (S.faults input.old) (S.faults input.new) (K.faults out.old)
+        (K.faults out.new) }
     ensures fed { result.end ≡ None → fed (frames_in replay.new) ≡ fed (frames_in replay.old) + result.taken }
     ensures within { result.taken ≤ length buffer.old }
     ensures some { result.end ≡ None → 0 < result.taken }
@@ -149,7 +151,7 @@ fn pump<S: Source, K: Sink, C: Clock>(
     }
 }
 
-// How the capture ends where the input does.
+// The end of the capture, if the input has ended.
 fn end_of_input(replay: &Replay) -> CaptureEnd
     ensures { result ≡ end_at (unfinished (frames_in replay.now)) }
 {
@@ -159,7 +161,7 @@ fn end_of_input(replay: &Replay) -> CaptureEnd
     }
 }
 
-// How the capture ends with an answer of the replay, if it does.
+// The end that a session's result means, if it is one.
 fn end_of_piece(course: Course) -> Option<CaptureEnd>
     ensures { result ≡ end_by course }
 {

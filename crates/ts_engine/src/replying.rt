@@ -1,7 +1,7 @@
-// What a session writes: the reply to a request that has its turn, and the error that answers a broken stream.
+// The result of a session, and what it writes.
 ghost use Rattle.std.specs.Prelude.{◌≡◌, ◌<◌, ◌^◌, Some};
+ghost use Rattle.ts_engine.specs.Going.{end_of};
 
-use crate::go::Go;
 use crate::session::Session;
 use std::sync::ledger::Ledger;
 use ts_db::Db;
@@ -10,12 +10,39 @@ use ts_io::{Clock, Sink, write_all_counted};
 use ts_resp::{Protocol, Reply, Word, put};
 use ts_sample::Steps;
 
+/// The result of a session after a piece of its stream.
+#[derive(Clone, Copy, Debug, PartialEq, Eq)]
+pub enum Go {
+    /// Every complete request was answered. More bytes may follow.
+    More,
+    /// QUIT was answered.
+    Quit,
+    /// The stream is broken. The error was written.
+    Broken(Protocol),
+    /// A write failed.
+    WriteFault,
+    /// Out of memory while reading a request.
+    Memory,
+}
+
+impl Go {
+    // This result, unless it is `More`.
+    pub(crate) fn end(self) -> Option<Go>
+        ensures { result ≡ end_of self }
+    {
+        match self {
+            Go::More => None,
+            end => Some(end),
+        }
+    }
+}
+
 impl Session {
     ghost use Rattle.ts_db.specs.Held.{Carries};
     ghost use Rattle.ts_engine.specs.Session.{Replied, Refused, HasCauseBy, WroteOrFault};
     ghost use Rattle.ts_engine.specs.Standing.{spot_in, reader_of, executed_by};
 
-    // Gives the request its turn and writes its reply.
+    // Handles a request and writes its reply.
     pub(crate) fn answer<T: Turns, C: Clock, K: Sink, L: Ledger>(
         &mut self,
         words: Vec<Word>,
@@ -32,7 +59,8 @@ impl Session {
             (spot_in T.kind self.new (T.world turns.new to (C.readings clock.new))) (K.has out.old) (K.has out.new)) }
         ensures reader { reader_of self.new ≡ reader_of self.old }
         ensures ends { result ≡ Some Go.More → ⊥ }
-        ensures cause { HasCauseBy T.kind result (K.faults out.old) (K.faults out.new) (T.own turns.old) (T.own turns.new) }
+        ensures cause { HasCauseBy T.kind result (K.faults out.old) (K.faults out.new) (T.own turns.old)
+            (T.own turns.new) }
         ensures lent { T.lent turns.new ≡ T.lent turns.old }
     {
         let mut words = words;
@@ -54,7 +82,7 @@ impl Session {
         }
     }
 
-    // Writes the error that answers a broken stream.
+    // Writes the protocol error that ends a broken stream.
     pub(crate) fn refuse<K: Sink>(&mut self, fault: Protocol, out: &mut K) -> Go
         ensures refused { Refused result fault (K.has out.old) (K.has out.new) }
         ensures ends { result ≡ Go.More → ⊥ }

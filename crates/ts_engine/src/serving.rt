@@ -1,4 +1,4 @@
-// What serves connections, one after another, over one database.
+// Serves connections one after another on one database.
 ghost use Rattle.std.specs.Prelude.{◌≡◌, ◌≢◌, ◌≤◌, false, OnOk, OnErr};
 ghost use Rattle.ts_io.specs.Causes.{HasCause, Rose};
 ghost use Rattle.ts_io.specs.Sinks.{Grows, GrowsByFront};
@@ -14,23 +14,23 @@ use ts_io::{Clock, Failed, Listener, Sink, write_all_counted};
 use ts_resp::WireLimits;
 use ts_words::{LinkEnd, link_line};
 
-/// How the serving of connections ended.
+/// How serving ended.
 #[derive(Clone, Copy, Debug, PartialEq, Eq)]
 pub enum Served {
-    /// As many connections were served as were asked for, and their lines were written.
+    /// All connections were served, and their lines were written.
     Done,
     /// The next connection could not be accepted.
     AcceptFault,
-    /// The line of the last connection could not be written. It was served.
+    /// The line of the last connection could not be written. That connection was served.
     WriteFault,
 }
 
 /// The most bytes of the line of a connection.
 const ROOM: usize = 80;
 
-/// Serves so many links of the listener, one after another, over one database. The requests of each are answered as
-/// `pipe` answers them, at most `budget` bytes of each link; then it is closed, and its line is written to `out`.
-/// However a link ends, the next one is served. Links are counted from 1.
+/// Serves `links` connections of the listener one after another, all on one database. Answers the requests of each like
+/// `pipe`, at most `budget` bytes of them, closes it, and writes its line to `out`. Goes on with the next connection
+/// however one ends. Numbers connections from 1.
 pub fn serve<N: Listener, K: Sink, C: Clock>(
     alloc: Global,
     db: &mut Db,
@@ -45,8 +45,10 @@ pub fn serve<N: Listener, K: Sink, C: Clock>(
     requires budget { 1 ≤ budget }
     requires net { N.is_out net.old ≡ false }
     ensures serves { Carries db.old db.new (λ from to. Serves
-        (record { left = N.In.left; reads = N.In.faults; has = N.Out.has; writes = N.Out.faults }) limits budget result 1 links
-        (record { held = from; readings = C.readings clock.old }) (record { held = to; readings = C.readings clock.new })
+        (record { left = N.In.left; reads = N.In.faults; has = N.Out.has; writes = N.Out.faults }) limits budget
+        result 1 links
+        (record { held = from; readings = C.readings clock.old })
+        (record { held = to; readings = C.readings clock.new })
         (N.coming net.old) (N.coming net.new) (N.closed net.old) (N.closed net.new) (K.has out.old) (K.has out.new)) }
     ensures net { N.is_out net.new ≡ false }
     ensures accepts_later { N.faults net.old ≤ N.faults net.new }
@@ -65,7 +67,7 @@ pub fn serve<N: Listener, K: Sink, C: Clock>(
     Served::Done
 }
 
-// Serves the next link, which has this number, and writes its line.
+// Serves the next connection and writes its line.
 fn serve_link<N: Listener, K: Sink, C: Clock>(
     alloc: Global,
     db: &mut Db,
@@ -80,8 +82,10 @@ fn serve_link<N: Listener, K: Sink, C: Clock>(
     requires budget { 1 ≤ budget }
     requires net { N.is_out net.old ≡ false }
     ensures serves { Carries db.old db.new (λ from to. Serves
-        (record { left = N.In.left; reads = N.In.faults; has = N.Out.has; writes = N.Out.faults }) limits budget result number 1
-        (record { held = from; readings = C.readings clock.old }) (record { held = to; readings = C.readings clock.new })
+        (record { left = N.In.left; reads = N.In.faults; has = N.Out.has; writes = N.Out.faults }) limits budget
+        result number 1
+        (record { held = from; readings = C.readings clock.old })
+        (record { held = to; readings = C.readings clock.new })
         (N.coming net.old) (N.coming net.new) (N.closed net.old) (N.closed net.new) (K.has out.old) (K.has out.new)) }
     ensures net { N.is_out net.new ≡ false }
     ensures accepts_later { N.faults net.old ≤ N.faults net.new }
@@ -110,7 +114,7 @@ fn serve_link<N: Listener, K: Sink, C: Clock>(
     }
 }
 
-// Writes the line of the link with this number.
+// Writes the line of a connection.
 fn write_link<K: Sink>(out: &mut K, number: u32, outcome: Outcome) -> Result<(), Failed>
     ensures whole { OnOk result (Grows (K.has out.old) (K.has out.new) (line_at number outcome)) }
     ensures front { OnErr result (GrowsByFront (K.has out.old) (K.has out.new) (line_at number outcome)) }
@@ -126,7 +130,7 @@ fn write_link<K: Sink>(out: &mut K, number: u32, outcome: Outcome) -> Result<(),
     write_all_counted(out, line)
 }
 
-// How a line says that a stream ended.
+// How the line of a connection names the end of its stream.
 fn link_end_of(end: End) -> LinkEnd
     ensures { result ≡ lines.link_end_of end }
 {

@@ -1,9 +1,9 @@
-// The requests of one stream.
+// A session: answers the requests of one stream.
 ghost use Rattle.std.specs.Prelude.{◌≡◌, ◌+◌, ◌<◌, ◌≤◌, ◌^◌, [], length, None, Some, IfOk, IfNone, IfSome};
 ghost use Rattle.ts_execution.specs.Limits.{CanRead};
 ghost use Rattle.ts_engine.specs.Going.{end_of};
 
-use crate::go::Go;
+use crate::replying::Go;
 use std::alloc::{AllocError, Global};
 use std::marker::Brand;
 use std::sync::ledger::{Blank, Ledger};
@@ -13,7 +13,7 @@ use ts_io::{Clock, Sink};
 use ts_resp::{Next, Out, Reader, WireLimits};
 use ts_sample::Steps;
 
-/// Answers the requests of one stream, which comes in pieces.
+/// Answers the requests of one stream, which arrives in pieces.
 #[derive(Drop)]
 pub struct Session {
     pub(crate) reader: Reader,
@@ -31,7 +31,7 @@ impl Session {
     ghost use Rattle.ts_engine.specs.Session.{GoesOn, WentAs, HasCauseBy, WroteOrFault};
     ghost use Rattle.ts_engine.specs.Standing.{spot, spot_in, reader_of, executed_by, ended_of, Begins, HasAnswered};
 
-    /// A session to which no byte came.
+    /// A new session.
     pub fn new(alloc: Global, limits: WireLimits) -> Result<Session, AllocError>
         requires limits { CanRead limits }
         ensures { IfOk result (Begins limits) }
@@ -46,8 +46,8 @@ impl Session {
         })
     }
 
-    /// Answers the requests that are whole with these further bytes of the stream, each before the next one is
-    /// executed. After any answer but `More` the session has ended: it answers the same again, and does nothing.
+    /// Answers the requests that these bytes complete. Writes each reply before it executes the next request. Any
+    /// result but `More` ends the session: later calls return the same and do nothing.
     pub fn piece<C: Clock, K: Sink>(
         &mut self,
         db: &mut Db,
@@ -69,7 +69,7 @@ impl Session {
         self.piece_by(&mut Plain, db, bytes, clock, out)
     }
 
-    /// The same, by turns of any kind.
+    /// The same with any request handler.
     pub(crate) fn piece_by<T: Turns, C: Clock, K: Sink>(
         &mut self,
         turns: &mut T,
@@ -99,21 +99,20 @@ impl Session {
         go
     }
 
-    /// How many requests were executed.
     pub fn executed(&self) -> u64
         ensures { result ≡ executed_by self.now }
     {
         self.executed
     }
 
-    /// Where an unfinished request begins, counted in bytes from the start of the stream, or `None` between requests.
+    /// The offset in the stream of the incomplete request, or `None` between requests.
     pub fn place(&self) -> Option<u64>
         ensures { result ≡ unfinished (reader_of self.now) }
     {
         self.reader.place()
     }
 
-    // Feeds the piece, and answers what is whole.
+    // Feeds the piece to the reader, and answers the requests that it completes.
     fn take_piece<T: Turns, C: Clock, K: Sink, L: Ledger>(
         &mut self,
         turns: &mut T,
@@ -143,7 +142,7 @@ impl Session {
         }
     }
 
-    // Answers every request that is whole.
+    // Answers every complete request.
     fn answer_all<T: Turns, C: Clock, K: Sink, L: Ledger>(
         &mut self,
         turns: &mut T,
@@ -168,8 +167,7 @@ impl Session {
         }
     }
 
-    // Gives back the room of a huge reply, takes the next request and answers it. None: one was answered, and there may be
-    // more.
+    // Frees the memory of a huge reply, and answers the next request. Returns `None` if more may follow.
     fn answer_next<T: Turns, C: Clock, K: Sink, L: Ledger>(
         &mut self,
         turns: &mut T,

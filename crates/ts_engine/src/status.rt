@@ -12,7 +12,7 @@ use ts_words::{Mode, Status, line};
 const ROOM: usize = 160;
 
 impl End {
-    // The status of a run that ends so.
+    // The exit status for this end.
     pub(crate) fn status(self) -> Status
         ensures { result ≡ status_of self }
     {
@@ -27,7 +27,7 @@ impl End {
         }
     }
 
-    // The place that the line of that status tells, 0 where it tells none.
+    // The offset in the status line; 0 if it has none.
     pub(crate) fn place(self) -> u64
         ensures { result ≡ place_of self }
     {
@@ -39,11 +39,12 @@ impl End {
     }
 }
 
-// Writes the line of a status, and answers the status, or that the line could not be written.
+// Writes the status line, if there is one. Returns the status, or `WriteFault` if the line could not be written.
 pub(crate) fn report<E: Sink>(err: &mut E, status: Status, place: u64) -> Status
     ensures reported { Reports status place result (E.has err.old) (E.has err.new) }
     ensures later { E.faults err.old ≤ E.faults err.new }
-    ensures cause { result ≡ Status.WriteFault → (status ≡ Status.WriteFault) ⊎ Rose (E.faults err.old) (E.faults err.new) }
+    ensures cause { result ≡ Status.WriteFault → (status ≡ Status.WriteFault)
+        ⊎ Rose (E.faults err.old) (E.faults err.new) }
     ensures same { result ≡ Status.WriteFault ⊎ result ≡ status }
     ensures good { status ≡ Status.Ended → result ≡ Status.Ended }
     ensures no_fault { result ≢ Status.WriteFault → E.faults err.new ≡ E.faults err.old }
@@ -60,7 +61,8 @@ pub(crate) fn report_in<E: Sink>(
 ) -> Status
     ensures reported { ReportsIn mode status place result (E.has err.old) (E.has err.new) }
     ensures later { E.faults err.old ≤ E.faults err.new }
-    ensures cause { result ≡ Status.WriteFault → (status ≡ Status.WriteFault) ⊎ Rose (E.faults err.old) (E.faults err.new) }
+    ensures cause { result ≡ Status.WriteFault → (status ≡ Status.WriteFault)
+        ⊎ Rose (E.faults err.old) (E.faults err.new) }
     ensures same { result ≡ Status.WriteFault ⊎ result ≡ status }
     ensures good { status ≡ Status.Ended → result ≡ Status.Ended }
     ensures no_fault { result ≢ Status.WriteFault → E.faults err.new ≡ E.faults err.old }

@@ -1,4 +1,4 @@
--- TS.ADD to a key that is there: a write by its policy, or else by the series' own.
+-- TS.ADD to an existing key is a write with the given duplicate policy, or with that of the series.
 use Rattle.std.proofs.Common.{◌≡◌, ◌≢◌, ℕ, ℤ, refl, sym, ap, subst}
 use Rattle.std.specs.Prelude.{Option, None, Some, Result, Ok, Err, true, false}
 use Rattle.ts_spec.specs.declared.series.Policy.{Policy}
@@ -17,7 +17,7 @@ use Rattle.ts_db.specs.Held.{Held, Stock, AnswersNumber, IsDone, IsAnswer}
 use Rattle.ts_db.specs.declared.fault.DbFault.{DbFault}
 use Rattle.ts_db.specs.declared.fault.DbFault.TheVariants.{KeyExists, NoKey, KeysFull, LabelsFull, TooOld, Duplicate, OutOfRange, BeforeLast, SamplesFull, DeleteBeyondRetention, SameKey, SourceIsDest, DestIsSource, DestHasSource, RulesSpent, RulesFull, NoRule, Memory}
 
--- only one fault is that the key is missing
+-- only one error says that the key does not exist
 only_missing : (ids : Keyed Id) (fault : DbFault) → refusal_of ids fault ≡ Some refusal.NoKey → fault ≡ NoKey
 only_missing ids KeyExists is = absurd (cc is)
 only_missing ids NoKey is = refl
@@ -40,7 +40,7 @@ only_missing ids NoRule is = absurd (cc is)
 only_missing ids (Memory e) is = absurd (cc is)
 
 module _ (key : Key) (t : ℕ) (v : ℤ) (on : Option Policy) (spec : Spec) where
-  -- a write to a key that is there, and TS.ADD
+  -- a write to an existing key, and TS.ADD
   abbrev pub puts : Held → Outcome
   puts h = put_by h.limits h.state key t v on
 
@@ -62,7 +62,7 @@ module _ (key : Key) (t : ℕ) (v : ℤ) (on : Option Policy) (spec : Spec) wher
       absurd (other (ap (λ (x : Refusal). Some x) (sym missing)))
   refused_as (Some r) from (Some d) other is = is
 
-  -- a time that was answered, and a fault that is not that the key is missing
+  -- a time was returned, or an error other than that the key does not exist
   pub added : (old new : Stock) (time : ℕ) → AnswersNumber old puts (Ok time) new → AnswersNumber old adds (Ok time) new
   added old new time answers = λ from stands. done_as time from new (get key from.state) (answers from stands)
 
@@ -72,13 +72,13 @@ module _ (key : Key) (t : ℕ) (v : ℤ) (on : Option Policy) (spec : Spec) wher
     answers.1,
   )
 
--- ---- by no policy of its own
+-- ---- without a policy of its own
 
 own : (h : Held) (key : Key) (t : ℕ) (v : ℤ) (o : Option Record) → put_by_at h.limits h.state key t v None o ≡ put_at h.limits h.state key t v o
 own h key t v None = refl
 own h key t v (Some d) = refl
 
--- it is a write by that of the series
+-- the write uses the policy of the series
 pub by-own : (old : Stock) (key : Key) (t : ℕ) (v : ℤ) (r : Result ℕ DbFault) (new : Stock) → AnswersNumber old (λ h. put_by h.limits h.state key t v None) r new
     → AnswersNumber old (λ h. put_own h.limits h.state key t v) r new
 by-own old key t v r new = subst (λ (step : Held → Outcome). AnswersNumber old step r new) (λ i h. own h key t v (get key h.state) i)

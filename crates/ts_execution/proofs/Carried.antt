@@ -1,4 +1,4 @@
--- What is so for each state that a database stands for.
+-- Lemmas that hold for each state that a database represents.
 use Rattle.std.proofs.Common.{◌≡◌, true, refl, sym, ◌∙◌, ap, inl, inr, subst}
 use Rattle.std.proofs.lemmas.Bool.{false≢true}
 use Rattle.std.specs.Prelude.{Option, None, Some, is_some, Result, Ok, Err, IfErr}
@@ -21,7 +21,7 @@ use Rattle.ts_execution.specs.Turn.{IsStep, StepOrMemory}
 pub carries_none : (stock : Stock) (P : Held → Held → Type 0) → ((from : Held) → Stands stock from → P from from) → Carries stock stock P
 carries_none stock P is = λ from stands. record { to = from; done = is from stands; stands = stands }
 
--- what follows from what is so
+-- what follows from what holds
 pub carries_as : (old new : Stock) (P Q : Held → Held → Type 0) → ((from to : Held) → P from to → Q from to) → Carries old new P → Carries old new Q
 carries_as old new P Q follows carries = λ from stands.
     let a : Leads new (P from) = carries from stands in
@@ -35,9 +35,9 @@ carries_then old mid new P Q R both one two = λ from stands.
     let b : Leads new (Q a.to) = two a.to a.stands in
     record { to = b.to; done = both from a.to b.to a.done b.done; stands = b.stands }
 
--- ---- what the database answers, as it is replied
+-- ---- results of the database and their replies
 
--- a refusal of the step, or want of memory, is replied
+-- the reply is the error of the step, or out of memory
 refused_or_memory : (o : Option Refusal) (from : Held) (step : Outcome) → IsAnswer o from.state step → StepOrMemory step from (Error (message_of o)) from
 refused_or_memory None from step is = inr (is, record { says = refl; same = refl })
 refused_or_memory (Some r) from step is = inl (record {
@@ -46,7 +46,7 @@ refused_or_memory (Some r) from step is = inl (record {
   limits = refl;
 })
 
--- a command of one series is answered as its step
+-- a command on one series is answered like its step
 pub answered : {T : Type 0} (response : T → Response) (old new : Stock) (step : Held → Outcome) (result : Result T DbFault) (reply : Reply)
     → ((ids : Keyed Id) → reply ≡ reply_of_result ids response result) → Answers response old step result new → Carries old new (λ from to. StepOrMemory (step from) from reply to)
 answered response old new step (Ok x) reply is answers = λ from stands.
@@ -62,7 +62,7 @@ answered response old new step (Err fault) reply is answers = λ from stands. re
   stands = subst (λ (s : Stock). Stands s from) (sym answers.1) stands;
 }
 
--- a refusal of the step is replied
+-- the reply is the error of the step
 refused_surely : (o : Option Refusal) (from : Held) (step : Outcome) (reply : Reply) → is_some o ≡ true → reply ≡ Error (message_of o) → IsAnswer o from.state step → IsStep step from reply from
 refused_surely None from step reply some is answer = absurd (false≢true some)
 refused_surely (Some r) from step reply some is answer = record {
@@ -71,7 +71,7 @@ refused_surely (Some r) from step reply some is answer = record {
   limits = refl;
 }
 
--- a command that takes no memory is answered as its step
+-- a command that cannot run out of memory is answered like its step
 pub answered_surely : {T : Type 0} (response : T → Response) (old new : Stock) (step : Held → Outcome) (result : Result T DbFault) (reply : Reply)
     → ((ids : Keyed Id) → reply ≡ reply_of_result ids response result) → IfErr result IsRefusal → Answers response old step result new
     → Carries old new (λ from to. IsStep (step from) from reply to)

@@ -1,4 +1,4 @@
--- How keys that are taken away one after another add up.
+-- Deleting keys one after another adds up.
 use Rattle.std.proofs.Common.{◌≡◌, ◌+◌, ℕ, Bool, List, [], ◌∷◌, ◌∙◌, ap}
 use Rattle.std.specs.Prelude.{is_some, if◌then◌else◌}
 use Rattle.ts_spec.specs.Key.{Key}
@@ -12,19 +12,19 @@ use Rattle.ts_db.specs.Held.{Held, Stock, Stands, Carries, Drops}
 use Rattle.ts_execution.specs.Turn.{IsStep}
 use Rattle.ts_execution.proofs.Carried.{carries_as}
 
--- the keys that are left go on to what becomes of all of them
+-- deleting the remaining keys gives what deleting all of them gives
 pub record DropsOn (all rest : List Key) (count : ℕ) (from now : Held) : Type 0 where
   pub goes_on : drop_keys now.state count rest ≡ drop_keys from.state 0 all
   pub limits : now.limits ≡ from.limits
 
--- what is told of the next key goes on to what becomes of all of them
+-- the next key leads on to what deleting all of them gives
 next_drops : (m : State) (key : Key) (rest : List Key) (count after : ℕ) (was : Bool) → was ≡ is_some (get key m) → after ≡ (if was then count + 1 else count)
     → drop_keys (if was then dropped key m else m) after rest ≡ drop_keys m count (key ∷ rest)
 next_drops m key rest count after was is told =
     ap (λ (n : ℕ). drop_keys (if was then dropped key m else m) n rest) told
     ∙ ap (λ (b : Bool). drop_keys (if b then dropped key m else m) (if b then count + 1 else count) rest) is
 
--- one more key is gone, if it was there
+-- one more key is deleted, if it exists
 pub drops_more : (initial old new : Stock) (all rest : List Key) (key : Key) (count after : ℕ) (was : Bool) → ((from : Held) → Stands old from → Drops key was from new)
     → after ≡ (if was then count + 1 else count) → Carries initial old (λ from now. DropsOn all (key ∷ rest) count from now) → Carries initial new (λ from now. DropsOn all rest after from now)
 drops_more initial old new all rest key count after was each told carries = λ from stands.
@@ -36,7 +36,7 @@ drops_more initial old new all rest key count after was each told carries = λ f
       stands = drops.stands;
     }
 
--- all of them are
+-- all keys are deleted
 pub drops_all : (old new : Stock) (all : List Key) (count : ℕ) (reply : Reply) → reply ≡ number count → Carries old new (λ from now. DropsOn all [] count from now)
     → Carries old new (λ from to. IsStep (drop_keys from.state 0 all) from reply to)
 drops_all old new all count reply is carries = carries_as old new (λ from now. DropsOn all [] count from now) (λ from to. IsStep (drop_keys from.state 0 all) from reply to)

@@ -1,4 +1,4 @@
--- What was written is what a command is answered.
+-- What `execute` writes is the text of the command's reply.
 use Rattle.std.proofs.Common.{◌≡◌, inl, inr, ⊎_elim, ℕ, List, refl}
 use Rattle.std.specs.Prelude.{IsTrue, Option, None, Some}
 use Rattle.ts_spec.specs.Command.{Triple, Command, Madd, Ping}
@@ -12,31 +12,31 @@ use Rattle.ts_questions.specs.Answering.{IsTextOrLost}
 use Rattle.ts_execution.specs.Turn.{IsStep, IsOutOfMemory, StepOrMemory, IsAnswered, Executes, WritesAll, takes_memory}
 use Rattle.ts_execution.proofs.Carried.{carries_none, carries_as}
 
--- the answer of the step of a command
+-- the response of a command's step
 abbrev response_of : (reading : ℕ) → Command → Held → Response
 response_of reading command held = (step held.limits held.state reading command).response
 
--- want of memory, for a command that takes some
+-- out of memory, for a command that may run out of it
 out_of_memory : (reading : ℕ) (command : Command) (held : Held) (written : List ℕ) → IsTrue (takes_memory command) → YieldsToMemory (response_of reading command held) → written ≡ text memory_reply
     → Executes reading command held written held
 out_of_memory reading command held written may yields is =
     record { reply = memory_reply; its_text = is; done = inr (record { may = may; yields = yields; out_of_memory = record { says = refl; same = refl } }) }
 
--- a question
+-- a query
 asked : (reading : ℕ) (command : Command) (held : Held) (written : List ℕ) (response : Response) (may : Type 0) → (may → IsTrue (takes_memory command) × YieldsToMemory (response_of reading command held))
     → IsAnswered reading command held (reply_to response) held → IsTextOrLost may response written → Executes reading command held written held
 asked reading command held written response may lose answered told =
     ⊎_elim (λ (is : written ≡ text (reply_to response)). record { reply = reply_to response; its_text = is; done = inl answered })
     (λ (lost : may × (written ≡ text memory_reply)). let why = lose lost.0 in out_of_memory reading command held written why.0 why.1 lost.1) told
 
--- PING takes memory only to send a long word back
+-- PING may run out of memory only for a long argument
 pings_lose : (reading : ℕ) (word : Option (List ℕ)) (held : Held) → IsTrue (takes_memory (Ping word)) → IsTrue (takes_memory (Ping word)) × YieldsToMemory (response_of reading (Ping word) held)
 pings_lose reading None held may = absurd (cc may)
 pings_lose reading (Some word) held may = (may, tt)
 
 -- ---- for each state
 
--- want of memory, for a command that takes some
+-- out of memory, for a command that may run out of it
 pub wants_memory : (reading : ℕ) (command : Command) (stock : Stock) (written : List ℕ) → IsTrue (takes_memory command) → ((from : Held) → YieldsToMemory (response_of reading command from))
     → written ≡ text memory_reply → Carries stock stock (λ from to. Executes reading command from written to)
 wants_memory reading command stock written may yields is =
@@ -49,7 +49,7 @@ writes_execute reading triples old new written carries =
     carries_as old new (λ from to. WritesAll reading triples from written to) (λ from to. Executes reading (Madd triples) from written to)
     (λ from to all. record { reply = all.reply; its_text = all.its_text; done = inl all.all }) carries
 
--- a command of one series
+-- a command on one series
 pub step_executes : (reading : ℕ) (command : Command) (one : Held → Outcome) (old new : Stock) (reply : Reply) (written : List ℕ) → IsTrue (takes_memory command)
     → ((from : Held) → YieldsToMemory (one from).response → YieldsToMemory (response_of reading command from)) → ((from to : Held) → IsStep (one from) from reply to → IsAnswered reading command from reply to)
     → Carries old new (λ from to. StepOrMemory (one from) from reply to) → written ≡ text reply → Carries old new (λ from to. Executes reading command from written to)
@@ -62,20 +62,20 @@ step_executes reading command one old new reply written may lose answers carries
           (λ (lost : YieldsToMemory (one from).response × IsOutOfMemory from reply to). inr (record { may = may; yields = lose from lost.0; out_of_memory = lost.1 })) done;
     }) carries
 
--- a command that takes no memory
+-- a command that cannot run out of memory
 pub sure_executes : (reading : ℕ) (command : Command) (old new : Stock) (reply : Reply) (written : List ℕ)
     → Carries old new (λ from to. IsAnswered reading command from reply to) → written ≡ text reply → Carries old new (λ from to. Executes reading command from written to)
 sure_executes reading command old new reply written carries is =
     carries_as old new (λ from to. IsAnswered reading command from reply to) (λ from to. Executes reading command from written to)
     (λ from to done. record { reply = reply; its_text = is; done = inl done }) carries
 
--- a question that takes none
+-- a query that cannot run out of memory
 pub executes_with : (reading : ℕ) (command : Command) (stock : Stock) (reply : Reply) (written : List ℕ)
     → ((from : Held) → Stands stock from → IsAnswered reading command from reply from) → written ≡ text reply → Carries stock stock (λ from to. Executes reading command from written to)
 executes_with reading command stock reply written answered is =
     sure_executes reading command stock stock reply written (carries_none stock (λ from to. IsAnswered reading command from reply to) answered) is
 
--- a question
+-- a query
 pub asks_execute : (reading : ℕ) (command : Command) (stock : Stock) (written : List ℕ) (response : Held → Response) (may : Held → Type 0)
     → ((from : Held) → may from → IsTrue (takes_memory command) × YieldsToMemory (response_of reading command from))
     → ((from : Held) → IsAnswered reading command from (reply_to (response from)) from) → ((from : Held) → Stands stock from → IsTextOrLost (may from) (response from) written)
@@ -84,7 +84,7 @@ asks_execute reading command stock written response may lose answered told =
     carries_none stock (λ from to. Executes reading command from written to)
     (λ from stands. asked reading command from written (response from) (may from) (lose from) (answered from) (told from stands))
 
--- a question that takes no memory
+-- a query that cannot run out of memory
 pub asks_surely : (reading : ℕ) (command : Command) (stock : Stock) (written : List ℕ) (response : Held → Response)
     → ((from : Held) → IsAnswered reading command from (reply_to (response from)) from) → ((from : Held) → Stands stock from → written ≡ text (reply_to (response from)))
     → Carries stock stock (λ from to. Executes reading command from written to)

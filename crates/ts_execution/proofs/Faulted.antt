@@ -1,4 +1,4 @@
--- Words that were no command have their turn.
+-- Invalid arguments are handled as specified.
 use Rattle.std.proofs.Common.{◌≡◌, false, inl, inr, ⊎_elim, ℕ, List, refl, sym, ◌∙◌, ap, subst}
 use Rattle.std.specs.Prelude.{◌⊎◌, Result, Err}
 use Rattle.ts_spec.specs.Command.{Command}
@@ -19,7 +19,7 @@ use Rattle.ts_execution.specs.Turn.{World, IsRefused, IsUnread, TurnBy, turn}
 use Rattle.ts_execution.proofs.ShortAnswers.{short_fault}
 use Rattle.ts_execution.proofs.Lists.{lists_no_quit}
 
--- words that were no command are answered by their fault, or by want of memory
+-- invalid arguments are answered by their error, or by out of memory
 pub refused_or_unread : (words : Request) (fault : CommandFault) (from : World) (written : List ℕ) → IsFaultIn words fault → written ≡ text (Error (message fault))
     → ((f : Fault) × (command words ≡ Err f) × IsRefused f from written from) ⊎ IsUnread words from written from
 refused_or_unread words fault from written is says =
@@ -47,7 +47,7 @@ faulted words fault from written is says =
     (λ (unread : IsUnread words from written from). inr unread)
     (refused_or_unread words fault from written is says)
 
--- words that were answered by a fault, or by want of memory, are not QUIT
+-- arguments that were answered by an error or by out of memory are not QUIT
 pub faulted_no_quit : (words : Request) (fault : CommandFault) → IsFaultIn words fault → is_quit words ≡ false
 faulted_no_quit words fault is =
     ⊎_elim (λ (in_words : IsFaultOfWords words fault). ap says_quit in_words.command)

@@ -1,9 +1,9 @@
--- Labels of a series, one after another, as TS.INFO tells them.
+-- The labels of a series in the reply to TS.INFO, one after another.
 use Rattle.std.proofs.Common.{◌≡◌, ℕ, zero, suc, List, [], ◌∷◌, ◌+◌, drop, slice_get, option_map, Some, refl}
 use native.Mathlib.Numerals.{unary_clauses}
 use Rattle.ts_spec.specs.State.{Label}
 
--- the next label of those that are left
+-- the next of the remaining labels
 pub next_label : (ls : List Label) (i : ℕ) (name value : List ℕ)
     → option_map (λ l. l.name) (slice_get ls i) ≡ Some name → option_map (λ l. l.value) (slice_get ls i) ≡ Some value
     → drop i ls ≡ record { name = name; value = value } ∷ drop (i + 1) ls

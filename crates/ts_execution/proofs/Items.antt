@@ -1,4 +1,4 @@
--- How the items of TS.MADD add up.
+-- The items of TS.MADD add up.
 use Rattle.std.proofs.Common.{◌≡◌, ◌+◌, ◌*◌, ◌≤◌, ℕ, List, [], ◌∷◌, ◌++◌, length, refl, sym, ◌∙◌, ap, subst, append_assoc, arith, length-append}
 use Rattle.std.proofs.lemmas.List.{append-nil, length-map}
 use Rattle.std.specs.Fmt.{decimal}
@@ -23,7 +23,7 @@ no_items (x ∷ xs) none = absurd (omega (arith, none))
 pub length-triples : (triples : List Given) → length (triples_of triples) ≡ length triples
 length-triples triples = length-map triples triple_of
 
--- the items so far were told of the first triples; with those of the rest they are the items of all
+-- the first triples have these items; with those of the rest they are all items
 pub record SoFar (reading : ℕ) (all rest : List Triple) (old now : Held) (written : List ℕ) : Type 0 where
   pub items : List Reply
   pub goes_on : (others : List Reply) (to : State) → HaveItems old.limits reading rest now.state others to → HaveItems old.limits reading all old.state (items ++ others) to
@@ -44,7 +44,7 @@ pub texts-append : (a b : List Reply) → texts (listed (a ++ b)) ≡ texts (lis
 texts-append [] b = refl
 texts-append (r ∷ a) b = ap (λ (l : List ℕ). text r ++ l) (texts-append a b) ∙ sym (append_assoc (text r) (texts (listed a)) (texts (listed b)))
 
--- one more triple had its item
+-- one more triple has its item
 so_far_more : (reading : ℕ) (all rest : List Triple) (triple : Triple) (old mid new : Held) (item : Reply) (before after : List ℕ) → SoFar reading all (triple ∷ rest) old mid before
     → HasItem mid.limits reading triple mid.state item new.state → new.limits ≡ mid.limits → after ≡ before ++ text item → SoFar reading all rest old new after
 so_far_more reading all rest triple old mid new item before after so_far told limits is = record {
@@ -67,7 +67,7 @@ so_far_more reading all rest triple old mid new item before after so_far told li
   limits = limits ∙ so_far.limits;
 }
 
--- the same from each state that the database stood for
+-- the same for each state that the database represented
 pub record EachSoFar (reading : ℕ) (all rest : List Triple) (first now : Stock) (written : List ℕ) : Type 0 where
   pub each : Carries first now (λ from to. SoFar reading all rest from to written)
 
@@ -86,7 +86,7 @@ each_more reading all here rest triple first mid new item before after so_far sp
       so_far.each told;
 }
 
--- all of them had
+-- all triples have their items
 all_triples_answered : (reading : ℕ) (all : List Triple) (old new : Held) (written : List ℕ) → SoFar reading all [] old new written → WritesAll reading all old written new
 all_triples_answered reading all old new written so_far =
     let size : length all ≡ count_of (listed so_far.items) = omega (arith, so_far.count, count-listed so_far.items) in
@@ -106,13 +106,13 @@ each_triple_answered reading all rest old new written so_far none =
     carries_as old new (λ from to. SoFar reading all rest from to written) (λ from to. WritesAll reading all from written to)
     (λ from to so. all_triples_answered reading all from to written (subst (λ (l : List Triple). SoFar reading all l from to written) none so)) so_far.each
 
--- the items so far stand in the room, and there is room for those of the triples that are left
+-- the items so far are in the buffer, which has space for those of the remaining triples
 pub record Adding (reading : ℕ) (all rest : List Triple) (first now : Stock) (written : List ℕ) (spare : ℕ) : Type 0 where
   pub so_far : EachSoFar reading all rest first now written
   pub items : 64 * length rest ≤ spare
   pub room : 128 ≤ length written + spare
 
--- one more item was put
+-- one more item was written
 pub adding_more : (reading : ℕ) (all here rest : List Triple) (triple : Triple) (first mid new : Stock) (item : Reply) (before after : List ℕ) (spare spare' : ℕ)
     → Adding reading all here first mid before spare → here ≡ triple ∷ rest → Carries mid new (λ from to. Tells reading triple item from to) → IsShort item
     → after ≡ before ++ text item → spare' + length (text item) ≡ spare → Adding reading all rest first new after spare'

@@ -1,4 +1,4 @@
--- Words that make a list are not QUIT.
+-- Arguments that make a list are not QUIT.
 use Rattle.std.proofs.Common.{◌≡◌, refl, ℕ, suc, ℤ, Bool, true, false, List, [], ◌∷◌, length}
 use Rattle.std.specs.Prelude.{◌&&◌, neg_ℤ, if◌then◌else◌, Option, Some, Result, Ok, Err, IsTrue, ⊤}
 use Rattle.std.specs.Str.{str_eq_ignore_ascii_case}
@@ -13,7 +13,7 @@ use Rattle.ts_spec.specs.Refusal.{Fault, Arity}
 use Rattle.ts_spec.specs.Run.{says_quit, is_quit}
 use Rattle.ts_spec.specs.Grammar.{Form, form, commands, by_form, lists_by_form, makes_list, create, alter, add, madd, incr, range, many_ranges, last_of_many, query_index}
 
--- a form that makes a list of words does not say QUIT of them
+-- a form that collects a list of arguments does not match QUIT
 record IsNoQuit (form : Option Form) : Type 0 where
   pub each : (words : List Word) → IsTrue (lists_by_form form (suc (length words)) words) → says_quit (by_form form (suc (length words)) words) ≡ false
 
@@ -33,7 +33,7 @@ no_list : (b : Bool) → IsTrue (b && false) → ⊥
 no_list true lists = (cc)
 no_list false lists = (cc)
 
--- a form of single words makes none
+-- a form of single arguments makes no list
 single : (words : ℕ → Bool) (says : List Word → Result Command Fault) → IsNoQuit (Some (form words says))
 single words says = record { each = λ own lists. absurd (no_list (words (suc (length own))) lists) }
 
@@ -41,7 +41,7 @@ fitting : (b : Bool) (r : Result Command Fault) → says_quit r ≡ false → sa
 fitting true r plain = plain
 fitting false r plain = refl
 
--- any other says what these words say
+-- any other form depends on what these arguments say
 others : (words : ℕ → Bool) (says : List Word → Result Command Fault) (lists : List Word → Bool) → ((own : List Word) → says_quit (says own) ≡ false)
     → IsNoQuit (Some (record { words = words; says = says; lists = lists }))
 others words says lists plain = record { each = λ own makes. fitting (words (suc (length own))) (says own) (plain own) }
@@ -50,7 +50,7 @@ next : {X : Type 0} (r : Result X Fault) (says : X → Result Command Fault) →
 next (Ok x) says plain = plain x
 next (Err fault) says plain = refl
 
--- ---- by commands
+-- ---- by command
 
 created : (own : List Word) → says_quit (create own) ≡ false
 created [] = refl

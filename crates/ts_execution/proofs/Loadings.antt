@@ -1,4 +1,4 @@
--- How what the requests of a journal did is done again, one after another.
+-- Replaying the requests of a journal one after another.
 use Rattle.std.specs.Prelude.{Option, None, Some}
 use Rattle.std.proofs.Common.{◌≡◌, Bool, true, false, ℕ, List, [], ◌++◌, refl, sym, ◌∙◌, ap, subst}
 use Rattle.ts_resp.specs.Reading.{Reading, stream_of}
@@ -19,7 +19,7 @@ use Rattle.ts_execution.proofs.Carried.{carries_none, carries_as, carries_then}
 -- ---- one request
 
 module _ (words : Request) (reader reader' : Reading) (end : ℕ) (stream : (more : List ℕ) → stream_of reader more ≡ Then words reader'.begin (stream_of reader' more)) where
-  -- by what becomes of it
+  -- by the result of its replay
   goes-by : (limits : Limits) (m : State) (went : Option State) (size : ℕ) (more : List ℕ) → replayed_by limits m (command words) ≡ went
       → load_on limits m end size (stream_of reader more) ≡ on_or went end (λ n. load_on limits n reader'.begin size (stream_of reader' more))
   goes-by limits m went size more is =
@@ -35,22 +35,22 @@ module _ (words : Request) (reader reader' : Reading) (end : ℕ) (stream : (mor
   finds-each restored.Memory old new carries =
       carries_as old new (λ from to. RestoresWords restored.Memory words from to) (λ from to. Finds found.Memory reader reader' end from to) (λ from to done. tt) carries
 
-  -- by how it went
+  -- by how it was replayed
   pub finds-by : (answer : Restored) (told : Found) (after : ℕ) (old new : Stock) → told ≡ found_by answer after end → after ≡ reader'.begin → Carries old new (λ from to. RestoresWords answer words from to)
       → Carries old new (λ from to. Finds told reader reader' end from to)
   finds-by answer told after old new is begins carries =
       subst (λ (f : Found). Carries old new (λ from to. Finds f reader reader' end from to)) (sym (is ∙ ap (λ (n : ℕ). found_by answer n end) begins)) (finds-each answer old new carries)
 
--- what is so, if it is a change
+-- a fact, if it is a change
 pub onward-by : (told : Found) (P : Type 0) → P → IfChange told P
 onward-by (found.Change end) P holds = holds
 onward-by found.Nothing P holds = tt
 onward-by (found.Broken place) P holds = tt
 onward-by found.Memory P holds = tt
 
--- ---- all of them
+-- ---- all requests
 
--- where the journal did not break, it goes by its requests
+-- the journal did not break, so its requests decide
 pub loads-whole : (limits : Limits) (l : Loading) (m : State) (size : ℕ) (more : List ℕ) → l.broken ≡ None → loads limits l m size more ≡ load_on limits m l.end size (stream_of l.reader more)
 loads-whole limits l m size more none = ap (λ (b : Option ℕ). loads_by b limits l m size more) none
 
@@ -58,7 +58,7 @@ pub loads-none : (l : Loading) (stock : Stock) → Carries stock stock (λ from 
 loads-none l stock = carries_none stock (λ from to. LoadsOn l l [] from to) (λ from stands. record { limits = refl; on = λ size more. refl })
 
 module _ (first now : Loading) (none : now.broken ≡ None) (reader' : Reading) (bytes : List ℕ) (a b c : Stock) (before : Carries a b (λ from to. LoadsOn first now bytes from to)) where
-  -- one more was done again
+  -- one more request was replayed
   pub loads-more : (new : Loading) (end' : ℕ) → new.reader ≡ reader' → new.end ≡ end' → new.broken ≡ None
       → Carries b c (λ from to. Finds (found.Change end') now.reader reader' now.end from to) → Carries a c (λ from to. LoadsOn first new bytes from to)
   loads-more new end' reader end whole one =
@@ -72,7 +72,7 @@ module _ (first now : Loading) (none : now.broken ≡ None) (reader' : Reading) 
             ∙ sym (loads-whole from.limits new to.state size more whole);
       }) before one
 
-  -- there is no further one
+  -- no complete request is left
   pub loads-all : (new : Loading) → new.reader ≡ reader' → new.end ≡ now.end → new.broken ≡ None
       → Carries b c (λ from to. Finds found.Nothing now.reader reader' now.end from to) → Carries a c (λ from to. LoadsOn first new bytes from to)
   loads-all new reader end whole one =
@@ -101,7 +101,7 @@ module _ (first now : Loading) (none : now.broken ≡ None) (reader' : Reading) 
 
 -- ---- pieces
 
--- a piece was fed, and what was whole with it done again
+-- a piece was fed, and the requests that it completes were replayed
 pub loads-fed : (old fed new : Loading) (bytes : List ℕ) (a b : Stock) → old.broken ≡ None → fed.broken ≡ None → fed.end ≡ old.end
     → ((more : List ℕ) → stream_of fed.reader more ≡ stream_of old.reader (bytes ++ more)) → Carries a b (λ from to. LoadsOn fed new [] from to) → Carries a b (λ from to. LoadsOn old new bytes from to)
 loads-fed old fed new bytes a b none whole end stream carries =
@@ -124,7 +124,7 @@ loads-fed-if false old fed new bytes a b none whole end stream carries =
 pub loads-done : (done : Bool) (old new : Loading) (bytes : List ℕ) (a b : Stock) → done ≡ true → Carries a b (λ from to. LoadsIf done old new bytes from to) → Carries a b (λ from to. LoadsOn old new bytes from to)
 loads-done done old new bytes a b is carries = subst (λ (d : Bool). Carries a b (λ from to. LoadsIf d old new bytes from to)) is carries
 
--- where the journal broke before, a piece changes nothing
+-- the journal broke before, so a piece changes nothing
 pub loads-past : (l : Loading) (place : ℕ) (bytes : List ℕ) (stock : Stock) → l.broken ≡ Some place → Carries stock stock (λ from to. LoadsOn l l bytes from to)
 loads-past l place bytes stock broken = carries_none stock (λ from to. LoadsOn l l bytes from to)
     (λ from stands. record {

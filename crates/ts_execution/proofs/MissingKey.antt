@@ -1,4 +1,4 @@
--- A write by a policy refuses for want of a key only where the key is missing, and TS.ADD then makes it.
+-- A write with a policy reports a missing key only if the key does not exist, and then TS.ADD creates it.
 use Rattle.std.proofs.Common.{◌≡◌, ◌≢◌, ℕ, ℤ, Bool, true, false, [], ◌∷◌, length, refl, sym, ◌∙◌, ap, subst, arith}
 use Rattle.std.specs.Prelude.{nat_lt, nat_le, int_lt, ◌+ℤ◌, unsigned_abs, if◌then◌else◌, Option, None, Some}
 use Rattle.std.specs.Option.{unwrap_or}
@@ -21,7 +21,7 @@ use Rattle.ts_spec.specs.Value.{bound}
 use Rattle.ts_db.specs.Held.{YieldsToMemory}
 use Rattle.ts_db.specs.PutBy.{put_by_at}
 
--- the answer is not that the key is missing
+-- the response is not that the key does not exist
 abbrev Knows : Response → Type 0
 Knows response = response ≡ Refused NoKey → ⊥
 
@@ -88,7 +88,7 @@ module _ (limits : Limits) (m : State) (key : Key) (t : ℕ) where
 no-fewer : (n : ℕ) → nat_lt n 0 ≡ false
 no-fewer n = grind (arith, nat_tests)
 
--- the step of TS.ADD for a key that is missing, by whether there is room for one more, where no labels are given
+-- the step of TS.ADD for a missing key without labels, by whether one more key is allowed
 module _ (limits : Limits) (m : State) (key : Key) (t : ℕ) (v : ℤ) (on : Option Policy) (spec : Spec) (none : spec.labels ≡ []) where
   abbrev made : Outcome
   made = record { state = with_key key (fresh spec (record { time = t; value = v; made = 0 } ∷ []) (Some t)) m; response = Count t }

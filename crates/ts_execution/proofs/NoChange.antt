@@ -1,4 +1,4 @@
--- A command of none of the kinds that change the database is no change.
+-- Any command other than the listed changes does not change the database.
 use Rattle.std.specs.Prelude.{Option}
 use Rattle.std.proofs.Common.{◌≡◌, false, ℕ, Vec, Global, refl}
 use Rattle.ts_spec.specs.declared.bucket.Aggregator.{Aggregator}

@@ -1,4 +1,4 @@
--- The answer of a change but TS.MADD has no items: that it is done, how many, or why it is refused.
+-- The response of a change other than TS.MADD has no items: it is OK, a count or an error.
 use Rattle.std.proofs.Common.{◌≡◌, ℕ, ◌+◌, Bool, true, false, if◌then◌else◌, List, [], ◌∷◌, length, refl}
 use Rattle.std.specs.Prelude.{nat_lt, nat_le, is_some, unwrap_or, ℤ, Option, None, Some}
 use Rattle.ts_spec.specs.declared.bucket.Aggregator.{Aggregator}

@@ -1,4 +1,4 @@
--- The items of TS.MADD, where want of memory is told of none, are those of the step of the definitions.
+-- If no triple of TS.MADD runs out of memory, its items are those of the step of the specification.
 use Rattle.std.proofs.Common.{◌≡◌, ◌≢◌, ⊎_elim, ℕ, List, [], ◌∷◌, ◌++◌, map, All, sym, ◌∙◌, ap, subst, append_assoc}
 use Rattle.std.proofs.lemmas.List.{append-nil, map-append}
 use Rattle.std.proofs.lemmas.List.Elements.{All-head, All-tail}
@@ -12,15 +12,15 @@ use Rattle.ts_spec.specs.declared.limits.Limits.{Limits}
 use Rattle.ts_db.specs.Held.{Held}
 use Rattle.ts_execution.specs.Turn.{IsItem, IsItemLost, IsStep, HaveItems, HasAllItems}
 
--- an item that does not say that memory ran out
+-- an item other than out of memory
 abbrev IsNoWant : Reply → Type 0
 IsNoWant item = item ≢ memory_reply
 
--- the outcome that leaves this state and tells these items
+-- the outcome with this state and these items
 abbrev outcome : State → List Item → Outcome
 outcome m items = record { state = m; response = Items items }
 
--- a step tells these items after those so far, and leaves this state
+-- the step adds these items to those so far, and leaves this state
 record Tells (done : Outcome) (so_far : List Item) (items : List Reply) (new : State) : Type 0 where
   pub more : List Item
   pub are : map item_reply more ≡ items

@@ -1,4 +1,4 @@
--- What is added to a journal is the record of what was done.
+-- What is appended to a journal is the record of what was done.
 use Rattle.std.specs.Prelude.{Option, None, Some, if◌then◌else◌, Result, Ok, Err}
 use Rattle.std.proofs.Common.{◌≡◌, ◌⊎◌, inl, inr, ⊎_elim, ℕ, Bool, true, false, List, [], ◌∷◌, map, refl, sym, ◌∙◌, ap, subst}
 use Rattle.std.proofs.lemmas.Bool.{false≢true}
@@ -64,7 +64,7 @@ told-by_step : (c : Command) (reading : ℕ) (old new : Held) (reply : Reply) �
 told-by_step c reading old new reply is fixed =
     subst AreTold (sym (ap items_of is.says ∙ no-items old.limits old.state reading c fixed)) tt
 
--- what a change is answered has items of which each is a number, or an error
+-- each item in the response of a change is a number or an error
 told-change : (c : Command) (reading : ℕ) (old new : Held) (reply : Reply) → is_change c ≡ true → IsAnswered reading c old reply new → AreTold (items_of reply)
 told-change (Madd triples) reading old new reply h is = subst (λ (r : Reply). AreTold (items_of r)) (sym is.says) (told-items old.limits reading triples old.state new.state is.items is.each)
 told-change (Create key s) reading old new reply h is = told-by_step (Create key s) reading old new reply is refl
@@ -89,7 +89,7 @@ told-change (Exists keys) reading old new reply h is = absurd (false≢true h)
 
 -- ---- records
 
--- a command that changes nothing has none
+-- a command that changes nothing has no record
 abbrev nothing : List ℕ
 nothing = []
 
@@ -118,7 +118,7 @@ no-record (CreateRule source dest agg grid) reading reply h = absurd (false≢tr
 no-record (DeleteRule source dest) reading reply h = absurd (false≢true (sym h))
 no-record (Drop keys) reading reply h = absurd (false≢true (sym h))
 
--- the record that was taken is that of the command, once its reply is known
+-- the record is that of the command, once its reply is known
 taken-record : (c : Command) (reading : ℕ) (r : Option Record) (reply : Reply) (written : List ℕ) → HasRecord reading c r → written ≡ text reply
     → (is_change c ≡ true → AreTold (items_of reply)) → told_by r written ≡ record_of c reading reply
 taken-record c reading None reply written has its_text are = sym (no-record c reading reply (sym has.0))
@@ -128,13 +128,13 @@ told-done : (c : Command) (reading : ℕ) (old new : Held) (reply : Reply) → I
 told-done c reading old new reply (inl answered) change = told-change c reading old new reply change answered
 told-done c reading old new reply (inr lost) change = subst (λ (r : Reply). AreTold (items_of r)) (sym lost.out_of_memory.says) tt
 
--- three ways to be answered, where the third is not that a record found no memory
+-- three ways to answer; in the third there was no memory for the record
 abbrev done-of : (c : Command) (reading : ℕ) (old new : Held) (reply : Reply) → IsAnswered reading c old reply new ⊎ IsLost reading c old reply new
     → IsAnswered reading c old reply new ⊎ IsLost reading c old reply new ⊎ IsUnrecorded c old reply new
 done-of c reading old new reply (inl answered) = inl answered
 done-of c reading old new reply (inr lost) = inr (inl lost)
 
--- a command was executed with its record at hand
+-- a command was executed with its record
 pub executed-recorded : (c : Command) (reading : ℕ) (readings left : Option (List ℕ)) (r : Option Record) (old new : Stock) (written : List ℕ) → HasRecord reading c r
     → IsReading (needs_clock c) readings reading → left ≡ left_by (needs_clock c) readings → Carries old new (λ from to. Executes reading c from written to)
     → Carries old new (λ from to. IsRecorded c (record { held = from; readings = readings }) written (told_by r written) (record { held = to; readings = left }))
@@ -151,7 +151,7 @@ executed-recorded c reading readings left r old new written has read left_is car
       its_record = taken-record c reading r executes.reply written has executes.its_text (told-done c reading from to executes.reply executes.done);
     }) carries
 
--- there was no memory for the record of a change
+-- out of memory for the record of a change
 pub unrecorded : (c : Command) (reading : ℕ) (readings left : Option (List ℕ)) (stock : Stock) (written : List ℕ) → is_change c ≡ true → written ≡ text memory_reply
     → IsReading (needs_clock c) readings reading → left ≡ left_by (needs_clock c) readings
     → Carries stock stock (λ from to. IsRecorded c (record { held = from; readings = readings }) written [] (record { held = to; readings = left }))
@@ -169,7 +169,7 @@ unrecorded c reading readings left stock written change is read left_is =
 
 -- ---- requests
 
--- words that are a command
+-- valid arguments
 pub recorded-command : (words : Request) (c : Command) (written record_ : List ℕ) (readings left : Option (List ℕ)) (old new : Stock) → command words ≡ Ok c
     → Carries old new (λ from to. IsRecorded c (record { held = from; readings = readings }) written record_ (record { held = to; readings = left }))
     → Carries old new (λ from to. Recorded words (record { held = from; readings = readings }) written record_ (record { held = to; readings = left }))
@@ -178,7 +178,7 @@ recorded-command words c written record_ readings left old new is carries =
     (λ from to. Recorded words (record { held = from; readings = readings }) written record_ (record { held = to; readings = left }))
     (λ from to recorded. inl (subst (λ (r : Result Command Fault). RecordedBy r (record { held = from; readings = readings }) written record_ (record { held = to; readings = left })) (sym is) recorded)) carries
 
--- words that are none, or for which there was no memory
+-- invalid arguments, or out of memory while parsing them
 pub recorded-fault : (words : Request) (fault : CommandFault) (readings : Option (List ℕ)) (stock : Stock) (written : List ℕ) → IsFaultIn words fault → written ≡ text (Error (message fault))
     → Carries stock stock (λ from to. Recorded words (record { held = from; readings = readings }) written [] (record { held = to; readings = readings }))
 recorded-fault words fault readings stock written is says =

@@ -1,4 +1,4 @@
--- What TS.MADD did in a journal is done again.
+-- Replaying TS.MADD from a journal.
 use Rattle.std.specs.Prelude.{◌⊎◌, ℤ, None, Some, Result, Ok, Err, if◌then◌else◌, ◌||◌, not}
 use Rattle.std.proofs.Common.{◌≡◌, inl, inr, Bool, true, false, ℕ, List, [], ◌∷◌, ◌++◌, map, refl, sym, ◌∙◌, ap, subst}
 use Rattle.ts_spec.specs.declared.limits.Limits.{Limits}
@@ -35,7 +35,7 @@ either-true : (a b : Bool) → a ≡ true → (a || b) ≡ true
 either-true true b h = refl
 either-true false b h = (cc)
 
--- where one of the items so far is an error, the answer is not accepted
+-- an error among the items so far makes the replay fail
 spoiled : (limits : Limits) (m : State) (so_far : List Item) (triples : List Triple) → has_error (listed (map item_reply so_far)) ≡ true
     → accepted_state (madd limits m 0 so_far triples) ≡ None
 spoiled limits m so_far [] h = ap (λ (b : Bool). if not b then Some m else None) h
@@ -44,7 +44,7 @@ spoiled limits m so_far (t ∷ ts) h =
     spoiled limits done.state (so_far ++ item_of done.response) ts
     (has_error-append so_far (item_of done.response) ∙ either-true (has_error (listed (map item_reply so_far))) (has_error (listed (map item_reply (item_of done.response)))) h)
 
--- the triples that are left go on to what becomes of all of them, after times alone
+-- replaying the remaining triples, all with given times, gives what replaying all of them gives
 pub record WritesOn (all rest : List Triple) (from now : Held) : Type 0 where
   pub so_far : List Item
   pub goes_on : madd from.limits now.state 0 so_far rest ≡ madd from.limits from.state 0 [] all
@@ -63,9 +63,9 @@ one-more limits limits' t ts m n so_far time same told is =
     (ap (λ (s : State). madd limits s 0 (so_far ++ Wrote time ∷ []) ts) is
     ∙ ap (λ (l : List Item). madd limits (triple_step limits m 0 t.key t.at t.value).state 0 (so_far ++ l) ts) (sym told))
 
--- one more is left
+-- one more triple remains
 module _ (all left rest : List Triple) (t : Triple) (first old new : Stock) (split : left ≡ t ∷ rest) (before : Carries first old (λ from now. WritesOn all left from now)) where
-  -- which was written
+  -- it was written
   pub writes-more : Carries old new (λ from to. RestoresTriple restored.Accepted t from to) → Carries first new (λ from now. WritesOn all rest from now)
   writes-more one =
       carries_then first old new (λ from now. WritesOn all left from now) (λ from to. RestoresTriple restored.Accepted t from to) (λ from now. WritesOn all rest from now)
@@ -77,7 +77,7 @@ module _ (all left rest : List Triple) (t : Triple) (first old new : Stock) (spl
         limits = wrote.3 ∙ on.limits;
       }) before one
 
-  -- which was refused
+  -- it was rejected
   pub writes-refused : needs_clock (Madd all) ≡ false → Carries old new (λ from to. RestoresTriple restored.Refused t from to) → Carries first new (λ from to. Restores restored.Refused (Madd all) from to)
   writes-refused clock one =
       carries_then first old new (λ from now. WritesOn all left from now) (λ from to. RestoresTriple restored.Refused t from to) (λ from to. Restores restored.Refused (Madd all) from to)
@@ -92,7 +92,7 @@ module _ (all left rest : List Triple) (t : Triple) (first old new : Stock) (spl
         wrong.1 ∙ on.limits,
       )) before one
 
--- all of them were written
+-- all triples were written
 pub writes-all : (all rest : List Triple) (first new : Stock) → rest ≡ [] → needs_clock (Madd all) ≡ false → Carries first new (λ from now. WritesOn all rest from now)
     → Carries first new (λ from to. Restores restored.Accepted (Madd all) from to)
 writes-all all rest first new none clock carries =
@@ -104,7 +104,7 @@ writes-all all rest first new none clock carries =
       on.limits,
     )) carries
 
--- for one of them there was no memory
+-- out of memory for one of them
 pub writes-no_memory : (all : List Triple) (first old new : Stock) (P Q : Held → Held → Type 0) → Carries first old P → Carries old new Q
     → Carries first new (λ from to. Restores restored.Memory (Madd all) from to)
 writes-no_memory all first old new P Q before one = carries_then first old new P Q (λ from to. Restores restored.Memory (Madd all) from to) (λ from now to on lost. tt) before one
@@ -130,7 +130,7 @@ triple-refused ids RulesSpent t from o same is = (ap (λ (d : Outcome). has_erro
 triple-refused ids RulesFull t from o same is = (ap (λ (d : Outcome). has_error (listed (map item_reply (item_of d.response)))) (same ∙ is), refl)
 triple-refused ids NoRule t from o same is = (ap (λ (d : Outcome). has_error (listed (map item_reply (item_of d.response)))) (same ∙ is), refl)
 
--- what the database answers to one of them
+-- the result of the database for one triple
 pub restores-triple : (t : Triple) (one : Held → Outcome) (old new : Stock) (result : Result ℕ DbFault) (answer : Restored) → answer ≡ restored_of result
     → ((h : Held) → triple_step h.limits h.state 0 t.key t.at t.value ≡ one h) → Answers (λ time. Count time) old one result new
     → Carries old new (λ from to. RestoresTriple answer t from to)
@@ -148,7 +148,7 @@ restores-triple t one old new (Err fault) answer is same answers = λ from stand
       stands = subst (λ (s : Stock). Stands s from) (sym answers.1) stands;
     })
 
--- a triple without a time, or without a value
+-- a triple with an invalid time or value
 step-without : (limits : Limits) (m : State) (key : Key) (at : Result At Fault) (v : Result ℤ Fault) (f : Fault) → (at ≡ Err f) ⊎ (v ≡ Err f)
     → has_error (listed (map item_reply (item_of (triple_step limits m 0 key at v).response))) ≡ true
 step-without limits m key (Err fault) v f is = refl
@@ -159,6 +159,6 @@ step-without limits m key (Ok at) (Ok v) f (inr is) = (cc)
 pub triple-without : (t : Triple) (stock : Stock) (f : Fault) → (t.at ≡ Err f) ⊎ (t.value ≡ Err f) → Carries stock stock (λ from to. RestoresTriple restored.Refused t from to)
 triple-without t stock f is = carries_none stock (λ from to. RestoresTriple restored.Refused t from to) (λ from stands. (step-without from.limits from.state t.key t.at t.value f is, refl))
 
--- and one with both
+-- a triple with a valid time and value
 pub triple-with : (limits : Limits) (m : State) (t : Triple) (at : At) (v : ℤ) → t.at ≡ Ok at → t.value ≡ Ok v → triple_step limits m 0 t.key t.at t.value ≡ put_own limits m t.key (time_of 0 at) v
 triple-with limits m t at v one two = ap (λ (a : Result At Fault). triple_step limits m 0 t.key a t.value) one ∙ ap (λ (x : Result ℤ Fault). triple_step limits m 0 t.key (Ok at) x) two

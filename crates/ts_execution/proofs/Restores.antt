@@ -1,4 +1,4 @@
--- What a journal's request did is done again.
+-- Replaying a request of a journal.
 use Rattle.std.specs.Prelude.{is_some, Option, None, Some, Result, Ok, Err, if◌then◌else◌, ◌&&◌, not}
 use Rattle.std.proofs.Common.{◌≡◌, Bool, true, false, ℕ, ◌+◌, List, [], ◌∷◌, refl, sym, ◌∙◌, ap, subst}
 use Rattle.ts_command.specs.declared.fault.CommandFault.{CommandFault}
@@ -29,15 +29,15 @@ use Rattle.ts_execution.specs.declared.restored.Restored.TheVariants as restored
 use Rattle.ts_execution.specs.Turn.{IsStep}
 use Rattle.ts_execution.proofs.Carried.{carries_none, carries_as}
 
--- ---- which commands a journal has
+-- ---- which commands a journal contains
 
--- a change that does not ask for the time goes by its step
+-- a change that does not read the clock is replayed by its step
 pub replayed-change : (limits : Limits) (m : State) (c : Command) → is_change c ≡ true → needs_clock c ≡ false → replayed limits m c ≡ accepted_state (step limits m 0 c)
 replayed-change limits m c change clock =
     ap (λ (b : Bool). if b && not (needs_clock c) then accepted_state (step limits m 0 c) else None) change
     ∙ ap (λ (b : Bool). if not b then accepted_state (step limits m 0 c) else None) clock
 
--- no other command is in one
+-- no other command is valid in a journal
 pub replayed-none : (limits : Limits) (m : State) (c : Command) → is_change c ≡ false → replayed limits m c ≡ None
 replayed-none limits m c h = ap (λ (b : Bool). if b && not (needs_clock c) then accepted_state (step limits m 0 c) else None) h
 
@@ -49,7 +49,7 @@ pub replayed-clock : (limits : Limits) (m : State) (c : Command) → needs_clock
 replayed-clock limits m c h =
     ap (λ (b : Bool). if is_change c && not b then accepted_state (step limits m 0 c) else None) h ∙ neither (is_change c) (accepted_state (step limits m 0 c))
 
--- ---- what the database answers
+-- ---- results of the database
 
 accepts : (done : Outcome) (response : Response) → done.response ≡ response → is_accepted (reply_to response) ≡ true → accepted_state done ≡ Some done.state
 accepts done response says good =
@@ -76,7 +76,7 @@ refuses c ids RulesSpent from o same is = (same ∙ ap accepted_state is, refl)
 refuses c ids RulesFull from o same is = (same ∙ ap accepted_state is, refl)
 refuses c ids NoRule from o same is = (same ∙ ap accepted_state is, refl)
 
--- a call did what its command does, or told why not
+-- the call did what its command does, or returned the error
 pub restores : {T : Type 0} (response : T → Response) (c : Command) (one : Held → Outcome) (old new : Stock) (result : Result T DbFault)
     → ((x : T) → is_accepted (reply_to (response x)) ≡ true) → ((h : Held) → replayed h.limits h.state c ≡ accepted_state (one h))
     → Answers response old one result new → Carries old new (λ from to. Restores (restored_of result) c from to)
@@ -93,11 +93,11 @@ restores response c one old new (Err fault) good same answers = λ from stands. 
   stands = subst (λ (s : Stock). Stands s from) (sym answers.1) stands;
 }
 
--- by the same answer
+-- by the same result
 pub restores_as : (c : Command) (old new : Stock) (told answer : Restored) → answer ≡ told → Carries old new (λ from to. Restores told c from to) → Carries old new (λ from to. Restores answer c from to)
 restores_as c old new told answer is carries = subst (λ (r : Restored). Carries old new (λ from to. Restores r c from to)) (sym is) carries
 
--- a call that only gets done, and one that answers how many
+-- a call that returns OK, and one that returns a count
 pub restores-done : (c : Command) (one : Held → Outcome) (old new : Stock) (result : Result (Unit {0}) DbFault) (answer : Restored) → answer ≡ restored_of result
     → ((h : Held) → replayed h.limits h.state c ≡ accepted_state (one h)) → Answers (λ x. Done) old one result new → Carries old new (λ from to. Restores answer c from to)
 restores-done c one old new result answer is same answers = restores_as c old new (restored_of result) answer is (restores (λ x. Done) c one old new result (λ x. refl) same answers)
@@ -106,7 +106,7 @@ pub restores-number : (c : Command) (one : Held → Outcome) (old new : Stock) (
     → ((h : Held) → replayed h.limits h.state c ≡ accepted_state (one h)) → Answers (λ t. Count t) old one result new → Carries old new (λ from to. Restores answer c from to)
 restores-number c one old new result answer is same answers = restores_as c old new (restored_of result) answer is (restores (λ t. Count t) c one old new result (λ t. refl) same answers)
 
--- DEL is never refused
+-- DEL never fails
 drop-accepted : (m : State) (so_far : ℕ) (keys : List Key) → is_accepted (reply_to (drop_keys m so_far keys).response) ≡ true
 drop-accepted m so_far [] = refl
 drop-accepted m so_far (key ∷ keys) =
@@ -124,13 +124,13 @@ restores-drop keys old new reply carries =
       is.limits,
     )) carries
 
--- a command that a journal does not have
+-- a command that a journal does not contain
 pub restores-not : (c : Command) (stock : Stock) → ((h : Held) → replayed h.limits h.state c ≡ None) → Carries stock stock (λ from to. Restores restored.Refused c from to)
 restores-not c stock none = carries_none stock (λ from to. Restores restored.Refused c from to) (λ from stands. (none from, refl))
 
 -- ---- requests
 
--- words that are a command
+-- valid arguments
 pub words-restore : (words : Request) (c : Command) (answer : Restored) (old new : Stock) → command words ≡ Ok c → Carries old new (λ from to. Restores answer c from to)
     → Carries old new (λ from to. RestoresWords answer words from to)
 words-restore words c restored.Accepted old new is carries =
@@ -160,7 +160,7 @@ refuses-words words spoken.BadDuration from is = (ap (replayed_by from.limits fr
 refuses-words words spoken.BadFilter from is = (ap (replayed_by from.limits from.state) is, refl)
 refuses-words words spoken.NoPositiveFilter from is = (ap (replayed_by from.limits from.state) is, refl)
 
--- words that are none, or for which there was no memory
+-- invalid arguments, or out of memory while parsing them
 pub words-refuse : (words : Request) (fault : CommandFault) (stock : Stock) (answer : Restored) → answer ≡ restored_of_words fault → IsFaultIn words fault
     → Carries stock stock (λ from to. RestoresWords answer words from to)
 words-refuse words fault stock answer told is =

@@ -1,4 +1,4 @@
--- Every reply to a command of one series, and every item of TS.MADD, is short.
+-- Every reply to a command on one series, and every item of TS.MADD, is short.
 use Rattle.std.proofs.Common.{◌≡◌, ◌<◌, ◌≤◌, ◌^◌, ◌+◌, ◌++◌, ℕ, Bool, true, false, List, refl, sym, subst, length, arith, length-append}
 use Rattle.std.specs.Prelude.{nat_lt, IsTrue, Result, Ok, Err, IfOk}
 use Rattle.std.specs.Fmt.{decimal}
@@ -26,7 +26,7 @@ short_number n within = omega (arith, length-append (decimal n) CRLF, length-dec
 bulk-length : (digits word : List ℕ) → length (line_text 36 digits ++ word ++ CRLF) ≡ length digits + length word + 5
 bulk-length digits word = omega (arith, length-append (digits ++ CRLF ++ word) CRLF, length-append (digits ++ CRLF) word, length-append digits CRLF)
 
--- a word that goes back has at most 30 bytes, or there may be too little room for its text
+-- an argument that is sent back has at most 30 bytes, or may not fit the buffer
 pub long_word : (word : List ℕ) → 128 < length (text (Bulk word)) → IsTrue (is_long word)
 long_word word much = go (nat_lt 30 (length word)) refl
   where
@@ -57,7 +57,7 @@ short_fault refusal.BadDuration = omega arith
 short_fault refusal.BadFilter = omega arith
 short_fault refusal.NoPositiveFilter = omega arith
 
--- what the database answers, by any numbers of keys
+-- the results of the database, for any keys of the series ids
 pub short_done : (ids : Keyed Id) (outcome : Result (Unit {0}) DbFault) → IsShort (reply_of_done ids outcome)
 short_done ids (Ok x) = omega arith
 short_done ids (Err fault) = short_error (refusal_of ids fault)

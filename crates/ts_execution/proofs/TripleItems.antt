@@ -1,4 +1,4 @@
--- What is told of one triple of TS.MADD.
+-- The item of one triple of TS.MADD.
 use Rattle.std.proofs.Common.{◌≡◌, ℕ, ℤ, [], ◌∷◌, map, inl, inr, refl, sym, ◌∙◌, ap, subst}
 use Rattle.std.specs.Prelude.{Option, None, Some, Result, Ok, Err, IsTrue, ◌&&◌}
 use Rattle.std.specs.Result.{is_ok}
@@ -21,11 +21,11 @@ use Rattle.ts_execution.specs.Answers.{reply_of_number}
 use Rattle.ts_execution.specs.Turn.{HasItem, IsItem, is_well_formed}
 use Rattle.ts_execution.proofs.Carried.{carries_none}
 
--- an item is told of a triple, and the limits stay
+-- the item is that of the triple, and the limits stay
 abbrev pub Tells : (reading : ℕ) → Triple → Reply → Held → Held → Type 0
 Tells reading triple item from to = HasItem from.limits reading triple from.state item to.state × (to.limits ≡ from.limits)
 
--- a fault in the words has its message
+-- invalid arguments have their message
 pub fault_item : (fault : CommandFault) → IsNoMemory fault → Error (message fault) ≡ fault_reply (fault_of fault)
 fault_item code.UnknownCommand words = refl
 fault_item code.Arity words = refl
@@ -44,7 +44,7 @@ fault_item code.BadFilter words = refl
 fault_item code.NoPositiveFilter words = refl
 fault_item (code.Memory error) words = absurd (words error refl)
 
--- a time that is none, and a value that is none
+-- an invalid time, and an invalid value
 pub wrong_time : (reading : ℕ) (triple : Triple) (fault : Fault) (item : Reply) (stock : Stock) → triple.at ≡ Err fault → item ≡ fault_reply fault
     → Carries stock stock (λ from to. Tells reading triple item from to)
 wrong_time reading triple fault item stock at is = carries_none stock (λ from to. Tells reading triple item from to) (λ from stands. (
@@ -62,7 +62,7 @@ wrong_value reading triple time fault item stock at value is = carries_none stoc
   refl,
 ))
 
--- a time and a value
+-- a valid time and value
 module _ (reading : ℕ) (triple : Triple) (time : At) (value : ℤ) (at_is : triple.at ≡ Ok time) (value_is : triple.value ≡ Ok value) where
   abbrev the_step : Held → Outcome
   the_step h = triple_step h.limits h.state reading triple.key (Ok time) (Ok value)

@@ -1,4 +1,4 @@
--- A request has its turn, in each state that the database stands for.
+-- A request is handled, in each state that the database represents.
 use Rattle.std.proofs.Common.{◌≡◌, ℕ, List, inl, sym, subst}
 use Rattle.std.specs.Prelude.{Option, Result, Ok}
 use Rattle.ts_command.specs.Answers.{IsFaultIn}
@@ -14,7 +14,7 @@ use Rattle.ts_execution.specs.Turn.{Executes, IsReading, left_by, TurnBy, turn}
 use Rattle.ts_execution.proofs.Carried.{carries_none, carries_as}
 use Rattle.ts_execution.proofs.Faulted.{faulted}
 
--- words that are a command
+-- valid arguments
 pub turns_by : (words : Request) (said : Command) (reading : ℕ) (readings left : Option (List ℕ)) (old new : Stock) (written : List ℕ) → command words ≡ Ok said
     → IsReading (needs_clock said) readings reading → left ≡ left_by (needs_clock said) readings → Carries old new (λ from to. Executes reading said from written to)
     → Carries old new (λ from to. turn (record { held = from; readings = readings }) words written (record { held = to; readings = left }))
@@ -24,7 +24,7 @@ turns_by words said reading readings left old new written is read left_is carrie
     (λ from to executes. inl (subst (λ (r : Result Command Fault). TurnBy r (record { held = from; readings = readings }) written (record { held = to; readings = left })) (sym is)
     (record { reading = reading; read = read; executes = executes; left = left_is }))) carries
 
--- words that are none, or for which there was no memory
+-- invalid arguments, or out of memory while parsing them
 pub turns_faulted : (words : Request) (fault : CommandFault) (readings : Option (List ℕ)) (stock : Stock) (written : List ℕ) → IsFaultIn words fault → written ≡ text (Error (message fault))
     → Carries stock stock (λ from to. turn (record { held = from; readings = readings }) words written (record { held = to; readings = readings }))
 turns_faulted words fault readings stock written is says =

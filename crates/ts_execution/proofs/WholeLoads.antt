@@ -1,4 +1,4 @@
--- How the loading of a whole journal adds up.
+-- Loading a whole journal adds up.
 use Rattle.std.specs.Prelude.{Option, None, Some, IfNone, IfSome}
 use Rattle.std.specs.Option.{unwrap_or}
 use Rattle.std.specs.Io.KnownBytes.{Consumes, IsAtEnd}
@@ -19,12 +19,12 @@ use Rattle.ts_execution.specs.declared.loading.Loading.{Loading}
 use Rattle.ts_execution.proofs.Carried.{carries_none, carries_as, carries_then}
 use Rattle.ts_execution.proofs.Loadings.{loads-whole}
 
--- these bytes, which are the first of a journal, led from the one state to the other
+-- these bytes, a prefix of the journal, lead from one state to the other
 pub record LoadsFrom (wire : WireLimits) (bytes : List ℕ) (now : Loading) (from to : Held) : Type 0 where
   pub limits : to.limits ≡ from.limits
   pub on : (size : ℕ) (more : List ℕ) → load_on from.limits from.state 0 size (stream_at (journal_limits wire) 0 (bytes ++ more)) ≡ loads from.limits now to.state size more
 
--- so many bytes were read, and what they hold was done again
+-- this many bytes were read, and their requests replayed
 pub record ReadSoFar (wire : WireLimits) (left rest : Option (List ℕ)) (taken : ℕ) (a b : Stock) (now : Loading) : Type 0 where
   pub bytes : List ℕ
   pub took : Consumes left rest bytes
@@ -45,7 +45,7 @@ read-none wire left now stock stream end whole = record {
       });
 }
 
--- one piece more
+-- one more piece
 pub read-more : (wire : WireLimits) (left between rest : Option (List ℕ)) (taken count : ℕ) (old new : Loading) (a b c : Stock) → ReadSoFar wire left between taken a b old
     → Takes count between rest old new b c → ReadSoFar wire left rest (taken + count) a c new
 read-more wire left between rest taken count old new a b c so takes = record {
@@ -60,15 +60,15 @@ read-more wire left between rest taken count old new a b c so takes = record {
       }) so.goes takes.goes;
 }
 
--- a piece of no bytes
+-- a piece without bytes
 read-last : (wire : WireLimits) (left between rest : Option (List ℕ)) (taken count : ℕ) (old new : Loading) (a b c : Stock) → count ≡ 0 → ReadSoFar wire left between taken a b old
     → Takes count between rest old new b c → ReadSoFar wire left rest taken a c new
 read-last wire left between rest taken count old new a b c none so takes =
     subst (λ (n : ℕ). ReadSoFar wire left rest n a c new) (omega (arith, none)) (read-more wire left between rest taken count old new a b c so takes)
 
--- ---- at its end
+-- ---- at the end of the journal
 
--- all that it has was read
+-- all bytes were read
 all-read : (content rest : Option (List ℕ)) (bytes all : List ℕ) → content ≡ Some all → Consumes content rest bytes → IsAtEnd rest → all ≡ bytes ++ []
 all-read content None bytes all told took at_end = absurd (subst (λ (o : Option (List ℕ)). Consumes o None bytes) told took)
 all-read content (Some rest) bytes all told took at_end =
@@ -101,14 +101,14 @@ unread-start : (content : Option (List ℕ)) (place : ℕ) (bytes : List ℕ) �
 unread-start content place bytes start told = ap (unread content) start ∙ ap (λ (o : Option (List ℕ)). unread o 0) told
 
 module _ (wire : WireLimits) (content rest : Option (List ℕ)) (place taken : ℕ) (start : place ≡ 0) (now : Loading) (a b : Stock) (so : ReadSoFar wire (unread content place) rest taken a b now) where
-  -- it is judged, where it was read from its start to its end
+  -- the result is final if the journal was read from start to end
   read-from-start : (answer : Loaded) → answer ≡ verdict now taken → IsAtEnd rest → IsCurrent now
       → Carries a b (λ from to. (bytes : List ℕ) → content ≡ Some bytes → IsLoaded answer wire from to bytes)
   read-from-start answer answered at_end current =
       carries_as a b (λ from to. (bytes : List ℕ) → unread content place ≡ Some bytes → IsLoaded answer wire from to bytes) (λ from to. (bytes : List ℕ) → content ≡ Some bytes → IsLoaded answer wire from to bytes)
       (λ from to all bytes told. all bytes (unread-start content place bytes start told)) (read-all wire (unread content place) rest taken now a b answer answered so at_end current)
 
-  -- no more was read than it has
+  -- no more was read than the journal has
   pub read-at-most : (bytes : List ℕ) → content ≡ Some bytes → taken ≤ length bytes
   read-at-most bytes told = most rest (subst (λ (o : Option (List ℕ)). Consumes o rest so.bytes) (unread-start content place bytes start told) so.took)
     where
@@ -116,14 +116,14 @@ module _ (wire : WireLimits) (content rest : Option (List ℕ)) (place taken : �
       most None took = absurd took
       most (Some ys) took = omega (arith, so.count, ap length took, length-append so.bytes ys)
 
--- a read of no bytes ends it
+-- a read without bytes ends it
 pub read-to-end : (wire : WireLimits) (content between rest : Option (List ℕ)) (place taken count : ℕ) → place ≡ 0 → (old new : Loading) (a b c : Stock) → ReadSoFar wire (unread content place) between taken a b old
     → Takes count between rest old new b c → count ≡ 0 → IsAtEnd rest → (answer : Loaded) → answer ≡ verdict new taken
     → Carries a c (λ from to. (bytes : List ℕ) → content ≡ Some bytes → IsLoaded answer wire from to bytes)
 read-to-end wire content between rest place taken count start old new a b c so takes none at_end answer answered =
     read-from-start wire content rest place taken start new a c (read-last wire (unread content place) between rest taken count old new a b c none so takes) answer answered at_end takes.current
 
--- a journal that was read to its end, by its size
+-- the size of a journal that was read to its end
 sizes : (bytes first second : List ℕ) (between rest : Option (List ℕ)) → Consumes (Some bytes) between first → Consumes between rest second → length second ≡ 0 → IsAtEnd rest → length bytes ≡ length first
 sizes bytes first second None rest one two none at_end = absurd one
 sizes bytes first second (Some ys) None one two none at_end = absurd two
@@ -136,7 +136,7 @@ whole-size wire content between rest place taken count start old new a b c so ta
     sizes bytes so.bytes takes.bytes between rest (subst (λ (o : Option (List ℕ)). Consumes o between so.bytes) (unread-start content place bytes start told) so.took)
     takes.took (takes.count ∙ none) at_end ∙ so.count
 
--- ---- where the whole requests end
+-- ---- where the complete requests end
 
 end-within : (mode : Mode) (begin bound : ℕ) → begin ≤ bound → IfSome (begun_at_end mode begin) (λ at. at ≤ bound)
 end-within Start begin bound within = tt
@@ -181,7 +181,7 @@ least : (place : Option ℕ) (taken bound : ℕ) → IfSome place (λ at. at ≤
 least None taken bound is within = within
 least (Some place) taken bound is within = is
 
--- the whole requests end within what was read
+-- the complete requests end within the bytes read
 ends-by : (broken : Option ℕ) (r : Reading) (taken read : ℕ) → IfNone broken (HasGivenAll r) → fed r ≤ taken → taken ≤ read → EndsWithin (verdict_by broken r taken) read
 ends-by (Some place) r taken read current within before = tt
 ends-by None r taken read current within before =

@@ -1,4 +1,4 @@
--- Answers that yield to want of memory.
+-- Responses that allow out of memory in their place.
 use Rattle.std.proofs.Common.{ℕ, List, [], ◌∷◌, ◌++◌}
 use Rattle.ts_spec.specs.declared.limits.Limits.{Limits}
 use Rattle.ts_spec.specs.Command.{Triple}
@@ -7,7 +7,7 @@ use Rattle.ts_spec.specs.State.{State}
 use Rattle.ts_spec.specs.Step.{Outcome, madd, triple_step, item_of}
 use Rattle.ts_db.specs.Held.{YieldsToMemory}
 
--- TS.MADD is refused as a whole by nothing
+-- TS.MADD as a whole never fails
 pub madd_yields : (limits : Limits) (m : State) (reading : ℕ) (so_far : List Item) (triples : List Triple) → YieldsToMemory (madd limits m reading so_far triples).response
 madd_yields limits m reading so_far [] = tt
 madd_yields limits m reading so_far (x ∷ xs) =

@@ -1,4 +1,4 @@
--- The replies to what the database answers.
+-- The replies to results of the database.
 use Rattle.std.specs.Prelude.{ℕ, Result, Ok, Err}
 use Rattle.ts_spec.specs.Keyed.{Keyed}
 use Rattle.ts_spec.specs.Replies.{reply_to}
@@ -9,12 +9,12 @@ use Rattle.ts_db.specs.Faults.{refusal_of}
 use Rattle.ts_db.specs.declared.fault.DbFault.{DbFault}
 use Rattle.ts_questions.specs.Answering.{message_of}
 
--- the reply to what the database answers, by the numbers of its keys
+-- The reply to a result. The error message may name keys, which `ids` maps to series ids.
 abbrev pub reply_of_result : {T : Type 0} → Keyed Id → (T → Response) → Result T DbFault → Reply
 reply_of_result ids response (Ok x) = reply_to (response x)
 reply_of_result ids response (Err fault) = Error (message_of (refusal_of ids fault))
 
--- where the database answers nothing but that it is done, and where it answers a time or how many
+-- the same for a result without a value, and for a time or a count
 abbrev pub reply_of_done : Keyed Id → Result (Unit {0}) DbFault → Reply
 reply_of_done ids result = reply_of_result ids (λ x. Done) result
 

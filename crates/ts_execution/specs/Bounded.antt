@@ -6,8 +6,8 @@ use Rattle.ts_db.specs.Bounds.{write_steps, deletion_steps, selection_steps}
 use Rattle.ts_db.specs.Held.{Stock, reach_at}
 use Rattle.ts_questions.specs.Bounds.{question_steps, members_steps}
 
--- Each command takes no more steps than its change or its question, and none where no sample is looked at. The triples of TS.MADD
--- are writes one after another, each of which takes what it may on the database that it meets.
+-- The bound for each command: that of its change or query, and no step if it reads no sample. TS.MADD has no bound
+-- here: each of its writes is bounded on the database that it finds.
 abbrev pub IsBounded : Stock → (reading : ℕ) → Command → (old new : ℕ) → Type 0
 IsBounded stock reading (Alter key change) old new = new ≤ old + 2 * reach_at stock key
 IsBounded stock reading (Add key at value on spec) old new = new ≤ old + write_steps stock key (time_of reading at)

@@ -1,4 +1,4 @@
--- Turns of a server that keeps a journal: the record of what a change did is added to the journal before its reply is written.
+-- Request handling with a journal: the record of each change is appended before the reply is written.
 use Rattle.std.specs.Prelude.{◌≡◌, ◌⊎◌, ℕ, ◌≤◌, Bool, true, List, [], take, length, Option, Result, Ok, Err}
 use Rattle.std.specs.Io.KnownBytes.{append_known}
 use Rattle.ts_io.specs.Causes.{Rose}
@@ -12,7 +12,7 @@ use Rattle.ts_journal.specs.Record.{is_change, record_of}
 use Rattle.ts_execution.specs.Turn.{World, IsReading, left_by, IsAnswered, IsLost, IsOutOfMemory, IsRefused, IsUnread}
 use Rattle.ts_execution.specs.Turns.{Turns}
 
--- the database, the readings of the clock that are left and the content of the journal, where they are told; and whether the journal failed
+-- the database, the clock readings left, the journal's content (the last two if known), and whether the journal failed
 pub record Kept : Type 0 where
   pub held : Held
   pub readings : Option (List ℕ)
@@ -23,18 +23,18 @@ pub record Kept : Type 0 where
 abbrev pub served : Kept → World
 served kept = record { held = kept.held; readings = kept.readings }
 
--- the same from its parts, over a state
+-- builds it from its parts
 abbrev pub kept : (readings content : Option (List ℕ)) → (failed : Bool) → Held → Kept
 kept readings content failed held = record { held = held; readings = readings; content = content; failed = failed }
 
--- ---- a turn and its record
+-- ---- a request and its record
 
--- a change is answered by want of memory, since there was none for its record, and nothing is changed
+-- a change fails with out of memory, since there was none for its record; nothing changes
 pub record IsUnrecorded (c : Command) (old : Held) (reply : Reply) (new : Held) : Type 0 where
   pub change : is_change c ≡ true
   pub out_of_memory : IsOutOfMemory old reply new
 
--- a command is executed with its reading, and this is its record, with the same reading
+-- the command was executed at a clock reading, and `record_` is its record with the same reading
 pub record IsRecorded (c : Command) (from : World) (written record_ : List ℕ) (to : World) : Type 0 where
   pub reading : ℕ
   pub read : IsReading (needs_clock c) from.readings reading
@@ -44,25 +44,25 @@ pub record IsRecorded (c : Command) (from : World) (written record_ : List ℕ) 
   pub done : IsAnswered reading c from.held reply to.held ⊎ IsLost reading c from.held reply to.held ⊎ IsUnrecorded c from.held reply to.held
   pub its_record : record_ ≡ record_of c reading reply
 
--- by what the words say: words that are no command have no record
+-- by the parsed arguments: an invalid command has no record
 abbrev pub RecordedBy : Result Command Fault → World → (written record_ : List ℕ) → World → Type 0
 RecordedBy (Ok c) from written record_ to = IsRecorded c from written record_ to
 RecordedBy (Err fault) from written record_ to = IsRefused fault from written to × (record_ ≡ [])
 
--- what a request is answered, what it does to the database, and its record
+-- how a request was answered, what it changed, and its record
 abbrev pub Recorded : Request → World → (written record_ : List ℕ) → World → Type 0
 Recorded request from written record_ to = RecordedBy (command request) from written record_ to ⊎ (IsUnread request from written to × (record_ ≡ []))
 
--- ---- in a journal
+-- ---- appending to the journal
 
--- a request had its turn, and its record was added to the journal
+-- the request was handled, and its record was appended
 pub record IsKept (from : Kept) (request : Request) (written : List ℕ) (to : Kept) : Type 0 where
   pub record_ : List ℕ
   pub recorded : Recorded request (served from) written record_ (served to)
   pub content : to.content ≡ append_known from.content record_
   pub failed : to.failed ≡ from.failed
 
--- a request had its turn, and the journal failed, with a front of its record
+-- the request was handled, but the journal failed and holds only a prefix of the record
 pub record IsTorn (from : Kept) (request : Request) (written : List ℕ) (to : Kept) : Type 0 where
   pub record_ : List ℕ
   pub kept : ℕ
@@ -71,28 +71,29 @@ pub record IsTorn (from : Kept) (request : Request) (written : List ℕ) (to : K
   pub content : to.content ≡ append_known from.content (take kept record_)
   pub failed : to.failed ≡ true
 
--- where a reply was cut short, its record is in the journal; or the journal failed, and nothing was written of the reply
+-- a write failed within the reply, whose record is in the journal; or the journal failed, and no byte of the reply was
+-- written
 abbrev pub IsCut : (from : Kept) → Request → (written : List ℕ) → (kept : ℕ) → (to : Kept) → Type 0
 IsCut from request written kept to = IsKept from request written to ⊎ ((kept ≡ 0) × IsTorn from request written to)
 
--- whether the journal failed, and its count of faults
+-- whether the journal failed, and its fault counter
 pub record JournalFaults : Type 0 where
   pub failed : Bool
   pub count : ℕ
 
--- its count of faults rose
+-- the journal failed, and its fault counter rose
 pub record JournalRose (before now : JournalFaults) : Type 0 where
   pub failed : now.failed ≡ true
   pub later : before.count ≤ now.count
   pub rose : Rose before.count now.count
 
--- turns that keep a journal, which may fail
+-- the handler that appends to a journal, which may fail
 abbrev pub keeping : Turns
 keeping = record { World = Kept; turn = IsKept; cut = IsCut; Faults = JournalFaults; rose = JournalRose }
 
 -- ---- a journal that did not fail
 
--- where a reply was cut short, its record is in the journal
+-- the same, where only writing a reply can fail
 abbrev pub journaled : Turns
 journaled = record {
   World = Kept;

@@ -1,4 +1,4 @@
--- How the requests of a journal are done again.
+-- How the requests of a journal are replayed.
 use Rattle.std.specs.Prelude.{◌≡◌, ⊤, Bool, true, false, ℕ, ◌≤◌, ◌+◌, List, [], ◌∷◌, ◌++◌, length, map, Option, IfNone, None, Some, Result, Ok, Err}
 use Rattle.std.specs.Io.KnownBytes.{Consumes}
 use Rattle.std.specs.Option.{unwrap_or}
@@ -31,23 +31,23 @@ use Rattle.ts_execution.specs.declared.loading.Loading.{Loading}
 
 -- ---- one request
 
--- want of memory, or a refusal
+-- out of memory, or any other error
 abbrev pub restored_of_fault : DbFault → Restored
 restored_of_fault (fault.Memory e) = restored.Memory
 restored_of_fault other = restored.Refused
 
--- what was answered
+-- the result of a replay, from a result of the database
 abbrev pub restored_of : {T : Type 0} → Result T DbFault → Restored
 restored_of (Ok x) = restored.Accepted
 restored_of (Err f) = restored_of_fault f
 
--- the command led from one state to the other; or it can't stand in a journal; or there was no memory
+-- The command leads from one state to the other; or it is invalid in a journal; or memory ran out.
 abbrev pub Restores : Restored → Command → (from to : Held) → Type 0
 Restores restored.Accepted c from to = (replayed from.limits from.state c ≡ Some to.state) × (to.limits ≡ from.limits)
 Restores restored.Refused c from to = (replayed from.limits from.state c ≡ None) × (to.limits ≡ from.limits)
 Restores restored.Memory c from to = ⊤
 
--- the sample of a triple is written; or the triple is refused; or there was no memory
+-- the sample was written; or the triple was rejected; or memory ran out
 abbrev pub RestoresTriple : Restored → Triple → (from to : Held) → Type 0
 RestoresTriple restored.Accepted triple from to =
     let done : Outcome = triple_step from.limits from.state 0 triple.key triple.at triple.value in
@@ -56,12 +56,12 @@ RestoresTriple restored.Refused triple from to =
     (has_error (listed (map item_reply (item_of (triple_step from.limits from.state 0 triple.key triple.at triple.value).response))) ≡ true) × (to.limits ≡ from.limits)
 RestoresTriple restored.Memory triple from to = ⊤
 
--- want of memory in reading words, or a fault in them
+-- out of memory while parsing the arguments, or an error in them
 abbrev pub restored_of_words : CommandFault → Restored
 restored_of_words (spoken.Memory e) = restored.Memory
 restored_of_words other = restored.Refused
 
--- the same of the command of some words
+-- the same for the command that these arguments make
 abbrev pub RestoresWords : Restored → Request → (from to : Held) → Type 0
 RestoresWords restored.Accepted words from to = (replayed_by from.limits from.state (command words) ≡ Some to.state) × (to.limits ≡ from.limits)
 RestoresWords restored.Refused words from to = (replayed_by from.limits from.state (command words) ≡ None) × (to.limits ≡ from.limits)
@@ -69,8 +69,9 @@ RestoresWords restored.Memory words from to = ⊤
 
 -- ---- the requests of a reader
 
--- A request was done again, after which there may be more; or there is no whole one; or the journal breaks; or there was no memory. The
--- requests so far end at one place, and now at the other. Whatever follows, and however long the journal is.
+-- The next request was replayed, and more may follow; or no complete one is left; or the journal breaks here; or memory
+-- ran out. `end` is the offset after the requests replayed before. Holds for any bytes that follow and any size of the
+-- journal.
 abbrev pub Finds : Found → (old new : Reading) → (end : ℕ) → (from to : Held) → Type 0
 Finds (found.Change end') old new end from to = (to.limits ≡ from.limits)
     × ((size : ℕ) (more : List ℕ) → load_on from.limits from.state end size (stream_of old more) ≡ load_on from.limits to.state end' size (stream_of new more))
@@ -79,49 +80,50 @@ Finds (found.Broken place) old new end from to = (to.limits ≡ from.limits)
     × ((size : ℕ) (more : List ℕ) → load_on from.limits from.state end size (stream_of old more) ≡ BreaksAt place)
 Finds found.Memory old new end from to = ⊤
 
--- by a request that ends at a place, where those before it end at another
+-- by the replayed request, which ends at `after`; those before it end at `before`
 abbrev pub found_by : Restored → (after before : ℕ) → Found
 found_by restored.Accepted after before = found.Change after
 found_by restored.Refused after before = found.Broken before
 found_by restored.Memory after before = found.Memory
 
--- where a change was found
+-- a fact, if a change was replayed
 abbrev pub IfChange : Found → Type 0 → Type 0
 IfChange (found.Change end) what = what
 IfChange other what = ⊤
 
 -- ---- pieces
 
--- What the bytes that are left load to, where these are more and the whole journal has this size: the bytes read so far led to this
--- state, unless they broke.
+-- What the remaining bytes load to, for a journal of `size` bytes. The bytes so far led to state `m`, unless the
+-- journal broke.
 abbrev pub loads_by : Option ℕ → Limits → Loading → State → (size : ℕ) → (more : List ℕ) → Load
 loads_by (Some place) limits l m size more = BreaksAt place
 loads_by None limits l m size more = load_on limits m l.end size (stream_of l.reader more)
 
--- what the bytes that are left load to, after what was read so far
+-- what the remaining bytes load to
 abbrev pub loads : Limits → Loading → State → (size : ℕ) → (more : List ℕ) → Load
 loads limits l m size more = loads_by l.broken limits l m size more
 
--- every whole request of a reader was given, and the one at hand begins within the bytes that were fed
+-- the reader has no complete request left, and its current request begins within the bytes it was fed
 pub record HasGivenAll (r : Reading) : Type 0 where
   pub rest : stream_of r [] ≡ ended_at (unfinished r)
   pub begun : r.begin ≤ fed r
 
--- every whole request was done again, unless the journal broke
+-- every complete request was replayed, unless the journal broke
 abbrev pub IsCurrent : Loading → Type 0
 IsCurrent l = IfNone l.broken (HasGivenAll l.reader)
 
--- With these further bytes whole requests were done again: from the one state on they load to what is loaded from the other on.
+-- The complete requests in these bytes were replayed: loading the rest from the new state gives what loading all from
+-- the old one does.
 pub record LoadsOn (old new : Loading) (bytes : List ℕ) (from to : Held) : Type 0 where
   pub limits : to.limits ≡ from.limits
   pub on : (size : ℕ) (more : List ℕ) → loads from.limits old from.state size (bytes ++ more) ≡ loads from.limits new to.state size more
 
--- where there was memory
+-- the same, if there was memory
 abbrev pub LoadsIf : (done : Bool) → (old new : Loading) → (bytes : List ℕ) → (from to : Held) → Type 0
 LoadsIf true old new bytes from to = LoadsOn old new bytes from to
 LoadsIf false old new bytes from to = ⊤
 
--- so many bytes were taken of what was left of the journal, and every whole request with them was done again
+-- `taken` bytes of the journal were read, and every request that they complete was replayed
 pub record Takes (taken : ℕ) (left rest : Option (List ℕ)) (old new : Loading) (a b : Stock) : Type 0 where
   pub bytes : List ℕ
   pub took : Consumes left rest bytes
@@ -130,7 +132,7 @@ pub record Takes (taken : ℕ) (left rest : Option (List ℕ)) (old new : Loadin
   pub current : IsCurrent new
   pub within : fed new.reader ≤ fed old.reader + taken
 
--- where a piece was read
+-- a fact about the size of the piece, if one was read
 abbrev pub IfRead : Piece → (ℕ → Type 0) → Type 0
 IfRead (piece.Read count) what = what count
 IfRead other what = ⊤
@@ -143,22 +145,22 @@ IsLoaded (loaded.Whole place) wire from to bytes = (load_from from.limits wire f
 IsLoaded (loaded.Broken place) wire from to bytes = load_from from.limits wire from.state bytes ≡ BreaksAt place
 IsLoaded other wire from to bytes = ⊤
 
--- a journal is judged by its content: it was loaded whole, or it breaks
+-- the result depends on the content alone: the journal loads, or it breaks
 abbrev pub IsJudged : Loaded → Type 0
 IsJudged (loaded.Whole place) = ⊤
 IsJudged (loaded.Broken place) = ⊤
 IsJudged other = ⊥
 
--- where a journal was loaded whole, its whole requests end within what was read
+-- the complete requests end within the bytes read
 abbrev pub EndsWithin : Loaded → (read : ℕ) → Type 0
 EndsWithin (loaded.Whole place) read = place ≤ read
 EndsWithin other read = ⊤
 
--- what was found, where the journal ends after so many bytes
+-- the result for a journal of `taken` bytes
 abbrev pub verdict_by : Option ℕ → Reading → (taken : ℕ) → Loaded
 verdict_by (Some place) reader taken = loaded.Broken place
 verdict_by None reader taken = loaded.Whole (unwrap_or (unfinished reader) taken)
 
--- what was found in a journal that ends after so many bytes
+-- the same, from the state of the load
 abbrev pub verdict : Loading → (taken : ℕ) → Loaded
 verdict l taken = verdict_by l.broken l.reader taken

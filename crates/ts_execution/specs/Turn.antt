@@ -1,4 +1,4 @@
--- One turn: what a request is answered, and what it does to the database.
+-- How a request is handled: its reply, and what it does to the database.
 use Rattle.std.specs.Prelude.{◌≡◌, ◌⊎◌, ◌<◌, ◌^◌, ℕ, nat_lt, Bool, true, false, ◌&&◌, length, List, [], ◌∷◌, map, Option, None, Some, option_map, Result, Ok, Err, IsTrue}
 use Rattle.std.specs.Result.{is_ok}
 use Rattle.ts_io.specs.Clocks.{reading_of, readings_after}
@@ -14,53 +14,53 @@ use Rattle.ts_spec.specs.declared.limits.Limits.{Limits}
 use Rattle.ts_db.specs.Held.{Held, YieldsToMemory}
 use Rattle.ts_execution.specs.Turns.{Turns}
 
--- the database, and the readings of the clock that are left, where they are told
+-- the database, and the clock readings left, if they are known
 pub record World : Type 0 where
   pub held : Held
   pub readings : Option (List ℕ)
 
 -- ---- one step
 
--- the reply is that of a step of the definitions, which leaves the new state; the limits stay
+-- the reply and the new state are those of a step of the specification; the limits stay
 pub record IsStep (step : Outcome) (old : Held) (reply : Reply) (new : Held) : Type 0 where
   pub says : reply ≡ reply_to step.response
   pub state : new.state ≡ step.state
   pub limits : new.limits ≡ old.limits
 
--- want of memory is said, and nothing is changed
+-- the reply is the out-of-memory error, and nothing changes
 pub record IsOutOfMemory (old : Held) (reply : Reply) (new : Held) : Type 0 where
   pub says : reply ≡ memory_reply
   pub same : new ≡ old
 
--- the answer of the definitions, or want of memory, to which that answer yields
+-- a step of the specification; or out of memory, if the step itself is no error
 abbrev pub StepOrMemory : Outcome → Held → Reply → Held → Type 0
 StepOrMemory step old reply new = IsStep step old reply new ⊎ (YieldsToMemory step.response × IsOutOfMemory old reply new)
 
 -- ---- TS.MADD
 
--- whether the time and the value of a triple are a time and a value
+-- both the time and the value of a triple are valid
 abbrev pub is_well_formed : Triple → Bool
 is_well_formed triple = is_ok triple.at && is_ok triple.value
 
--- the item is that of a step, which leaves the new state
+-- the item and the new state are those of the step
 pub record IsItem (step : Outcome) (item : Reply) (new : State) : Type 0 where
   pub reply : map item_reply (item_of step.response) ≡ item ∷ []
   pub state : new ≡ step.state
 
--- want of memory is said of a triple that is well formed, whose answer yields to it, and the state stays
+-- a valid triple runs out of memory, where the step is no error; the state stays
 pub record IsItemLost (step : Outcome) (triple : Triple) (old : State) (item : Reply) (new : State) : Type 0 where
   pub well_formed : IsTrue (is_well_formed triple)
   pub yields : YieldsToMemory step.response
   pub reply : item ≡ memory_reply
   pub same : new ≡ old
 
--- what is told of a triple, and what it does to the state
+-- the item of a triple, and the state after it
 abbrev pub HasItem : Limits → (reading : ℕ) → Triple → State → Reply → State → Type 0
 HasItem limits reading triple old item new =
     let step : Outcome = triple_step limits old reading triple.key triple.at triple.value in
     IsItem step item new ⊎ IsItemLost step triple old item new
 
--- a triple has the first item, and what is told after it is told from there on
+-- the first triple has the first item, and the rest follows from the state after it
 pub record ItemThen (limits : Limits) (reading : ℕ) (triple : Triple) (old : State) (later : State → List Reply → Type 0) (items : List Reply) : Type 0 where
   pub first : Reply
   pub others : List Reply
@@ -69,20 +69,20 @@ pub record ItemThen (limits : Limits) (reading : ℕ) (triple : Triple) (old : S
   pub here : HasItem limits reading triple old first mid
   pub after : later mid others
 
--- the items of triples, one after another, with the same reading
+-- the items of these triples in order, all at the same clock reading
 abbrev pub HaveItems : Limits → (reading : ℕ) → List Triple → State → List Reply → State → Type 0
 HaveItems limits reading [] old items new = (items ≡ []) × (new ≡ old)
 HaveItems limits reading (triple ∷ triples) old items new =
     ItemThen limits reading triple old (λ mid others. HaveItems limits reading triples mid others new) items
 
--- all triples have their items in the reply
+-- the reply is the array of all items
 pub record HasAllItems (reading : ℕ) (triples : List Triple) (old : Held) (reply : Reply) (new : Held) : Type 0 where
   pub items : List Reply
   pub each : HaveItems old.limits reading triples old.state items new.state
   pub says : reply ≡ array items
   pub limits : new.limits ≡ old.limits
 
--- the text of all items is written
+-- the text of the reply with all items
 pub record WritesAll (reading : ℕ) (triples : List Triple) (old : Held) (written : List ℕ) (new : Held) : Type 0 where
   pub reply : Reply
   pub its_text : written ≡ text reply
@@ -90,16 +90,16 @@ pub record WritesAll (reading : ℕ) (triples : List Triple) (old : Held) (writt
 
 -- ---- commands
 
--- what a command is answered, and what it does
+-- how a command is answered, and what it does
 abbrev pub IsAnswered : (reading : ℕ) → Command → Held → Reply → Held → Type 0
 IsAnswered reading (Madd triples) old reply new = HasAllItems reading triples old reply new
 IsAnswered reading other old reply new = IsStep (step old.limits old.state reading other) old reply new
 
--- a word that may be too long for the room that there is
+-- an argument that may not fit the reserved reply buffer
 abbrev pub is_long : List ℕ → Bool
 is_long word = nat_lt 30 (length word)
 
--- whether a command may find no memory: the reply of any other fits the room that there is
+-- whether a command may run out of memory; every other reply fits the reserved buffer
 abbrev pub takes_memory : Command → Bool
 takes_memory (DeleteRule source dest) = false
 takes_memory (Get key latest) = false
@@ -111,13 +111,13 @@ takes_memory (Drop keys) = false
 takes_memory (Exists keys) = false
 takes_memory other = true
 
--- want of memory is said of a command that may find none, in the place of an answer that refuses nothing, and nothing is changed
+-- a command that may run out of memory does, where the step is no error; nothing changes
 pub record IsLost (reading : ℕ) (command : Command) (old : Held) (reply : Reply) (new : Held) : Type 0 where
   pub may : IsTrue (takes_memory command)
   pub yields : YieldsToMemory (step old.limits old.state reading command).response
   pub out_of_memory : IsOutOfMemory old reply new
 
--- what `execute` writes of a command: the text of its answer, or of want of memory
+-- `execute` wrote the text of the reply, or of the out-of-memory error
 pub record Executes (reading : ℕ) (command : Command) (old : Held) (written : List ℕ) (new : Held) : Type 0 where
   pub reply : Reply
   pub its_text : written ≡ text reply
@@ -125,49 +125,49 @@ pub record Executes (reading : ℕ) (command : Command) (old : Held) (written : 
 
 -- ---- the clock
 
--- the reading of a command: the next one that is told, or else any; 0 where it needs none
+-- the clock reading of a command: the next known one, or any; 0 if it needs none
 abbrev pub IsReading : (needed : Bool) → Option (List ℕ) → ℕ → Type 0
 IsReading false readings reading = reading ≡ 0
 IsReading true None reading = reading < 2 ^ 64
 IsReading true (Some readings) reading = reading ≡ reading_of readings
 
--- the readings that are left
+-- the readings left after it
 abbrev pub left_by : (needed : Bool) → Option (List ℕ) → Option (List ℕ)
 left_by false readings = readings
 left_by true readings = option_map readings_after readings
 
 -- ---- requests
 
--- a command is executed with its reading
+-- the command was executed at its clock reading
 pub record IsExecuted (command : Command) (from : World) (written : List ℕ) (to : World) : Type 0 where
   pub reading : ℕ
   pub read : IsReading (needs_clock command) from.readings reading
   pub executes : Executes reading command from.held written to.held
   pub left : to.readings ≡ left_by (needs_clock command) from.readings
 
--- words that are no command are answered by their fault, and nothing is changed
+-- invalid arguments are answered by their error, and nothing changes
 pub record IsRefused (fault : Fault) (from : World) (written : List ℕ) (to : World) : Type 0 where
   pub says : written ≡ text (fault_reply fault)
   pub same : to ≡ from
 
--- want of memory is said of words that make a list, and nothing is changed
+-- memory ran out for arguments that make a list, and nothing changes
 pub record IsUnread (request : Request) (from : World) (written : List ℕ) (to : World) : Type 0 where
   pub may : IsTrue (makes_list request)
   pub says : written ≡ text memory_reply
   pub same : to ≡ from
 
--- by what the words say
+-- by the parsed arguments
 abbrev pub TurnBy : Result Command Fault → World → List ℕ → World → Type 0
 TurnBy (Ok command) from written to = IsExecuted command from written to
 TurnBy (Err fault) from written to = IsRefused fault from written to
 
--- the turn of a request: by what its words say, or without memory to read them
+-- how one request is handled: by its arguments, or out of memory while parsing them
 abbrev pub turn : World → Request → List ℕ → World → Type 0
 turn from request written to = TurnBy (command request) from written to ⊎ IsUnread request from written to
 
--- ---- turns that do nothing but this
+-- ---- the plain handler
 
--- where a reply is cut short, the request had its turn
+-- handles requests and nothing else; a request whose reply is cut short was still executed
 abbrev pub plain : Turns
 plain = record {
   World = World;

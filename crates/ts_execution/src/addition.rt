@@ -1,4 +1,4 @@
-// TS.ADD with no option but ON_DUPLICATE, from the words of its request: most requests of a busy client are such.
+// TS.ADD without options other than ON_DUPLICATE, executed straight from its arguments: the most frequent request.
 ghost use Rattle.std.specs.Prelude.{◌≡◌, ◌+◌, ◌≤◌, length, None};
 ghost use Rattle.ts_spec.specs.Keyed.{get};
 ghost use Rattle.ts_spec.specs.Sample.{MAX_TIME};
@@ -21,7 +21,7 @@ use ts_questions::refusal_reply;
 use ts_resp::{Out, Reply, put};
 use ts_sample::Steps;
 
-/// Executes TS.ADD with no option but ON_DUPLICATE, and leaves its reply in `out`.
+/// Executes TS.ADD without options other than ON_DUPLICATE, and leaves its reply in `out`.
 pub(crate) fn put_addition<L: Ledger>(
     db: &mut Db,
     hints: &mut Hints,
@@ -32,7 +32,8 @@ pub(crate) fn put_addition<L: Ledger>(
     steps: &mut Steps<L>,
 )
     requires room { 128 ≤ length out.old.bytes + out.old.spare }
-    ensures executes { Carries db.old db.new (λ from to. Executes reading (addition_of addition.now) from out.new.bytes to) }
+    ensures executes { Carries db.old db.new
+        (λ from to. Executes reading (addition_of addition.now) from out.new.bytes to) }
     ensures room { 128 ≤ length out.new.bytes + out.new.spare }
 {
     out.clear();
@@ -40,7 +41,7 @@ pub(crate) fn put_addition<L: Ledger>(
     put(&write(db, hints, alloc, addition, time, steps), out);
 }
 
-// Writes the sample where its words stand. Only for a new series the key is copied.
+// Writes the sample. The key is copied only for a new series.
 fn write<L: Ledger>(
     db: &mut Db,
     hints: &mut Hints,
@@ -50,7 +51,9 @@ fn write<L: Ledger>(
     steps: &mut Steps<L>,
 ) -> Reply
     requires { time ≤ MAX_TIME }
-    ensures answer { Carries db.old db.new (λ from to. StepOrMemory (add from.limits from.state addition.now.key.now time addition.now.value addition.now.on (spec nothing)) from (reply_of result) to) }
+    ensures answer { Carries db.old db.new
+        (λ from to. StepOrMemory (add from.limits from.state addition.now.key.now time addition.now.value
+        addition.now.on (spec nothing)) from (reply_of result) to) }
     ensures short { IsShort (reply_of result) }
 {
     match db.put_near(
@@ -69,7 +72,7 @@ fn write<L: Ledger>(
     }
 }
 
-// Makes the series where it is missing.
+// Creates the series and writes its first sample.
 #[inline(never)]
 fn begin<L: Ledger>(
     db: &mut Db,
@@ -80,7 +83,9 @@ fn begin<L: Ledger>(
 ) -> Reply
     requires time { time ≤ MAX_TIME }
     requires missing { (from : Held) → Stands db.old from → get addition.now.key.now from.state ≡ None }
-    ensures answer { Carries db.old db.new (λ from to. StepOrMemory (add from.limits from.state addition.now.key.now time addition.now.value addition.now.on (spec nothing)) from (reply_of result) to) }
+    ensures answer { Carries db.old db.new
+        (λ from to. StepOrMemory (add from.limits from.state addition.now.key.now time addition.now.value
+        addition.now.on (spec nothing)) from (reply_of result) to) }
     ensures short { IsShort (reply_of result) }
 {
     match addition.key.copy() {

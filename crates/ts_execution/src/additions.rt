@@ -16,7 +16,7 @@ use ts_questions::put_no_memory;
 use ts_resp::{Out, Reply, begin_array, put, reserve_items};
 use ts_sample::Steps;
 
-/// Writes the reply to TS.MADD: takes the room for it, and then executes the triples one after another.
+/// Executes TS.MADD and writes its reply. Reserves memory for the whole reply before the first write.
 pub(crate) fn put_items<L: Ledger>(
     db: &mut Db,
     hints: &mut Hints,
@@ -27,7 +27,8 @@ pub(crate) fn put_items<L: Ledger>(
 )
     requires empty { out.old.bytes ≡ [] }
     requires room { 128 ≤ out.old.spare }
-    ensures executes { Carries db.old db.new (λ from to. Executes reading (Madd (triples_of triples.items)) from out.new.bytes to) }
+    ensures executes { Carries db.old db.new
+        (λ from to. Executes reading (Madd (triples_of triples.items)) from out.new.bytes to) }
     ensures room { 128 ≤ length out.new.bytes + out.new.spare }
 {
     match reserve_items(triples.len(), out) {
@@ -36,7 +37,7 @@ pub(crate) fn put_items<L: Ledger>(
     }
 }
 
-// Executes the triples, and writes their items as an array into room that was reserved.
+// Executes the triples in order, and writes their items into the reserved buffer.
 fn add_all<L: Ledger>(
     db: &mut Db,
     hints: &mut Hints,
@@ -48,7 +49,8 @@ fn add_all<L: Ledger>(
     requires empty { out.old.bytes ≡ [] }
     requires room { 128 ≤ out.old.spare }
     requires items { 64 * length triples.items + 64 ≤ out.old.spare }
-    ensures reply { Carries db.old db.new (λ from to. WritesAll reading (triples_of triples.items) from out.new.bytes to) }
+    ensures reply { Carries db.old db.new
+        (λ from to. WritesAll reading (triples_of triples.items) from out.new.bytes to) }
     ensures room { 128 ≤ length out.new.bytes + out.new.spare }
 {
     begin_array(triples.len(), out);
@@ -58,7 +60,7 @@ fn add_all<L: Ledger>(
     }
 }
 
-// Executes one triple, and answers its item.
+// Executes one triple and returns its item.
 fn add_one<L: Ledger>(
     db: &mut Db,
     hints: &mut Hints,
@@ -66,7 +68,8 @@ fn add_one<L: Ledger>(
     reading: u64,
     steps: &mut Steps<L>,
 ) -> Reply
-    ensures reply { Carries db.old db.new (λ from to. HasItem from.limits reading (triple_of triple) from.state (reply_of result) to.state
+    ensures reply { Carries db.old db.new
+        (λ from to. HasItem from.limits reading (triple_of triple) from.state (reply_of result) to.state
         × (to.limits ≡ from.limits)) }
     ensures short { IsShort (reply_of result) }
 {

@@ -1,4 +1,4 @@
-// The replies to what the database answers, and to faults.
+// The replies to results of the database, and to invalid arguments.
 ghost use Rattle.std.specs.Prelude.{◌≡◌, ◌≤◌, pos, IfOk};
 ghost use Rattle.ts_spec.specs.Keyed.{Keyed};
 ghost use Rattle.ts_spec.specs.Replies.{number as shown, reply_to};
@@ -16,7 +16,7 @@ use ts_questions::refusal_reply;
 use ts_resp::Reply;
 use ts_sample::MAX_TIME;
 
-/// The reply to a command that only gets done.
+/// The reply to a command that returns OK.
 pub(crate) fn done_reply(outcome: Result<(), DbFault>) -> Reply
     ensures { (ids : Keyed Id) → reply_of result ≡ reply_of_done ids outcome }
 {
@@ -26,14 +26,14 @@ pub(crate) fn done_reply(outcome: Result<(), DbFault>) -> Reply
     }
 }
 
-/// The reply to a command that was done, and answers no more.
+/// The reply OK.
 pub(crate) fn ok() -> Reply
     ensures { reply_of result ≡ reply_to Done }
 {
     Reply::Simple("OK")
 }
 
-/// The reply to a command that answers a time, or how many.
+/// The reply to a command that returns a time or a count.
 pub(crate) fn number_reply(outcome: Result<u64, DbFault>) -> Reply
     requires { IfOk outcome (λ t. t ≤ MAX_TIME) }
     ensures { (ids : Keyed Id) → reply_of result ≡ reply_of_number ids outcome }
@@ -44,7 +44,7 @@ pub(crate) fn number_reply(outcome: Result<u64, DbFault>) -> Reply
     }
 }
 
-/// The reply that is a time, or how many.
+/// The reply to a time or a count, as an integer.
 pub(crate) fn number(number: u64) -> Reply
     requires { number ≤ MAX_TIME }
     ensures { reply_of result ≡ shown number }
@@ -52,7 +52,6 @@ pub(crate) fn number(number: u64) -> Reply
     Reply::Int(signed(number))
 }
 
-// A number as the integer that a reply shows.
 fn signed(number: u64) -> i64
     requires { number ≤ MAX_TIME }
     ensures { result ≡ pos number }
@@ -60,7 +59,7 @@ fn signed(number: u64) -> i64
     number as i64
 }
 
-/// The error reply to a fault in the words.
+/// The error reply to invalid arguments.
 pub(crate) fn fault_reply(fault: CommandFault) -> Reply
     ensures { reply_of result ≡ Error (fault_message fault) }
 {

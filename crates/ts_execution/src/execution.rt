@@ -1,18 +1,20 @@
-// What each command does, and the text of its reply.
-ghost use Rattle.std.specs.Prelude.{◌≡◌, ◌+◌, ◌≤◌, length};
+// Executes each command and writes its reply; and a law about TS.MADD.
+ghost use Rattle.std.specs.Prelude.{◌≡◌, ◌+◌, ◌≤◌, length, ◌≢◌, ℕ, List, All};
 ghost use Rattle.ts_command.specs.Answers.{HasTime};
 ghost use Rattle.ts_command.specs.Reading.{command_of};
-ghost use Rattle.ts_db.specs.Held.{Carries};
+ghost use Rattle.ts_db.specs.Held.{Carries, Held};
 ghost use Rattle.ts_execution.specs.Bounded.{IsBounded};
-ghost use Rattle.ts_execution.specs.Turn.{Executes};
+ghost use Rattle.ts_execution.specs.Turn.{Executes, HasAllItems, IsStep};
+ghost use Rattle.ts_spec.specs.Command.{Triple, Madd};
+ghost use Rattle.ts_spec.specs.Replies.{memory_reply};
+ghost use Rattle.ts_spec.specs.Step.{step};
+ghost use Rattle.ts_spec.specs.Text.{Reply};
 
 use crate::additions::put_items;
 use crate::answers::ok;
-use crate::changes::{add, alter, create, delete, incr, time_at};
-use crate::echoes::{put_pong, put_word};
+use crate::changes::{add, alter, create, create_rule, delete, delete_rule, incr, time_at};
 use crate::info::put_info;
-use crate::keys::{count_keys, drop_keys};
-use crate::rules::{create_rule, delete_rule};
+use crate::keys::{count_keys, drop_keys, put_pong, put_word};
 use std::sync::ledger::Ledger;
 use ts_command::Command;
 use ts_db::{Db, Hints};
@@ -20,10 +22,10 @@ use ts_questions::{Wanted, put_get, put_members, put_range, put_ranges};
 use ts_resp::{Out, put};
 use ts_sample::Steps;
 
-/// Executes a command and leaves exactly the text of its reply in `out`. Want of memory is answered by its text,
-/// and then the database is unchanged. TS.MADD takes the room of its reply first, and then executes its triples
-/// one after another, each of which may answer want of memory by itself. `reading` is that of the clock, in
-/// milliseconds; one past `MAX_TIME` counts as that.
+/// Executes a command and leaves exactly the text of its reply in `out`. `reading` is the clock reading in
+/// milliseconds, capped at `MAX_TIME`. If memory runs out, the reply is the out-of-memory error and the database is
+/// unchanged. TS.MADD reserves its reply first and then executes its triples in order; each of them may run out of
+/// memory on its own.
 pub fn execute<L: Ledger>(
     db: &mut Db,
     command: Command,
@@ -41,7 +43,7 @@ pub fn execute<L: Ledger>(
     execute_near(db, &mut hints, command, reading, out, steps);
 }
 
-/// Executes a command as `execute` does, with hints, which change nothing that it does or answers.
+/// The same with hints. They make lookups faster, and change no effect and no reply.
 pub(crate) fn execute_near<L: Ledger>(
     db: &mut Db,
     hints: &mut Hints,
@@ -111,3 +113,11 @@ pub(crate) fn execute_near<L: Ledger>(
         Command::Exists { keys } => put(&count_keys(db, &keys), out),
     }
 }
+
+/// Law: if no triple of TS.MADD runs out of memory, its reply and effect are those of one step of the specification.
+pub fn triples_with_memory_are_one_step()
+    ensures { (reading : ℕ) (triples : List Triple) (old new : Held) (reply : Reply)
+        → (all : HasAllItems reading triples old reply new)
+        → All (λ item. item ≢ memory_reply) all.items
+        → IsStep (step old.limits old.state reading (Madd triples)) old reply new }
+{}

@@ -1,4 +1,4 @@
-// TS.INFO: what is told of a series and of how it is kept.
+// TS.INFO: properties of a series and of its storage.
 ghost use Rattle.std.specs.Prelude.{◌≡◌, ◌+◌, ◌*◌, ◌^◌, ◌<◌, ◌≤◌, [], length, map, true, false, Some, IfOk};
 ghost use Rattle.ts_spec.specs.Keyed.{get};
 ghost use Rattle.ts_spec.specs.Questions.{info_response};
@@ -23,7 +23,8 @@ use ts_sample::{Cell, Steps, Units};
 pub(crate) fn put_info<L: Ledger>(db: &Db, key: &Word, out: &mut Out, steps: &mut Steps<L>)
     requires empty { out.old.bytes ≡ [] }
     requires room { 128 ≤ out.old.spare }
-    ensures reply { (from : Held) → Stands db.now from → IsReplyText (info_response from.state key.now (get key.now from.state)) out.new.bytes }
+    ensures reply { (from : Held) → Stands db.now from
+        → IsReplyText (info_response from.state key.now (get key.now from.state)) out.new.bytes }
     ensures room { 128 ≤ length out.new.bytes + out.new.spare }
     ensures steps { steps.new ≤ steps.old + 2 * reach_at db.now key.now }
 {
@@ -36,7 +37,7 @@ pub(crate) fn put_info<L: Ledger>(db: &Db, key: &Word, out: &mut Out, steps: &mu
     }
 }
 
-// Twelve names, each followed by its value.
+// The reply: twelve names, each followed by its value.
 fn info_reply(info: Info) -> Result<Reply, AllocError>
     ensures { IfOk result (λ reply. reply_of reply ≡ spec.info_reply (info_of info)) }
 {
@@ -76,21 +77,19 @@ fn info_reply(info: Info) -> Result<Reply, AllocError>
     Ok(array(values))
 }
 
-// Words on a line.
 fn simple(words: &'static str) -> Reply
     ensures { reply_of result ≡ Simple words.now }
 {
     Reply::Simple(words)
 }
 
-// The array of these replies.
 fn array(replies: Vec<Reply>) -> Reply
     ensures { reply_of result ≡ spec.array (map reply_of replies.items) }
 {
     Reply::Array(replies)
 }
 
-// Whether an integer shows each number that is told. There is no room for a greater one.
+// Whether every number fits an integer reply of 64 bits.
 fn has_integers(info: &Info) -> bool
     ensures total { result ≡ true → info.now.total < 2 ^ 63 }
     ensures first { result ≡ true → info.now.first < 2 ^ 63 }
@@ -105,7 +104,7 @@ fn has_integers(info: &Info) -> bool
         && is_integer(info.options.ignore.time)
 }
 
-// Whether an integer of 64 bits shows a number.
+// Whether a number fits an integer reply of 64 bits.
 fn is_integer(number: u64) -> bool
     ensures small { result ≡ true → number < 2 ^ 63 }
     ensures great { result ≡ false → 2 ^ 63 ≤ number }
@@ -113,7 +112,6 @@ fn is_integer(number: u64) -> bool
     number <= i64::MAX as u64
 }
 
-// A number.
 fn number(number: u64) -> Reply
     requires { number < 2 ^ 63 }
     ensures { reply_of result ≡ spec.number number }
@@ -121,14 +119,13 @@ fn number(number: u64) -> Reply
     Reply::Int(number as i64)
 }
 
-// A value.
 fn value(value: Units) -> Reply
     ensures { reply_of result ≡ Value (Some value) }
 {
     Reply::Value(Cell::Number(value))
 }
 
-// A word, or nil.
+// The reply to an optional key: a bulk string or nil.
 fn word_or_nil(word: Option<Word>) -> Reply
     ensures { reply_of result ≡ spec.bulk_or_nil word }
 {
@@ -138,7 +135,7 @@ fn word_or_nil(word: Option<Word>) -> Reply
     }
 }
 
-// An array of all labels.
+// The array of all labels.
 fn labels_reply(alloc: Global, labels: &Labels) -> Result<Reply, AllocError>
     ensures { IfOk result (λ reply. reply_of reply ≡ spec.array (map spec.label_reply labels.now)) }
 {
@@ -159,7 +156,7 @@ fn label_reply(alloc: Global, name: &Word, value: &Word) -> Result<Reply, AllocE
     Ok(Reply::Array(vec![in alloc; name, value]?))
 }
 
-// An array of all rules.
+// The array of all compaction rules.
 fn rules_reply(alloc: Global, rules: Vec<RuleInfo>) -> Result<Reply, AllocError>
     ensures { IfOk result (λ reply. reply_of reply
         ≡ spec.array (map spec.rule_reply (map rule_info_of rules.items))) }

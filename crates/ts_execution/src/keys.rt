@@ -1,20 +1,25 @@
-// DEL and EXISTS.
-ghost use Rattle.std.specs.Prelude.{◌≡◌, ◌<◌, ◌^◌, length};
+// The general Redis commands: DEL, EXISTS, PING and ECHO.
+ghost use Rattle.std.specs.Prelude.{◌≡◌, ◌<◌, ◌^◌, length, ◌+◌, ◌≤◌, [], IsTrue};
 ghost use Rattle.ts_spec.specs.Step.{drop_keys, count_there};
 ghost use Rattle.ts_resp.specs.Replies.{reply_of};
-ghost use Rattle.ts_spec.specs.Replies.{number};
+ghost use Rattle.ts_spec.specs.Replies.{number, reply_to};
 ghost use Rattle.ts_db.specs.Held.{Held, Stands, Carries};
-ghost use Rattle.ts_questions.specs.Answering.{IsShort};
-ghost use Rattle.ts_execution.specs.Turn.{IsStep};
+ghost use Rattle.ts_questions.specs.Answering.{IsShort, IsTextOrLost};
+ghost use Rattle.ts_execution.specs.Turn.{IsStep, takes_memory};
+ghost use Rattle.ts_spec.specs.Command.{Ping, Echo};
+ghost use Rattle.ts_spec.specs.Questions.{ping_response};
+ghost use Rattle.ts_spec.specs.Response.{Word as WordBack};
 
 use crate::answers::number;
 use ts_db::Db;
-use ts_resp::{Reply, Word};
+use ts_questions::put_or_no_memory;
+use ts_resp::{Out, Reply, Word, put};
 
-/// Takes keys away, one after another, and replies how many were there. A key that is named twice counts once.
+/// Deletes keys in order. Returns how many existed; a repeated key counts once.
 pub(crate) fn drop_keys(db: &mut Db, keys: &[Word]) -> Reply
     requires few { length keys.now < 2 ^ 63 }
-    ensures answer { Carries db.old db.new (λ from to. IsStep (drop_keys from.state 0 keys.now) from (reply_of result) to) }
+    ensures answer { Carries db.old db.new
+        (λ from to. IsStep (drop_keys from.state 0 keys.now) from (reply_of result) to) }
     ensures short { IsShort (reply_of result) }
 {
     let mut count = 0;
@@ -26,7 +31,7 @@ pub(crate) fn drop_keys(db: &mut Db, keys: &[Word]) -> Reply
     number(count)
 }
 
-/// Replies how many of the words are keys.
+/// Returns how many of the arguments are keys. A repeated key counts each time.
 pub(crate) fn count_keys(db: &Db, keys: &[Word]) -> Reply
     requires few { length keys.now < 2 ^ 63 }
     ensures answer { (from : Held) → Stands db.now from → reply_of result ≡ number (count_there from.state keys.now) }
@@ -39,4 +44,33 @@ pub(crate) fn count_keys(db: &Db, keys: &[Word]) -> Reply
         }
     }
     number(count)
+}
+
+/// Writes the reply to PING: PONG, or the argument.
+pub(crate) fn put_pong(word: Option<Word>, out: &mut Out)
+    requires empty { out.old.bytes ≡ [] }
+    requires room { 128 ≤ out.old.spare }
+    ensures reply { IsTextOrLost (IsTrue (takes_memory (Ping word))) (ping_response word) out.new.bytes }
+    ensures room { 128 ≤ length out.new.bytes + out.new.spare }
+{
+    match word {
+        None => put(&Reply::Simple("PONG"), out),
+        Some(word) => put_word(word, out),
+    }
+}
+
+/// Writes an argument back. A long one may run out of memory.
+pub(crate) fn put_word(word: Word, out: &mut Out)
+    requires empty { out.old.bytes ≡ [] }
+    requires room { 128 ≤ out.old.spare }
+    ensures reply { IsTextOrLost (IsTrue (takes_memory (Echo word))) (WordBack word) out.new.bytes }
+    ensures room { 128 ≤ length out.new.bytes + out.new.spare }
+{
+    put_or_no_memory(&sent_back(word), out);
+}
+
+fn sent_back(word: Word) -> Reply
+    ensures { reply_of result ≡ reply_to (WordBack word) }
+{
+    Reply::Bulk(word)
 }

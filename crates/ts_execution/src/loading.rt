@@ -1,4 +1,4 @@
-// What loads a journal.
+// Loads a journal.
 ghost use Rattle.std.specs.Prelude.{◌≡◌, ◌≢◌, ℕ, ⊤, ◌+◌, ◌<◌, ◌≤◌, ◌^◌, true, List, [], length, None, Some};
 ghost use Rattle.std.specs.Io.KnownBytes.{IsAtEnd};
 ghost use Rattle.ts_io.specs.Causes.{Rose};
@@ -22,46 +22,46 @@ use ts_sample::Steps;
 /// How a journal was loaded.
 #[derive(Clone, Copy, Debug, PartialEq, Eq)]
 pub enum Loaded {
-    /// It was read to its end. So many of its bytes are whole requests, each a change that was done again.
+    /// Read to its end. All complete requests, which end at this offset, were replayed.
     Whole(u64),
-    /// It was read to its end, and breaks at this place.
+    /// Read to its end. The journal breaks at this offset.
     Broken(u64),
-    /// It could not be read.
+    /// A read failed.
     Fault,
-    /// As many bytes of it were read as may be.
+    /// The budget was read.
     Budget,
-    /// There was no memory.
+    /// Out of memory.
     Memory,
 }
 
-// What one read of a journal came to.
+// The result of one read of a journal.
 #[derive(Clone, Copy, Debug, PartialEq, Eq)]
 pub(crate) enum Piece {
-    // So many bytes were read: none at its end.
+    // this many bytes were read; 0 at the end of the journal
     Read(usize),
-    // It could not be read.
+    // the read failed
     Fault,
-    // There was no memory.
+    // out of memory
     Memory,
 }
 
 /// The most bytes that one read asks for.
 const PIECE: usize = 4096;
 
-// What was read of a journal so far.
+// The state of a load.
 #[derive(Drop)]
 struct Loading {
     reader: Reader,
-    // where the numbers of its keys are
+    // hints for the series of the keys
     hints: Hints,
-    // where the last change ends
+    // the offset after the last change
     end: u64,
-    // where the journal breaks, once it does
+    // the offset at which the journal breaks, if it does
     broken: Option<u64>,
 }
 
-/// Does again what the changes in a journal did, from its reading place 0 on. At most `budget` bytes of it are read, by
-/// pieces, so that memory does not grow with it. It is read to its end before it is judged.
+/// Replays the changes in a journal from offset 0. Reads at most `budget` bytes, in pieces, so memory use does not grow
+/// with the journal. Reads to the end before it reports a broken journal.
 pub fn load<J: Log>(
     alloc: Global,
     db: &mut Db,
@@ -72,7 +72,8 @@ pub fn load<J: Log>(
     requires limits { CanRead limits }
     requires bounded { IsBounded limits }
     requires start { J.place log.old ≡ 0 }
-    ensures loaded { Carries db.old db.new (λ from to. (bytes : List ℕ) → J.content log.old ≡ Some bytes → IsLoaded result limits from to bytes) }
+    ensures loaded { Carries db.old db.new
+        (λ from to. (bytes : List ℕ) → J.content log.old ≡ Some bytes → IsLoaded result limits from to bytes) }
     ensures content { J.content log.new ≡ J.content log.old }
     ensures within { EndsWithin result (J.place log.new) }
     ensures spent { result ≡ Loaded.Budget → J.place log.new ≡ budget }
@@ -102,11 +103,13 @@ pub fn load<J: Log>(
     Loaded::Budget
 }
 
-// Reads one piece, and does again what the whole changes with it did, unless the journal broke before.
+// Reads one piece and replays the changes that it completes, unless the journal has already broken.
 fn read_piece<J: Log>(loading: &mut Loading, db: &mut Db, log: &mut J, buffer: &mut [u8]) -> Piece
     requires within { fed loading.old.reader + length buffer.old < 2 ^ 64 }
     requires room { 0 < length buffer.old }
-    ensures takes { IfRead result (λ count. Takes count (unread (J.content log.old) (J.place log.old)) (unread (J.content log.new) (J.place log.new))
+    ensures takes { IfRead result
+        (λ count. Takes count (unread (J.content log.old) (J.place log.old))
+        (unread (J.content log.new) (J.place log.new))
         loading.old loading.new db.old db.new) }
     ensures carries { Carries db.old db.new (λ from to. ⊤) }
     ensures at_end { result ≡ Piece.Read 0 → IsAtEnd (unread (J.content log.new) (J.place log.new)) }
@@ -130,7 +133,7 @@ fn read_piece<J: Log>(loading: &mut Loading, db: &mut Db, log: &mut J, buffer: &
 }
 
 impl Loading {
-    // What was found, where the journal ends here, after so many bytes.
+    // The result, if the journal ends after `taken` bytes.
     fn verdict(&self, taken: u64) -> Loaded
         ensures { result ≡ verdict self.now taken }
     {
@@ -140,7 +143,8 @@ impl Loading {
         }
     }
 
-    // Does again what the whole changes with this piece did, unless the journal broke before. False: there was no memory.
+    // Replays the changes that this piece completes, unless the journal has already broken. Returns `false` if memory
+    // ran out.
     fn take_piece<L: Ledger>(&mut self, db: &mut Db, bytes: &[u8], blank: Blank) -> bool
         requires within { fed self.old.reader + length bytes.now < 2 ^ 64 }
         requires name { blank.name ≡ L.name }
@@ -156,7 +160,7 @@ impl Loading {
         }
     }
 
-    // The same where the journal did not break.
+    // The same for a journal that has not broken.
     fn take_more<L: Ledger>(&mut self, db: &mut Db, bytes: &[u8], blank: Blank) -> bool
         requires whole { self.old.broken ≡ None }
         requires within { fed self.old.reader + length bytes.now < 2 ^ 64 }
@@ -174,7 +178,7 @@ impl Loading {
         }
     }
 
-    // Does again what the whole changes did. False: there was no memory.
+    // Replays every complete change. Returns `false` if memory ran out.
     fn take_all<L: Ledger>(&mut self, db: &mut Db, steps: &mut Steps<L>) -> bool
         requires whole { self.old.broken ≡ None }
         ensures loads { Carries db.old db.new (λ from to. LoadsIf result self.old self.new [] from to) }

@@ -1,10 +1,10 @@
-// The names that TS.INFO tells.
+// The names of encodings and policies in TS.INFO.
 ghost use Rattle.std.specs.Prelude.{◌≡◌};
 ghost use Rattle.ts_spec.specs.Replies as spec;
 
 use ts_spec::{Encoding, Policy};
 
-/// The name of an encoding, in lower case.
+/// The name of an encoding in lower case.
 pub(crate) fn encoding_name(encoding: Encoding) -> &'static str
     ensures { result.now ≡ spec.encoding_name encoding }
 {
@@ -14,7 +14,7 @@ pub(crate) fn encoding_name(encoding: Encoding) -> &'static str
     }
 }
 
-/// The name of a policy, in lower case.
+/// The name of a duplicate policy in lower case.
 pub(crate) fn policy_name(policy: Policy) -> &'static str
     ensures { result.now ≡ spec.policy_name policy }
 {

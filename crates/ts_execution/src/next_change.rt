@@ -1,4 +1,4 @@
-// The next change of a journal.
+// Replays the next change of a journal.
 ghost use Rattle.std.specs.Prelude.{◌≡◌, ◌<◌, ◌≤◌};
 ghost use Rattle.ts_resp.specs.Reading.{fed};
 ghost use Rattle.ts_db.specs.Held.{Carries};
@@ -10,20 +10,20 @@ use ts_db::{Db, Hints};
 use ts_resp::{Next, Reader};
 use ts_sample::Steps;
 
-/// What is found in the bytes of a journal.
+/// The result of replaying the next change.
 #[derive(Clone, Copy, Debug, PartialEq, Eq)]
 pub(crate) enum Found {
-    /// A change, which ends at this place.
+    /// A change was replayed. It ends at this offset.
     Change(u64),
-    /// No further whole request.
+    /// No complete request is left.
     Nothing,
-    /// That the journal breaks at this place.
+    /// The journal breaks at this offset.
     Broken(u64),
-    /// No memory.
+    /// Out of memory.
     Memory,
 }
 
-/// Does again what the next request did, if one is whole. The requests before it end at this place.
+/// Replays the next request, if it is complete. `end` is the offset after the requests before it.
 pub(crate) fn next_change<L: Ledger>(
     reader: &mut Reader,
     end: u64,
@@ -48,7 +48,7 @@ pub(crate) fn next_change<L: Ledger>(
     }
 }
 
-// What is found by a request that ends at a place, where those before it end at another.
+// The result after a request that ends at `after`, where the requests before it end at `before`.
 fn found_by(answer: Restored, after: u64, before: u64) -> Found
     ensures { result ≡ found_by answer after before }
 {

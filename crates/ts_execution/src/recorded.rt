@@ -1,5 +1,6 @@
-// The turn of a request, with its record.
-ghost use Rattle.std.specs.Prelude.{◌≡◌, ◌+◌, ◌≤◌, true, false, [], length, Option, None, Some, IfOk, IfErr, OnErr, IfSome, IfNone};
+// Handles a request and makes its journal record.
+ghost use Rattle.std.specs.Prelude.{◌≡◌, ◌+◌, ◌≤◌, true, false, [], length, Option, None, Some, IfOk, IfErr, OnErr};
+ghost use Rattle.std.specs.Prelude.{IfSome, IfNone};
 ghost use Rattle.ts_spec.specs.Run.{is_quit};
 ghost use Rattle.ts_command.specs.Answers.{HasTime};
 ghost use Rattle.ts_command.specs.Reading.{command_of};
@@ -22,15 +23,15 @@ use ts_questions::put_no_memory;
 use ts_resp::{Out, Word, put};
 use ts_sample::Steps;
 
-/// What is known of a request that had its turn: whether it is QUIT, and the record of what it changes.
+/// The result of a handled request: whether it was QUIT, and its record if it is a change.
 #[derive(Drop)]
 pub struct Taken {
     pub quits: bool,
     pub entry: Option<Record>,
 }
 
-/// Gives a request its turn, and leaves its reply in `room`. The room of its record is taken before it is executed; where
-/// there is none, it is refused.
+/// Handles a request and leaves its reply in `room`. Allocates its record before it executes the request; if that
+/// fails, the request fails with out of memory.
 pub fn take_recorded<C: Clock, L: Ledger>(
     alloc: Global,
     db: &mut Db,
@@ -41,7 +42,8 @@ pub fn take_recorded<C: Clock, L: Ledger>(
     steps: &mut Steps<L>,
 ) -> Taken
     requires { 128 ≤ length room.old.bytes + room.old.spare }
-    ensures recorded { Carries db.old db.new (λ from to. Recorded words.items (record { held = from; readings = C.readings clock.old })
+    ensures recorded { Carries db.old db.new
+        (λ from to. Recorded words.items (record { held = from; readings = C.readings clock.old })
         room.new.bytes (told_by result.entry room.new.bytes) (record { held = to; readings = C.readings clock.new })) }
     ensures quits { result.quits ≡ is_quit words.items }
     ensures room { 128 ≤ length room.new.bytes + room.new.spare }
@@ -63,7 +65,7 @@ pub fn take_recorded<C: Clock, L: Ledger>(
     }
 }
 
-// Executes a command, where there is room for its record.
+// Executes a command, if its record can be allocated.
 fn execute_recorded<C: Clock, L: Ledger>(
     alloc: Global,
     db: &mut Db,
@@ -75,7 +77,8 @@ fn execute_recorded<C: Clock, L: Ledger>(
 ) -> Option<Record>
     requires room { 128 ≤ length room.old.bytes + room.old.spare }
     requires time { HasTime command }
-    ensures recorded { Carries db.old db.new (λ from to. IsRecorded (command_of command) (record { held = from; readings = C.readings clock.old })
+    ensures recorded { Carries db.old db.new
+        (λ from to. IsRecorded (command_of command) (record { held = from; readings = C.readings clock.old })
         room.new.bytes (told_by result room.new.bytes) (record { held = to; readings = C.readings clock.new })) }
     ensures room { 128 ≤ length room.new.bytes + room.new.spare }
 {
@@ -93,7 +96,7 @@ fn execute_recorded<C: Clock, L: Ledger>(
     }
 }
 
-// The record of a change, and None for any other command, which needs no memory here.
+// Makes the record of a change. Returns `Ok(None)` for any other command, without allocating.
 fn record_for(alloc: Global, command: &Command, reading: u64) -> Result<Option<Record>, AllocError>
     ensures record { IfOk result (HasRecord reading (command_of command.now)) }
     ensures change { OnErr result (is_change (command_of command.now) ≡ true) }
@@ -107,7 +110,7 @@ fn record_for(alloc: Global, command: &Command, reading: u64) -> Result<Option<R
     }
 }
 
-// Whether a command is one of those that change the database.
+// Whether a command changes the database.
 fn is_change(command: &Command) -> bool
     ensures { result ≡ is_change (command_of command.now) }
 {

@@ -1,11 +1,12 @@
-// A request of a journal: what it did is done again.
+// Replays one request of a journal.
 ghost use Rattle.std.specs.Prelude.{◌≡◌, ◌<◌, ◌^◌, false, length};
 ghost use Rattle.ts_spec.specs.Grammar.{needs_clock};
 ghost use Rattle.ts_spec.specs.Command as spoken;
 ghost use Rattle.ts_command.specs.Answers.{HasTime};
 ghost use Rattle.ts_command.specs.Reading.{command_of, triple_of, triples_of};
 ghost use Rattle.ts_db.specs.Held.{Carries};
-ghost use Rattle.ts_execution.specs.Restoring.{restored_of_fault, restored_of, restored_of_words, Restores, RestoresTriple, RestoresWords};
+ghost use Rattle.ts_execution.specs.Restoring.{restored_of_fault, restored_of, restored_of_words, Restores};
+ghost use Rattle.ts_execution.specs.Restoring.{RestoresTriple, RestoresWords};
 
 use crate::changes::time_at;
 use crate::keys::drop_keys;
@@ -15,18 +16,18 @@ use ts_db::{Db, DbFault, Hints};
 use ts_resp::Word;
 use ts_sample::Steps;
 
-/// How a request of a journal went.
+/// The result of replaying a request.
 #[derive(Clone, Copy, Debug, PartialEq, Eq)]
 pub(crate) enum Restored {
-    /// It is done again.
+    /// The change was made again.
     Accepted,
-    /// It is none that a journal has, or the database refuses it.
+    /// The request is invalid in a journal, or the database rejects it.
     Refused,
-    /// There was no memory for it.
+    /// Out of memory.
     Memory,
 }
 
-/// Does again what a request of a journal did: a change that does not ask for the time.
+/// Replays a request of a journal. It must be a change that does not read the clock.
 pub(crate) fn restore_request<L: Ledger>(
     db: &mut Db,
     hints: &mut Hints,
@@ -41,7 +42,7 @@ pub(crate) fn restore_request<L: Ledger>(
     }
 }
 
-// How a request went whose words are no command.
+// The result for arguments that are no command.
 fn restored_of_words(fault: CommandFault) -> Restored
     ensures { result ≡ restored_of_words fault }
 {
@@ -51,7 +52,7 @@ fn restored_of_words(fault: CommandFault) -> Restored
     }
 }
 
-// The same of a command.
+// The same for a command.
 fn restore_command<L: Ledger>(
     db: &mut Db,
     hints: &mut Hints,
@@ -67,7 +68,7 @@ fn restore_command<L: Ledger>(
     restore_change(db, hints, command, steps)
 }
 
-// The same of a command that does not ask for the time.
+// The same for a command that does not read the clock.
 fn restore_change<L: Ledger>(
     db: &mut Db,
     hints: &mut Hints,
@@ -108,7 +109,7 @@ fn restore_change<L: Ledger>(
     }
 }
 
-// Takes keys away.
+// Deletes keys.
 fn restore_drop(db: &mut Db, keys: &[Word]) -> Restored
     requires few { length keys.now < 2 ^ 63 }
     ensures restores { Carries db.old db.new (λ from to. Restores result (spoken.Drop keys.now) from to) }
@@ -117,7 +118,7 @@ fn restore_drop(db: &mut Db, keys: &[Word]) -> Restored
     Restored::Accepted
 }
 
-// Writes samples, one after another, up to the first one that is refused.
+// Writes samples in order, up to the first one that is rejected.
 fn restore_triples<L: Ledger>(
     db: &mut Db,
     hints: &mut Hints,
@@ -125,7 +126,8 @@ fn restore_triples<L: Ledger>(
     steps: &mut Steps<L>,
 ) -> Restored
     requires clock { needs_clock (spoken.Madd (triples_of triples.items)) ≡ false }
-    ensures restores { Carries db.old db.new (λ from to. Restores result (spoken.Madd (triples_of triples.items)) from to) }
+    ensures restores { Carries db.old db.new
+        (λ from to. Restores result (spoken.Madd (triples_of triples.items)) from to) }
 {
     for triple in triples {
         match restore_triple(db, hints, triple, steps) {
@@ -137,7 +139,6 @@ fn restore_triples<L: Ledger>(
     Restored::Accepted
 }
 
-// Writes one sample.
 fn restore_triple<L: Ledger>(
     db: &mut Db,
     hints: &mut Hints,
@@ -156,7 +157,7 @@ fn restore_triple<L: Ledger>(
     }
 }
 
-// How a call went that only gets done.
+// The result for a command that returns OK.
 fn done(outcome: Result<(), DbFault>) -> Restored
     ensures { result ≡ restored_of outcome }
 {
@@ -166,7 +167,7 @@ fn done(outcome: Result<(), DbFault>) -> Restored
     }
 }
 
-// How a call went that answers a time, or how many.
+// The result for a command that returns a time or a count.
 fn numbered(outcome: Result<u64, DbFault>) -> Restored
     ensures { result ≡ restored_of outcome }
 {
@@ -176,7 +177,7 @@ fn numbered(outcome: Result<u64, DbFault>) -> Restored
     }
 }
 
-// Whether a fault is want of memory.
+// Tells out of memory from other errors.
 fn of_fault(fault: DbFault) -> Restored
     ensures { result ≡ restored_of_fault fault }
 {

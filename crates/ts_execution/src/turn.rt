@@ -1,4 +1,4 @@
-// The turn of one request.
+// Handles one request.
 ghost use Rattle.std.specs.Prelude.{◌≡◌, ◌+◌, ◌≤◌, length, Ok};
 ghost use Rattle.ts_spec.specs.Run.{is_quit, says_quit};
 ghost use Rattle.ts_spec.specs.Grammar.{is_clock, needs_clock};
@@ -18,8 +18,8 @@ use ts_resp::{Out, Word, put};
 use ts_sample::Steps;
 use ts_spec::At;
 
-/// Gives a request its turn, and leaves its reply in `room`. Answers whether the request is QUIT. What a command takes of
-/// the words is gone from them afterwards.
+/// Handles a request and leaves its reply in `room`. Returns whether it was QUIT. Moves arguments that the command
+/// stores out of `words`.
 pub fn take_turn<C: Clock, L: Ledger>(
     db: &mut Db,
     hints: &mut Hints,
@@ -29,7 +29,8 @@ pub fn take_turn<C: Clock, L: Ledger>(
     steps: &mut Steps<L>,
 ) -> bool
     requires { 128 ≤ length room.old.bytes + room.old.spare }
-    ensures turn { Carries db.old db.new (λ from to. turn (record { held = from; readings = C.readings clock.old }) words.old.items room.new.bytes
+    ensures turn { Carries db.old db.new
+        (λ from to. turn (record { held = from; readings = C.readings clock.old }) words.old.items room.new.bytes
         (record { held = to; readings = C.readings clock.new })) }
     ensures quits { result ≡ is_quit words.old.items }
     ensures room { 128 ≤ length room.new.bytes + room.new.spare }
@@ -50,7 +51,7 @@ pub fn take_turn<C: Clock, L: Ledger>(
     false
 }
 
-// The same by way of a command, which is large and is kept out of the caller.
+// The same for any other command. A `Command` is large, so this is not inlined into the caller.
 #[inline(never)]
 fn take_command<C: Clock, L: Ledger>(
     db: &mut Db,
@@ -61,7 +62,8 @@ fn take_command<C: Clock, L: Ledger>(
     steps: &mut Steps<L>,
 ) -> bool
     requires { 128 ≤ length room.old.bytes + room.old.spare }
-    ensures turn { Carries db.old db.new (λ from to. turn (record { held = from; readings = C.readings clock.old }) words.items room.new.bytes
+    ensures turn { Carries db.old db.new
+        (λ from to. turn (record { held = from; readings = C.readings clock.old }) words.items room.new.bytes
         (record { held = to; readings = C.readings clock.new })) }
     ensures quits { result ≡ is_quit words.items }
     ensures room { 128 ≤ length room.new.bytes + room.new.spare }
@@ -81,7 +83,6 @@ fn take_command<C: Clock, L: Ledger>(
     }
 }
 
-// Whether the command is QUIT.
 pub(crate) fn says_quit(command: &Command) -> bool
     ensures { result ≡ says_quit (Ok (command_of command.now)) }
 {
@@ -91,7 +92,7 @@ pub(crate) fn says_quit(command: &Command) -> bool
     }
 }
 
-// The time, for a command that needs it, and else 0.
+// The clock reading in milliseconds if the command needs one, and 0 otherwise.
 pub(crate) fn reading_for<C: Clock>(command: &Command, clock: &mut C) -> u64
     ensures reading { IsReading (needs_clock (command_of command.now)) (C.readings clock.old) result }
     ensures left { C.readings clock.new ≡ left_by (needs_clock (command_of command.now)) (C.readings clock.old) }
@@ -103,7 +104,7 @@ pub(crate) fn reading_for<C: Clock>(command: &Command, clock: &mut C) -> u64
     }
 }
 
-// The time, for a sample that has the clock's, and else 0.
+// The clock reading in milliseconds if the sample's time is the clock's, and 0 otherwise.
 fn reading_at<C: Clock>(at: At, clock: &mut C) -> u64
     ensures reading { IsReading (is_clock at) (C.readings clock.old) result }
     ensures left { C.readings clock.new ≡ left_by (is_clock at) (C.readings clock.old) }

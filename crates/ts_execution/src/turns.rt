@@ -1,4 +1,4 @@
-// Turns of any kind, as a session gives them.
+// Request handlers, as a session uses them.
 ghost use Rattle.std.specs.Prelude.{◌≡◌, ◌+◌, ◌≤◌, List, ℕ, length, Option, IfOk};
 ghost use Rattle.ts_spec.specs.Run.{is_quit};
 ghost use Rattle.ts_db.specs.Held.{Held, Carries};
@@ -12,22 +12,22 @@ use ts_io::{Clock, Failed, Sink, write_all_counted};
 use ts_resp::{Out, Word};
 use ts_sample::Steps;
 
-/// What gives requests their turns: what a turn does to the world beside the reply that it writes, and what else may fail.
+/// Handles requests. Says what handling does beyond the reply, and what else may fail.
 pub trait Turns {
-    /// The kind of turn.
+    /// The kind of handler.
     ghost kind: { kinds.Turns };
 
-    /// The world where the database stands for this, and the clock has these readings left.
+    /// The world, given the database and the clock readings left.
     ghost world: { Self → Held → Option (List ℕ) → kind.World };
 
-    /// The counts of its own faults.
+    /// Its own fault counters.
     ghost own: { Self → kind.Faults };
 
-    /// The reference that it works through, if it holds one: which it is stays.
+    /// The identity of the reference that it holds, if any. It does not change.
     ghost lent: { Self → ℕ };
 
-    /// Gives a request its turn, leaves its reply in `room`, and writes it to `out`. Answers whether the request is
-    /// QUIT. What a command takes of the words is gone from them afterwards. Hints change nothing that is done or written.
+    /// Handles a request, leaves its reply in `room` and writes it to `out`. Returns whether it was QUIT. Moves
+    /// arguments that the command stores out of `words`. Hints change no effect and no reply.
     fn answer<C: Clock, K: Sink, L: Ledger>(
         &mut self,
         db: &mut Db,
@@ -40,14 +40,16 @@ pub trait Turns {
     ) -> Result<bool, Failed>
         requires { 128 ≤ length room.old.bytes + room.old.spare }
         ensures answered { Carries db.old db.new (λ from to. kinds.Answered kind result words.old.items room.new.bytes
-            (world self.old from (C.readings clock.old)) (world self.new to (C.readings clock.new)) (K.has out.old) (K.has out.new)) }
+            (world self.old from (C.readings clock.old)) (world self.new to (C.readings clock.new)) (K.has out.old)
+            (K.has out.new)) }
         ensures quits { IfOk result (λ quits. quits ≡ is_quit words.old.items) }
         ensures room { 128 ≤ length room.new.bytes + room.new.spare }
-        ensures cause { kinds.HasTurnCause kind result (K.faults out.old) (K.faults out.new) (own self.old) (own self.new) }
+        ensures cause { kinds.HasTurnCause kind result (K.faults out.old) (K.faults out.new) (own self.old)
+            (own self.new) }
         ensures lent { lent self.new ≡ lent self.old };
 }
 
-/// Turns that do no more than what a request asks.
+/// Handles requests without a journal.
 #[derive(Drop)]
 pub struct Plain;
 

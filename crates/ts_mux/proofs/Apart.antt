@@ -1,4 +1,4 @@
--- Keys of a map from numbers, which are equal or apart.
+-- Lemmas about maps from numbers: two keys are equal or different.
 use Rattle.std.proofs.Common.{◌≡◌, ℕ, Bool, true, false, ◌==◌, refl, sym, ap, ◌∙◌, cond, nat_lt, Less, Equal, Greater}
 use Rattle.std.proofs.lemmas.Bool.{eqb-true, eqb-false}
 use Rattle.std.specs.Ordering.{is_eq, nat_cmp}

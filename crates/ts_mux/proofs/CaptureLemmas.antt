@@ -1,4 +1,4 @@
--- Reading a capture: one byte, and the bytes of a frame.
+-- Lemmas about parsing a capture: one byte, and the body of a frame.
 use Rattle.std.proofs.Common.{◌≡◌, ℕ, zero, suc, ◌+◌, ◌-◌, ◌<◌, ◌≤◌, List, [], ◌∷◌, ◌++◌, length, take, drop, refl, sym, ap, ◌∙◌, append_assoc, arith}
 use Rattle.std.proofs.lemmas.List.{take-append-drop, length-take-le}
 use Rattle.std.specs.Prelude.{slice_index}
@@ -14,13 +14,13 @@ unfolding read_on
 read_on-byte place begin mode byte bytes m e =
     ap (λ m. after_move m place begin (λ from next. read_on (place + 1) from next bytes)) e
 
--- the first of some bytes
+-- the first of these bytes
 pub read_on-first : (place begin : ℕ) (mode : Mode) (bytes : List ℕ) (m : Move) → 0 < length bytes → move mode (slice_index bytes 0) ≡ m
     → (more : List ℕ) → read_on place begin mode (bytes ++ more) ≡ after_move m place begin (λ from next. read_on (place + 1) from next (drop 1 bytes ++ more))
 read_on-first place begin mode [] m h e more = absurd (omega arith)
 read_on-first place begin mode (byte ∷ bytes) m h e more = read_on-byte place begin mode byte (bytes ++ more) m e
 
--- the bytes of a frame of which some came before
+-- the body of a frame, part of which was read before
 pub body_is_read : (link : ℕ) (byte : ℕ) (bytes : List ℕ) (place begin : ℕ) (front more : List ℕ)
     → read_on place begin (Body link (suc (length bytes)) front) (byte ∷ bytes ++ more)
     ≡ Then (record { link = link; bytes = front ++ byte ∷ bytes }) (capture_at (place + suc (length bytes)) more)
@@ -34,7 +34,7 @@ body_is_read link byte (next ∷ bytes) place begin front more =
     ∙ ap (λ place. Then (record { link = link; bytes = (front ++ byte ∷ []) ++ next ∷ bytes }) (capture_at place more)) there
     ∙ ap (λ all. Then (record { link = link; bytes = all }) (capture_at (place + suc (length (next ∷ bytes))) more)) (append_assoc front (byte ∷ []) (next ∷ bytes))
 
--- bytes that are not all
+-- a prefix of a body
 pub body_is_open : (link later : ℕ) (bytes : List ℕ) (place begin : ℕ) (front : List ℕ) → length bytes < later
     → read_on place begin (Body link later front) bytes ≡ Inside begin
 body_is_open link zero bytes place begin front h = absurd (omega arith)
@@ -45,7 +45,7 @@ body_is_open link (suc (suc later)) (byte ∷ bytes) place begin front h =
     read_on-byte place begin (Body link (suc (suc later)) front) byte bytes _ (ap (λ n. after_bytes link n (front ++ byte ∷ [])) less)
     ∙ body_is_open link (suc later) bytes (place + 1) begin (front ++ byte ∷ []) (omega arith)
 
--- the first bytes, where they are all of a frame
+-- the whole body, then the rest
 whole : (link : ℕ) (body rest : List ℕ) (place begin : ℕ) (more : List ℕ) → 0 < length body
     → read_on place begin (Body link (length body) []) (body ++ (rest ++ more))
     ≡ Then (record { link = link; bytes = body }) (capture_at (place + length body) (rest ++ more))

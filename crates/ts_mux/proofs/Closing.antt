@@ -1,4 +1,4 @@
--- What is ahead of a Mux after a fault, and after a connection was closed.
+-- Lemmas about the pending items of a `Mux` after a protocol error, and after it closed a connection.
 use Rattle.std.proofs.Common.{◌≡◌, ℕ, Bool, true, false, ◌==◌, if◌then◌else◌, List, [], ◌∷◌, ◌++◌, length, drop, get_or, Option, Some, None, refl, sym, ap, ◌∙◌, subst}
 use Rattle.std.proofs.lemmas.Bool.{eqb-true, eqb-false, eq-eqb}
 use Rattle.std.specs.Ordering.{nat_cmp}
@@ -9,15 +9,15 @@ use Rattle.ts_resp.specs.Reading.{Reading, stream_of}
 use Rattle.ts_resp.specs.declared.protocol.Protocol.{Protocol}
 use Rattle.ts_mux.specs.declared.frame.Frame.{Frame}
 use Rattle.ts_mux.specs.declared.hand.Hand.{Hand}
-use Rattle.ts_mux.specs.declared.turn.Turn.{Turn}
-use Rattle.ts_mux.specs.declared.turn.Turn.TheVariants as turn
+use Rattle.ts_mux.specs.declared.hand.Turn.{Turn}
+use Rattle.ts_mux.specs.declared.hand.Turn.TheVariants as turn
 use Rattle.ts_mux.specs.Order.{Connection, Asked, Failed, events_of, news_of, items_of, items_from, without, closes_none}
 use Rattle.ts_mux.specs.Links.{at_hand, stream_or, reader_or, connections, left_of, ahead_of, hand_without, Marks}
 use Rattle.ts_mux.specs.Turns.{SaysOf, GivesTurn}
 use Rattle.ts_mux.proofs.OrderLemmas.{AreAlikeBut, IsDone, without-append, without-own, without-other, without-done}
 use Rattle.ts_mux.proofs.MuxLemmas.{ahead_same, ahead_asked}
 
--- ---- a fault
+-- ---- a protocol error
 
 done_broken : (limits : WireLimits) (closed : List Bool) (readers : BTreeMap ℕ Reading) (link : ℕ) (reader : Reading) (p : Protocol)
     → ((more : List ℕ) → stream_of reader more ≡ Broken p.kind p.place)
@@ -69,7 +69,7 @@ gives limits closed readers turn old new e says =
     subst (λ at. GivesTurn turn (ahead_of limits closed readers (Some old)) (ahead_of limits closed readers (Some (record { link = at; reader = new.reader }))))
     (sym e) (gives_here limits closed readers turn old.link old.reader new.reader says)
 
--- ---- a connection that is closed
+-- ---- a closed connection
 
 left_without : (link : ℕ) (hand : Option Hand) → left_of (hand_without link hand) ≡ without link (left_of hand)
 left_without link None = refl

@@ -1,4 +1,4 @@
--- The order of interleaved connections, out of what comes where no request closes anything.
+-- `order` follows from `open_order`, in which no request closes its connection.
 use Rattle.std.proofs.Common.{◌≡◌, ℕ, Bool, true, false, not, ◌||◌, ◌==◌, if◌then◌else◌, List, [], ◌∷◌, ◌++◌, None, refl, sym, ap, ◌∙◌, subst}
 use Rattle.std.proofs.lemmas.Bool.{eqb-true, eqb-false, eq-eqb}
 use Rattle.ts_spec.specs.Wire.{Request}
@@ -41,7 +41,7 @@ module _ (closes : Request → Bool) where
   has_both (Asked request ∷ events) = ap (λ test. closes request || test) (has_both events)
   has_both (Failed fault ∷ events) = refl
 
-  -- where none of them closes, no fault does
+  -- no event closes, so there is no protocol error
   none_ends : (events : List Event) → has_end closes events ≡ false → has_end closes_none events ≡ false
   none_ends [] e = refl
   none_ends (Asked request ∷ events) e = go (closes request) e (λ rest. none_ends events rest)
@@ -73,7 +73,7 @@ module _ (closes : Request → Bool) where
           ∙ both (has_end closes events)
       go false h = h
 
-  -- the frames after one
+  -- the frames after the first one
   after_one : (connections : ℕ → Connection) (link : ℕ) (bytes : List ℕ) (frames : List Frame)
       → items_from closes (with_link connections link (after_bytes closes (connections link) bytes)) frames
       ≡ (if has_end closes (news_of (connections link) [] bytes)
@@ -112,7 +112,7 @@ module _ (closes : Request → Bool) where
       ∙ ap (λ items. items_of frame.link (until_end closes news) ++ (if has_end closes news then without frame.link items else items)) (items-closing after frames)
       ∙ ap (λ items. items_of frame.link (until_end closes news) ++ items) (sym (after_one connections frame.link frame.bytes frames))
 
-  -- a connection that is closed takes nothing from the others
+  -- a closed connection does not affect the others
   pub closing-without : (link : ℕ) (items : List Item) → closing closes (without link items) ≡ without link (closing closes items)
   closing-without link [] = refl
   closing-without link (item ∷ items) = go (item.link == link) refl (closing-without link items)

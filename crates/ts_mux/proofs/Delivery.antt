@@ -1,4 +1,4 @@
--- What is ahead of a Mux before a frame is delivered, and after it.
+-- Lemmas about the pending items of a `Mux` before and after it delivers a frame.
 use Rattle.std.proofs.Common.{◌≡◌, ℕ, suc, Bool, true, false, ◌<◌, ◌==◌, if◌then◌else◌, List, [], ◌∷◌, ◌++◌, length, drop, get_or, Option, Some, None, refl, sym, ap, ◌∙◌, subst, append_assoc, append-nil, arith}
 use Rattle.std.proofs.lemmas.Bool.{eqb-true, eqb-false, eq-eqb}
 use Rattle.std.specs.Ordering.{nat_cmp}
@@ -16,7 +16,7 @@ use Rattle.ts_spec.proofs.Fronts.{read_on-front}
 use Rattle.ts_mux.proofs.OneConnection.{none_new}
 use Rattle.ts_mux.proofs.OrderLemmas.{Alike, AreAlike, AreAlikeBut, IsDone, items-alike, without-done}
 
--- ---- the events of a stream, where no request closes anything
+-- ---- the events of a stream, if no request closes its connection
 
 until_none : (stream : Stream) → until_end closes_none (events_of stream) ≡ events_of stream
 until_none (Then request place rest) = ap (λ events. Asked request ∷ events) (until_none rest)
@@ -24,7 +24,7 @@ until_none Ended = refl
 until_none (Inside place) = refl
 until_none (Broken kind place) = refl
 
--- a front that is broken is whole
+-- a broken prefix of a stream is the whole stream
 front_broken : (front whole : Stream) → has_end closes_none (events_of front) ≡ true → IsFront front whole → whole ≡ front
 front_broken (Then request place rest) whole e h = h.1 ∙ ap (λ others. Then request place others) (front_broken rest h.0 e h.2)
 front_broken Ended whole e h = absurd (eqb-false 0 0 (sym e) refl)
@@ -50,7 +50,7 @@ done_reader reader e = λ before bytes.
     same : (more : List ℕ) → stream_of reader more ≡ stream_of reader []
     same more = front_broken (stream_of reader []) (stream_of reader more) e (reader_front reader more)
 
--- ---- bytes for the reader at hand
+-- ---- bytes for the current connection
 
 alike_fed : (old new : Reading) (bytes : List ℕ) → ((more : List ℕ) → stream_of new more ≡ stream_of old (bytes ++ more))
     → Alike (Some (λ more. stream_of new more)) (later (Some (λ more. stream_of old more)) bytes)
@@ -153,7 +153,7 @@ none_of (byte ∷ bytes) e =
     let long : suc (length bytes) ≡ 0 = eqb-true (length (byte ∷ bytes)) 0 e in
     absurd (omega (long, arith))
 
--- a frame without bytes
+-- an empty frame
 pub ahead_empty : (limits : WireLimits) (closed : List Bool) (readers : BTreeMap ℕ Reading) (hand : Option Hand) (frame : Frame) → (length frame.bytes == 0) ≡ true
     → ahead_of limits closed readers hand [] ≡ [] → (frames : List Frame)
     → without frame.link (ahead_of limits closed readers hand frames) ≡ ahead_of limits closed readers hand (frame ∷ frames)

@@ -1,4 +1,4 @@
--- Frames that are written read back as these frames.
+-- Written frames parse back to the same frames.
 use Rattle.std.proofs.Common.{◌≡◌, ℕ, suc, ◌+◌, ◌*◌, ◌/◌, ◌%◌, ◌^◌, ◌<◌, ◌≤◌, ◌&&◌, nat_le, if◌then◌else◌, List, [], ◌∷◌, ◌++◌, length, Option, Some, None, All, refl, ap, ◌∙◌, append_assoc, length-append, arith}
 use Rattle.std.proofs.lemmas.Bool.{ne_eqb, le-leb}
 use Rattle.std.proofs.lemmas.Fmt.{decimal_by_steps}
@@ -9,7 +9,7 @@ use Rattle.ts_mux.specs.Capture.{Capture, Then, Ended, Mode, Link, Length, MOST_
 use Rattle.ts_mux.specs.Framing.{IsFrame}
 use Rattle.ts_mux.proofs.CaptureLemmas.{read_on-nil, read_on-byte, body_is_read}
 
--- a number whose next digits are read in these modes
+-- the states in which the digits of a number are parsed
 record IsNumberMode (least most : ℕ) (mode : Option ℕ → Mode) : Type 0 where
   small : least ≤ 1
   moves : (so_far : Option ℕ) (byte : ℕ) → 48 ≤ byte → move (mode so_far) byte ≡ goes mode (with_byte least most so_far byte)
@@ -43,7 +43,7 @@ with_digit-more least most number digit some small fits =
     ap (λ test. if test then None else within least most (10 * number + digit)) (ne_eqb number 0 (λ e. omega arith))
     ∙ within-is least most (10 * number + digit) (omega arith) fits
 
--- the digits of a number are read as that number
+-- the digits of a number parse to that number
 abbrev AreRead : (least most : ℕ) (mode : Option ℕ → Mode) (number : ℕ) → List ℕ → Type 0
 AreRead least most mode number digits =
     least ≤ number → number ≤ most → (place begin : ℕ) (more : List ℕ)
@@ -70,11 +70,11 @@ number_is_read {least} {most} {mode} m number small = decimal_by_steps (AreRead 
         ∙ ap (goes mode) (with_byte-is least most (Some (n / 10)) (n % 10) (omega arith) ∙ with_digit-more least most (n / 10) (n % 10) some small (omega (arith, whole, high)) ∙ ap Some whole))
         ∙ ap (λ place. read_on place begin (mode (Some n)) rest) there
 
--- some place after these bytes, from which the capture goes on
+-- these bytes lead to some offset, from which the capture continues
 abbrev Leads : Capture → (ℕ → Capture) → Type 0
 Leads capture rest = (place : ℕ) × (capture ≡ rest place)
 
--- the bytes of a frame, after its header
+-- the body of a frame after its header
 bytes_are_read : (link : ℕ) (bytes : List ℕ) (place begin : ℕ) (more : List ℕ)
     → Leads (after_move (after_bytes link (length bytes) []) place begin (λ from next. read_on (place + 1) from next (bytes ++ more)))
     (λ after. Then (record { link = link; bytes = bytes }) (capture_at after more))

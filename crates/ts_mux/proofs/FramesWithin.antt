@@ -1,4 +1,4 @@
--- The frames of a capture are within the bounds of frames.
+-- The frames of a capture have valid connection numbers and lengths.
 use Rattle.std.proofs.Common.{◌≡◌, ℕ, zero, suc, ◌+◌, ◌-◌, ◌*◌, ◌≤◌, Bool, true, false, ◌&&◌, ◌==◌, nat_le, if◌then◌else◌, List, [], ◌∷◌, ◌++◌, length, Option, Some, None, All, refl, sym, subst, length-append, arith}
 use Rattle.std.proofs.lemmas.Bool.{leb-true}
 use Rattle.std.proofs.lemmas.List.Elements.{All-cons, All-nil}
@@ -9,7 +9,7 @@ use Rattle.ts_mux.specs.Capture.{Capture, Mode, Link, Length, Body, Move, Goto, 
 use Rattle.ts_mux.proofs.CaptureLemmas.{read_on-nil, read_on-byte}
 use Rattle.ts_mux.specs.Framing.{IsLink, IsFrame, IsLinkSoFar, IsLengthSoFar}
 
--- a number in its bounds
+-- a number between its bounds
 record IsBetween (least most number : ℕ) : Type 0 where
   low : least ≤ number
   high : number ≤ most
@@ -37,7 +37,7 @@ with_byte-between least most so_far byte = go (is_digit byte)
     go true = with_digit-between least most so_far (digit_of byte)
     go false = tt
 
--- what has come is within the bounds
+-- the numbers read so far are valid
 abbrev IsMode : Mode → Type 0
 IsMode (Link so_far) = IsLinkSoFar so_far
 IsMode (Length link so_far) = IsLink link × IsLengthSoFar so_far

@@ -1,4 +1,4 @@
--- What one step of a reader of frames did.
+-- Lemmas about one step of the frame parser.
 use Rattle.std.proofs.Common.{◌≡◌, ℕ, zero, suc, ◌+◌, ◌<◌, ◌≤◌, List, [], ◌∷◌, ◌++◌, length, take, drop, refl, sym, ap, ◌∙◌, subst, Some, None, length-drop, append-nil, arith}
 use Rattle.std.proofs.lemmas.Bool.{false≢true}
 use Rattle.std.proofs.lemmas.List.{length-take-le}
@@ -12,7 +12,7 @@ use Rattle.ts_mux.specs.Framing.{Framing, IsLink, IsOpen, IsBegun, mode_of, goto
 use Rattle.ts_mux.specs.NextFrames.{GoesOn, Delivers}
 use Rattle.ts_mux.proofs.CaptureLemmas.{read_on-nil, read_on-first, body_is_whole, body_is_open}
 
--- a frame is at hand once a byte came
+-- a frame has begun once a byte was read
 begun_some : (mode : Mode) (begin : ℕ) (bytes : List ℕ) → 0 < length bytes → begun_on mode begin bytes ≡ Some begin
 begun_some mode begin [] h = absurd (omega arith)
 begun_some mode begin (byte ∷ bytes) h = refl
@@ -28,7 +28,7 @@ begun_body : (link len begin : ℕ) (bytes : List ℕ) → begun_on (Body link l
 begun_body link len begin [] = refl
 begun_body link len begin (byte ∷ bytes) = refl
 
--- where a capture ends, a frame is at hand if one has begun
+-- at the end of a capture, whether a frame has begun
 at_end-begun : (mode : Mode) (begin : ℕ) → at_end mode begin ≡ ended_at (begun_at mode begin)
 at_end-begun (Link None) begin = refl
 at_end-begun (Link (Some number)) begin = refl
@@ -39,7 +39,7 @@ ends : (place begin : ℕ) (mode : Mode) (bytes : List ℕ) → length bytes ≤
 ends place begin mode [] h = read_on-nil place begin mode ∙ at_end-begun mode begin
 ends place begin mode (byte ∷ bytes) h = absurd (omega arith)
 
--- no byte is left
+-- no unread byte
 pub not_yet-none : (r : Framing) → length r.unread ≤ 0 → r.begin ≤ r.place → Delivers r r next.NotYet
 not_yet-none r h b = record {
   whole = tt;
@@ -57,7 +57,7 @@ not_yet-none r h b = record {
   begin = omega (arith, b);
 }
 
--- bytes of the frame are still to come
+-- bytes of the body are missing
 pub not_yet-body : (r : Framing) (link len : ℕ) → r.mode ≡ Body link len [] → length r.unread < len → r.begin ≤ r.place → Delivers r r next.NotYet
 not_yet-body r link len e h b = record {
   whole = tt;
@@ -79,7 +79,7 @@ not_yet-body r link len e h b = record {
   begin = omega (arith, b);
 }
 
--- the first byte can't go on with the frame
+-- the first unread byte is invalid
 pub broken : (r : Framing) → 0 < length r.unread → move r.mode (slice_index r.unread 0) ≡ Wrong → r.begin ≤ r.place → Delivers r r (next.Broken r.place)
 broken r h e b = record {
   whole = tt;
@@ -97,7 +97,7 @@ broken r h e b = record {
   begin = omega (arith, b);
 }
 
--- a frame that was not taken
+-- out of memory for a complete frame
 pub memory : (r : Framing) (frame : Frame) (len : ℕ)
     → ((more : List ℕ) → capture_of r more ≡ Then frame (capture_at (r.place + len) (drop len r.unread ++ more))) → r.begin ≤ r.place → Delivers r r next.Memory
 memory r frame len e b = record {
@@ -116,7 +116,7 @@ memory r frame len e b = record {
   begin = omega (arith, b);
 }
 
--- a reader that has taken the last so many bytes of a frame
+-- the parser after the last `n` bytes of a frame
 abbrev pub past : Framing → ℕ → Framing
 past r len = record { begin = r.place + len; place = r.place + len; mode = start; unread = drop len r.unread }
 
@@ -139,7 +139,7 @@ whole r frame len some fits b link size within e = record {
   begin = omega arith;
 }
 
--- the last byte of the header of a frame without bytes
+-- the last header byte of an empty frame
 pub empty : (r new : Framing) (link : ℕ) (bytes : List ℕ) → 0 < length r.unread
     → move r.mode (slice_index r.unread 0) ≡ Whole (record { link = link; bytes = [] }) → IsLink link → r.begin ≤ r.place → bytes ≡ [] → new ≡ past r 1
     → Delivers r new (next.Whole (record { link = link; bytes = bytes }))
@@ -149,7 +149,7 @@ empty r new link bytes some e is b none n =
     (whole r (record { link = link; bytes = [] }) 1 (omega arith) (omega (arith, some)) b is (omega arith) (omega arith)
     (read_on-first r.place r.begin r.mode r.unread _ some e)))
 
--- the frame whose bytes are all there
+-- a frame whose body is complete
 pub frame_is_whole : (r : Framing) (link len : ℕ) → r.mode ≡ Body link len [] → 0 < len → len ≤ length r.unread → (more : List ℕ)
     → capture_of r more ≡ Then (record { link = link; bytes = take len r.unread }) (capture_at (r.place + len) (drop len r.unread ++ more))
 frame_is_whole r link len e some fits more =
@@ -164,7 +164,7 @@ frame_taken r new link len bytes e some most fits is b all n =
     (whole r (record { link = link; bytes = take len r.unread }) len some fits b is (omega (arith, size, most)) (omega (arith, size))
     (frame_is_whole r link len e some fits)))
 
--- the first byte goes on with the header
+-- the first unread byte continues the header
 goes_of : (p : Part) → IsOpen p → goto_of p ≡ Goto (mode_of p)
 goes_of (part.Link number) h = refl
 goes_of (part.Length link number) h = refl

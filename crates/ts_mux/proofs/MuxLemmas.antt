@@ -1,4 +1,4 @@
--- What is ahead of a Mux, one answer at a time.
+-- Lemmas about the pending items of a `Mux`, one item at a time.
 use Rattle.std.proofs.Common.{◌≡◌, ℕ, suc, Bool, true, false, ◌==◌, if◌then◌else◌, List, [], ◌∷◌, ◌++◌, length, drop, get_or, Some, None, refl, ap, ◌∙◌, ◌<◌, sym, subst, arith}
 use Rattle.std.specs.Ordering.{nat_cmp}
 use Rattle.std.specs.BTreeMap.{BTreeMap, get}
@@ -10,7 +10,7 @@ use Rattle.ts_mux.specs.Order.{Item, Asked, events_of, news, items_of, items_fro
 use Rattle.ts_mux.specs.Links.{stream_or, reader_or, connections, ahead_of}
 use Rattle.ts_mux.proofs.OrderLemmas.{Alike, AreAlike, items-alike}
 
--- the connection at hand, with a reader of which the same comes
+-- the current connection, with a reader that yields the same
 pub alike_hand : (limits : WireLimits) (closed : List Bool) (readers : BTreeMap ℕ Reading) (link : ℕ) (old new : Reading)
     → ((before bytes : List ℕ) → news (stream_of old) before bytes ≡ news (stream_of new) before bytes)
     → AreAlike (connections limits closed readers (Some (record { link = link; reader = old }))) (connections limits closed readers (Some (record { link = link; reader = new })))
@@ -46,6 +46,6 @@ ahead_asked limits closed readers link old new words place h frames =
     (λ before bytes. ap (λ stream. drop (length (events_of stream)) (events_of (stream_of old (before ++ bytes)))) (h before)
     ∙ ap (λ stream. drop (suc (length (events_of (stream_of new before)))) (events_of stream)) (h (before ++ bytes)))))
 
--- less is ahead after an item
+-- fewer items are pending after one
 pub shorter : (old mid new : List Item) (item : Item) → old ≡ item ∷ mid → new ≡ mid → length new < length old
 shorter old mid new item e same = subst (λ items. length new < length items) (sym e) (subst (λ items. length items < suc (length mid)) (sym same) (omega arith))

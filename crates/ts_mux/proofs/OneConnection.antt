@@ -1,4 +1,4 @@
--- What comes of one connection among others.
+-- Lemmas about the items of one connection among others.
 use Rattle.std.proofs.Common.{◌≡◌, ℕ, Bool, true, false, ◌||◌, ◌==◌, if◌then◌else◌, List, [], ◌∷◌, ◌++◌, length, drop, Some, None, refl, sym, ap, ◌∙◌, subst, append_assoc, append-nil}
 use Rattle.std.proofs.lemmas.Bool.{eqb-true, eqb-false, eq-eqb}
 use Rattle.ts_spec.specs.declared.wire.WireLimits.{WireLimits}
@@ -11,7 +11,7 @@ use Rattle.ts_mux.specs.Order.{Event, Asked, Item, events_of, Connection, news, 
 use Rattle.ts_spec.proofs.Fronts.{read_on-front}
 use Rattle.ts_mux.proofs.OrderLemmas.{news-later}
 
--- a front's events come first
+-- the events of a prefix come first
 front_events : (front whole : Stream) → IsFront front whole → (rest : List Event) × (events_of whole ≡ events_of front ++ rest)
 front_events (Then request place front) whole h =
     let others = front_events front h.0 h.2 in
@@ -24,7 +24,7 @@ drop_front : (front rest : List Event) → drop (length front) (front ++ rest) �
 drop_front [] rest = refl
 drop_front (event ∷ front) rest = drop_front front rest
 
--- the streams of a connection are fronts of those with more bytes
+-- with more bytes, the stream of a connection only grows
 abbrev pub IsSteady : Connection → Type 0
 IsSteady None = Unit {0}
 IsSteady (Some stream) = (bytes more : List ℕ) → IsFront (stream bytes) (stream (bytes ++ more))
@@ -42,7 +42,7 @@ steady-after closes connection (byte ∷ bytes) h = go (has_end closes (news_of 
     go true = tt
     go false = steady-later connection (byte ∷ bytes) h
 
--- what comes with some bytes and then with others
+-- the events of some bytes, and then of others
 split_rest : (first second third : Stream) → IsFront first second → IsFront second third
     → drop (length (events_of first)) (events_of third) ≡ drop (length (events_of first)) (events_of second) ++ drop (length (events_of second)) (events_of third)
 split_rest first second third one two =
@@ -77,7 +77,7 @@ pub none_new : (connection : Connection) → news_of connection [] [] ≡ []
 none_new None = refl
 none_new (Some stream) = ap (drop (length (events_of (stream [])))) (sym (append-nil (events_of (stream [])))) ∙ drop_front (events_of (stream [])) []
 
--- what comes of a connection with the bytes of a frame and those of later ones
+-- the events of a frame's bytes, and of those of later frames
 after_frame : (closes : Request → Bool) (connection : Connection) (bytes rest : List ℕ) → IsSteady connection
     → until_end closes (news_of connection [] (joined bytes rest))
     ≡ until_end closes (news_of connection [] bytes) ++ until_end closes (news_of (after_bytes closes connection bytes) [] rest)
@@ -164,7 +164,7 @@ one_connection closes link connections (frame ∷ frames) h =
         other true same = absurd (eqb-false frame.link link e (sym (eqb-true link frame.link same)))
         other false same = ap (λ test. if test then after_bytes closes (connections frame.link) frame.bytes else connections link) same
 
--- the items of a connection are what comes of its stream
+-- the items of a connection are the events of its stream
 pub items-at : (limits : WireLimits) (link : ℕ) (frames : List Frame)
     → items_at link (order limits frames) ≡ items_of link (until_end is_quit (events_of (stream_at limits 0 (stream link frames))))
 items-at limits link frames =

@@ -11,25 +11,25 @@ use Rattle.ts_mux.specs.Order.{Item, Asked, Failed, order}
 abbrev order_of : List Prim.Native.Nat.ℕ → List Item
 order_of bytes = order usual.wire (frames_of (capture.capture bytes))
 
--- a request comes with the frame that ends it
+-- a frame yields the request that it completes
 pub interleaved : order_of (codes "1 8\n*1\r\n$4\r\n2 14\n*1\r\n$4\r\nPING\r\n1 6\nPING\r\n")
     ≡ record { link = 2; event = Asked (codes "PING" ∷ []) } ∷ record { link = 1; event = Asked (codes "PING" ∷ []) } ∷ []
 unfolding read_on read_frames commands
 interleaved = refl
 
--- a fault closes its own connection alone
+-- an error closes its own connection alone
 pub one_fault : order_of (codes "1 5\n*1\r\n:2 14\n*1\r\n$4\r\nPING\r\n1 14\n*1\r\n$4\r\nPING\r\n")
     ≡ record { link = 1; event = Failed (record { kind = Dollar; place = 4 }) } ∷ record { link = 2; event = Asked (codes "PING" ∷ []) } ∷ []
 unfolding read_on read_frames commands
 one_fault = refl
 
--- after a QUIT nothing comes of its connection
+-- nothing of a connection follows its QUIT
 pub quit : order_of (codes "3 15\nQUIT\nPING\nPING\n4 5\nPING\n3 5\nPING\n")
     ≡ record { link = 3; event = Asked (codes "QUIT" ∷ []) } ∷ record { link = 4; event = Asked (codes "PING" ∷ []) } ∷ []
 unfolding read_on read_frames commands
 quit = refl
 
--- nor after a frame without bytes, and half a request before it says nothing
+-- nor an empty frame; half a request before it yields nothing
 pub closed : order_of (codes "3 6\nPING\nP3 0\n3 4\nING\n") ≡ record { link = 3; event = Asked (codes "PING" ∷ []) } ∷ []
 unfolding read_on read_frames commands
 closed = refl

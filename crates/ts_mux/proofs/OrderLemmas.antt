@@ -1,18 +1,18 @@
--- The order of interleaved connections, a frame at a time.
+-- Lemmas about the order of interleaved connections, one frame at a time.
 use Rattle.std.proofs.Common.{◌≡◌, ℕ, Bool, true, false, not, ◌==◌, if◌then◌else◌, List, [], ◌∷◌, ◌++◌, length, drop, Some, None, refl, sym, ap, ◌∙◌, subst, append_assoc}
 use Rattle.std.proofs.lemmas.Bool.{eqb-true, eqb-false, eq-eqb}
 use Rattle.ts_spec.specs.Wire.{Request}
 use Rattle.ts_mux.specs.declared.frame.Frame.{Frame}
 use Rattle.ts_mux.specs.Order.{Event, Item, events_of, Connection, news_of, later, until_end, has_end, after_bytes, items_of, with_link, items_from, without, frames_without}
 
--- connections of which the same comes
+-- two connections that yield the same
 abbrev pub Alike : Connection → Connection → Type 0
 Alike one other = (before bytes : List ℕ) → news_of one before bytes ≡ news_of other before bytes
 
 abbrev pub AreAlike : (ℕ → Connection) → (ℕ → Connection) → Type 0
 AreAlike ones others = (link : ℕ) → Alike (ones link) (others link)
 
--- what comes after some bytes
+-- the events after some bytes
 pub news-later : (connection : Connection) (first before bytes : List ℕ) → news_of (later connection first) before bytes ≡ news_of connection (first ++ before) bytes
 news-later None first before bytes = refl
 news-later (Some stream) first before bytes =
@@ -40,7 +40,7 @@ alike-with ones others link one other all h = λ at. go at (at == link)
     go at true = h
     go at false = all at
 
--- alike connections have the same order
+-- the order depends only on what the connections yield
 pub items-alike : (closes : Request → Bool) (ones others : ℕ → Connection) (frames : List Frame) → AreAlike ones others → items_from closes ones frames ≡ items_from closes others frames
 items-alike closes ones others [] h = refl
 items-alike closes ones others (frame ∷ frames) h =
@@ -53,7 +53,7 @@ items-alike closes ones others (frame ∷ frames) h =
 
 -- ---- the items of all other connections
 
--- the same connections but for one
+-- the same connections, except for one
 abbrev pub AreAlikeBut : ℕ → (ℕ → Connection) → (ℕ → Connection) → Type 0
 AreAlikeBut link ones others = (at : ℕ) → (at == link) ≡ false → Alike (ones at) (others at)
 
@@ -96,7 +96,7 @@ alike-but-both link at ones others one other h same = λ to apart. go to apart (
     go to apart true = same
     go to apart false = h to apart
 
--- what comes of the frames of the other connections
+-- the items of the other connections
 pub items-without : (closes : Request → Bool) (link : ℕ) (ones others : ℕ → Connection) (frames : List Frame) → AreAlikeBut link ones others
     → without link (items_from closes ones frames) ≡ items_from closes others (frames_without link frames)
 items-without closes link ones others [] h = refl
@@ -124,9 +124,9 @@ items-without closes link ones others (frame ∷ frames) h =
         (alike-but-both link frame.link ones others one other h (alike-after closes (ones frame.link) (others frame.link) frame.bytes same)))
         ∙ ap (λ news. items_of frame.link (until_end closes news) ++ items_from closes (with_link others frame.link other) (frames_without link frames)) (same [] frame.bytes)
 
--- ---- a connection that is closed
+-- ---- a closed connection
 
--- nothing comes of it
+-- it yields nothing more
 abbrev pub IsDone : Connection → Type 0
 IsDone connection = (before bytes : List ℕ) → news_of connection before bytes ≡ []
 
@@ -152,7 +152,7 @@ done-there link at others other e h = go (link == at) refl
     go true same = absurd (eqb-false at link e (sym (eqb-true link at same)))
     go false same = h
 
--- what comes of the others is what comes where it is closed
+-- closing a connection leaves the items of the others
 pub without-done : (closes : Request → Bool) (link : ℕ) (ones others : ℕ → Connection) (frames : List Frame) → AreAlikeBut link ones others → IsDone (others link)
     → without link (items_from closes ones frames) ≡ items_from closes others frames
 without-done closes link ones others [] h done = refl

@@ -1,4 +1,4 @@
--- The readers of a Mux, where one is put in the place of its connection, or taken out of it.
+-- Lemmas about storing the reader of the current connection, and loading that of another.
 use Rattle.std.proofs.Common.{◌≡◌, ℕ, Bool, true, false, ◌≤◌, ◌==◌, if◌then◌else◌, List, [], ◌∷◌, ◌++◌, length, drop, get_or, Option, Some, None, refl, sym, ap, ◌∙◌, subst, append-nil}
 use Rattle.std.proofs.lemmas.Bool.{eqb-true}
 use Rattle.std.specs.Option.{IsSome}
@@ -23,17 +23,17 @@ no_events : (link : ℕ) (events : List Event) → items_of link events ≡ [] �
 no_events link [] e = refl
 no_events link (event ∷ events) e = absurd (subst IsCons e tt)
 
--- where nothing is ahead, nothing is left of the reader at hand
+-- if no item is pending, the current reader has no event left
 pub nothing_left : (hand : Option Hand) (held : Hand) → hand ≡ Some held → left_of hand ++ [] ≡ [] → events_of (stream_of held.reader []) ≡ []
 nothing_left hand held e none =
     no_events held.link (events_of (stream_of held.reader [])) (ap left_of (sym e) ∙ sym (append-nil (left_of hand)) ∙ none)
 
--- a value that is written at a key that the map has
+-- inserting at an existing key
 pub written : (readers rest : BTreeMap ℕ Reading) (link : ℕ) (before now : Reading) → get nat_cmp readers link ≡ Some before
     → WritesThrough nat_cmp (nat_cmp link) readers now rest → Updates nat_cmp readers rest link (Some now)
 written readers rest link before now there through = through.3 (subst (λ (o : Option Reading). IsSome o) (sym there) refl)
 
--- ---- a reader that is put back
+-- ---- storing a reader
 
 module _ (readers rest : BTreeMap ℕ Reading) (held : Hand) (updates : Updates nat_cmp readers rest held.link (Some held.reader)) where
   pub put_asked : events_of (stream_of held.reader []) ≡ [] → AreAsked readers → AreAsked rest
@@ -61,7 +61,7 @@ module _ (readers rest : BTreeMap ℕ Reading) (held : Hand) (updates : Updates 
       go at true same = ap (λ to. get nat_cmp rest to) (sym (eqb-true held.link at same)) ∙ updates.1
       go at false apart = updates.2 at (other_key held.link at (apart-sym held.link at apart))
 
--- ---- a reader that is taken out, and a fresh one
+-- ---- loading a reader and leaving a fresh one
 
 pub fresh_events : (limits : WireLimits) (reader : Reading) → ((more : List ℕ) → stream_of reader more ≡ stream_at limits 0 more) → events_of (stream_of reader []) ≡ []
 fresh_events limits reader fresh = ap events_of (fresh [] ∙ read_on-nil limits 0 0 Start)

@@ -1,4 +1,4 @@
--- What is ahead of a Mux whose connections have sent nothing.
+-- Lemmas about the pending items of a new `Mux`.
 use Rattle.std.proofs.Common.{◌≡◌, ℕ, suc, Bool, true, false, ◌≤◌, ◌==◌, if◌then◌else◌, List, [], ◌∷◌, ◌++◌, get_or, Some, None, All, refl, ap, ◌∙◌, arith}
 use Rattle.std.specs.Ordering.{nat_cmp}
 use Rattle.std.specs.BTreeMap.{BTreeMap, is_at}

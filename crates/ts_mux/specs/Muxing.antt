@@ -1,11 +1,11 @@
--- What is still to come of a Mux.
+-- What a `Mux` still yields.
 use Rattle.std.specs.Prelude.{ℕ, List}
 use Rattle.ts_mux.specs.declared.frame.Frame.{Frame}
 use Rattle.ts_mux.specs.declared.mux.Mux.{Mux}
 use Rattle.ts_mux.specs.Order.{Item}
 use Rattle.ts_mux.specs.Links.{ahead_of}
 
--- what a Mux still gives, where these frames are delivered and it closes nothing at a QUIT
+-- the items still to come if these frames are delivered next; a QUIT closes nothing here
 abbrev pub ahead : Mux → List Frame → List Item
 ahead m frames = ahead_of m.limits m.closed m.readers m.hand frames
 

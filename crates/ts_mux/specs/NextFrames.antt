@@ -1,4 +1,4 @@
--- Which answer a reader of frames gave, and what one step of it did.
+-- Facts about the result of `Frames::next`, and about one step of it.
 use Rattle.std.specs.Prelude.{◌≡◌, ℕ, ◌+◌, ◌<◌, ◌≤◌, List, [], length}
 use Rattle.ts_mux.specs.declared.frame.Frame.{Frame}
 use Rattle.ts_mux.specs.declared.frames.NextFrame.{NextFrame}
@@ -7,46 +7,46 @@ use Rattle.ts_mux.specs.Capture as capture
 use Rattle.ts_mux.specs.Capture.{Capture}
 use Rattle.ts_mux.specs.Framing.{Framing, IsLink, capture_of, fed, unfinished, ended_at}
 
--- a fact of the frame, if it gave one
+-- a fact about the frame, if there is one
 abbrev pub IfWhole : NextFrame → (Frame → Type 0) → Type 0
 IfWhole (Whole frame) P = P frame
 IfWhole NotYet P = Unit {0}
 IfWhole (Broken place) P = Unit {0}
 IfWhole Memory P = Unit {0}
 
--- a fact where it gave none
+-- a fact, if there is no frame
 abbrev pub UnlessWhole : NextFrame → Type 0 → Type 0
 UnlessWhole (Whole frame) P = Unit {0}
 UnlessWhole NotYet P = P
 UnlessWhole (Broken place) P = P
 UnlessWhole Memory P = P
 
--- a fact where more bytes are wanted
+-- a fact, if more bytes are needed
 abbrev pub OnNotYet : NextFrame → Type 0 → Type 0
 OnNotYet (Whole frame) P = Unit {0}
 OnNotYet NotYet P = P
 OnNotYet (Broken place) P = Unit {0}
 OnNotYet Memory P = Unit {0}
 
--- a fact of the place where the capture is broken, if it is
+-- a fact about the offset of the error, if the capture is broken
 abbrev pub IfBroken : NextFrame → (ℕ → Type 0) → Type 0
 IfBroken (Whole frame) P = Unit {0}
 IfBroken NotYet P = Unit {0}
 IfBroken (Broken place) P = P place
 IfBroken Memory P = Unit {0}
 
--- a fact where memory was wanting
+-- a fact, if memory ran out
 abbrev pub OnMemory : NextFrame → Type 0 → Type 0
 OnMemory (Whole frame) P = Unit {0}
 OnMemory NotYet P = Unit {0}
 OnMemory (Broken place) P = Unit {0}
 OnMemory Memory P = P
 
--- a whole frame comes next, whatever follows
+-- the next frame is complete
 abbrev pub HasWhole : Framing → Type 0
 HasWhole r = (frame : Frame) × (rest : List ℕ → Capture) × ((more : List ℕ) → capture_of r more ≡ capture.Then frame (rest more))
 
--- fewer bytes are unread, and the capture is the same
+-- one byte of a header was read, and the capture is the same
 pub record GoesOn (old new : Framing) : Type 0 where
   pub same : (more : List ℕ) → capture_of new more ≡ capture_of old more
   pub shorter : length new.unread < length old.unread
@@ -54,7 +54,7 @@ pub record GoesOn (old new : Framing) : Type 0 where
   pub begin : new.begin ≡ old.begin
   pub place : unfinished new ≡ unfinished old
 
--- what is answered says how the capture goes on
+-- the result describes how the capture continues
 pub record Delivers (old new : Framing) (next : NextFrame) : Type 0 where
   pub whole : IfWhole next (λ frame. (more : List ℕ) → capture_of old more ≡ capture.Then frame (capture_of new more))
   pub link : IfWhole next (λ frame. IsLink frame.link)

@@ -1,5 +1,5 @@
--- The order in which the requests of interleaved connections come. Each frame adds its bytes to the stream of its connection, and the
--- requests that are whole with it come then.
+-- The order in which the requests of interleaved connections arrive. Each frame appends its bytes to the stream of its
+-- connection, and yields the requests that they complete.
 use Rattle.std.specs.Prelude.{ℕ, Bool, true, false, not, ◌||◌, ◌==◌, if◌then◌else◌, List, [], ◌∷◌, ◌++◌, length, drop, map, filter, Option, Some, None}
 use Rattle.ts_spec.specs.declared.wire.WireLimits.{WireLimits}
 use Rattle.ts_spec.specs.Wire.{Request, Stream, Then, Ended, Inside, Broken, stream_at}
@@ -7,32 +7,32 @@ use Rattle.ts_spec.specs.Run.{is_quit}
 use Rattle.ts_resp.specs.declared.protocol.Protocol.{Protocol}
 use Rattle.ts_mux.specs.declared.frame.Frame.{Frame}
 
--- what comes of a connection: a request, or the fault that breaks its stream
+-- an event of a connection: a request, or the error that breaks its stream
 pub data Event : Type 0 where
   Asked : Request → Event
   Failed : Protocol → Event
 
--- the same with the number of the connection
+-- an event with the number of its connection
 pub record Item : Type 0 where
   pub link : ℕ
   pub event : Event
 
--- what comes of a stream
+-- the events of a stream
 abbrev pub events_of : Stream → List Event
 events_of (Then request place rest) = Asked request ∷ events_of rest
 events_of Ended = []
 events_of (Inside place) = []
 events_of (Broken kind place) = Failed (record { kind = kind; place = place }) ∷ []
 
--- A connection: the stream that it has left, by the bytes that it still sends, or none once it is closed.
+-- A connection: a function from the bytes still to come to its stream, or none once it is closed.
 abbrev pub Connection : Type 0
 Connection = Option (List ℕ → Stream)
 
--- what comes of a connection with further bytes, past what came before them
+-- the events that `bytes` add to those of the bytes before them
 abbrev pub news : (List ℕ → Stream) → (before bytes : List ℕ) → List Event
 news stream before bytes = drop (length (events_of (stream before))) (events_of (stream (before ++ bytes)))
 
--- the same of a connection that may be closed: nothing comes of one that is
+-- the same for a connection that may be closed; a closed one has no events
 abbrev pub news_of : Connection → (before bytes : List ℕ) → List Event
 news_of None before bytes = []
 news_of (Some stream) before bytes = news stream before bytes
@@ -42,13 +42,13 @@ abbrev pub later : Connection → List ℕ → Connection
 later None bytes = None
 later (Some stream) bytes = Some (λ more. stream (bytes ++ more))
 
--- Some requests close their connection, and each fault does.
+-- `closes` says which requests close their connection. An error always does.
 module _ (closes : Request → Bool) where
   abbrev pub ends : Event → Bool
   ends (Asked request) = closes request
   ends (Failed fault) = true
 
-  -- the events up to and with the first one that closes
+  -- the events up to and including the first one that closes
   abbrev pub until_end : List Event → List Event
   until_end [] = []
   until_end (event ∷ events) = event ∷ (if ends event then [] else until_end events)
@@ -57,39 +57,39 @@ module _ (closes : Request → Bool) where
   has_end [] = false
   has_end (event ∷ events) = ends event || has_end events
 
-  -- A frame without bytes closes its connection.
+  -- An empty frame closes its connection.
   abbrev pub after_bytes : Connection → List ℕ → Connection
   after_bytes connection [] = None
   after_bytes connection (byte ∷ bytes) = if has_end (news_of connection [] (byte ∷ bytes)) then None else later connection (byte ∷ bytes)
 
--- the items of one connection
+-- the events of one connection as items
 abbrev pub items_of : ℕ → List Event → List Item
 items_of link events = map (λ event. record { link = link; event = event }) events
 
--- the connections, with one of them so
+-- the connections, with `link` replaced
 abbrev pub with_link : (ℕ → Connection) → ℕ → Connection → ℕ → Connection
 with_link connections link connection other = if other == link then connection else connections other
 
--- what comes of the frames, one after another
+-- the items of these frames, in order
 abbrev pub items_from : (Request → Bool) → (ℕ → Connection) → List Frame → List Item
 items_from closes connections [] = []
 items_from closes connections (frame ∷ frames) =
     items_of frame.link (until_end closes (news_of (connections frame.link) [] frame.bytes))
     ++ items_from closes (with_link connections frame.link (after_bytes closes (connections frame.link) frame.bytes)) frames
 
--- no connection has sent a byte
+-- the connections before any byte was sent
 abbrev pub unsent : WireLimits → ℕ → Connection
 unsent limits link = Some (stream_at limits 0)
 
--- The order of the items of some frames: a QUIT closes its connection.
+-- The items of these frames, in order. A QUIT closes its connection.
 abbrev pub order : WireLimits → List Frame → List Item
 order limits frames = items_from is_quit (unsent limits) frames
 
--- the same where no request closes anything
+-- no request closes its connection
 abbrev pub closes_none : Request → Bool
 closes_none request = false
 
--- the order of the items of some frames where no request closes anything
+-- the same order, but a QUIT closes nothing
 abbrev pub open_order : WireLimits → List Frame → List Item
 open_order limits frames = items_from closes_none (unsent limits) frames
 
@@ -104,17 +104,17 @@ without link items = filter (λ item. not (item.link == link)) items
 abbrev pub frames_without : ℕ → List Frame → List Frame
 frames_without link frames = filter (λ frame. not (frame.link == link)) frames
 
--- the bytes of a connection before its frame of length 0
+-- prepends the bytes of a frame; an empty frame ends the stream
 abbrev pub joined : List ℕ → List ℕ → List ℕ
 joined [] rest = []
 joined (byte ∷ bytes) rest = byte ∷ bytes ++ rest
 
--- all bytes of a connection before its frame of length 0
+-- all bytes of a connection before its first empty frame
 abbrev pub stream : ℕ → List Frame → List ℕ
 stream link [] = []
 stream link (frame ∷ frames) = if frame.link == link then joined frame.bytes (stream link frames) else stream link frames
 
--- items of which each that closes its connection takes away what comes of that connection later
+-- drops the items of a connection that come after its closing item
 abbrev pub closing : (Request → Bool) → List Item → List Item
 closing closes [] = []
 closing closes (item ∷ items) = item ∷ (if ends closes item.event then without item.link (closing closes items) else closing closes items)

@@ -1,48 +1,48 @@
--- Which answer a Mux gave, and what it says.
+-- Facts about the result of `Mux::next`.
 use Rattle.std.specs.Prelude.{◌≡◌, ℕ, List, [], ◌∷◌}
 use Rattle.ts_spec.specs.Wire.{Request as Words, Then, Broken}
 use Rattle.ts_resp.specs.Reading.{Reading, stream_of}
 use Rattle.ts_mux.specs.declared.frame.Frame.{Frame}
-use Rattle.ts_mux.specs.declared.turn.Turn.{Turn}
-use Rattle.ts_mux.specs.declared.turn.Turn.TheVariants.{Request, Fault, NotYet, Memory}
+use Rattle.ts_mux.specs.declared.hand.Turn.{Turn}
+use Rattle.ts_mux.specs.declared.hand.Turn.TheVariants.{Request, Fault, NotYet, Memory}
 use Rattle.ts_mux.specs.Order.{Item, Asked, Failed, events_of, without}
 
--- a fact of the item, if it gave one
+-- a fact about the item, if there is one
 abbrev pub IfItem : Turn → (Item → Type 0) → Type 0
 IfItem (Request link words) P = P (record { link = link; event = Asked words.items })
 IfItem (Fault link protocol) P = P (record { link = link; event = Failed protocol })
 IfItem NotYet P = Unit {0}
 IfItem Memory P = Unit {0}
 
--- a fact of the request, if it gave one
+-- a fact about the request, if there is one
 abbrev pub IfRequest : Turn → (Words → Type 0) → Type 0
 IfRequest (Request link words) P = P words.items
 IfRequest (Fault link protocol) P = Unit {0}
 IfRequest NotYet P = Unit {0}
 IfRequest Memory P = Unit {0}
 
--- a fact of the connection that a fault closes, if it gave one
+-- a fact about the connection that an error closes, if there is one
 abbrev pub IfFault : Turn → (ℕ → Type 0) → Type 0
 IfFault (Request link words) P = Unit {0}
 IfFault (Fault link protocol) P = P link
 IfFault NotYet P = Unit {0}
 IfFault Memory P = Unit {0}
 
--- a fact where it gave none
+-- a fact, if there is no item
 abbrev pub UnlessItem : Turn → Type 0 → Type 0
 UnlessItem (Request link words) P = Unit {0}
 UnlessItem (Fault link protocol) P = Unit {0}
 UnlessItem NotYet P = P
 UnlessItem Memory P = P
 
--- a fact where no request or fault is left
+-- a fact, if no request and no error is left
 abbrev pub OnNotYet : Turn → Type 0 → Type 0
 OnNotYet (Request link words) P = Unit {0}
 OnNotYet (Fault link protocol) P = Unit {0}
 OnNotYet NotYet P = P
 OnNotYet Memory P = Unit {0}
 
--- what the answer says of a connection and of its reader, before it and after it
+-- the result describes the next event of a connection's reader
 abbrev pub SaysOf : Turn → ℕ → (old new : Reading) → Type 0
 SaysOf (Request link words) at old new =
     (link ≡ at) × ((place : ℕ) × ((more : List ℕ) → stream_of old more ≡ Then words.items place (stream_of new more)))
@@ -51,7 +51,7 @@ SaysOf (Fault link protocol) at old new =
 SaysOf NotYet at old new = ((more : List ℕ) → stream_of new more ≡ stream_of old more) × (events_of (stream_of new []) ≡ [])
 SaysOf Memory at old new = (more : List ℕ) → stream_of new more ≡ stream_of old more
 
--- what is still to come, before an answer and after it: a fault has not closed its connection yet
+-- the result describes the next item of a `Mux`; an error has not closed its connection yet
 abbrev pub GivesTurn : Turn → (old new : List Frame → List Item) → Type 0
 GivesTurn (Request link words) old new = (frames : List Frame) → old frames ≡ record { link = link; event = Asked words.items } ∷ new frames
 GivesTurn (Fault link protocol) old new = (frames : List Frame) → old frames ≡ record { link = link; event = Failed protocol } ∷ without link (new frames)

@@ -1,4 +1,4 @@
-// The frames of a capture that comes in pieces.
+// Parses the frames of a capture that arrives in pieces.
 ghost use Rattle.std.specs.Prelude.{◌≡◌, ℕ, ◌+◌, ◌^◌, ◌<◌, ◌≤◌, List, [], ◌++◌, length, None, OnOk, OnErr};
 ghost use Rattle.ts_mux.specs.Capture.{Then, Broken, capture, MOST_BYTES};
 ghost use Rattle.ts_mux.specs.Framing.{IsLink, capture_of, fed, unfinished, ended_at};
@@ -12,24 +12,24 @@ use std::marker::Model;
 
 mod steps;
 
-/// What a reader of frames answers.
+/// The result of `Frames::next`.
 #[derive(Debug, Drop)]
 pub enum NextFrame {
     /// The next frame.
     Whole(Frame),
-    /// The bytes fed so far hold no further whole frame.
+    /// The bytes fed so far contain no further complete frame.
     NotYet,
-    /// The byte at this place can't continue a capture. Each later call answers the same.
+    /// The byte at this offset cannot continue the capture. Later calls return the same.
     Broken(u64),
-    /// There was no memory for a whole frame. A later call may have more.
+    /// Out of memory for a complete frame. A later call may succeed.
     Memory,
 }
 
-/// Reads frames from a capture that is fed in pieces, however it is cut.
+/// Parses frames from a capture that arrives in pieces of any size.
 #[derive(Drop)]
 pub struct Frames {
     alloc: Global,
-    // where the frame at hand begins, and the place of the first unread byte
+    // offsets: of the first byte of the current frame, and of the first unread byte
     begin: u64,
     place: u64,
     part: Part,
@@ -54,7 +54,7 @@ impl Model for Frames {
 }
 
 impl Frames {
-    /// A reader to which no byte was fed. Takes no memory.
+    /// A new parser. Allocates nothing.
     pub fn new(alloc: Global) -> Frames
         ensures capture { (more : List ℕ) → capture_of result more ≡ capture more }
         ensures fed { fed result ≡ 0 }
@@ -69,7 +69,7 @@ impl Frames {
         }
     }
 
-    /// Adds a piece of the capture. After an Err the reader is as before.
+    /// Appends a piece of the capture. On an error nothing changes.
     pub fn feed(&mut self, piece: &[u8]) -> Result<(), AllocError>
         requires { fed self.old + length piece.now < 2 ^ 64 }
         ensures ok { OnOk result ((more : List ℕ)
@@ -82,7 +82,7 @@ impl Frames {
         Ok(())
     }
 
-    /// The next frame of the bytes fed so far. After `Memory` the frame can be asked for again.
+    /// Returns the next frame of the bytes fed so far. After `Memory` the call can be repeated.
     pub fn next(&mut self) -> NextFrame
         ensures whole { IfWhole result (λ frame. (more : List ℕ)
             → capture_of self.old more ≡ Then frame (capture_of self.new more)) }
@@ -111,7 +111,7 @@ impl Frames {
         }
     }
 
-    /// Where an unfinished frame begins, or `None` between frames. Takes no memory.
+    /// Returns the offset of the incomplete frame, or `None` between frames. Allocates nothing.
     pub fn place(&self) -> Option<u64>
         ensures { result ≡ unfinished self.now }
     {

@@ -1,12 +1,24 @@
-// The connection whose frame was delivered last.
+// The current connection, and the events that connections yield.
 ghost use Rattle.std.specs.Prelude.{◌≡◌, ◌≢◌, []};
 ghost use Rattle.ts_resp.specs.Reading.{fed};
 ghost use Rattle.ts_mux.specs.Turns.{IfRequest, SaysOf};
 
-use crate::Turn;
-use ts_resp::{Next, Reader, Word};
+use ts_resp::{Next, Protocol, Reader, Word};
 
-// The connection at hand.
+/// The result of `Mux::next`.
+#[derive(Debug, Drop)]
+pub enum Turn {
+    /// The number of a connection, and the arguments of its next request (at least one).
+    Request(u32, Vec<Word>),
+    /// The number of a connection, and the protocol error that closes it.
+    Fault(u32, Protocol),
+    /// The frames delivered so far contain no further request or error of an open connection.
+    NotYet,
+    /// Out of memory for an argument. A later call may succeed.
+    Memory,
+}
+
+// The connection whose frame was delivered last.
 #[derive(Drop)]
 pub(crate) struct Hand {
     pub(crate) link: u32,
@@ -14,14 +26,14 @@ pub(crate) struct Hand {
 }
 
 impl Hand {
-    // Takes back the vector of a request that was answered.
+    // Takes back the vector of a handled request, to use its capacity again.
     pub(crate) fn give_back(&mut self, words: Vec<Word>)
         ensures { self.new ≡ self.old }
     {
         self.reader.give_back(words);
     }
 
-    // The next request or fault of its reader.
+    // Returns the next request or error of the connection.
     pub(crate) fn next(&mut self) -> Turn
         ensures says { SaysOf result self.old.link self.old.reader self.new.reader }
         ensures words { IfRequest result (λ words. words ≢ []) }

@@ -1,35 +1,36 @@
-// Laws of captures, and of the order of what interleaved connections send.
+// Laws of captures, and of the order of interleaved connections.
 ghost use Rattle.std.specs.Prelude.{◌≡◌, ℕ, List, All};
 ghost use Rattle.ts_spec.specs.Wire.{stream_at};
 ghost use Rattle.ts_spec.specs.Run.{is_quit};
 ghost use Rattle.ts_mux.specs.declared.frame.Frame.{Frame};
 ghost use Rattle.ts_mux.specs.Capture.{Ended, capture, frames_of, ending_of, all_framed};
 ghost use Rattle.ts_mux.specs.Framing.{IsFrame};
-ghost use Rattle.ts_mux.specs.Order.{Item, events_of, until_end, items_of, items_at, without, frames_without, stream, order, open_order, closing};
+ghost use Rattle.ts_mux.specs.Order.{Item, events_of, until_end, items_of, items_at, without, frames_without, stream};
+ghost use Rattle.ts_mux.specs.Order.{order, open_order, closing};
 
 use ts_spec::WireLimits;
 
-/// A law: frames that are written one after another, each with its header, read back as these frames.
+/// Law: written frames, each after its header, parse back to the same frames.
 pub fn written_frames_read_back()
     ensures frames { (frames : List Frame) → All IsFrame frames → frames_of (capture (all_framed frames)) ≡ frames }
     ensures ending { (frames : List Frame) → All IsFrame frames → ending_of (capture (all_framed frames)) ≡ Ended }
 {}
 
-/// A law: what comes of a connection is what comes of its own stream: the requests up to and with its first QUIT, and its
-/// fault where it has one and no QUIT comes before.
+/// Law: the items of a connection are those of its own stream: its requests up to and including the first QUIT, or up
+/// to a protocol error that comes before.
 pub fn each_connection_has_its_own_requests(limits: WireLimits)
     ensures { (link : ℕ) (frames : List Frame) → items_at link (order limits frames)
         ≡ items_of link (until_end is_quit (events_of (stream_at limits 0 (stream link frames)))) }
 {}
 
-/// A law: what comes of the other connections is the same without a connection's frames.
+/// Law: the items of the other connections do not depend on this connection's frames.
 pub fn connections_stand_apart(limits: WireLimits)
     ensures { (link : ℕ) (frames : List Frame)
         → order limits (frames_without link frames) ≡ without link (order limits frames) }
 {}
 
-/// A law: where a QUIT closes nothing, the items of some frames become their order once each QUIT and each fault takes away
-/// what comes of its connection later. To take away all of another connection first changes nothing of it.
+/// Law: dropping what each connection sends after its first QUIT or error turns `open_order` into `order`. Closing one
+/// connection first does not affect the others.
 pub fn closings_make_the_order(limits: WireLimits)
     ensures order { (frames : List Frame) → closing is_quit (open_order limits frames) ≡ order limits frames }
     ensures close { (link : ℕ) (items : List Item)

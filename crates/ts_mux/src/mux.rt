@@ -1,5 +1,6 @@
-// The requests of interleaved connections, in the order in which they come.
-ghost use Rattle.std.specs.Prelude.{◌≡◌, ◌≢◌, ℕ, ◌+◌, ◌^◌, ◌<◌, ◌≤◌, true, false, List, [], ◌∷◌, get_or, length, All, OnOk, OnErr};
+// Yields the requests of interleaved connections in order.
+ghost use Rattle.std.specs.Prelude.{◌≡◌, ◌≢◌, ℕ, ◌+◌, ◌^◌, ◌<◌, ◌≤◌, true, false, List, [], ◌∷◌, get_or, length, All};
+ghost use Rattle.std.specs.Prelude.{OnOk, OnErr};
 ghost use Rattle.ts_mux.specs.declared.frame.Frame.{Frame};
 ghost use Rattle.ts_mux.specs.Capture.{MOST_LINKS};
 ghost use Rattle.ts_mux.specs.Links.{AreAsked, AreWithin, Marks, hand_fed, hand_without};
@@ -13,17 +14,17 @@ use ts_spec::WireLimits;
 
 mod delivery;
 
-// The numbers of connections, and 0.
+// Connection numbers are 1 to 4096; 0 is unused.
 const LINKS: usize = 4097;
 
-/// Gives the requests of interleaved connections in the order in which they come.
+/// Yields the requests of interleaved connections in the order in which they are completed.
 #[derive(Drop)]
 pub struct Mux {
     alloc: Global,
     limits: WireLimits,
-    // which connections are closed, by their numbers
+    // whether each connection is closed, by its number
     closed: [bool; LINKS],
-    // the open connections that have sent bytes; that at hand may have a fresh reader in its place here
+    // the readers of the open connections that have sent bytes; the current connection's may be a fresh one here
     readers: BTreeMap<u32, Reader>,
     hand: Option<Hand>,
     // how many bytes were delivered
@@ -43,7 +44,7 @@ impl Mux {
     ghost use Rattle.ts_mux.specs.Muxing.{ahead, delivered_to};
     ghost use Rattle.ts_mux.specs.Turns.{IfItem, IfRequest, IfFault, UnlessItem, OnNotYet, GivesTurn};
 
-    /// A Mux to which no frame was delivered. Takes no memory.
+    /// A `Mux` without frames. Allocates nothing.
     pub fn new(alloc: Global, limits: WireLimits) -> Mux
         requires words { 1 ≤ limits.words }
         requires word_bytes { 1 ≤ limits.word_bytes }
@@ -62,7 +63,7 @@ impl Mux {
         }
     }
 
-    /// Delivers a frame. A frame without bytes closes its connection, and one of a closed connection is passed over.
+    /// Delivers a frame. An empty frame closes its connection; a frame of a closed connection is ignored.
     pub fn deliver(&mut self, frame: Frame) -> Result<(), AllocError>
         requires asked { ahead self.old [] ≡ [] }
         requires bound { delivered_to self.old + length frame.bytes < 2 ^ 64 }
@@ -83,11 +84,14 @@ impl Mux {
         self.feed(frame.link, bytes)
     }
 
-    /// The next request or fault of the frames delivered so far. A fault closes its connection, a request closes none.
+    /// Returns the next request or protocol error of the frames delivered so far. An error closes its connection; a
+    /// request never does.
     pub fn next(&mut self) -> Turn
-        ensures item { IfItem result (λ item. (frames : List Frame) → ahead self.old frames ≡ item ∷ ahead self.new frames) }
+        ensures item { IfItem result
+            (λ item. (frames : List Frame) → ahead self.old frames ≡ item ∷ ahead self.new frames) }
         ensures words { IfRequest result (λ words. words ≢ []) }
-        ensures closed { IfFault result (λ link. (frames : List Frame) → without link (ahead self.new frames) ≡ ahead self.new frames) }
+        ensures closed { IfFault result
+            (λ link. (frames : List Frame) → without link (ahead self.new frames) ≡ ahead self.new frames) }
         ensures progress { IfItem result (λ _. length (ahead self.new []) < length (ahead self.old [])) }
         ensures same { UnlessItem result ((frames : List Frame) → ahead self.new frames ≡ ahead self.old frames) }
         ensures not_yet { OnNotYet result (ahead self.new [] ≡ []) }
@@ -104,9 +108,8 @@ impl Mux {
         }
     }
 
-    /// Takes back the vector of a request that was answered, so that the next request of the connection whose frame was
-    /// delivered last finds its room there. Room for very many words goes back, and so does that for very many bytes where
-    /// none is unread.
+    /// Takes back the vector of a handled request, so that the next request of the current connection can use its
+    /// capacity again. Frees the memory of unusually large requests.
     pub fn give_back(&mut self, words: Vec<Word>)
         ensures same { (frames : List Frame) → ahead self.new frames ≡ ahead self.old frames }
         ensures delivered { delivered_to self.new ≡ delivered_to self.old }
@@ -114,7 +117,7 @@ impl Mux {
         give_back_to(&mut self.hand, words);
     }
 
-    // The same, but that a fault closes nothing.
+    // The same, but an error closes nothing.
     fn ask(&mut self) -> Turn
         ensures words { IfRequest result (λ words. words ≢ []) }
         ensures gives { GivesTurn result (ahead self.old) (ahead self.new) }
@@ -126,7 +129,7 @@ impl Mux {
         }
     }
 
-    /// Closes a connection, with what is left of it. Takes no memory.
+    /// Closes a connection and drops its unread bytes. Allocates nothing.
     pub fn close(&mut self, link: u32)
         ensures others { (frames : List Frame) → ahead self.new frames ≡ without link (ahead self.old frames) }
         ensures delivered { delivered_to self.new ≡ delivered_to self.old }
@@ -137,14 +140,12 @@ impl Mux {
     }
 }
 
-// Each connection is open.
 fn all_open() -> [bool; LINKS]
     ensures { (link : ℕ) → link ≤ MOST_LINKS → get_or result link true ≡ false }
 {
     [false; LINKS]
 }
 
-// Marks a connection as closed.
 fn mark(closed: &mut [bool; LINKS], link: u32)
     ensures { Marks link closed.old closed.new }
 {
@@ -155,7 +156,7 @@ fn mark(closed: &mut [bool; LINKS], link: u32)
     closed[link] = true;
 }
 
-// Drops the connection at hand, if it is this one.
+// Drops the current connection if it is `link`.
 fn let_go(hand: &mut Option<Hand>, link: u32)
     ensures { hand.new ≡ hand_without link hand.old }
 {
@@ -166,7 +167,7 @@ fn let_go(hand: &mut Option<Hand>, link: u32)
     }
 }
 
-// Takes back the vector of a request of the connection at hand, if there is one.
+// Passes the vector of a handled request back to the current connection, if there is one.
 fn give_back_to(hand: &mut Option<Hand>, words: Vec<Word>)
     ensures { hand.new ≡ hand.old }
 {

@@ -1,26 +1,26 @@
-// How far a frame has come whose bytes are still to come.
+// The progress of an incomplete frame.
 ghost use Rattle.std.specs.Prelude.{◌≡◌, ◌+◌, ◌*◌, ◌<◌, ◌≤◌, true, false, IfSome};
-ghost use Rattle.ts_mux.specs.Capture.{Link, Length, move, after_length as length_ends, with_byte as byte_after, within as number_within};
+ghost use Rattle.ts_mux.specs.Capture.{Link, Length, move, after_length as length_ends, with_byte as byte_after};
+ghost use Rattle.ts_mux.specs.Capture.{within as number_within};
 ghost use Rattle.ts_mux.specs.Framing.{IsLink, IsLinkSoFar, IsLengthSoFar, IsPart, IsBegun, move_of};
 
-// The greatest number of a connection.
 const MOST_LINKS: u32 = 4096;
 
-// The greatest length of a frame.
+// The greatest length of a frame in bytes.
 const MOST_BYTES: u32 = 65_536;
 
-// What of a frame has come.
+// How much of a frame was read.
 #[derive(Clone, Copy)]
 pub(crate) enum Part {
-    // the first digits of the number of its connection
+    // the first digits of the connection number
     Link { number: Option<u32> },
-    // that number, and the first digits of its length
+    // the connection number, and the first digits of the length
     Length { link: u32, number: Option<u32> },
-    // all but its bytes
+    // the whole header
     Body { link: u32, len: u32 },
 }
 
-// What has come with one more byte after the first digits of the number of the connection, if it can follow them.
+// The progress after one more byte of the connection number or the space after it, or `None` if the byte is invalid.
 pub(crate) fn after_link(number: Option<u32>, byte: u8) -> Option<Part>
     requires { IsLinkSoFar number }
     ensures part { move (Link number) byte ≡ move_of result }
@@ -37,7 +37,7 @@ pub(crate) fn after_link(number: Option<u32>, byte: u8) -> Option<Part>
     })
 }
 
-// The same after the first digits of the length.
+// The same for the length and the line feed after it.
 pub(crate) fn after_length(link: u32, number: Option<u32>, byte: u8) -> Option<Part>
     requires link { IsLink link }
     requires length { IsLengthSoFar number }
@@ -56,7 +56,7 @@ pub(crate) fn after_length(link: u32, number: Option<u32>, byte: u8) -> Option<P
     })
 }
 
-// A number with one more digit, if the byte is one and the number is at least and at most this.
+// Appends a digit to a number. Returns `None` if the byte is no digit or the result is not in `least..=most`.
 fn with_byte(least: u32, most: u32, so_far: Option<u32>, byte: u8) -> Option<u32>
     ensures number { result ≡ byte_after least most so_far byte }
     ensures range { IfSome result (λ number. (least ≤ number) × (number ≤ most)) }

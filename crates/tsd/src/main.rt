@@ -1,5 +1,5 @@
-//! A time series server that speaks RESP2. It hands the world to the top call of `ts_engine`, and ends with its
-//! status.
+//! A time series server that speaks RESP2. `main` gives the process's streams, clock and network to `top` of
+//! `ts_engine`, and exits with the status that it returns.
 #![tactic(auto)]
 
 ghost use Rattle.std.specs.Prelude.{◌≡◌, ◌≤◌, ◌^◌, ℕ, false, List, Some, IfOk};
@@ -14,10 +14,10 @@ use std::{env, io};
 use ts_engine::{Limits, Status, top, usual_budget};
 use ts_io::{Clock, FileLog, Listener, Log, Sink, Source, StdSink, StdSource, SystemClock, TcpNet};
 
-/// The status where there was no memory for the words of the command line.
+/// The exit status if memory runs out for the arguments.
 const OUT_OF_MEMORY: u8 = 6;
 
-/// The status where the system did not give those words.
+/// The exit status if the system does not deliver the arguments.
 const NO_WORDS: u8 = 64;
 
 fn main(rt: HostRuntime) -> ExitCode {
@@ -28,7 +28,7 @@ fn main(rt: HostRuntime) -> ExitCode {
     }
 }
 
-/// The status of a run over the process's own streams and clock, and the system's network.
+/// Runs the program on the process's streams and clock and the system's network and files. Returns the exit status.
 fn run(rt: &HostRuntime) -> io::Result<u8>
     ensures { IfOk result (λ status. status ≤ 11) }
 {
@@ -49,7 +49,7 @@ fn run(rt: &HostRuntime) -> io::Result<u8>
     Ok(status.code())
 }
 
-/// Runs what the words ask for, under the limits and the budget of the program.
+/// Runs `top` with the limits and the budget of the program.
 fn answer<S: Source, K: Sink, E: Sink, C: Clock, N: Listener, J: Log>(
     alloc: Global,
     words: &[String],

@@ -1,4 +1,4 @@
-// The requests and faults that are whole with a frame.
+// Answers the requests and errors that a frame completes.
 ghost use Rattle.std.specs.Prelude.{◌≡◌, ◌<◌, ◌≤◌, ℕ, if◌then◌else◌, List, [], None, Some};
 ghost use Rattle.ts_spec.specs.Run.{is_quit};
 ghost use Rattle.ts_db.specs.Held.{Carries};
@@ -11,8 +11,8 @@ ghost use Rattle.ts_mux.specs.Muxing.{ahead};
 ghost use Rattle.ts_spec.specs.Text.{fault_text};
 
 use super::Replay;
-use crate::course::Course;
 use crate::framing::write_frame;
+use crate::replay::Course;
 use std::sync::ledger::Ledger;
 use ts_db::Db;
 use ts_execution::take_turn;
@@ -22,7 +22,7 @@ use ts_resp::{Protocol, Reply, Word, put};
 use ts_sample::Steps;
 
 impl Replay {
-    // Answers every request and fault that is whole.
+    // Answers every complete request and protocol error.
     pub(super) fn answer_items<C: Clock, K: Sink, L: Ledger>(
         &mut self,
         db: &mut Db,
@@ -44,8 +44,8 @@ impl Replay {
         }
     }
 
-    // Gives back the room of a huge reply, takes the next request or fault and answers it. None: it was answered, and there
-    // may be more.
+    // Frees the memory of a huge reply, and answers the next request or protocol error. Returns `None` if more may
+    // follow.
     fn answer_item<C: Clock, K: Sink, L: Ledger>(
         &mut self,
         db: &mut Db,
@@ -70,7 +70,7 @@ impl Replay {
         }
     }
 
-    // Gives the request its turn and writes its reply. A QUIT closes its connection.
+    // Handles a request and writes its reply. A QUIT closes its connection.
     fn answer<C: Clock, K: Sink, L: Ledger>(
         &mut self,
         link: u32,
@@ -82,7 +82,8 @@ impl Replay {
     ) -> Option<Course>
         ensures replied { Carries db.old db.new (λ from to. Replied result
             (record { link = link; event = Asked words.items })
-            (record { held = from; readings = C.readings clock.old }) (record { held = to; readings = C.readings clock.new })
+            (record { held = from; readings = C.readings clock.old })
+            (record { held = to; readings = C.readings clock.new })
             (K.has out.old) (K.has out.new)) }
         ensures coming { (frames : List Frame) → coming self.new frames
             ≡ (if is_quit words.items then without link (coming self.old frames) else coming self.old frames) }
@@ -104,7 +105,7 @@ impl Replay {
         self.write(link, out)
     }
 
-    // Takes back the vector of a request that was answered, and closes its connection, if it was QUIT.
+    // Takes back the vector of a handled request, to use its capacity again, and closes the connection after a QUIT.
     fn settle(&mut self, quits: bool, link: u32, words: Vec<Word>)
         ensures coming { (frames : List Frame) → coming self.new frames
             ≡ (if quits then without link (coming self.old frames) else coming self.old frames) }
@@ -118,9 +119,10 @@ impl Replay {
         }
     }
 
-    // Writes the error that answers a fault.
+    // Writes a protocol error.
     fn refuse<K: Sink>(&mut self, link: u32, fault: Protocol, out: &mut K) -> Option<Course>
-        ensures wrote { Wrote result (K.has out.old) (K.has out.new) (framed (record { link = link; bytes = fault_text fault.kind })) }
+        ensures wrote { Wrote result (K.has out.old) (K.has out.new)
+            (framed (record { link = link; bytes = fault_text fault.kind })) }
         ensures ends { result ≡ Some Course.More → ⊥ }
         ensures mux { self.new.mux ≡ self.old.mux }
         ensures frames { frames_in self.new ≡ frames_in self.old }
@@ -131,9 +133,10 @@ impl Replay {
         self.write(link, out)
     }
 
-    // Writes the reply in the room, in a frame of the connection.
+    // Writes the reply as a frame of the connection.
     fn write<K: Sink>(&self, link: u32, out: &mut K) -> Option<Course>
-        ensures wrote { Wrote result (K.has out.old) (K.has out.new) (framed (record { link = link; bytes = self.now.room.bytes })) }
+        ensures wrote { Wrote result (K.has out.old) (K.has out.new)
+            (framed (record { link = link; bytes = self.now.room.bytes })) }
         ensures ends { result ≡ Some Course.More → ⊥ }
         ensures cause { WroteOrFault (K.faults out.old) (K.faults out.new) result }
     {

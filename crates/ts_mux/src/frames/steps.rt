@@ -1,7 +1,8 @@
-// One byte of a header, or the bytes of a frame.
+// The steps of the frame parser: one header byte, or the body of a frame.
 ghost use Rattle.std.specs.Prelude.{◌≡◌, ◌+◌, ◌<◌, ◌≤◌, [], length, drop, slice_index, IfSome, MatchOption};
 ghost use Rattle.ts_mux.specs.Capture.{Link, Length, Body, Whole, MOST_BYTES, move, start};
-ghost use Rattle.ts_mux.specs.Framing.{IsLink, IsLinkSoFar, IsLengthSoFar, IsPart, IsBegun, IsOpen, mode_of, goto_of, move_of};
+ghost use Rattle.ts_mux.specs.Framing.{IsLink, IsLinkSoFar, IsLengthSoFar, IsPart, IsBegun, IsOpen, mode_of, goto_of};
+ghost use Rattle.ts_mux.specs.Framing.{move_of};
 ghost use Rattle.ts_mux.specs.NextFrames.{GoesOn, Delivers};
 
 use super::{Frames, NextFrame};
@@ -10,7 +11,7 @@ use crate::part::{Part, after_length, after_link};
 use ts_resp::Word;
 
 impl Frames {
-    // Takes a byte of a header, or answers what `next` answers.
+    // Reads a header byte or a whole body. Returns `None` if `next` must continue.
     pub(super) fn step(&mut self) -> Option<NextFrame>
         ensures { MatchOption result (GoesOn self.old self.new) (Delivers self.old self.new) }
     {
@@ -21,7 +22,7 @@ impl Frames {
         }
     }
 
-    // A byte of the number of the connection, or the space after it.
+    // Reads a digit of the connection number, or the space after it.
     fn read_link(&mut self, number: Option<u32>) -> Option<NextFrame>
         requires mode { self.old.mode ≡ Link number }
         requires range { IsLinkSoFar number }
@@ -33,7 +34,7 @@ impl Frames {
         }
     }
 
-    // A byte of the length, or the feed after it.
+    // Reads a digit of the length, or the line feed after it.
     fn read_length(&mut self, link: u32, number: Option<u32>) -> Option<NextFrame>
         requires mode { self.old.mode ≡ Length link number }
         requires link { IsLink link }
@@ -46,7 +47,6 @@ impl Frames {
         }
     }
 
-    // The first unread byte.
     fn first(&self) -> Option<u8>
         ensures byte { MatchOption result (length self.now.unread ≤ 0) (λ byte.
             (0 < length self.now.unread) × (byte ≡ slice_index self.now.unread 0)) }
@@ -55,7 +55,7 @@ impl Frames {
         self.unread.as_slice().first().copied()
     }
 
-    // Takes the byte of a header that makes this of what has come.
+    // Moves to the progress that the first unread byte leads to. `None` means that the byte is invalid.
     fn take_byte(&mut self, part: Option<Part>) -> Option<NextFrame>
         requires some { 0 < length self.old.unread }
         requires part { move self.old.mode (slice_index self.old.unread 0) ≡ move_of part }
@@ -73,10 +73,11 @@ impl Frames {
         }
     }
 
-    // Takes the last byte of the header of a frame without bytes.
+    // Reads the last header byte of an empty frame.
     fn take_empty(&mut self, link: u32) -> NextFrame
         requires some { 0 < length self.old.unread }
-        requires whole { move self.old.mode (slice_index self.old.unread 0) ≡ Whole (record { link = link; bytes = [] }) }
+        requires whole { move self.old.mode (slice_index self.old.unread 0)
+            ≡ Whole (record { link = link; bytes = [] }) }
         requires link { IsLink link }
         ensures { Delivers self.old self.new result }
     {
@@ -87,7 +88,7 @@ impl Frames {
         NextFrame::Whole(Frame { link, bytes })
     }
 
-    // Takes the bytes of a frame, if all have come.
+    // Reads the body of a frame, if all of it has arrived.
     fn take_frame(&mut self, link: u32, len: u32) -> NextFrame
         requires body { self.old.mode ≡ Body link len [] }
         requires some { 0 < len }
@@ -106,7 +107,7 @@ impl Frames {
         NextFrame::Whole(Frame { link, bytes })
     }
 
-    // Passes over the first byte, which makes this of what has come.
+    // Consumes the first unread byte.
     fn go(&mut self, part: Part)
         requires some { 0 < length self.old.unread }
         requires part { move self.old.mode (slice_index self.old.unread 0) ≡ goto_of part }
@@ -130,7 +131,7 @@ impl Frames {
         self.place += 1;
     }
 
-    // Passes over the last bytes of a frame.
+    // Consumes the last `len` bytes of a frame.
     fn pass(&mut self, len: usize)
         requires { len ≤ length self.old.unread }
         ensures { self.new ≡ record {

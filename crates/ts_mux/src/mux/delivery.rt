@@ -1,5 +1,6 @@
-// Bytes for an open connection, whose reader is then at hand.
-ghost use Rattle.std.specs.Prelude.{◌≡◌, ◌+◌, ◌^◌, ◌<◌, ◌≤◌, true, false, List, [], ◌∷◌, get_or, length, Some, None, OnOk, OnErr};
+// Delivers bytes to an open connection, which becomes the current one.
+ghost use Rattle.std.specs.Prelude.{◌≡◌, ◌+◌, ◌^◌, ◌<◌, ◌≤◌, true, false, List, [], ◌∷◌, get_or, length, Some, None};
+ghost use Rattle.std.specs.Prelude.{OnOk, OnErr};
 ghost use Rattle.ts_resp.specs.Reading.{fed};
 ghost use Rattle.ts_mux.specs.declared.frame.Frame.{Frame};
 ghost use Rattle.ts_mux.specs.Links.{ahead_of};
@@ -12,7 +13,6 @@ use std::mem;
 use ts_resp::Reader;
 
 impl Mux {
-    // Whether the connection is closed.
     pub(super) fn is_closed(&self, link: u32) -> bool
         ensures { result ≡ get_or self.now.closed link true }
     {
@@ -20,7 +20,7 @@ impl Mux {
         link >= LINKS || self.closed[link]
     }
 
-    // Delivers bytes to an open connection, which is then at hand.
+    // Feeds bytes to an open connection and makes it the current one.
     pub(super) fn feed(&mut self, link: u32, bytes: &[u8]) -> Result<(), AllocError>
         requires asked { ahead self.old [] ≡ [] }
         requires some { 0 < length bytes.now }
@@ -41,7 +41,7 @@ impl Mux {
         Ok(())
     }
 
-    // Puts the reader at hand in the place of its connection, or in a new one. After an Err it is still at hand.
+    // Stores the current connection's reader. On an error it stays current.
     fn put_back(&mut self) -> Result<(), AllocError>
         requires asked { ahead self.old [] ≡ [] }
         ensures same { (frames : List Frame) → ahead self.new frames ≡ ahead self.old frames }
@@ -66,7 +66,7 @@ impl Mux {
         }
     }
 
-    // Takes the reader of a connection out of its place, where a fresh one stands then, or makes one.
+    // Returns the connection's reader and leaves a fresh one in the map; a new connection gets a fresh one.
     fn take_out(&mut self, link: u32) -> Reader
         requires hand { self.old.hand ≡ None }
         ensures same { (frames : List Frame) → ahead_of self.new.limits self.new.closed self.new.readers

@@ -3,7 +3,7 @@ use Rattle.std.specs.Prelude.{Some}
 use Rattle.ts_words.specs.declared.mode.Mode.TheVariants as mode
 use Rattle.ts_words.specs.declared.status.Status.{Status}
 use Rattle.ts_words.specs.declared.status.Status.TheVariants as status
-use Rattle.ts_engine.specs.declared.journal_end.JournalEnd.TheVariants as ended
+use Rattle.ts_engine.specs.declared.kept.JournalEnd.TheVariants as ended
 use Rattle.ts_engine.specs.declared.piped.End.TheVariants as end
 use Rattle.ts_engine.specs.Journaled.{status_of, place_of}
 use Rattle.ts_engine.specs.Top.{ReportsIn}

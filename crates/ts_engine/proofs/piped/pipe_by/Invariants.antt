@@ -6,7 +6,7 @@ use Rattle.ts_engine.specs.Standing.{spot_in, reader_of, ended_of, HasAnswered}
 use Rattle.ts_engine.proofs.Pipes.{SoFar}
 use Rattle.ts_engine.proofs.piped.pipe_by.Given as goal
 
--- every whole request in the bytes taken had its turn, and the session goes on
+-- every complete request in the bytes read was handled, and the session continues
 abbrev pub invariant-loop-taken : goal.invariant-loop-taken
 invariant-loop-taken g l = record {
   so_far : Carries l.initial.db l.db (λ from to. SoFar l.fn.limits l.taken (g.T.Turns.world l.initial.turns from (g.C.Clock.readings l.initial.clock))

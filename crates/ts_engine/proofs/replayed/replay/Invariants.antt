@@ -5,7 +5,7 @@ use Rattle.ts_engine.specs.Replays.{standing, frames_in, HasAnswered}
 use Rattle.ts_engine.proofs.ReplayPumps.{SoFar}
 use Rattle.ts_engine.proofs.replayed.replay.Given as goal
 
--- every whole frame in the bytes taken was answered
+-- every complete frame in the bytes read was answered
 abbrev pub invariant-loop-taken : goal.invariant-loop-taken
 invariant-loop-taken g l = record {
   so_far : Carries l.initial.db l.db (λ from to. SoFar l.fn.limits l.taken (record { held = from; readings = g.C.Clock.readings l.initial.clock })

@@ -65,7 +65,7 @@ returns-in-Some-Serve-clause-serve_complete g c = λ links is no_accept no_write
     all_served_as _ _ c.args.budget c.in-Some-Serve.links links _ _ _ _ c.serve_address.result (same_links _ c.in-Some-Serve.links links (rw c.in-Some-Serve.field-0-is at c.in-Some-Serve.ensures.mode) is)
     (c.serve_address.ensures.complete no_accept no_write)
 
--- a journal has its name
+-- `keep` has a second argument
 pub bounds-words-1-in-Some-Keep : goal.bounds-words-1-in-Some-Keep
 bounds-words-1-in-Some-Keep g c =
     omega (arith, keep-words (map string_bytes c.args.words.now) (rw c.in-Some-Keep.field-0-is at c.in-Some-Keep.ensures.mode), length-map c.args.words.now string_bytes)

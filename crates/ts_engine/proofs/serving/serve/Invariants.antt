@@ -4,7 +4,7 @@ use Rattle.ts_engine.specs.declared.serving.Served.TheVariants.{Done}
 use Rattle.ts_engine.specs.Serving.{Serves}
 use Rattle.ts_engine.proofs.serving.serve.Given as goal
 
--- the first links were served, and their lines were written
+-- the first connections were served, and their lines written
 abbrev pub invariant-loop-link : goal.invariant-loop-link
 invariant-loop-link g l = record {
   serves : Carries l.initial.db l.db (λ from to. Serves

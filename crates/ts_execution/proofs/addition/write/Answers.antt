@@ -35,7 +35,7 @@ begin-requires-clause-missing g c from stands =
     missing from.limits from.state a.key.now c.args.time a.value a.on (get a.key.now from.state)
     (subst (λ (fault : DbFault). IsAnswer (refusal_of c.args.db.now.ids fault) from.state step) c.in-NoKey.is (c.in-Err.ensures.put.0 from before))
 
--- a key that is missing: what is written is so of the database as it was
+-- the key does not exist, and the database is as before
 pub returns-in-NoKey-clause-answer : goal.returns-in-NoKey-clause-answer
 returns-in-NoKey-clause-answer g c =
     let a = c.args.addition.now in

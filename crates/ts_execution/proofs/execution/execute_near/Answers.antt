@@ -168,7 +168,7 @@ returns-in-MRange-clause-steps g c =
     (subst (λ (fs : List Filter). c.put_ranges.new.steps ≤ c.args.steps.now + members_steps c.args.db.now fs c.in-MRange.query.from c.in-MRange.query.to)
     c.deref.ensures.value c.put_ranges.ensures.steps)
 
--- a selection of which no rows are told
+-- a selection that returns no rows
 pub returns-in-MGet-clause-steps : goal.returns-in-MGet-clause-steps
 returns-in-MGet-clause-steps g c =
     let stock = c.args.db.now in

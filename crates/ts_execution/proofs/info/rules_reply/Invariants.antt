@@ -5,7 +5,7 @@ use Rattle.ts_resp.specs.Replies.{reply_of}
 use Rattle.ts_db.specs.Information.{rule_info_of}
 use Rattle.ts_execution.proofs.info.rules_reply.Given as goal
 
--- the replies so far and those of the rules that are left are all of them, and there is room
+-- the replies so far and those of the remaining rules are all of them, and their capacity is reserved
 abbrev pub invariant-loop-rule : goal.invariant-loop-rule
 invariant-loop-rule l = record {
   so_far : map reply_of l.replies.items ++ map spec.rule_reply (map rule_info_of (into_iter_items l.rule-iterator)) ≡ map spec.rule_reply (map rule_info_of l.fn.rules.items);

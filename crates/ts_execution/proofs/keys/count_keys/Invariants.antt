@@ -3,7 +3,7 @@ use Rattle.ts_spec.specs.Step.{count_there}
 use Rattle.ts_db.specs.Held.{Held, Stands}
 use Rattle.ts_execution.proofs.keys.count_keys.Given as goal
 
--- the keys that were found so far, with those among the words that are left
+-- the keys counted so far and those among the remaining arguments
 abbrev pub invariant-loop-key : goal.invariant-loop-key
 invariant-loop-key l = record {
   found : (from : Held) → Stands l.db from → l.count + count_there from.state (drop l.key-index l.keys) ≡ count_there from.state l.keys;

@@ -4,7 +4,7 @@ use Rattle.ts_resp.specs.Reading.{fed}
 use Rattle.ts_execution.proofs.WholeLoads.{ReadSoFar}
 use Rattle.ts_execution.proofs.loading.load.Given as goal
 
--- what was read so far was done again
+-- the bytes read so far were replayed
 abbrev pub invariant-loop-taken : goal.invariant-loop-taken
 invariant-loop-taken g l = record {
   so_far : ReadSoFar l.fn.limits (unread (g.J.Log.content l.initial.log) (g.J.Log.place l.initial.log)) (unread (g.J.Log.content l.log) (g.J.Log.place l.log)) l.taken l.initial.db l.db l.loading;

@@ -4,6 +4,6 @@ use Rattle.ts_db.specs.Held.{Carries}
 use Rattle.ts_execution.proofs.RestoredTriples.{WritesOn}
 use Rattle.ts_execution.proofs.restored.restore_triples.Given as goal
 
--- the triples that are left go on to what becomes of all of them
+-- replaying the remaining triples gives what replaying all of them gives
 abbrev pub invariant-loop-triple : goal.invariant-loop-triple
 invariant-loop-triple g l = Carries l.initial.db l.db (λ from now. WritesOn (triples_of l.fn.triples.items) (triples_of (into_iter_items l.triple-iterator)) from now)

@@ -4,7 +4,7 @@ use Rattle.ts_engine.specs.Replaying.{Went}
 use Rattle.ts_engine.specs.Replays.{standing, frames_in, waiting}
 use Rattle.ts_engine.proofs.replay.Replay.answer_items.Given as goal
 
--- what was answered so far, and that no frame was taken
+-- what was answered so far, without a new frame
 abbrev pub invariant-loop-course : goal.invariant-loop-course
 invariant-loop-course g l = record {
   went : Carries l.initial.db l.db (λ from to. Went (standing l.initial.self from (g.C.Clock.readings l.initial.clock)) (standing l.self to (g.C.Clock.readings l.clock))

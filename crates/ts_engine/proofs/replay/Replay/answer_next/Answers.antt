@@ -8,7 +8,7 @@ use Rattle.ts_execution.proofs.Carried.{carries_none, carries_as}
 use Rattle.ts_engine.proofs.ReplaysOn.{went_none, not_answered, answers_then, goes_on, goes_by}
 use Rattle.ts_engine.proofs.replay.Replay.answer_next.Goals as goal
 
--- a frame was taken and delivered, and what was whole with it was answered
+-- a frame was delivered, and the items that it completes were answered
 pub returns-in-Ok-clause-goes : goal.returns-in-Ok-clause-goes
 returns-in-Ok-clause-goes g c =
     carries_as _ _ _ _ (λ from to answers. rw c.end.ensures

@@ -1,6 +1,6 @@
 use Rattle.std.proofs.Common.{◌+◌, refl, sym, ◌∙◌}
 use Rattle.std.specs.Prelude.{None, Some}
-use Rattle.ts_engine.specs.declared.go.Go.TheVariants as go
+use Rattle.ts_engine.specs.declared.replying.Go.TheVariants as go
 use Rattle.ts_engine.proofs.Carrying.{replies_each}
 use Rattle.ts_engine.proofs.session.Session.answer.Goals as goal
 

@@ -6,7 +6,7 @@ use Rattle.ts_engine.specs.Session.{Went}
 use Rattle.ts_engine.specs.Standing.{spot_in, reader_of}
 use Rattle.ts_engine.proofs.session.Session.answer_all.Given as goal
 
--- what was done so far, and that no byte came
+-- what was done so far, without new bytes
 abbrev pub invariant-loop-go : goal.invariant-loop-go
 invariant-loop-go g l = record {
   went : Carries l.initial.db l.db (λ from to. Went (spot_in g.T.Turns.kind l.initial.self (g.T.Turns.world l.initial.turns from (g.C.Clock.readings l.initial.clock)))

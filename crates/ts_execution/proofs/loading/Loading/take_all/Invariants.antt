@@ -4,7 +4,7 @@ use Rattle.ts_db.specs.Held.{Carries}
 use Rattle.ts_execution.specs.Restoring.{LoadsOn}
 use Rattle.ts_execution.proofs.loading.Loading.take_all.Given as goal
 
--- what was whole so far was done again, and the journal did not break
+-- the complete requests so far were replayed, and the journal did not break
 abbrev pub invariant-loop-end : goal.invariant-loop-end
 invariant-loop-end g l = record {
   loads : Carries l.initial.db l.db (λ from to. LoadsOn l.initial.self l.self [] from to);

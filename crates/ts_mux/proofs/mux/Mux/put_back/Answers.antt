@@ -5,7 +5,7 @@ use Rattle.ts_mux.specs.Links.{ahead_of, hand_fed}
 use Rattle.ts_mux.proofs.Readers.{nothing_left, written, put_asked, put_within, ahead_put}
 use Rattle.ts_mux.proofs.mux.Mux.put_back.Goals as goal
 
--- ---- in the place that its connection has
+-- ---- the connection has an entry
 
 pub invariant_of-self-in-Some-get_mut-clause-asked : goal.invariant_of-self-in-Some-get_mut-clause-asked
 invariant_of-self-in-Some-get_mut-clause-asked c =
@@ -34,7 +34,7 @@ returns-in-Some-get_mut-clause-same c = λ frames.
     m.limits m.closed (nothing_left m.hand held is c.requires.asked) frames
     ∙ ap (λ hand. ahead_of m.limits m.closed m.readers hand frames) (sym is)
 
--- ---- in a new place
+-- ---- it has none
 
 pub invariant_of-self-in-Ok-clause-asked : goal.invariant_of-self-in-Ok-clause-asked
 invariant_of-self-in-Ok-clause-asked c =

@@ -3,7 +3,7 @@ use Rattle.ts_spec.specs.Replies.{memory_reply}
 use Rattle.ts_spec.specs.Text.{text}
 use Rattle.ts_resp.specs.Replies.{reply_of}
 use Rattle.ts_execution.proofs.ShortAnswers.{long_word}
-use Rattle.ts_execution.proofs.echoes.put_word.Goals as goal
+use Rattle.ts_execution.proofs.keys.put_word.Goals as goal
 
 pub returns-clause-reply : goal.returns-clause-reply
 returns-clause-reply c =

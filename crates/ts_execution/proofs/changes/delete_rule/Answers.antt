@@ -5,7 +5,7 @@ use Rattle.ts_db.specs.Held.{Held}
 use Rattle.ts_questions.specs.Answering.{IsShort}
 use Rattle.ts_execution.proofs.Carried.{answered_surely}
 use Rattle.ts_execution.proofs.ShortAnswers.{short_done}
-use Rattle.ts_execution.proofs.rules.delete_rule.Goals as goal
+use Rattle.ts_execution.proofs.changes.delete_rule.Goals as goal
 
 pub returns-clause-answer : goal.returns-clause-answer
 returns-clause-answer c = answered_surely (λ x. Done) c.args.db.now c.delete_rule.new.self (λ (h : Held). delete_rule h.state c.args.source.now c.args.dest.now) c.delete_rule.result _

@@ -5,7 +5,7 @@ use Rattle.ts_db.specs.Held.{Held}
 use Rattle.ts_questions.specs.Answering.{IsShort}
 use Rattle.ts_execution.proofs.Carried.{answered}
 use Rattle.ts_execution.proofs.ShortAnswers.{short_done}
-use Rattle.ts_execution.proofs.rules.create_rule.Goals as goal
+use Rattle.ts_execution.proofs.changes.create_rule.Goals as goal
 
 pub returns-clause-answer : goal.returns-clause-answer
 returns-clause-answer c = answered (λ x. Done) c.args.db.now c.create_rule.new.self (λ (h : Held). create_rule h.limits h.state c.args.source.now c.args.dest.now c.args.agg c.args.grid) c.create_rule.result _ c.done_reply.ensures c.create_rule.ensures.ruled
