@@ -1,7 +1,7 @@
-// How bytes get from one buffer into another.
+// Copies bytes between buffers.
 ghost use Rattle.std.specs.Prelude.{◌≡◌, length, min, take};
 
-/// Copies the first bytes of `from`, at most so many, to the front of `to`, and says how many.
+/// Copies a prefix of `from`, at most `most` bytes, to the start of `to`. Returns its length.
 pub(crate) fn copy_front(from: &[u8], most: usize, to: &mut [u8]) -> usize
     ensures count { result ≡ min most (min (length to.old) (length from.now)) }
     ensures copied { take result to.new ≡ take result from.now }

@@ -1,9 +1,8 @@
-//! The outside: where bytes come from, where they go, the log, the clock and the listener, as traits that count
-//! their faults; devices in memory, whose failures are chosen beforehand; and adapters over std's readers, writers,
-//! files, clock and network.
+//! Devices: the traits of byte sources, sinks, logs, clocks and listeners, which count their faults; devices in memory,
+//! whose failures are chosen beforehand; and adapters over std's readers, writers, files, clock and network.
 //!
-//! A count of calls or of faults is kept in a `u64` and stops at 18446744073709551615. The calls of a device in
-//! memory are numbered from 1 on, so each call from that one on has that number.
+//! Counts of calls and faults are `u64` and stop at 18446744073709551615. The calls of a device in memory are numbered
+//! from 1; from that number on, every call has it.
 #![tactic(auto)]
 
 mod batches;

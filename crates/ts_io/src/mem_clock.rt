@@ -5,7 +5,7 @@ ghost use Rattle.ts_io.specs.Clocks.{reading_of, readings_after};
 use crate::Clock;
 use std::marker::Model;
 
-/// A clock with its readings in memory. After the last one it gives that one again, and 0 where there was none.
+/// A clock with its readings in memory. It repeats the last reading, and reads 0 if it has none.
 #[derive(Drop)]
 pub struct MemClock {
     readings: Vec<u64>,
@@ -23,7 +23,7 @@ impl Model for MemClock {
 }
 
 impl MemClock {
-    /// A clock that gives these readings in order.
+    /// Creates a clock that gives these readings in order.
     pub fn new(readings: Vec<u64>) -> Self
         ensures { result ≡ readings.items }
     {

@@ -1,4 +1,4 @@
-// A sink for tests, which keeps what it was given.
+// A sink for tests, which keeps the bytes in memory.
 ghost use Rattle.std.specs.Prelude.{◌≡◌, ◌<◌, ◌≤◌, [], length, min, IfOk, IsErr, Contains, is_err};
 ghost use Rattle.std.specs.Io.{WritesAtMost};
 ghost use Rattle.ts_io.specs.Causes.{HasCause};
@@ -9,8 +9,8 @@ use crate::{Failed, Sink};
 use std::alloc::Global;
 use std::marker::Model;
 
-/// A sink that keeps the bytes in memory. It takes at most so many bytes a call, and the calls with chosen numbers
-/// fail. A call also fails where there is no memory for its bytes.
+/// A sink that keeps its bytes in memory. Each call accepts at most `most` bytes. The calls with chosen numbers fail,
+/// and so does one that runs out of memory.
 #[derive(Drop)]
 pub struct MemSink {
     written: Vec<u8>,
@@ -30,8 +30,8 @@ impl Model for MemSink {
 }
 
 impl MemSink {
-    /// An empty sink, which takes at most `most` bytes a call, at least 1. Each call whose number, counted from 1,
-    /// stands in `fail` fails.
+    /// Creates an empty sink that accepts at most `most` bytes a call, at least 1. A call fails if its number, counted
+    /// from 1, is in `fail`.
     pub fn new(alloc: Global, most: usize, fail: Vec<u64>) -> Self
         requires { 1 ≤ most }
         ensures written { result.written ≡ [] }
@@ -45,7 +45,7 @@ impl MemSink {
         }
     }
 
-    /// What was written.
+    /// The bytes written.
     pub fn bytes(&self) -> &[u8]
         ensures { result.now ≡ self.now.written }
     {
@@ -66,12 +66,12 @@ impl Sink for MemSink {
         ensures bytes { WriteGrows (λ w. self.old.written ≡ w) (λ w. self.new.written ≡ w) result bytes.now }
         ensures cause { HasCause self.old.calls.failed self.new.calls.failed result }
 
-        // As many bytes as the call allows.
+        // As many bytes as the call may accept.
         ensures count { IfOk result (λ n. n ≡ min self.old.most (length bytes.now)) }
         ensures most { self.new.most ≡ self.old.most }
         ensures calls { self.new.calls ≡ after_call self.old.calls (is_err result) }
 
-        // Any other call may fail for want of memory.
+        // Any other call may fail if memory runs out.
         ensures fails { Contains self.old.calls.to_fail (next_number self.old.calls) → IsErr result }
     {
         self.schedule.call()?;

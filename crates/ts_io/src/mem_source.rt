@@ -1,4 +1,4 @@
-// A source for tests and for workloads, which gives bytes that are in memory.
+// A source for tests and generated workloads, with its bytes in memory.
 ghost use Rattle.std.specs.Prelude.{◌≡◌, ◌≤◌, ◌↔◌, Some, length, min, IsErr, IfOk, Contains, is_err};
 ghost use Rattle.std.specs.Io.{ReadsAtMost};
 ghost use Rattle.std.specs.Io.KnownBytes.{ReadConsumes};
@@ -9,7 +9,7 @@ use crate::schedule::Schedule;
 use crate::{Failed, Source};
 use std::marker::Model;
 
-/// A source over bytes in memory. It gives at most so many bytes a call, and the calls with chosen numbers fail.
+/// A source over bytes in memory. Each call gives at most `piece` bytes. The calls with chosen numbers fail.
 #[derive(Drop)]
 pub struct MemSource {
     bytes: Vec<u8>,
@@ -30,8 +30,8 @@ impl Model for MemSource {
 }
 
 impl MemSource {
-    /// A source of `bytes`, at most `piece` of them a call, which is at least 1. Exactly the calls whose numbers,
-    /// counted from 1, stand in `fail` fail.
+    /// Creates a source of `bytes` that gives at most `piece` of them a call, at least 1. A call fails exactly if its
+    /// number, counted from 1, is in `fail`.
     pub fn new(bytes: Vec<u8>, piece: usize, fail: Vec<u64>) -> Self
         requires { 1 ≤ piece }
         ensures left { result.left ≡ bytes.items }
@@ -59,7 +59,7 @@ impl Source for MemSource {
         ensures bytes { ReadConsumes (Some self.old.left) (Some self.new.left) result buf.new }
         ensures cause { HasCause self.old.calls.failed self.new.calls.failed result }
 
-        // As many bytes as the piece, the buffer and what is left allow.
+        // The least of the piece, the buffer and the bytes left.
         ensures count { IfOk result (λ n.
             n ≡ min self.old.piece (min (length buf.old) (length self.old.left))) }
         ensures piece { self.new.piece ≡ self.old.piece }

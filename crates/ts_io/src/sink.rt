@@ -1,4 +1,4 @@
-// What replies are written to.
+// The sink that replies are written to.
 ghost use Rattle.std.specs.Prelude.{ℕ, ◌<◌, List, length, IfOk, OnOk, OnErr};
 ghost use Rattle.std.specs.Io.{WritesAtMost};
 ghost use Rattle.ts_io.specs.Causes.{HasCause};
@@ -6,15 +6,16 @@ ghost use Rattle.ts_io.specs.Sinks.{Grows, GrowsByFront, WriteGrows};
 
 use crate::Failed;
 
-/// What bytes are written to.
+/// A sink of bytes.
 pub trait Sink {
-    /// Whether the sink has these bytes: all that was written to it, in order. One that tells nothing has no list.
+    /// Whether the sink has these bytes: all that was written to it, in order. A sink that does not record them has no
+    /// such list.
     ghost has: { Self → List ℕ → Type 0 };
 
-    /// How often a write has failed: a count that never falls.
+    /// How many writes have failed. It never falls.
     ghost faults: { Self → ℕ };
 
-    /// Writes a front of `bytes`, and says how many. A write that fails adds nothing to what the sink has.
+    /// Writes a prefix of `bytes` and returns its length. A write that fails adds nothing to what the sink has.
     fn write(&mut self, bytes: &[u8]) -> Result<usize, Failed>
         ensures bound { WritesAtMost result bytes.now }
         ensures progress { 0 < length bytes.now → IfOk result (λ n. 0 < n) }
@@ -22,7 +23,7 @@ pub trait Sink {
         ensures cause { HasCause (faults self.old) (faults self.new) result };
 }
 
-/// Writes all of `bytes`, in as many writes as it takes. It stops at the first write that fails.
+/// Writes all of `bytes`, in as many calls as needed. Stops at the first write that fails.
 pub fn write_all_counted<K: Sink>(sink: &mut K, bytes: &[u8]) -> Result<(), Failed>
     ensures all { OnOk result (Grows (K.has sink.old) (K.has sink.new) bytes.now) }
     ensures front { OnErr result (GrowsByFront (K.has sink.old) (K.has sink.new) bytes.now) }

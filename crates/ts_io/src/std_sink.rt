@@ -10,10 +10,10 @@ use crate::failed::count_failure;
 use crate::{Failed, Sink};
 use std::io::Write;
 
-/// A sink over a writer of std. It flushes after each write, and counts the writer's errors.
+/// A sink over a std writer. It flushes after each write and counts the writer's errors.
 ///
-/// Where the writer takes bytes and then fails to flush them, the write has failed: these bytes may or may not
-/// arrive, and the sink counts them as not acknowledged.
+/// If the writer accepts bytes and then fails to flush them, the write fails. Those bytes may or may not arrive, and
+/// the sink counts them as unacknowledged.
 #[derive(Drop)]
 pub struct StdSink<W> {
     inner: W,
@@ -22,7 +22,7 @@ pub struct StdSink<W> {
 }
 
 impl<W: Write> StdSink<W> {
-    /// A sink that has what the writer holds.
+    /// Creates a sink that has what the writer holds.
     pub fn new(inner: W) -> Self
         ensures writer { writer_of result ≡ inner }
         ensures has { IfSome (W.contents inner) (⟦<StdSink<W> as Sink>⟧.has result) }
@@ -36,7 +36,7 @@ impl<W: Write> StdSink<W> {
         }
     }
 
-    /// How many bytes the writer took and did not flush. The count stops at the greatest `u64`.
+    /// How many bytes the writer accepted and failed to flush. The count stops at `u64::MAX`.
     pub fn unacknowledged(&self) -> u64
         ensures { result ≡ unacknowledged_of self.now }
     {
@@ -71,7 +71,7 @@ impl<W: Write> Sink for StdSink<W> {
     }
 }
 
-// Writes once, and flushes. An `Err` says how many bytes were written and not flushed.
+// Writes once and flushes. `Err` is the number of bytes that were written but not flushed.
 fn write_and_flush<W: Write>(writer: &mut W, bytes: &[u8]) -> Result<usize, usize>
     ensures bound { IfOk result (λ n. n ≤ length bytes.now) }
     ensures progress { 0 < length bytes.now → IfOk result (λ n. 0 < n) }

@@ -9,7 +9,7 @@ use crate::failed::count_failure;
 use crate::{Failed, Source};
 use std::io::Read;
 
-/// A source over a reader of std, which counts the reader's errors.
+/// A source over a std reader, which counts the reader's errors.
 #[derive(Drop)]
 pub struct StdSource<R> {
     inner: R,
@@ -17,7 +17,7 @@ pub struct StdSource<R> {
 }
 
 impl<R: Read> StdSource<R> {
-    /// A source of what the reader has left.
+    /// Creates a source of what the reader has left.
     pub fn new(inner: R) -> Self
         ensures reader { reader_of result ≡ inner }
         ensures faults { failed_reads_of result ≡ 0 }

@@ -1,4 +1,4 @@
-// The clock of the system.
+// The system clock.
 ghost use Rattle.std.specs.Prelude.{◌≡◌, ◌-◌, ◌/◌, ◌^◌, None, min};
 ghost use Rattle.std.specs.Time.{system_time_nanos};
 
@@ -6,7 +6,7 @@ use crate::Clock;
 use std::rt;
 use std::time::SystemTime;
 
-/// The system's clock. It tells no readings beforehand.
+/// The system clock. Its readings are not known beforehand.
 #[derive(Drop)]
 pub struct SystemClock<R> {
     rt: R,
@@ -23,7 +23,7 @@ impl<R: rt::Clock> SystemClock<R> {
 impl<R: rt::Clock> Clock for SystemClock<R> {
     ghost readings = { λ _. None };
 
-    /// Milliseconds since 1970, or 0 where the system's clock can't be read or stands before 1970.
+    /// Milliseconds since 1970, or 0 if the system clock can't be read or is set before 1970.
     fn now(&mut self) -> u64 {
         match SystemTime::now(&self.rt) {
             Ok(time) => milliseconds_since_1970(time),
