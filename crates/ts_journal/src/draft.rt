@@ -1,4 +1,4 @@
-// A request that is being written, word after word.
+// A RESP request under construction.
 ghost use Rattle.std.specs.Prelude.{◌≡◌, ◌≤◌, ◌∷◌, [], ◌++◌, drop, length, IfOk, OnOk};
 ghost use Rattle.std.specs.Fmt.{decimal};
 ghost use Rattle.ts_spec.specs.Text.{line_text};
@@ -10,7 +10,7 @@ use ts_decimal::print;
 use ts_resp::{Out, Word, close_array, encode_bulk, open_array};
 use ts_sample::Units;
 
-// Words of a request, behind a gap for what stands before them.
+// The arguments of a request, after a gap for its header.
 #[derive(Drop)]
 pub(crate) struct Draft {
     pub(crate) out: Out,
@@ -22,7 +22,7 @@ impl Draft {
     ghost use Rattle.ts_spec.specs.Wire.{Request};
     ghost use Rattle.ts_journal.specs.Draft.{Has, Puts};
 
-    // No words yet.
+    // Creates one without arguments.
     pub(crate) fn new(alloc: Global) -> Result<Draft, AllocError>
         ensures { IfOk result (Has []) }
     {
@@ -31,7 +31,7 @@ impl Draft {
         Ok(Draft { out, words: 0 })
     }
 
-    // One word more.
+    // Appends an argument.
     pub(crate) fn put(&mut self, word: &[u8]) -> Result<(), AllocError>
         ensures { OnOk result (Puts self.old self.new (word.now ∷ [])) }
     {
@@ -39,28 +39,28 @@ impl Draft {
         encode_bulk(word, &mut self.out)
     }
 
-    // A word of a request.
+    // Appends an argument of another request.
     pub(crate) fn put_word(&mut self, word: &Word) -> Result<(), AllocError>
         ensures { OnOk result (Puts self.old self.new (word.now ∷ [])) }
     {
         self.put(word.bytes())
     }
 
-    // A number in decimal.
+    // Appends a number in decimal.
     pub(crate) fn put_number(&mut self, number: u64) -> Result<(), AllocError>
         ensures { OnOk result (Puts self.old self.new (decimal number ∷ [])) }
     {
         self.put(Buffer::new().format(number).as_bytes())
     }
 
-    // A value as it is printed.
+    // Appends a value as it is printed.
     pub(crate) fn put_value(&mut self, value: Units) -> Result<(), AllocError>
         ensures { OnOk result (Puts self.old self.new (shown_value value ∷ [])) }
     {
         self.put(print(value, &mut [0; 32]))
     }
 
-    // The whole request.
+    // Fills in the header and returns the whole request.
     pub(crate) fn close(self) -> Out
         requires { 24 ≤ length self.out.bytes }
         ensures { (words : Request) → Has words self → result.bytes ≡ encoded_request words }

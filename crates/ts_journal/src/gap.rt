@@ -1,14 +1,15 @@
-// The gap before the words of a request, for what stands before them.
+// The gap before the arguments of a request, for its header.
 ghost use Rattle.std.specs.Prelude.{◌≡◌, ◌≤◌, ◌+◌, ◌++◌, drop, length};
 ghost use Rattle.std.specs.Fmt.{decimal};
 ghost use Rattle.ts_spec.specs.Text.{line_text};
 
 use itoa::write_digits;
 
-// The bytes of the gap: those of a `*`, of the longest number and of CRLF, and one more.
+// The bytes of the gap: a `*`, the longest number and CRLF, and one more.
 pub(crate) const GAP: usize = 24;
 
-// Writes what stands before so many words into the gap at the front, and gives where it starts.
+// Writes the header of a request with this many words so that it ends where the gap does. Returns the offset where it
+// starts.
 pub(crate) fn put_head(words: usize, room: &mut [u8]) -> usize
     requires { 24 ≤ length room.old }
     ensures text { drop result room.new ≡ line_text 42 (decimal words) ++ drop 24 room.old }
@@ -20,7 +21,7 @@ pub(crate) fn put_head(words: usize, room: &mut [u8]) -> usize
     put_before(b"*", place, room)
 }
 
-// Writes bytes so that they end at the place, and gives where they start.
+// Writes bytes that end at offset `place`, and returns the offset where they start.
 fn put_before(bytes: &[u8], place: usize, room: &mut [u8]) -> usize
     requires from { length bytes.now ≤ place }
     requires to { place ≤ length room.old }

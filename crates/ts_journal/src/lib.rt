@@ -1,4 +1,4 @@
-//! Records of changes, as a journal keeps them: each a request that does the same whenever it is read.
+//! Records of changes for a journal. Each record is a RESP request that has the same effect whenever it is executed.
 #![tactic(auto)]
 
 mod changes;

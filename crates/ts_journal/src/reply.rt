@@ -1,8 +1,8 @@
-// What the text of a reply says of a change.
+// What the text of a reply says about a change.
 ghost use Rattle.std.specs.Prelude.{◌≡◌};
 ghost use Rattle.ts_journal.specs.Lines.{after_line, begins_error, items_text};
 
-// What comes after the first line.
+// The bytes after the first line.
 pub(crate) fn after_line(mut text: &[u8]) -> &[u8]
     ensures { result.now ≡ after_line text.entry.now }
 {
@@ -18,7 +18,7 @@ pub(crate) fn after_line(mut text: &[u8]) -> &[u8]
     text
 }
 
-// The texts of the items of an array, one after another.
+// The text of an array's items.
 pub(crate) fn items(reply: &[u8]) -> &[u8]
     ensures { result.now ≡ items_text reply.now }
 {
@@ -28,7 +28,7 @@ pub(crate) fn items(reply: &[u8]) -> &[u8]
     }
 }
 
-// Whether it is an error.
+// Whether the reply is an error.
 pub(crate) fn is_error(reply: &[u8]) -> bool
     ensures { result ≡ begins_error reply.now }
 {

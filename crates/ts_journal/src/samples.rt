@@ -1,11 +1,11 @@
-// The pieces of a row of bytes whose items of a reply are numbers.
+// Selects the triples of TS.MADD that were accepted: those whose item in the reply is a number.
 ghost use Rattle.std.specs.Prelude.{◌≡◌, ◌≤◌, ◌+◌, [], ◌++◌, min, length, sum, if◌then◌else◌};
 ghost use Rattle.ts_journal.specs.Lines.{begins_number, pieces, taken_by, joined, words_in};
 
 use crate::reply::after_line;
 use bytes::BytesMut;
 
-// Adds the pieces whose items are numbers, for which there is room, and tells how many words they have.
+// Appends the pieces whose items are numbers, and returns how many arguments they have. The buffer has the capacity.
 pub(crate) fn add_taken(
     mut bytes: &[u8],
     lens: &[usize],
@@ -29,8 +29,8 @@ pub(crate) fn add_taken(
     words
 }
 
-// Adds a piece, if it is to be added, and tells how many words it has. A piece without bytes is that of a triple
-// without a time or a value, and any other has three words.
+// Appends a piece if it is wanted, and returns how many arguments it has. An empty piece belongs to a triple without a
+// time or a value; any other has three.
 fn add_if(wanted: bool, piece: &[u8], room: &mut BytesMut) -> usize
     requires { length piece.now ≤ room.old.spare }
     ensures bytes { room.new.items ≡ room.old.items ++ (if wanted then piece.now else []) }
@@ -47,7 +47,7 @@ fn add_if(wanted: bool, piece: &[u8], room: &mut BytesMut) -> usize
     }
 }
 
-// Whether a text begins with a number.
+// Whether a text begins with an integer reply.
 fn begins_number(text: &[u8]) -> bool
     ensures { result ≡ begins_number text.now }
 {

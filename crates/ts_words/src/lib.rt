@@ -1,5 +1,5 @@
-//! The words of the command line, how a run of the program ends, and the lines that it writes about itself. No call
-//! takes memory: each line is written into a room of its caller.
+//! The command line, the exit statuses, and the lines that the program writes about itself. No call allocates: each
+//! line is written into a buffer of the caller.
 #![tactic(auto)]
 
 mod lines;

@@ -1,4 +1,4 @@
-// The lines on standard error, one for each ending.
+// The lines on standard error, one for each exit status.
 ghost use Rattle.std.specs.Prelude.{◌≡◌, ◌+◌, ◌<◌, ◌≤◌, ◌++◌, length, take};
 ghost use Rattle.std.specs.Fmt.{decimal};
 ghost use Rattle.ts_words.specs.Endings.{ended, line_in};
@@ -6,9 +6,9 @@ ghost use Rattle.ts_words.specs.Endings.{ended, line_in};
 use crate::room::{put, put_number};
 use crate::{Mode, Status};
 
-/// The line on standard error of an ending, in the room: nothing for a good one. `place` is where a stream breaks,
-/// or where the request or frame begins inside which it ends, counted in bytes from 0. Only the mode `Mux` has a line of
-/// its own, of a capture that ends inside a frame.
+/// Writes the line for a status into `room`, empty for success. `place` is the byte offset, from 0, where a stream
+/// breaks or where its unfinished request or frame begins. Only the mode `Mux` has a line of its own: a capture ends
+/// inside a frame.
 pub fn line(mode: Option<Mode>, status: Status, place: u64, room: &mut [u8; 160]) -> &[u8]
     ensures { result.now ≡ line_in mode status place }
 {
@@ -32,7 +32,7 @@ pub fn line(mode: Option<Mode>, status: Status, place: u64, room: &mut [u8; 160]
     &room[..end]
 }
 
-// Puts the line of an input that ends inside a request or a frame, and gives its length.
+// Writes the line of an input that ends inside a request or a frame, and returns its length.
 fn put_truncated(mode: Option<Mode>, room: &mut [u8; 160], place: u64) -> usize
     ensures text { take result room.new ≡ line_in mode Status.Truncated place }
     ensures within { result ≤ 160 }
@@ -51,7 +51,7 @@ fn put_truncated(mode: Option<Mode>, room: &mut [u8; 160], place: u64) -> usize
     }
 }
 
-// Puts a line of this text, and gives its length.
+// Writes this text as a line, and returns its length.
 fn put_line(room: &mut [u8; 160], text: &[u8]) -> usize
     requires { length text.now < 160 }
     ensures text { take result room.new ≡ ended text.now }
@@ -61,7 +61,7 @@ fn put_line(room: &mut [u8; 160], text: &[u8]) -> usize
     put(room, at, b"\n")
 }
 
-// Puts a line of this text and a place, and gives its length.
+// Writes this text and a byte offset as a line, and returns its length.
 fn put_place(room: &mut [u8; 160], text: &[u8], place: u64) -> usize
     requires { length text.now + 20 < 160 }
     ensures text { take result room.new ≡ ended (text.now ++ decimal place) }

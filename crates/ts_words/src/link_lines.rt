@@ -1,4 +1,4 @@
-// The line that tells how a connection ended.
+// The line that reports how a connection ended.
 ghost use Rattle.std.specs.Prelude.{◌≡◌, ◌≤◌, length};
 ghost use Rattle.ts_words.specs.Lines.{word_of, link_line_of};
 
@@ -17,14 +17,14 @@ pub enum LinkEnd {
     ReadFault,
     /// A write failed.
     WriteFault,
-    /// There was no memory.
+    /// Memory ran out.
     Memory,
-    /// As many bytes were taken as may be.
+    /// The budget of input bytes was used up.
     Budget,
 }
 
 impl LinkEnd {
-    // The word for it.
+    // Its word in the line.
     fn word(self) -> &'static str
         ensures word { result.now ≡ word_of self }
         ensures short { length result.now ≤ 11 }
@@ -41,7 +41,7 @@ impl LinkEnd {
     }
 }
 
-/// The line of a served connection, in the room: which one it was, counted from 1, how many of its requests were
+/// Writes the line of a served connection into `room`: its number, counted from 1, how many of its requests were
 /// executed, and how it ended.
 pub fn link_line(link: u32, executed: u64, end: LinkEnd, room: &mut [u8; 80]) -> &[u8]
     ensures { result.now ≡ link_line_of link executed end }

@@ -1,4 +1,4 @@
-// What the command line asks for.
+// Parses the command line.
 ghost use Rattle.std.specs.Prelude.{◌≡◌, map, IfSome};
 ghost use Rattle.std.specs.String.{string_bytes};
 ghost use Rattle.ts_words.specs.Modes as words;
@@ -6,28 +6,28 @@ ghost use Rattle.ts_words.specs.Modes.{mode_of, serve_of, gen_of, IsWithin};
 
 use crate::number::number_of;
 
-/// The most requests for samples that a generated workload has.
+/// The most sample requests in a generated workload.
 const MOST_GENERATED: u64 = 1_000_000;
 
-/// What the words of the command line ask for.
+/// The mode that the command line selects.
 #[derive(Clone, Copy, Debug, PartialEq, Eq)]
 pub enum Mode {
-    /// To answer the requests of standard input.
+    /// Answers the requests on standard input.
     Pipe,
-    /// To serve so many connections, at least 1, one after another.
+    /// Serves this many connections, at least 1, one after another.
     Serve(u32),
-    /// To answer the workload of this seed, with so many requests for samples, at most 1000000.
+    /// Answers a generated workload: its seed, and its number of sample requests, at most 1000000.
     Gen(u64, u32),
-    /// To answer the requests of standard input over what a journal of changes says, and to add each change to it. The name
-    /// of the journal's file is the second word.
+    /// Answers the requests on standard input over the data in a journal, and appends each change to it. The second
+    /// argument is the name of the journal's file.
     Keep,
-    /// To answer the requests of a capture of interleaved connections.
+    /// Answers a capture of interleaved connections on standard input.
     Mux,
 }
 
 impl Mode {
-    /// The mode that the words after the program's name ask for: `pipe`, `mux`, `keep NAME`,
-    /// `serve ADDRESS CONNECTIONS` or `gen SEED N`. Other words ask for none.
+    /// Parses the arguments after the program's name: `pipe`, `mux`, `keep NAME`, `serve ADDRESS CONNECTIONS` or `gen
+    /// SEED N`. Returns `None` for anything else.
     pub fn read(words: &[String]) -> Option<Mode>
         ensures mode { result ≡ mode_of (map string_bytes words.now) }
         ensures within { IfSome result IsWithin }

@@ -2,7 +2,7 @@
 ghost use Rattle.std.specs.Prelude.{◌≡◌, ◌≤◌, if◌then◌else◌, None, Some, IfSome};
 ghost use Rattle.ts_words.specs.Modes.{number, is_digits, digits_number};
 
-// The number that a word stands for, where it is from `least` to `most`.
+// Parses a number from `least` to `most`.
 pub(crate) fn number_of(word: &[u8], least: u64, most: u64) -> Option<u64>
     ensures value { result ≡ number least most word.now }
     ensures least { IfSome result (λ n. least ≤ n) }
@@ -15,7 +15,7 @@ pub(crate) fn number_of(word: &[u8], least: u64, most: u64) -> Option<u64>
     Some(total as u64)
 }
 
-// The number that 1 to 20 digits write.
+// Parses 1 to 20 decimal digits.
 fn digits_of(word: &[u8]) -> Option<u128>
     ensures { result ≡ (if is_digits word.now then Some (digits_number word.now) else None) }
 {

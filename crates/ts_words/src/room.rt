@@ -1,13 +1,13 @@
-// Lines are put together in a room of fixed size, so that telling an ending takes no memory.
+// Writes text into a buffer of fixed size, so that reporting an error never allocates.
 ghost use Rattle.std.specs.Prelude.{◌≡◌, ◌+◌, ◌≤◌, ◌++◌, length, take};
 ghost use Rattle.std.specs.Fmt.{decimal};
 
 use itoa::Buffer;
 
-// The most digits of a number of 64 bits.
+// The most digits of a 64-bit number.
 pub(crate) const DIGITS: usize = 20;
 
-// Puts a text at a place of the room, and gives the place after it.
+// Writes a text at offset `at`, and returns the offset after it.
 pub(crate) fn put(room: &mut [u8], at: usize, text: &[u8]) -> usize
     requires { at + length text.now ≤ length room.old }
     ensures text { take result room.new ≡ take at room.old ++ text.now }
@@ -19,7 +19,7 @@ pub(crate) fn put(room: &mut [u8], at: usize, text: &[u8]) -> usize
     after
 }
 
-// Puts a number in decimal at a place of the room, and gives the place after it.
+// Writes a number in decimal at offset `at`, and returns the offset after it.
 pub(crate) fn put_number(room: &mut [u8], at: usize, number: u64) -> usize
     requires { at + 20 ≤ length room.old }
     ensures text { take result room.new ≡ take at room.old ++ decimal number }

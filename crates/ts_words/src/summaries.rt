@@ -1,11 +1,12 @@
-// The summary of a workload.
+// The summary of a generated workload.
 ghost use Rattle.std.specs.Prelude.{◌≡◌, ◌+◌, ◌≤◌, ◌++◌, length, take};
 ghost use Rattle.ts_words.specs.Lines.{summary_line, summary_of};
 
 use crate::room::{put, put_number};
 
-/// The summary of a workload, in the room: six lines, each a word and its number. These are the requests executed,
-/// the bytes of the requests, the bytes of the replies, the error replies, the keys, and the samples of all keys.
+/// Writes the summary of a workload into `room`: six lines, each a name and a number. The numbers are the requests
+/// executed, the bytes of the requests, the bytes of the replies, the error replies, the keys, and the samples of all
+/// keys.
 pub fn summary<'a>(numbers: &[u64; 6], room: &'a mut [u8; 192]) -> &'a [u8]
     ensures { result.now ≡ summary_of numbers.now }
 {
@@ -18,7 +19,7 @@ pub fn summary<'a>(numbers: &[u64; 6], room: &'a mut [u8; 192]) -> &'a [u8]
     &room[..at]
 }
 
-// Puts a line of a word and a number at a place of the room, and gives the place after it.
+// Writes a line of a name and a number at offset `at`, and returns the offset after it.
 fn put_summary_line(room: &mut [u8; 192], at: usize, word: &[u8], number: u64) -> usize
     requires { at + length word.now + 22 ≤ 192 }
     ensures text { take result room.new ≡ take at room.old ++ summary_line word.now number }
