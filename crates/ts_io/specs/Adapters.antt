@@ -1,8 +1,8 @@
 -- What the adapters over std's readers, writers, listeners and files hold.
 use Rattle.std.specs.Prelude.{◌≡◌, ℕ, suc, ◌-◌, ◌^◌, min, Bool, List, [], ◌∷◌, Option, None, Some}
 use Rattle.ts_io.specs.declared.file_log.FileLog.{FileLog}
-use Rattle.ts_io.specs.declared.std_sink.StdSink.{StdSink}
-use Rattle.ts_io.specs.declared.std_source.StdSource.{StdSource}
+use Rattle.ts_io.specs.declared.std_streams.StdSink.{StdSink}
+use Rattle.ts_io.specs.declared.std_streams.StdSource.{StdSource}
 use Rattle.ts_io.specs.declared.tcp_net.TcpNet.{TcpNet}
 
 -- the reader of a source, and how many of its reads failed

@@ -5,7 +5,7 @@ ghost use Rattle.std.specs.Io.KnownBytes.{ReadConsumes};
 ghost use Rattle.ts_io.specs.Causes.{HasCause};
 ghost use Rattle.ts_io.specs.Logs.{AppendAdds, ReadMoves, unread};
 
-use crate::copying::copy_front;
+use crate::mem_streams::copy_front;
 use crate::schedule::Schedule;
 use crate::{Failed, Log};
 use std::marker::Model;

@@ -1,6 +1,6 @@
 use Rattle.std.proofs.Common.{◌≡◌, length, ◌-◌, ◌≤◌, take}
 use Rattle.ts_io.specs.Sinks.{Grows}
-use Rattle.ts_io.proofs.sink.write_all_counted.Given as goal
+use Rattle.ts_io.proofs.streams.write_all_counted.Given as goal
 
 abbrev pub invariant-loop-written : goal.invariant-loop-written
 invariant-loop-written g l = record {

@@ -1,6 +1,6 @@
 use Rattle.std.proofs.Common.{ℕ, ◌+◌, ◌≤◌, length, refl, ◌∙◌, arith, length-drop, length-take}
 use Rattle.ts_io.proofs.Growth.{grows_none, grows_on, grows_all}
-use Rattle.ts_io.proofs.sink.write_all_counted.Goals as goal
+use Rattle.ts_io.proofs.streams.write_all_counted.Goals as goal
 
 pub loop-written-init : goal.loop-written-init
 loop-written-init g c = record { within = omega arith; fine = refl; grown = grows_none _ }

@@ -1,10 +1,28 @@
-// The sink that replies are written to.
-ghost use Rattle.std.specs.Prelude.{ℕ, ◌<◌, List, length, IfOk, OnOk, OnErr};
-ghost use Rattle.std.specs.Io.{WritesAtMost};
+// The source of requests and the sink of replies, as traits that count their faults.
+ghost use Rattle.std.specs.Prelude.{◌<◌, ℕ, List, Option, length, IfOk, OnOk, OnErr};
+ghost use Rattle.std.specs.Io.{ReadsAtMost, WritesAtMost};
+ghost use Rattle.std.specs.Io.KnownBytes.{ReadConsumes};
 ghost use Rattle.ts_io.specs.Causes.{HasCause};
 ghost use Rattle.ts_io.specs.Sinks.{Grows, GrowsByFront, WriteGrows};
 
 use crate::Failed;
+
+/// A source of bytes.
+pub trait Source {
+    /// The bytes still to come, if the source knows them. A source that knows them once always does.
+    ghost left: { Self → Option (List ℕ) };
+
+    /// How many reads have failed. It never falls.
+    ghost faults: { Self → ℕ };
+
+    /// Reads the next bytes into the start of `buf` and returns their number. `Ok(0)` for a `buf` that is not empty is
+    /// the end. A read that fails consumes nothing.
+    fn read(&mut self, buf: &mut [u8]) -> Result<usize, Failed>
+        // This also holds if the bytes to come are unknown.
+        ensures bound { ReadsAtMost result buf.new }
+        ensures bytes { ReadConsumes (left self.old) (left self.new) result buf.new }
+        ensures cause { HasCause (faults self.old) (faults self.new) result };
+}
 
 /// A sink of bytes.
 pub trait Sink {

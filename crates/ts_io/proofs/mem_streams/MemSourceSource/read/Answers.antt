@@ -1,7 +1,7 @@
 use Rattle.std.proofs.Common.{◌-◌, min, List, ℕ, length, take, drop, sym, ◌∙◌, ap, arith}
 use Rattle.ts_io.specs.Sources.{MemSourceState}
 use Rattle.ts_io.proofs.Reading.{read_front, read_none}
-use Rattle.ts_io.proofs.mem_source.MemSourceSource.read.Goals as goal
+use Rattle.ts_io.proofs.mem_streams.MemSourceSource.read.Goals as goal
 
 pub returns-clause-bytes : goal.returns-clause-bytes
 returns-clause-bytes c =

@@ -1,14 +1,51 @@
-// A sink over standard output, or over a connection.
-ghost use Rattle.std.specs.Prelude.{◌≡◌, ◌<◌, ◌≤◌, length, take, IfOk, IfErr, IfSome, OnOk, OnErr};
-ghost use Rattle.std.specs.Io.{WritesAtMost};
-ghost use Rattle.std.specs.Io.KnownBytes.{Appends};
-ghost use Rattle.ts_io.specs.Adapters.{HoldsBut, writer_of, failed_writes_of, unacknowledged_of};
+// A source and a sink over std's readers and writers: standard input and output, or a connection.
+ghost use Rattle.std.specs.Prelude.{◌≡◌, ◌<◌, ◌≤◌, OnOk, OnErr, length, take, IfOk, IfErr, IfSome};
+ghost use Rattle.std.specs.Io.{ReadsAtMost, WritesAtMost};
+ghost use Rattle.std.specs.Io.KnownBytes.{ReadConsumes, Appends};
+ghost use Rattle.ts_io.specs.Adapters.{reader_of, failed_reads_of, HoldsBut, writer_of, failed_writes_of, unacknowledged_of};
 ghost use Rattle.ts_io.specs.Causes.{HasCause, counted};
 ghost use Rattle.ts_io.specs.Sinks.{WriteGrows};
 
 use crate::failed::count_failure;
-use crate::{Failed, Sink};
-use std::io::Write;
+use crate::{Failed, Sink, Source};
+use std::io::{Read, Write};
+
+/// A source over a std reader, which counts the reader's errors.
+#[derive(Drop)]
+pub struct StdSource<R> {
+    inner: R,
+    faults: u64,
+}
+
+impl<R: Read> StdSource<R> {
+    /// Creates a source of what the reader has left.
+    pub fn new(inner: R) -> Self
+        ensures reader { reader_of result ≡ inner }
+        ensures faults { failed_reads_of result ≡ 0 }
+    {
+        StdSource { inner, faults: 0 }
+    }
+}
+
+impl<R: Read> Source for StdSource<R> {
+    ghost left = { λ s. R.remaining (reader_of s) };
+
+    ghost faults = { failed_reads_of };
+
+    fn read(&mut self, buf: &mut [u8]) -> Result<usize, Failed>
+        ensures bound { ReadsAtMost result buf.new }
+        ensures bytes { ReadConsumes (R.remaining (reader_of self.old))
+            (R.remaining (reader_of self.new)) result buf.new }
+        ensures cause { HasCause (failed_reads_of self.old) (failed_reads_of self.new) result }
+        ensures ok { OnOk result (failed_reads_of self.new ≡ failed_reads_of self.old) }
+        ensures err { OnErr result (failed_reads_of self.new ≡ counted (failed_reads_of self.old)) }
+    {
+        match self.inner.read(buf) {
+            Ok(count) => Ok(count),
+            Err(_) => Err(count_failure(&mut self.faults)),
+        }
+    }
+}
 
 /// A sink over a std writer. It flushes after each write and counts the writer's errors.
 ///
