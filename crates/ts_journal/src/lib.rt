@@ -4,13 +4,11 @@
 mod changes;
 mod draft;
 mod fixed;
-mod gap;
 mod laws;
 mod limits;
 mod options;
 mod record;
 mod reply;
-mod samples;
 mod triples;
 
 pub use laws::{

@@ -7,10 +7,8 @@ ghost use Rattle.ts_journal.specs.Fixed.{triple_text};
 ghost use Rattle.ts_journal.specs.Lines.{items_text, taken_by, taken_text};
 
 use crate::changes::{put_sample, time_of};
-use crate::draft::Draft;
-use crate::gap::{GAP, put_head};
-use crate::reply::items;
-use crate::samples::add_taken;
+use crate::draft::{Draft, GAP, put_head};
+use crate::reply::{add_taken, items};
 use bytes::BytesMut;
 use std::alloc::{AllocError, Global};
 use ts_command::Triple;

@@ -1,8 +1,8 @@
 -- The line of a served connection, and the summary of a generated workload.
 use Rattle.std.specs.Prelude.{ℕ, List, ◌++◌, codes, slice_index}
 use Rattle.std.specs.Fmt.{decimal}
-use Rattle.ts_words.specs.declared.link_lines.LinkEnd.{LinkEnd}
-use Rattle.ts_words.specs.declared.link_lines.LinkEnd.TheVariants as end
+use Rattle.ts_words.specs.declared.lines.LinkEnd.{LinkEnd}
+use Rattle.ts_words.specs.declared.lines.LinkEnd.TheVariants as end
 use Rattle.ts_words.specs.Endings.{ended}
 
 -- the word for how a connection ended

@@ -3,15 +3,9 @@
 #![tactic(auto)]
 
 mod lines;
-mod link_lines;
 mod mode;
-mod number;
-mod room;
 mod status;
-mod summaries;
 
-pub use lines::line;
-pub use link_lines::{LinkEnd, link_line};
+pub use lines::{LinkEnd, line, link_line, summary};
 pub use mode::Mode;
 pub use status::Status;
-pub use summaries::summary;

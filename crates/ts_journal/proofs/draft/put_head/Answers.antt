@@ -1,7 +1,7 @@
 use Rattle.std.proofs.Common.{◌^◌, ◌<◌, ◌≤◌, ℕ, length, arith}
 use Rattle.std.proofs.lemmas.Fmt.{length-decimal-le}
 use Rattle.std.specs.Fmt.{decimal}
-use Rattle.ts_journal.proofs.gap.put_head.Goals as goal
+use Rattle.ts_journal.proofs.draft.put_head.Goals as goal
 
 twenty_digits : (n : ℕ) → n < 2 ^ 64 → length (decimal n) ≤ 20
 twenty_digits n h = length-decimal-le 20 n (omega arith) (omega arith) h

@@ -1,7 +1,7 @@
 use Rattle.std.proofs.Common.{◌≡◌, ◌+◌, ◌≤◌, ◌++◌, drop, length}
 use Rattle.std.specs.Prelude.{sum}
 use Rattle.ts_journal.specs.Lines.{pieces, taken_by, joined, words_in}
-use Rattle.ts_journal.proofs.samples.add_taken.Given as goal
+use Rattle.ts_journal.proofs.reply.add_taken.Given as goal
 
 -- what is taken of the pieces that are left, after what was taken, is what is taken of all
 abbrev pub invariant-loop-len : goal.invariant-loop-len

@@ -2,7 +2,7 @@ use Rattle.std.proofs.Common.{◌≡◌, ◌+◌, ◌-◌, ◌*◌, ◌<◌, ◌
 use Rattle.std.specs.List.{list_all}
 use Rattle.std.specs.Prelude.{fold}
 use Rattle.ts_words.specs.Modes.{is_digit, digits_number}
-use Rattle.ts_words.proofs.number.digits_of.Given as goal
+use Rattle.ts_words.proofs.mode.digits_of.Given as goal
 
 -- the number so far goes on to that of the whole word, and every byte so far is a digit
 abbrev pub invariant-loop-byte : goal.invariant-loop-byte

@@ -1,6 +1,6 @@
 use Rattle.std.proofs.Common.{◌<◌, ◌≤◌, ◌^◌, arith}
 use Rattle.std.proofs.Math.Nat.{pow-le-pow_right}
-use Rattle.ts_words.proofs.number.digits_of.Goals as goal
+use Rattle.ts_words.proofs.mode.digits_of.Goals as goal
 
 pub overflow_mul-total : goal.overflow_mul-total
 overflow_mul-total c =
