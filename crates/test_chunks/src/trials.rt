@@ -1,4 +1,4 @@
-// A chunk at hand of each format, and what a line asks of one of them.
+// The current chunk of each format, and the commands on them.
 use crate::long::long_text;
 use crate::trial::Trial;
 use std::alloc::{AllocError, Global};
@@ -24,7 +24,7 @@ impl Trials {
         })
     }
 
-    // The answer to a line, if it asks anything.
+    // Runs the command in a line. Returns `None` if it is not one.
     pub(crate) fn answer<L: Ledger>(
         &mut self,
         line: &str,

@@ -1,7 +1,7 @@
-// How a run ends.
+// The expected end of a run.
 use std::alloc::{AllocError, Global};
 
-// The status, and what is written to standard error.
+// The exit status, and the bytes on standard error.
 #[derive(Drop)]
 pub(crate) struct End {
     status: u8,
@@ -9,7 +9,7 @@ pub(crate) struct End {
 }
 
 impl End {
-    // It ends well.
+    // Success.
     pub(crate) fn well(alloc: Global) -> End {
         End {
             status: 0,
@@ -17,7 +17,7 @@ impl End {
         }
     }
 
-    // The end of a text with a status and the line on standard error, as `4 tsd: read fault`.
+    // Parses an exit status and the line on standard error, such as `4 tsd: read fault`.
     pub(crate) fn read(alloc: Global, text: &str) -> Result<Option<End>, AllocError> {
         let Some((status, text)) = text.split_once(' ') else {
             return Ok(None);
@@ -30,7 +30,7 @@ impl End {
         Ok(Some(End { status, line }))
     }
 
-    // Whether this status and these bytes on standard error are those.
+    // Whether a run ended with this status and these bytes on standard error.
     pub(crate) fn is(&self, status: u8, err: &[u8]) -> bool {
         status == self.status && err == self.line.as_slice()
     }

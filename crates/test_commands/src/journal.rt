@@ -4,7 +4,7 @@ use crate::texts::{push_bytes, push_request};
 use std::alloc::{AllocError, Global};
 use ts_io::MemLog;
 
-// What it has before the run, what is due to be in it after the run, and the numbers of its calls that fail.
+// Its content before the run, the content expected after it, and the numbers of its calls that fail.
 #[derive(Drop)]
 pub(crate) struct Journal {
     alloc: Global,
@@ -14,7 +14,7 @@ pub(crate) struct Journal {
 }
 
 impl Journal {
-    // It is empty, and stays so.
+    // Creates one that is empty and stays so.
     pub(crate) fn new(alloc: Global) -> Journal {
         Journal {
             alloc,
@@ -24,7 +24,7 @@ impl Journal {
         }
     }
 
-    // Takes what a line says of it, as `had DEL a` or `fails 1,2`. Answers whether it says anything.
+    // Parses a setting of the journal, such as `had DEL a` or `fails 1,2`. Returns whether it is one.
     pub(crate) fn take(&mut self, line: &str) -> Result<bool, AllocError> {
         let (name, what) = line.split_once(' ').unwrap_or((line, ""));
         match name {
@@ -45,7 +45,7 @@ impl Journal {
         Ok(MemLog::new(had, failing))
     }
 
-    // Whether it has what is due after the run.
+    // Whether the journal has the expected content after the run.
     pub(crate) fn is(&self, log: &MemLog) -> bool {
         log.bytes() == self.has.as_slice()
     }

@@ -1,11 +1,11 @@
-// A line of a stream: a command and the reply that is due to it, or bytes.
+// A line of a stream: a command with its expected reply, or bytes.
 use crate::patterns::{Words, unfold};
 use crate::round::Round;
 use crate::texts::Exchange;
 use itoa::Buffer;
 use std::alloc::{AllocError, Global};
 
-// How often a command stands, or that there is none.
+// How often a command is sent, or that the line is bytes.
 #[derive(Clone, Copy)]
 enum Form {
     Once,
@@ -23,8 +23,8 @@ pub(crate) struct Line {
 }
 
 impl Line {
-    // The line of a text, if it says one. After `each ` a command with its reply stands once for each number, and after
-    // `sends ` and `gets ` are bytes.
+    // Parses a line. After `each `, a command and its reply are repeated for each number. After `sends ` and `gets `
+    // come bytes. Returns `None` for anything else.
     pub(crate) fn read(alloc: Global, text: &str) -> Result<Option<Line>, AllocError> {
         if let Some(sent) = text.strip_prefix("sends ") {
             return Ok(Some(Line::of(alloc, sent, "", Form::Bytes)?));
@@ -50,7 +50,7 @@ impl Line {
         })
     }
 
-    // Adds what it sends and what is due to others: `^` is the word in a command, and in a reply the word as a reply.
+    // Adds what the line sends and expects. `^` in a command is the word, and in a reply the word as a bulk string.
     pub(crate) fn add_to(
         &self,
         alloc: Global,
@@ -69,8 +69,8 @@ impl Line {
         exchange.push(&round.encoded(alloc, &command)?, &reply)
     }
 
-    // Adds its request and its reply once for each number, which stands in place of each `#`; in place of each `@` stands
-    // the number that is as far from the end as this one is from the beginning.
+    // Adds the command and the reply once for each number. `#` is the number, and `@` the number as far from the end as
+    // this one is from the beginning.
     fn add_each(
         &self,
         alloc: Global,
@@ -95,7 +95,7 @@ impl Line {
     }
 }
 
-// A text with a word in place of each `^`.
+// A text with each `^` replaced by a word.
 fn with_word(alloc: Global, text: &str, word: &str) -> Result<String, AllocError> {
     let mut list = String::new(alloc);
     for letter in text.chars() {
@@ -107,7 +107,7 @@ fn with_word(alloc: Global, text: &str, word: &str) -> Result<String, AllocError
     Ok(list)
 }
 
-// The word as a reply.
+// The word as a bulk string reply.
 fn bulk(alloc: Global, word: &str) -> Result<String, AllocError> {
     let length = word.len();
     format!(in alloc; "${length} | {word}")

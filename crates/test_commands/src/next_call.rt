@@ -1,10 +1,10 @@
-// The call of a listener after a run, by which is seen how many calls the run made.
+// The listener's next call after a run, which shows how many calls the run made.
 ghost use Rattle.std.specs.Prelude.{◌≡◌, false};
 
 use std::alloc::Global;
 use ts_io::{Ends, Listener, MemListener, MemSink, MemSource};
 
-// What the next call of `accept` comes to, where it is made: the connection that waits, or a failure, after which that
+// The expected result of the next `accept`: not called; the waiting connection; or a failure, after which that
 // connection comes.
 #[derive(Clone, Copy)]
 pub(crate) enum NextCall {
@@ -14,7 +14,7 @@ pub(crate) enum NextCall {
 }
 
 impl NextCall {
-    // Takes what a text says of it. Answers whether it says anything.
+    // Parses the setting. Returns whether it is one.
     pub(crate) fn take(&mut self, text: &str) -> bool {
         match text {
             "comes" => *self = NextCall::Comes,
@@ -28,7 +28,7 @@ impl NextCall {
         !matches!(self, NextCall::Unmade)
     }
 
-    // Whether the next call of a listener comes to this.
+    // Whether the listener's next call has this result.
     pub(crate) fn is_next(self, net: &mut MemListener) -> bool
         requires { net.old.is_out ≡ false }
     {
@@ -40,7 +40,7 @@ impl NextCall {
     }
 }
 
-// A connection on which nothing comes.
+// A connection that sends nothing.
 pub(crate) fn silent(alloc: Global) -> Ends<MemSource, MemSink> {
     Ends {
         input: MemSource::new(Vec::new(alloc), 1, Vec::new(alloc)),

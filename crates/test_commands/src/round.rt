@@ -1,8 +1,8 @@
-// What lines stand for in one round of a talk.
+// What the marks in a talk's lines are replaced by in one round.
 use crate::setting::Numbers;
 use std::alloc::{AllocError, Global};
 
-// The numbers and the word of its lines, and the encoding in which series are made, if that is said.
+// The numbers and the word, and the encoding of new series, if one is given.
 #[derive(Clone, Copy)]
 pub(crate) struct Round<'a> {
     pub(crate) numbers: Numbers,
@@ -11,7 +11,7 @@ pub(crate) struct Round<'a> {
 }
 
 impl Round<'_> {
-    // A command. One that makes a series is told the encoding, after the key.
+    // A command. TS.CREATE gets the encoding as an option after the key.
     pub(crate) fn encoded(&self, alloc: Global, command: &str) -> Result<String, AllocError> {
         let (Some(encoding), Some(made)) = (self.encoding, command.strip_prefix("TS.CREATE "))
         else {

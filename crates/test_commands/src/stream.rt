@@ -1,4 +1,4 @@
-// A stream of a talk: the input with the output, or a connection.
+// A stream of a talk: standard input and output, or a connection.
 use crate::line::Line;
 use crate::round::Round;
 use crate::setting::take_list;
@@ -10,13 +10,13 @@ use ts_io::{Ends, MemSink, MemSource};
 pub(crate) struct Stream {
     alloc: Global,
     lines: Vec<Line>,
-    // The numbers of the reads and of the writes that fail.
+    // The numbers of the reads and the writes that fail.
     reads: Vec<u64>,
     writes: Vec<u64>,
 }
 
 impl Stream {
-    // Nothing is sent and nothing is due.
+    // Creates one that sends and expects nothing.
     pub(crate) fn new(alloc: Global) -> Stream {
         Stream {
             alloc,
@@ -26,7 +26,7 @@ impl Stream {
         }
     }
 
-    // Takes a line, as `fails read 2` or what is sent and due. Answers whether it says anything.
+    // Parses a line, such as `fails read 2`, or what is sent and expected. Returns whether it could.
     pub(crate) fn take(&mut self, line: &str) -> Result<bool, AllocError> {
         if let Some(numbers) = line.strip_prefix("fails read ") {
             return take_list(numbers, &mut self.reads);
@@ -41,7 +41,7 @@ impl Stream {
         Ok(true)
     }
 
-    // What is sent and what is due in such a round.
+    // What is sent and expected in a round.
     pub(crate) fn exchange(&self, round: Round) -> Result<Exchange, AllocError> {
         let mut exchange = Exchange::new(self.alloc);
         for line in &self.lines {
@@ -50,7 +50,7 @@ impl Stream {
         Ok(exchange)
     }
 
-    // Its two ends, with so many bytes a read and a write, one at least.
+    // Its two ends, with these limits on the bytes per read and per write, at least 1.
     pub(crate) fn ends(
         &self,
         exchange: &Exchange,

@@ -1,4 +1,4 @@
-// Answers to questions over one series.
+// Range queries over one series.
 mod bucket_rows;
 mod empty;
 mod question;

@@ -1,2 +1,2 @@
-// Replies: worked examples.
+// RESP replies.
 mod replies;

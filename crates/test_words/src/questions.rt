@@ -1,10 +1,10 @@
-// Questions, in a few words.
+// Queries as text.
 use crate::texts::{filters, labels_to_show, text};
 use std::alloc::{AllocError, Global};
 use ts_command::{Filter, GroupBy, Query, Show};
 use ts_resp::Word;
 
-// Whether the bucket that is still open counts too.
+// Whether LATEST is given.
 fn latest_word(latest: bool) -> &'static str {
     if latest { "latest " } else { "" }
 }
@@ -26,7 +26,7 @@ pub(crate) fn last(alloc: Global, key: &Word, latest: bool) -> Result<String, Al
     format!(in alloc; "last {latest}{key}")
 }
 
-// The series that filters choose, and what an answer shows of them.
+// The filters of a query, and which labels its reply shows.
 pub(crate) fn selection(
     alloc: Global,
     latest: bool,
@@ -38,7 +38,7 @@ pub(crate) fn selection(
     format!(in alloc; "{latest}{labels} {filters}")
 }
 
-// By which label the series are grouped, and how, if they are.
+// GROUPBY, if it is given.
 pub(crate) fn group_text(alloc: Global, group: &Option<GroupBy>) -> Result<String, AllocError> {
     let Some(GroupBy { label, reducer }) = group else {
         return String::from_str(alloc, "");

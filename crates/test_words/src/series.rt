@@ -1,16 +1,16 @@
-// What series and samples are to be, in a few words.
+// Options and samples as text.
 use crate::texts::{labels, text};
 use std::alloc::{AllocError, Global};
 use ts_command::{Change, Spec, Triple};
 
-// What a new series is made with.
+// The options of a new series.
 pub(crate) fn spec_text(alloc: Global, spec: &Spec) -> Result<String, AllocError> {
     let options = spec.options;
     let labels = labels(alloc, &spec.labels)?;
     format!(in alloc; "{options:?} {labels}")
 }
 
-// What a series gets anew.
+// The options that TS.ALTER changes.
 pub(crate) fn change_text(alloc: Global, change: &Change) -> Result<String, AllocError> {
     let (retention, chunk_size) = (change.retention, change.chunk_size);
     let (policy, ignore) = (change.policy, change.ignore);

@@ -1,11 +1,11 @@
-// Commands, in a few words.
+// Commands as text.
 use crate::questions::{group_text, last, range, selection};
 use crate::series::{change_text, samples, spec_text};
 use crate::texts::{filters, text, words};
 use std::alloc::{AllocError, Global};
 use ts_command::Command;
 
-// What a command asks for.
+// The summary of a command.
 pub(crate) fn summary(alloc: Global, command: &Command) -> Result<String, AllocError> {
     match command {
         Command::Create { key, spec } => {
@@ -38,7 +38,7 @@ pub(crate) fn summary(alloc: Global, command: &Command) -> Result<String, AllocE
     }
 }
 
-// Rules, and what is deleted.
+// Rules and deletions.
 fn rule(alloc: Global, command: &Command) -> Result<String, AllocError> {
     match command {
         Command::CreateRule {
@@ -64,7 +64,7 @@ fn rule(alloc: Global, command: &Command) -> Result<String, AllocError> {
     }
 }
 
-// Questions about samples.
+// Queries for samples.
 fn question(alloc: Global, command: &Command) -> Result<String, AllocError> {
     match command {
         Command::Range { key, latest, query } => range(alloc, key, *latest, query),
@@ -89,7 +89,7 @@ fn question(alloc: Global, command: &Command) -> Result<String, AllocError> {
     }
 }
 
-// Commands of a few words.
+// Small commands.
 fn small(alloc: Global, command: &Command) -> Result<String, AllocError> {
     match command {
         Command::QueryIndex { filters: chosen } => filters(alloc, chosen),

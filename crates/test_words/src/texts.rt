@@ -1,4 +1,4 @@
-// Words, and lists of them, as text.
+// Words and lists of words as text.
 use std::alloc::{AllocError, Global};
 use std::str;
 use ts_command::{Filter, Show};
@@ -10,7 +10,7 @@ pub(crate) fn text(word: &Word) -> &str {
     str::from_utf8(word.bytes()).unwrap_or("no text")
 }
 
-// Words with blanks before them.
+// Words, each after a space.
 pub(crate) fn words(alloc: Global, words: &[Word]) -> Result<String, AllocError> {
     let mut list = String::new(alloc);
     for word in words {
@@ -32,7 +32,7 @@ pub(crate) fn labels(alloc: Global, labels: &Labels) -> Result<String, AllocErro
     Ok(list)
 }
 
-// Which labels are to be shown.
+// Which labels are shown.
 pub(crate) fn labels_to_show(alloc: Global, show: &Show) -> Result<String, AllocError> {
     match show {
         Show::Nothing => String::from_str(alloc, "no labels"),
@@ -44,7 +44,7 @@ pub(crate) fn labels_to_show(alloc: Global, show: &Show) -> Result<String, Alloc
     }
 }
 
-// The labels of filters, and after each the values of which it wants one.
+// Filters: each label, and the values that it may have.
 pub(crate) fn filters(alloc: Global, filters: &[Filter]) -> Result<String, AllocError> {
     let mut list = String::from_str(alloc, "filters")?;
     for filter in filters {

@@ -1,4 +1,4 @@
-// A change of a source, and what it comes to for a rule of it. Each rule tells the sum of ten milliseconds.
+// A change of a source and its effect on a rule, which sums buckets of ten milliseconds.
 ghost use Rattle.std.specs.Prelude.{◌≡◌, ◌≤◌, length, IfSome};
 ghost use Rattle.ts_rules.specs.Plans.{IsForDest};
 
@@ -10,15 +10,15 @@ use ts_rules::Rule;
 use ts_sample::{Gathered, Id, MAX_TIME, Sample, Steps, Units};
 use ts_series::{Encoding, Ignore, Merge, Options, Policy, Series, SeriesPlan};
 
-// What is done to the source.
+// A change of the source.
 #[derive(Clone, Copy)]
 pub(crate) enum Change {
     Write(u64, i128),
     Delete(u64, u64),
 }
 
-// Times and millionths: of the source before the rule was made and since then, of the open bucket, and of the
-// destination; then those of the destination and of its latest sample after the change, under a limit.
+// Times and values in millionths: the source before and after the rule was made, the open bucket, and the destination.
+// Then the sample limit, the change, and the effect expected on the destination and its latest sample.
 #[derive(Clone, Copy)]
 pub(crate) struct Case {
     pub(crate) earlier: &'static [(u64, i128)],
@@ -60,7 +60,7 @@ pub(crate) fn sample(time: u64, value: i128) -> Option<Sample> {
     })
 }
 
-// A rule whose open bucket counts these.
+// A rule whose open bucket counts these values.
 pub(crate) fn rule(current: Option<u64>, counted: &[i128]) -> Option<Rule>
     requires { length counted.now ≤ 100 }
     ensures { IfSome result (λ rule. rule.running.count ≤ 100) }
@@ -120,7 +120,7 @@ pub(crate) fn is_latest(sample: Option<Sample>, wanted: Option<(u64, i128)>) -> 
     }
 }
 
-// Whether a series shows these.
+// Whether a series has exactly these samples.
 pub(crate) fn is_shown<L: Ledger>(
     alloc: Global,
     series: &Series,

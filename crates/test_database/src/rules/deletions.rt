@@ -1,4 +1,4 @@
-// What a deletion on the source of a rule comes to.
+// The effect of a deletion in the source of a rule.
 use crate::rules::case::{Came, Case, Change, EMPTY};
 use crate::rules::met::is_met;
 use std::marker::Brand;

@@ -1,4 +1,4 @@
-// Whether a change of a source comes to what a case says.
+// Whether a change of a source has the effect that a case expects.
 ghost use Rattle.std.specs.Prelude.{◌≡◌, ◌<◌};
 
 use crate::rules::case::{
@@ -9,7 +9,7 @@ use std::sync::ledger::{Blank, Ledger};
 use ts_rules::{RuleFault, RulePlan, latest, plan_delete, plan_put};
 use ts_sample::{Id, Steps};
 
-// Whether a change comes to what is wanted, or none where it can't be made at all.
+// Whether a change has the expected effect. `None` if the case can't be set up.
 pub(crate) fn is_met<L: Ledger>(alloc: Global, blank: Blank, case: &Case) -> Option<bool>
     requires name { blank.name ≡ L.name }
     requires parts { blank.parts ≡ L.parts }

@@ -1,4 +1,4 @@
-// Adapters over readers and writers of std, and over its clock.
+// Adapters over std's readers, writers and clock.
 use crate::io::calls::{read_two, time_of, write_once};
 use crate::io::flaky::Flaky;
 use std::test::Fail;

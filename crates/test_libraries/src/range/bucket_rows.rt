@@ -1,4 +1,4 @@
-// Rows of buckets that have samples.
+// Rows of buckets with samples.
 use crate::range::question::{ask, buckets, query, row, sample};
 use std::test::*;
 use ts_agg::Aggregator;

@@ -1,4 +1,4 @@
-// Rows of single samples, and the times that filters ask for.
+// Rows of single samples, and the times that filters select.
 use crate::range::question::{ask, query, row, sample, units};
 use std::test::*;
 use ts_range::{Filters, RowList, Walk};

@@ -1,4 +1,4 @@
-// Texts of replies, and the order of words.
+// The text of replies, and the order of words.
 use std::cmp::Ordering;
 use std::collections::BTreeMap;
 use std::test::Fail;
