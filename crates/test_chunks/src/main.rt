@@ -19,7 +19,6 @@
 mod long;
 mod texts;
 mod trial;
-mod trials;
 
 ghost use Rattle.std.specs.Prelude.{◌≡◌, ◌<◌};
 
@@ -27,7 +26,7 @@ use std::alloc::{AllocError, Global};
 use std::io;
 use std::marker::Brand;
 use std::sync::ledger::{Blank, Ledger};
-use trials::Trials;
+use trial::Trials;
 use ts_sample::Steps;
 
 fn main(rt: HostRuntime) -> io::Result<()> {

@@ -1,11 +1,14 @@
-// The current chunk of a format, and the commands on it.
+// The current chunk of each format, and the commands on it.
 ghost use Rattle.std.specs.Prelude.{◌≡◌, true};
 ghost use Rattle.ts_sample.specs.Chunk.{IsPast};
 ghost use Rattle.ts_spec.specs.Sample.{last_of};
 
+use crate::long::long_text;
 use crate::texts::{between, chunk_text, chunks_text, interval_of, sample_of, samples_text};
 use std::alloc::{AllocError, Global};
 use std::sync::ledger::Ledger;
+use ts_chunk_packed::PackedChunk;
+use ts_chunk_plain::PlainChunk;
 use ts_sample::{Chunk, Sample, Steps};
 
 #[derive(Drop)]
@@ -123,5 +126,42 @@ fn is_past<C: Chunk>(chunk: &C, time: u64) -> bool
     match chunk.last() {
         Some(last) => last.time < time,
         None => true,
+    }
+}
+
+#[derive(Drop)]
+pub(crate) struct Trials {
+    alloc: Global,
+    packed: Trial<PackedChunk>,
+    plain: Trial<PlainChunk>,
+}
+
+impl Trials {
+    pub(crate) fn new(alloc: Global) -> Result<Trials, AllocError> {
+        let (packed, plain) = (Trial::new(alloc)?, Trial::new(alloc)?);
+        Ok(Trials {
+            alloc,
+            packed,
+            plain,
+        })
+    }
+
+    // Runs the command in a line. Returns `None` if it is not one.
+    pub(crate) fn answer<L: Ledger>(
+        &mut self,
+        line: &str,
+        steps: &mut Steps<L>,
+    ) -> Result<Option<String>, AllocError> {
+        if let Some(rest) = line.strip_prefix("plain ") {
+            return self.plain.answer(rest, steps);
+        }
+        if let Some(rest) = line.strip_prefix("long ") {
+            return long_text(self.alloc, rest, steps);
+        }
+        if line == "small" {
+            let small = size_of::<PackedChunk>() <= 160;
+            return Ok(Some(format!(in self.alloc; "{small}")?));
+        }
+        self.packed.answer(line, steps)
     }
 }

@@ -25,12 +25,8 @@
 //! printed. The talks are in a file, not in code, because test code is proved and the lines of a file are not.
 #![tactic(auto)]
 
-mod end;
-mod journal;
-mod line;
-mod next_call;
+mod expected;
 mod patterns;
-mod round;
 mod run;
 mod setting;
 mod stream;

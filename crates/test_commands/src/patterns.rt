@@ -1,4 +1,4 @@
-// Patterns for lines with many similar parts.
+// Patterns for lines with many similar parts, and what replaces their marks in one round of a talk.
 use crate::setting::Numbers;
 use itoa::Buffer;
 use std::alloc::{AllocError, Global};
@@ -60,4 +60,28 @@ pub(crate) fn unfold(alloc: Global, text: &str, numbers: Numbers) -> Result<Stri
     push_parts(part, numbers, &mut list)?;
     list.push_str(tail)?;
     Ok(list)
+}
+
+// The numbers and the word, and the encoding of new series, if one is given.
+#[derive(Clone, Copy)]
+pub(crate) struct Round<'a> {
+    pub(crate) numbers: Numbers,
+    pub(crate) word: &'a str,
+    pub(crate) encoding: Option<&'a str>,
+}
+
+impl Round<'_> {
+    // A command. TS.CREATE gets the encoding as an option after the key.
+    pub(crate) fn encoded(&self, alloc: Global, command: &str) -> Result<String, AllocError> {
+        let (Some(encoding), Some(made)) = (self.encoding, command.strip_prefix("TS.CREATE "))
+        else {
+            return String::from_str(alloc, command);
+        };
+        match made.split_once(' ') {
+            None => format!(in alloc; "TS.CREATE {made} ENCODING {encoding}"),
+            Some((key, options)) => {
+                format!(in alloc; "TS.CREATE {key} ENCODING {encoding} {options}")
+            }
+        }
+    }
 }

@@ -1,6 +1,5 @@
 // Runs the program, or calls `pipe`, over devices in memory.
-use crate::end::End;
-use crate::next_call::silent;
+use crate::expected::{End, silent};
 use crate::setting::Setting;
 use crate::stream::Stream;
 use crate::texts::Exchange;

@@ -3,8 +3,7 @@ ghost use Rattle.std.specs.Prelude.{◌≤◌};
 ghost use Rattle.ts_journal.specs.Limits.{IsBounded};
 ghost use Rattle.ts_engine.specs.Top.{AreUsable};
 
-use crate::journal::Journal;
-use crate::next_call::NextCall;
+use crate::expected::{Journal, NextCall};
 use std::alloc::{AllocError, Global};
 use ts_engine::Limits;
 

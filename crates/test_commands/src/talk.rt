@@ -1,6 +1,6 @@
 // A talk: requests with their expected replies, and the settings they run with.
-use crate::end::End;
-use crate::round::Round;
+use crate::expected::End;
+use crate::patterns::Round;
 use crate::run::{Talking, comes_to, is_answered, is_answered_in_two};
 use crate::setting::Setting;
 use crate::stream::Stream;

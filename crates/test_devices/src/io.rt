@@ -2,7 +2,6 @@
 mod adapters;
 mod batches;
 mod calls;
-mod flaky;
 mod logs;
 mod memory;
 mod network;

@@ -4,8 +4,6 @@
 //! code is proved and the lines of a file are not.
 #![tactic(auto)]
 
-mod questions;
-mod series;
 mod summary;
 mod texts;
 

@@ -1,7 +1,7 @@
-// Words and lists of words as text.
+// Words, options and samples as text.
 use std::alloc::{AllocError, Global};
 use std::str;
-use ts_command::{Filter, Show};
+use ts_command::{Change, Filter, Show, Spec, Triple};
 use ts_labels::Labels;
 use ts_resp::Word;
 
@@ -56,4 +56,39 @@ pub(crate) fn filters(alloc: Global, filters: &[Filter]) -> Result<String, Alloc
         list.push(')')?;
     }
     Ok(list)
+}
+
+// The options of a new series.
+pub(crate) fn spec_text(alloc: Global, spec: &Spec) -> Result<String, AllocError> {
+    let options = spec.options;
+    let labels = labels(alloc, &spec.labels)?;
+    format!(in alloc; "{options:?} {labels}")
+}
+
+// The options that TS.ALTER changes.
+pub(crate) fn change_text(alloc: Global, change: &Change) -> Result<String, AllocError> {
+    let (retention, chunk_size) = (change.retention, change.chunk_size);
+    let (policy, ignore) = (change.policy, change.ignore);
+    let labels = match &change.labels {
+        Some(given) => labels(alloc, given)?,
+        None => String::from_str(alloc, "no labels")?,
+    };
+    format!(in alloc;
+        "retention {retention:?} chunk_size {chunk_size:?} policy {policy:?} ignore {ignore:?} {labels}"
+    )
+}
+
+// The samples of TS.MADD.
+pub(crate) fn samples(alloc: Global, triples: &[Triple]) -> Result<String, AllocError> {
+    let mut list = String::new(alloc);
+    for triple in triples {
+        let one = sample(alloc, triple)?;
+        list.push_str(one.as_str())?;
+    }
+    Ok(list)
+}
+
+fn sample(alloc: Global, triple: &Triple) -> Result<String, AllocError> {
+    let (key, at, value) = (text(&triple.key), triple.at, triple.value);
+    format!(in alloc; " ({key} {at:?} {value:?})")
 }
