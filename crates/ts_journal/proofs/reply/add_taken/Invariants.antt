@@ -3,7 +3,7 @@ use Rattle.std.specs.Prelude.{sum}
 use Rattle.ts_journal.specs.Lines.{pieces, taken_by, joined, words_in}
 use Rattle.ts_journal.proofs.reply.add_taken.Given as goal
 
--- what is taken of the pieces that are left, after what was taken, is what is taken of all
+-- the accepted pieces so far, followed by those of the pieces left, are all accepted pieces
 abbrev pub invariant-loop-len : goal.invariant-loop-len
 invariant-loop-len l = record {
   bytes : l.room.items ++ joined (taken_by l.items (pieces (drop l.len-index l.lens) l.bytes)) ≡ l.fn.room.items ++ joined (taken_by l.fn.items (pieces l.lens l.fn.bytes));
