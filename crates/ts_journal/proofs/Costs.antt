@@ -10,7 +10,8 @@ abbrev pub AreShort : ℕ → List Word → Type 0
 AreShort most [] = Unit {0}
 AreShort most (word ∷ words) = (length word ≤ most) × AreShort most words
 
--- What is put for some words: so many words more, each of at most 32 bytes more than the longest, and of so many bytes more than 24 for each.
+-- What is put for some words: so many words more, each of at most 32 bytes more than the longest, and of so many
+-- bytes more than 24 for each.
 pub record Costs (put words : List Word) (more bytes : ℕ) : Type 0 where
   pub count : length put ≤ length words + more
   pub each : (most : ℕ) → AreShort most words → AreShort (most + 32) put
