@@ -1,4 +1,4 @@
-// A chunk that is long enough to have marks.
+// Chunks that are long enough to have marks.
 ghost use Rattle.std.specs.Prelude.{◌≡◌};
 
 use crate::texts::{between, sample_of};
@@ -10,7 +10,7 @@ use ts_sample::{Chunk, Sample, Steps, Units};
 
 const COUNT: u64 = 780;
 
-// Whether what a line says holds of it, if it says anything.
+// Runs the test in a line. Returns `None` if it is not one.
 pub(crate) fn long_text<L: Ledger>(
     alloc: Global,
     text: &str,
@@ -28,7 +28,7 @@ pub(crate) fn long_text<L: Ledger>(
     Ok(Some(format!(in alloc; "{holds}")?))
 }
 
-// Samples whose bytes make up most of a chunk of 4,096.
+// Samples that fill most of a chunk of 4,096 bytes.
 fn samples(alloc: Global) -> Result<Vec<Sample>, AllocError> {
     let mut list = Vec::new(alloc);
     for index in 0..COUNT {
@@ -50,7 +50,7 @@ fn chunk_of(alloc: Global, list: &[Sample]) -> Result<PackedChunk, AllocError> {
     Ok(chunk)
 }
 
-// A chunk of these samples, which has marks: the last but one of them comes late.
+// A chunk of these samples, which has marks. The last but one of them comes late.
 fn chunk_with_marks<L: Ledger>(
     alloc: Global,
     list: &[Sample],
@@ -64,7 +64,7 @@ fn chunk_with_marks<L: Ledger>(
     with_one(alloc, chunk, &list[index], steps)
 }
 
-// A chunk with a late sample. It stays as it is where the sample does not fit.
+// Inserts a late sample. The chunk stays unchanged if the sample does not fit.
 fn with_one<L: Ledger>(
     alloc: Global,
     chunk: PackedChunk,
@@ -77,7 +77,7 @@ fn with_one<L: Ledger>(
     }
 }
 
-// Whether each look-up sees what the list has.
+// Whether each lookup finds what the list has.
 fn look_ups<L: Ledger>(
     alloc: Global,
     list: &[Sample],
@@ -101,7 +101,7 @@ fn look_ups<L: Ledger>(
     Ok(holds)
 }
 
-// Whether the bytes are those of the format when samples come in the order of multiples of a number.
+// Whether the bytes are those of the format if samples come in the order of multiples of a number.
 fn order<L: Ledger>(
     alloc: Global,
     list: &[Sample],
@@ -124,7 +124,7 @@ fn order<L: Ledger>(
     Ok(holds && chunk.raw() == chunk_of(alloc, list)?.raw())
 }
 
-// Whether they are when one sample comes late, each at its place, without marks and with them.
+// Whether they are if one sample comes late, at each position, with and without marks.
 fn late<L: Ledger>(
     alloc: Global,
     list: &[Sample],

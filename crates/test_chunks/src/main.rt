@@ -1,25 +1,24 @@
-//! Trials of chunks, with ample memory. Each line of the input is answered by a line, and speaks of a chunk at hand in the
-//! packed format, or of one in the plain format where it begins with `plain `. A sample is written `TIME:VALUE:MADE`: its
-//! value in millionths, and how many rules were made.
+//! Tests chunks with ample memory. Each line of the input is a command, and its output is one line. A command works on
+//! the current packed chunk, or after `plain ` on the current plain one. A sample is written `TIME:VALUE:MADE`: its
+//! time in milliseconds, its value in millionths, and how many rules the series had.
 //!
-//! - `chunk LIMIT SAMPLE ..`: a new chunk of so many bytes with these samples. It is answered by what it has: its limit, how
-//!   many samples there are, the first one and the last, all that a look-up sees, and its bytes;
-//! - `more SAMPLE ..`: the chunk has these too, or is full before one of them;
-//! - `late SAMPLE`: what one chunk with this sample has, or `none` where it does not fit;
-//! - `with SAMPLE` and `without FROM TO`: what each chunk has that comes by the rule, of one sample more, or without an
-//!   interval;
-//! - `seen FROM TO`: the samples that a look-up sees;
-//! - `long look-ups`, `long late` and `long order FACTOR`: whether it holds of a long packed chunk that look-ups see what its
-//!   list has, that a late sample comes to its place, and that samples which come in this order give the bytes of the format;
-//! - `small`: whether a packed chunk is at most 160 bytes beside its samples, so that marks take none where there are none.
+//! - `chunk LIMIT SAMPLE ..`: creates a chunk of this many bytes with these samples, and prints it: its limit, the
+//!   number of samples, the first and the last one, all samples that a lookup finds, and its bytes;
+//! - `more SAMPLE ..`: appends these samples, up to one that does not fit;
+//! - `late SAMPLE`: prints the chunk with this sample inserted, or `none` if it does not fit;
+//! - `with SAMPLE` and `without FROM TO`: print the chunks after writing a sample or deleting an interval;
+//! - `seen FROM TO`: prints the samples that a lookup finds;
+//! - `long look-ups`, `long late` and `long order FACTOR`: print whether, in a long packed chunk, lookups find the
+//!   list's samples, a late sample gets its place, and samples in this order give the bytes of the format;
+//! - `small`: prints whether a packed chunk takes at most 160 bytes beside its samples, so that a chunk without marks
+//!   allocates none.
 //!
-//! The lines stand in a file because tests are proved as code is, and lines of a file are not.
+//! The lines are in a file, not in code, because test code is proved and the lines of a file are not.
 #![tactic(auto)]
 
 mod long;
 mod texts;
 mod trial;
-mod trials;
 
 ghost use Rattle.std.specs.Prelude.{◌≡◌, ◌<◌};
 
@@ -27,7 +26,7 @@ use std::alloc::{AllocError, Global};
 use std::io;
 use std::marker::Brand;
 use std::sync::ledger::{Blank, Ledger};
-use trials::Trials;
+use trial::Trials;
 use ts_sample::Steps;
 
 fn main(rt: HostRuntime) -> io::Result<()> {
@@ -42,7 +41,7 @@ fn main(rt: HostRuntime) -> io::Result<()> {
     Ok(())
 }
 
-// The answers to the lines.
+// The output for the lines.
 fn answers<L: Ledger>(
     alloc: Global,
     blank: Blank,

@@ -5,7 +5,7 @@ use std::alloc::{AllocError, Global};
 use std::sync::ledger::Ledger;
 use ts_sample::{Chunk, Gathered, MAX_TIME, Sample, Steps, Units};
 
-// The sample of a text, as `1000:-3:1`.
+// Parses a sample, such as `1000:-3:1`.
 pub(crate) fn sample_of(text: &str) -> Option<Sample> {
     let (time, rest) = text.split_once(':')?;
     let (value, made) = rest.split_once(':')?;
@@ -23,7 +23,7 @@ pub(crate) fn sample_of(text: &str) -> Option<Sample> {
     Some(Sample { time, value, made })
 }
 
-// The two numbers of a text.
+// Parses two numbers.
 pub(crate) fn interval_of(text: &str) -> Option<(u64, u64)> {
     let (from, to) = text.split_once(' ')?;
     match (from.parse::<u64>(), to.parse::<u64>()) {
@@ -32,7 +32,7 @@ pub(crate) fn interval_of(text: &str) -> Option<(u64, u64)> {
     }
 }
 
-// The samples of a chunk from one time to another.
+// The samples of a chunk in an interval.
 pub(crate) fn between<C: Chunk, L: Ledger>(
     alloc: Global,
     chunk: &C,
@@ -45,7 +45,7 @@ pub(crate) fn between<C: Chunk, L: Ledger>(
     Ok(gathered.into_samples())
 }
 
-// What a chunk has.
+// What a chunk holds.
 pub(crate) fn chunk_text<C: Chunk, L: Ledger>(
     alloc: Global,
     chunk: &C,
@@ -61,7 +61,7 @@ pub(crate) fn chunk_text<C: Chunk, L: Ledger>(
     )
 }
 
-// What each of some chunks has.
+// What each of these chunks holds.
 pub(crate) fn chunks_text<C: Chunk, L: Ledger>(
     alloc: Global,
     chunks: &[C],
@@ -88,7 +88,7 @@ fn sample_text(alloc: Global, sample: &Sample) -> Result<String, AllocError> {
     format!(in alloc; "{time}:{value}:{made}")
 }
 
-// Samples with blanks between them.
+// Samples, separated by spaces.
 pub(crate) fn samples_text(alloc: Global, samples: &[Sample]) -> Result<String, AllocError> {
     let mut list = String::new(alloc);
     for sample in samples {
@@ -100,7 +100,7 @@ pub(crate) fn samples_text(alloc: Global, samples: &[Sample]) -> Result<String, 
     Ok(list)
 }
 
-// Two digits for each byte.
+// Two hexadecimal digits for each byte.
 fn bytes_text(alloc: Global, bytes: &[u8]) -> Result<String, AllocError> {
     let mut list = String::new(alloc);
     for byte in bytes {

@@ -1,11 +1,14 @@
-// A chunk at hand, and what a line asks of it.
+// The current chunk of each format, and the commands on it.
 ghost use Rattle.std.specs.Prelude.{◌≡◌, true};
 ghost use Rattle.ts_sample.specs.Chunk.{IsPast};
 ghost use Rattle.ts_spec.specs.Sample.{last_of};
 
+use crate::long::long_text;
 use crate::texts::{between, chunk_text, chunks_text, interval_of, sample_of, samples_text};
 use std::alloc::{AllocError, Global};
 use std::sync::ledger::Ledger;
+use ts_chunk_packed::PackedChunk;
+use ts_chunk_plain::PlainChunk;
 use ts_sample::{Chunk, Sample, Steps};
 
 #[derive(Drop)]
@@ -15,13 +18,13 @@ pub(crate) struct Trial<C: Chunk> {
 }
 
 impl<C: Chunk> Trial<C> {
-    // An empty chunk of the least limit is at hand.
+    // Starts with an empty chunk of the smallest limit.
     pub(crate) fn new(alloc: Global) -> Result<Self, AllocError> {
         let chunk = C::new(alloc, 48)?;
         Ok(Trial { alloc, chunk })
     }
 
-    // The answer to a line, if it asks anything.
+    // Runs the command in a line. Returns `None` if it is not one.
     pub(crate) fn answer<L: Ledger>(
         &mut self,
         line: &str,
@@ -39,7 +42,7 @@ impl<C: Chunk> Trial<C> {
         }
     }
 
-    // A new chunk of the limit, with the samples, if there is such a limit.
+    // Creates a chunk with this limit and these samples. Returns `None` if the limit is out of range.
     fn begin<L: Ledger>(
         &mut self,
         text: &str,
@@ -56,7 +59,7 @@ impl<C: Chunk> Trial<C> {
         self.more(samples, steps)
     }
 
-    // Puts the samples behind the last one, up to one that does not fit.
+    // Appends the samples, up to one that does not fit.
     fn more<L: Ledger>(
         &mut self,
         text: &str,
@@ -72,7 +75,7 @@ impl<C: Chunk> Trial<C> {
         Ok(Some(chunk_text(self.alloc, &self.chunk, steps)?))
     }
 
-    // What comes of one sample more.
+    // The chunks after writing one more sample.
     fn changed<L: Ledger>(
         &self,
         verb: &str,
@@ -92,7 +95,7 @@ impl<C: Chunk> Trial<C> {
         }
     }
 
-    // What comes without the samples of an interval, or what a look-up sees there.
+    // The chunks after deleting an interval, or what a lookup finds there.
     fn parted<L: Ledger>(
         &self,
         verb: &str,
@@ -111,7 +114,7 @@ impl<C: Chunk> Trial<C> {
     }
 }
 
-// Puts a sample behind the last one, where it is later and fits. Answers whether it did.
+// Appends a sample if it is later than the last one and fits. Returns whether it did.
 pub(crate) fn append<C: Chunk>(chunk: &mut C, sample: &Sample) -> bool {
     is_past(chunk, sample.time) && chunk.try_append(sample)
 }
@@ -123,5 +126,42 @@ fn is_past<C: Chunk>(chunk: &C, time: u64) -> bool
     match chunk.last() {
         Some(last) => last.time < time,
         None => true,
+    }
+}
+
+#[derive(Drop)]
+pub(crate) struct Trials {
+    alloc: Global,
+    packed: Trial<PackedChunk>,
+    plain: Trial<PlainChunk>,
+}
+
+impl Trials {
+    pub(crate) fn new(alloc: Global) -> Result<Trials, AllocError> {
+        let (packed, plain) = (Trial::new(alloc)?, Trial::new(alloc)?);
+        Ok(Trials {
+            alloc,
+            packed,
+            plain,
+        })
+    }
+
+    // Runs the command in a line. Returns `None` if it is not one.
+    pub(crate) fn answer<L: Ledger>(
+        &mut self,
+        line: &str,
+        steps: &mut Steps<L>,
+    ) -> Result<Option<String>, AllocError> {
+        if let Some(rest) = line.strip_prefix("plain ") {
+            return self.plain.answer(rest, steps);
+        }
+        if let Some(rest) = line.strip_prefix("long ") {
+            return long_text(self.alloc, rest, steps);
+        }
+        if line == "small" {
+            let small = size_of::<PackedChunk>() <= 160;
+            return Ok(Some(format!(in self.alloc; "{small}")?));
+        }
+        self.packed.answer(line, steps)
     }
 }

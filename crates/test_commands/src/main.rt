@@ -1,36 +1,32 @@
-//! Talks with the program, through its top call. A talk in the input begins with a line `talk` and its name, and ends with
-//! an empty line. Its other lines are:
+//! Tests the program through `top` with talks. A talk in the input begins with a line `talk` and its name, and ends
+//! with an empty line. Its other lines are:
 //!
-//! - `with` and what it is run with: a limit, as `keys 1`, of requests as `wire_words 3`, or the `budget` of bytes; the `words`
-//!   of the command line, if it is not `pipe`; what the clock shows, as `clock 1000,900`; how many bytes come at once, in one
-//!   run after another, as `pieces 4096,1`; `cuts`, for pieces of each size, and for two pieces that are cut at each byte; how
-//!   many bytes a write takes, as `takes 1`; which calls of the listener fail, as `failing_calls 3`, its `open` and each
-//!   `accept` counted from 1; that one more connection waits, and that the `next_call` after the run `comes` to it, or `fails`
-//!   first; a `journal`, with a record that it `had` before the run or `has` after it, as `journal had DEL a`, with the bytes of
-//!   `had_bytes` and `has_bytes`, and with which of its calls it `fails`, as `journal fails 2`; `encodings`, for series of TS.CREATE in either one; the `numbers` from one up to another; or the
-//!   `lengths` of a word, from one up to another;
-//! - a command, and after ` -> ` the reply that is due to it: its lines, apart by ` | `, or `[1:2, 3:4]` for rows, each with
-//!   a time and a value. A part in braces stands once for each number, which takes the place of each `#`; each `@` is the
-//!   number that is as far from the end. After `each ` the whole line stands so. In place of `^` stands the word, and in a
-//!   reply the word as a reply;
-//! - `sends` and bytes of the input, or `gets` and bytes of the output, as they stand, but for `\r`, `\n` and `\t`;
-//! - `fails read` or `fails write`, and which reads of the input or writes to the output fail, as `2`;
-//! - `link`, after which all such lines are those of a connection: what it sends, and what it is answered;
-//! - `ends`, the status that is not 0, and the line on standard error;
-//! - `outcome` and what the library's `pipe` comes to, which is then called in place of the program: how many requests were
-//!   executed, how many bytes were taken, and the end, as `executed 1, taken 14, WriteFault`;
-//! - what begins with `#` and says nothing.
+//! - `with` and a setting: a limit, such as `keys 1`, or `wire_words 3` for one of requests; the `budget` of input
+//!   bytes; the `words` of the command line, if it is not `pipe`; the readings of the clock, such as `clock 1000,900`;
+//!   the most bytes per read, one run for each, such as `pieces 4096,1`; `cuts`, for pieces of each size, and for two
+//!   pieces cut at each byte; the most bytes per write, such as `takes 1`; which calls of the listener fail, such as
+//!   `failing_calls 3`, where its `open` and each `accept` are counted together from 1; `next_call comes` or `next_call
+//!   fails`, for one more connection that the next `accept` after the run returns at once or after a failure; a
+//!   `journal` with a record that it `had` before the run or `has` after it, such as `journal had DEL a`, with bytes
+//!   (`had_bytes`, `has_bytes`), and with the calls that fail, such as `journal fails 2`; `encodings`, to create series
+//!   in each encoding; the `numbers` from one up to another; the `lengths` of a word, from one up to another;
+//! - a command, and after ` -> ` its expected reply: its lines, separated by ` | `, or `[1:2, 3:4]` for rows, each a
+//!   time and a value. A part in braces is repeated for each number: `#` is the number, and `@` the number as far from
+//!   the end. After `each `, the whole line is repeated so. `^` is the word, and in a reply the word as a bulk string;
+//! - `sends` and bytes of the input, or `gets` and bytes of the output, with the escapes `\r`, `\n` and `\t`;
+//! - `fails read` or `fails write`, and the numbers of the reads or writes that fail, such as `2`;
+//! - `link`: the following lines of this kind belong to a connection;
+//! - `ends`, the exit status if it is not 0, and the line on standard error;
+//! - `outcome` and the expected outcome of the library's `pipe`, which is then called instead of the program: the
+//!   requests executed, the bytes taken, and the end, such as `executed 1, taken 14, WriteFault`;
+//! - `#` and a comment.
 //!
-//! A talk in which all is written that is due, and nothing else, in pieces of 4,096 bytes and of one byte, is told by its
-//! name. The talks stand in a file because tests are proved as code is, and lines of a file are not.
+//! A talk passes if exactly what is expected is written, in reads of 4,096 bytes and of one byte; its name is then
+//! printed. The talks are in a file, not in code, because test code is proved and the lines of a file are not.
 #![tactic(auto)]
 
-mod end;
-mod journal;
-mod line;
-mod next_call;
+mod expected;
 mod patterns;
-mod round;
 mod run;
 mod setting;
 mod stream;

@@ -1,9 +1,9 @@
-// Lines of many alike parts, which are too long to be written down.
+// Patterns for lines with many similar parts, and what replaces their marks in one round of a talk.
 use crate::setting::Numbers;
 use itoa::Buffer;
 use std::alloc::{AllocError, Global};
 
-// What stands in place of marks: one word for each `#`, and another for each `@`.
+// The replacements of the marks: `word` for `#` and `other` for `@`.
 #[derive(Clone, Copy)]
 pub(crate) struct Words<'a> {
     pub(crate) word: &'a str,
@@ -11,7 +11,7 @@ pub(crate) struct Words<'a> {
 }
 
 impl Words<'_> {
-    // Appends a text with the words in place of the marks.
+    // Appends a text with the marks replaced.
     pub(crate) fn fill_into(&self, text: &str, list: &mut String) -> Result<(), AllocError> {
         for letter in text.chars() {
             match letter {
@@ -23,7 +23,7 @@ impl Words<'_> {
         Ok(())
     }
 
-    // A text with the words in place of the marks.
+    // Returns a text with the marks replaced.
     pub(crate) fn fill(&self, alloc: Global, text: &str) -> Result<String, AllocError> {
         let mut list = String::new(alloc);
         self.fill_into(text, &mut list)?;
@@ -31,8 +31,8 @@ impl Words<'_> {
     }
 }
 
-// Appends a text once for each number, which stands in place of each `#`; in place of each `@` stands the number that is
-// as far from the end as this one is from the beginning.
+// Appends a text once for each number. `#` is the number, and `@` the number as far from the end as this one is from
+// the beginning.
 fn push_parts(text: &str, numbers: Numbers, list: &mut String) -> Result<(), AllocError> {
     let there = numbers.first..numbers.end;
     let back = (numbers.first..numbers.end).rev();
@@ -48,7 +48,7 @@ fn push_parts(text: &str, numbers: Numbers, list: &mut String) -> Result<(), All
     Ok(())
 }
 
-// A text in which the part in braces, where there is one, stands once for each number.
+// A text in which the part in braces, if any, is repeated for each number.
 pub(crate) fn unfold(alloc: Global, text: &str, numbers: Numbers) -> Result<String, AllocError> {
     let Some((head, rest)) = text.split_once('{') else {
         return String::from_str(alloc, text);
@@ -60,4 +60,28 @@ pub(crate) fn unfold(alloc: Global, text: &str, numbers: Numbers) -> Result<Stri
     push_parts(part, numbers, &mut list)?;
     list.push_str(tail)?;
     Ok(list)
+}
+
+// The numbers and the word, and the encoding of new series, if one is given.
+#[derive(Clone, Copy)]
+pub(crate) struct Round<'a> {
+    pub(crate) numbers: Numbers,
+    pub(crate) word: &'a str,
+    pub(crate) encoding: Option<&'a str>,
+}
+
+impl Round<'_> {
+    // A command. TS.CREATE gets the encoding as an option after the key.
+    pub(crate) fn encoded(&self, alloc: Global, command: &str) -> Result<String, AllocError> {
+        let (Some(encoding), Some(made)) = (self.encoding, command.strip_prefix("TS.CREATE "))
+        else {
+            return String::from_str(alloc, command);
+        };
+        match made.split_once(' ') {
+            None => format!(in alloc; "TS.CREATE {made} ENCODING {encoding}"),
+            Some((key, options)) => {
+                format!(in alloc; "TS.CREATE {key} ENCODING {encoding} {options}")
+            }
+        }
+    }
 }

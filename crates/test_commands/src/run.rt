@@ -1,6 +1,5 @@
-// Runs of the program, and calls of `pipe`, over devices in memory.
-use crate::end::End;
-use crate::next_call::silent;
+// Runs the program, or calls `pipe`, over devices in memory.
+use crate::expected::{End, silent};
 use crate::setting::Setting;
 use crate::stream::Stream;
 use crate::texts::Exchange;
@@ -9,15 +8,15 @@ use std::io::Read;
 use ts_engine::{Db, Outcome, pipe, top};
 use ts_io::{Ends, MemClock, MemListener, MemSink, MemSource, Source, StdSource};
 
-// A stream, with what is sent and what is due.
+// A stream, with what is sent and expected.
 #[derive(Drop)]
 pub(crate) struct Talking<'a> {
     pub(crate) stream: &'a Stream,
     pub(crate) exchange: Exchange,
 }
 
-// Whether a run in which so many bytes are read at once writes what is due to the output and to each connection, and
-// nothing else, and ends so.
+// Whether a run with this read size writes exactly what is expected to the output and each connection, and ends as
+// expected.
 pub(crate) fn is_answered(
     alloc: Global,
     setting: &Setting,
@@ -34,7 +33,7 @@ pub(crate) fn is_answered(
     )
 }
 
-// The same where the input comes in two pieces, of which the first has so many bytes.
+// The same, with the input in two pieces. The first has this many bytes.
 pub(crate) fn is_answered_in_two(
     alloc: Global,
     setting: &Setting,
@@ -52,7 +51,8 @@ pub(crate) fn is_answered_in_two(
     is_answered_over(alloc, setting, input, out, Vec::new(alloc), own, &[], end)
 }
 
-// Whether a run over this input writes what is due to the output and to each connection, and nothing else, and ends so.
+// Whether a run over this input writes exactly what is expected to the output and each connection, and ends as
+// expected.
 fn is_answered_over<S: Source + Drop>(
     alloc: Global,
     setting: &Setting,
@@ -93,8 +93,7 @@ fn is_answered_over<S: Source + Drop>(
     )
 }
 
-// Whether a call of `pipe` in which so many bytes are read at once writes what is due, and nothing else, and comes to
-// this.
+// Whether a call of `pipe` with this read size writes exactly what is expected, and has this outcome.
 pub(crate) fn comes_to(
     alloc: Global,
     setting: &Setting,
@@ -123,7 +122,7 @@ pub(crate) fn comes_to(
     Ok(ends.out.bytes() == own.exchange.out.as_slice() && told.as_str() == outcome)
 }
 
-// The ends of connections.
+// The two ends of each connection.
 fn ends_of(
     alloc: Global,
     links: &[Talking],
@@ -137,7 +136,7 @@ fn ends_of(
     Ok(ends)
 }
 
-// Whether each connection was closed, and was written what is due to it.
+// Whether each connection was closed and got exactly what is expected.
 fn are_answered(done: &[Ends<MemSource, MemSink>], links: &[Talking]) -> bool {
     let mut all = done.len() == links.len();
     for (ends, link) in done.iter().zip(links) {

@@ -1,14 +1,13 @@
-// What a talk is run with: the limits of the database, what the clock shows, and the numbers and words of its lines.
+// The settings of a talk: limits, clock, read sizes, and the numbers and words of its lines.
 ghost use Rattle.std.specs.Prelude.{◌≤◌};
 ghost use Rattle.ts_journal.specs.Limits.{IsBounded};
 ghost use Rattle.ts_engine.specs.Top.{AreUsable};
 
-use crate::journal::Journal;
-use crate::next_call::NextCall;
+use crate::expected::{Journal, NextCall};
 use std::alloc::{AllocError, Global};
 use ts_engine::Limits;
 
-// The numbers from one up to another, and without this one.
+// A range of numbers, without its end.
 #[derive(Clone, Copy)]
 pub(crate) struct Numbers {
     pub(crate) first: usize,
@@ -16,7 +15,7 @@ pub(crate) struct Numbers {
 }
 
 impl Numbers {
-    // Those of a text of two numbers with a blank between them.
+    // Parses two numbers separated by a space.
     fn of(text: &str) -> Option<Numbers> {
         let (first, end) = text.split_once(' ')?;
         let (Ok(first), Ok(end)) = (first.parse::<usize>(), end.parse::<usize>()) else {
@@ -26,12 +25,12 @@ impl Numbers {
     }
 }
 
-// Series are made as nothing else says, or in each encoding.
+// The encodings of new series: none given, or each of both.
 const USUAL: [Option<&str>; 1] = [None];
 
 const BOTH: [Option<&str>; 2] = [Some("COMPRESSED"), Some("UNCOMPRESSED")];
 
-// The most words of a request, and the most bytes of a word.
+// The most arguments of a request, and the most bytes of an argument.
 const MOST_WORDS: u32 = 4_000_000_000;
 
 // The most bytes of a request.
@@ -39,32 +38,33 @@ const MOST_BYTES: u32 = 100_000_000;
 
 #[derive(Drop)]
 pub(crate) struct Setting {
-    // The words of the command line, where it is not `pipe`.
+    // The command line, if it is not `pipe`.
     words: Option<String>,
     limits: Limits,
-    // How many bytes may be taken.
+    // The budget of input bytes.
     pub(crate) budget: u64,
     pub(crate) readings: Vec<u64>,
-    // The numbers of the calls of the listener that fail.
+    // The numbers of the listener's calls that fail.
     pub(crate) failing_calls: Vec<u64>,
     pub(crate) next_call: NextCall,
     pub(crate) journal: Journal,
-    // How many bytes a read takes at most, in one run after another.
+    // The most bytes per read, one run for each.
     pub(crate) pieces: Vec<u64>,
     // Whether the requests also come in pieces of each size.
     pub(crate) cuts: bool,
-    // How many bytes a write takes at most.
+    // The most bytes per write.
     takes: usize,
-    // Whether series are made in each encoding, in one run after another.
+    // Whether series are created in each encoding, one run for each.
     encodings: bool,
-    // For which numbers a part of a line, or a whole line, stands once.
+    // The numbers for which a part of a line, or a whole line, is repeated.
     pub(crate) numbers: Numbers,
-    // How many letters the word has, in one run after another.
+    // The lengths of the word, one run for each.
     pub(crate) lengths: Numbers,
 }
 
 impl Setting {
-    // The word `pipe`, the usual limits, room for all bytes, a clock that shows nothing, no numbers, and one run with a word of one letter.
+    // The defaults: `pipe`, the usual limits, an ample budget, a clock without readings, no numbers, and one run with a
+    // word of one letter.
     pub(crate) fn new(alloc: Global) -> Setting {
         Setting {
             words: None,
@@ -83,7 +83,7 @@ impl Setting {
         }
     }
 
-    // Takes what a line says of it, as `keys 1`, `clock 1000,900` or `numbers 0 1001`. Answers whether it says anything.
+    // Parses a setting, such as `keys 1`, `clock 1000,900` or `numbers 0 1001`. Returns whether it is one.
     pub(crate) fn take(&mut self, alloc: Global, line: &str) -> Result<bool, AllocError> {
         let (name, what) = line.split_once(' ').unwrap_or((line, ""));
         match name {
@@ -107,7 +107,7 @@ impl Setting {
         Ok(true)
     }
 
-    // Takes a limit of this name, if there is one.
+    // Sets the limit with this name, if there is one.
     fn take_limit(&mut self, name: &str, number: u32) -> bool {
         match name {
             "budget" => self.budget = number as u64,
@@ -127,12 +127,12 @@ impl Setting {
         true
     }
 
-    // The encodings in which series are made, each in one run: as nothing else says, or in one after the other.
+    // The encodings of new series, one run for each.
     pub(crate) fn encodings(&self) -> &'static [Option<&'static str>] {
         if self.encodings { &BOTH } else { &USUAL }
     }
 
-    // The words of the command line, which stand apart by spaces.
+    // The arguments of the command line, separated by spaces.
     pub(crate) fn words(&self, alloc: Global) -> Result<Vec<String>, AllocError> {
         let text = match &self.words {
             None => "pipe",
@@ -147,7 +147,7 @@ impl Setting {
         Ok(words)
     }
 
-    // The limits, each of which is 1 at least, and those of requests as large as a journal can have.
+    // The limits, each at least 1. Those of requests are at most as large as a journal allows.
     pub(crate) fn usable_limits(&self) -> Limits
         ensures usable { AreUsable result }
         ensures bounded { IsBounded result.wire }
@@ -166,7 +166,7 @@ impl Setting {
         limits
     }
 
-    // The most bytes of a write, at least 1.
+    // The most bytes per write, at least 1.
     pub(crate) fn takes(&self) -> usize
         ensures { 1 ≤ result }
     {
@@ -174,7 +174,7 @@ impl Setting {
     }
 }
 
-// Takes numbers from a text, if it says which.
+// Parses two numbers, if the text has them.
 fn take_numbers(text: &str, into: &mut Numbers) -> bool {
     match Numbers::of(text) {
         None => false,
@@ -185,7 +185,7 @@ fn take_numbers(text: &str, into: &mut Numbers) -> bool {
     }
 }
 
-// Takes a list of numbers from a text, if it says one.
+// Parses a list of numbers, if the text is one.
 pub(crate) fn take_list(text: &str, into: &mut Vec<u64>) -> Result<bool, AllocError> {
     for number in text.split(',') {
         let Ok(number) = number.parse::<u64>() else {

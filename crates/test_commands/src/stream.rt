@@ -1,8 +1,8 @@
-// A stream of a talk: the input with the output, or a connection.
-use crate::line::Line;
-use crate::round::Round;
+// A stream of a talk, which is standard input and output or a connection, and its lines.
+use crate::patterns::{Round, Words, unfold};
 use crate::setting::take_list;
 use crate::texts::Exchange;
+use itoa::Buffer;
 use std::alloc::{AllocError, Global};
 use ts_io::{Ends, MemSink, MemSource};
 
@@ -10,13 +10,13 @@ use ts_io::{Ends, MemSink, MemSource};
 pub(crate) struct Stream {
     alloc: Global,
     lines: Vec<Line>,
-    // The numbers of the reads and of the writes that fail.
+    // The numbers of the reads and the writes that fail.
     reads: Vec<u64>,
     writes: Vec<u64>,
 }
 
 impl Stream {
-    // Nothing is sent and nothing is due.
+    // Creates one that sends and expects nothing.
     pub(crate) fn new(alloc: Global) -> Stream {
         Stream {
             alloc,
@@ -26,7 +26,7 @@ impl Stream {
         }
     }
 
-    // Takes a line, as `fails read 2` or what is sent and due. Answers whether it says anything.
+    // Parses a line, such as `fails read 2`, or what is sent and expected. Returns whether it could.
     pub(crate) fn take(&mut self, line: &str) -> Result<bool, AllocError> {
         if let Some(numbers) = line.strip_prefix("fails read ") {
             return take_list(numbers, &mut self.reads);
@@ -41,7 +41,7 @@ impl Stream {
         Ok(true)
     }
 
-    // What is sent and what is due in such a round.
+    // What is sent and expected in a round.
     pub(crate) fn exchange(&self, round: Round) -> Result<Exchange, AllocError> {
         let mut exchange = Exchange::new(self.alloc);
         for line in &self.lines {
@@ -50,7 +50,7 @@ impl Stream {
         Ok(exchange)
     }
 
-    // Its two ends, with so many bytes a read and a write, one at least.
+    // Its two ends, with these limits on the bytes per read and per write, at least 1.
     pub(crate) fn ends(
         &self,
         exchange: &Exchange,
@@ -66,4 +66,112 @@ impl Stream {
             out: MemSink::new(alloc, takes.max(1), writes),
         })
     }
+}
+
+// How often a command is sent, or that the line is bytes.
+#[derive(Clone, Copy)]
+enum Form {
+    Once,
+    // Once for each number.
+    Each,
+    // Bytes as they are.
+    Bytes,
+}
+
+#[derive(Drop)]
+pub(crate) struct Line {
+    command: String,
+    reply: String,
+    form: Form,
+}
+
+impl Line {
+    // Parses a line. After `each `, a command and its reply are repeated for each number. After `sends ` and `gets `
+    // come bytes. Returns `None` for anything else.
+    pub(crate) fn read(alloc: Global, text: &str) -> Result<Option<Line>, AllocError> {
+        if let Some(sent) = text.strip_prefix("sends ") {
+            return Ok(Some(Line::of(alloc, sent, "", Form::Bytes)?));
+        }
+        if let Some(due) = text.strip_prefix("gets ") {
+            return Ok(Some(Line::of(alloc, "", due, Form::Bytes)?));
+        }
+        let (form, text) = match text.strip_prefix("each ") {
+            None => (Form::Once, text),
+            Some(rest) => (Form::Each, rest),
+        };
+        let Some((command, reply)) = text.split_once(" -> ") else {
+            return Ok(None);
+        };
+        Ok(Some(Line::of(alloc, command, reply, form)?))
+    }
+
+    fn of(alloc: Global, command: &str, reply: &str, form: Form) -> Result<Line, AllocError> {
+        Ok(Line {
+            command: String::from_str(alloc, command)?,
+            reply: String::from_str(alloc, reply)?,
+            form,
+        })
+    }
+
+    // Adds what the line sends and expects. `^` in a command is the word, and in a reply the word as a bulk string.
+    pub(crate) fn add_to(
+        &self,
+        alloc: Global,
+        round: Round,
+        exchange: &mut Exchange,
+    ) -> Result<(), AllocError> {
+        match self.form {
+            Form::Once => {}
+            Form::Each => return self.add_each(alloc, round, exchange),
+            Form::Bytes => return exchange.push_bytes(&self.command, &self.reply),
+        }
+        let command = unfold(alloc, &self.command, round.numbers)?;
+        let reply = unfold(alloc, &self.reply, round.numbers)?;
+        let command = with_word(alloc, &command, round.word)?;
+        let reply = with_word(alloc, &reply, &bulk(alloc, round.word)?)?;
+        exchange.push(&round.encoded(alloc, &command)?, &reply)
+    }
+
+    // Adds the command and the reply once for each number. `#` is the number, and `@` the number as far from the end as
+    // this one is from the beginning.
+    fn add_each(
+        &self,
+        alloc: Global,
+        round: Round,
+        exchange: &mut Exchange,
+    ) -> Result<(), AllocError> {
+        let numbers = round.numbers;
+        let there = numbers.first..numbers.end;
+        let back = (numbers.first..numbers.end).rev();
+        for (number, other) in there.zip(back) {
+            let mut digits = Buffer::new();
+            let mut others = Buffer::new();
+            let words = Words {
+                word: digits.format(number),
+                other: others.format(other),
+            };
+            let command = words.fill(alloc, &self.command)?;
+            let reply = words.fill(alloc, &self.reply)?;
+            exchange.push(&round.encoded(alloc, &command)?, &reply)?;
+        }
+        Ok(())
+    }
+}
+
+// A text with each `^` replaced by a word.
+fn with_word(alloc: Global, text: &str, word: &str) -> Result<String, AllocError> {
+    let mut list = String::new(alloc);
+    for letter in text.chars() {
+        match letter {
+            '^' => list.push_str(word)?,
+            letter => list.push(letter)?,
+        }
+    }
+    Ok(list)
+}
+
+// The word as a bulk string reply.
+fn bulk(alloc: Global, word: &str) -> Result<String, AllocError> {
+    let length = word.len();
+    format!(in alloc; "${length} | {word}")
 }

@@ -1,6 +1,6 @@
-// A talk: requests with the replies that are due to them, and what they are run with.
-use crate::end::End;
-use crate::round::Round;
+// A talk: requests with their expected replies, and the settings they run with.
+use crate::expected::End;
+use crate::patterns::Round;
 use crate::run::{Talking, comes_to, is_answered, is_answered_in_two};
 use crate::setting::Setting;
 use crate::stream::Stream;
@@ -11,21 +11,21 @@ pub(crate) struct Talk {
     alloc: Global,
     name: Option<String>,
     setting: Setting,
-    // The input with the output, and the connections.
+    // The main stream, and the connections.
     own: Stream,
     links: Vec<Stream>,
     end: End,
-    // What `pipe` comes to, where that is called in place of the program.
+    // The expected outcome of `pipe`, if the talk calls it instead of the program.
     outcome: Option<String>,
-    // Whether each line could be read.
+    // Whether every line could be parsed.
     readable: bool,
 }
 
-// In pieces of so many bytes the requests come where nothing else is said: as many as are read at once, and one by one.
+// The read sizes used if none is given: 4,096 bytes, and one byte.
 const PIECES: [u64; 2] = [4096, 1];
 
 impl Talk {
-    // Without a name and without requests.
+    // Creates a talk without a name or requests.
     pub(crate) fn new(alloc: Global) -> Talk {
         Talk {
             alloc,
@@ -39,7 +39,7 @@ impl Talk {
         }
     }
 
-    // Takes a line. One that begins with `#` says nothing.
+    // Parses a line. Lines that begin with `#` are comments.
     pub(crate) fn read(&mut self, line: &str) -> Result<(), AllocError> {
         if line.starts_with('#') {
             return Ok(());
@@ -53,7 +53,7 @@ impl Talk {
         Ok(())
     }
 
-    // Takes a line that is not its name. Answers whether it says anything.
+    // Parses a line other than the talk's name. Returns whether it could.
     fn take(&mut self, line: &str) -> Result<bool, AllocError> {
         if let Some(what) = line.strip_prefix("with ") {
             return self.setting.take(self.alloc, what);
@@ -79,7 +79,7 @@ impl Talk {
         }
     }
 
-    // What is told of it, if it has a name.
+    // The line to print for the talk, if it has a name.
     pub(crate) fn outcome(&self) -> Result<Option<String>, AllocError> {
         let Some(name) = &self.name else {
             return Ok(None);
@@ -94,7 +94,7 @@ impl Talk {
         Ok(Some(outcome))
     }
 
-    // Whether the requests have these replies, in each encoding, with a word of each length.
+    // Whether the replies are as expected, in each encoding and with each word length.
     fn is_answered(&self) -> Result<bool, AllocError> {
         for encoding in self.setting.encodings() {
             if !self.is_answered_in(*encoding)? {
@@ -104,7 +104,7 @@ impl Talk {
         Ok(true)
     }
 
-    // Whether they have them in this encoding.
+    // The same, in one encoding.
     fn is_answered_in(&self, encoding: Option<&str>) -> Result<bool, AllocError> {
         let mut word = String::new(self.alloc);
         for length in 0..self.setting.lengths.end {
@@ -121,7 +121,7 @@ impl Talk {
         Ok(true)
     }
 
-    // Whether they have them in this round, in pieces of each size.
+    // The same, in one round, with each read size.
     fn is_answered_with(&self, round: Round) -> Result<bool, AllocError> {
         let own = self.talking(&self.own, round)?;
         let mut links = Vec::new(self.alloc);
@@ -141,7 +141,7 @@ impl Talk {
         Ok(!self.setting.cuts || self.is_answered_cut(&own)?)
     }
 
-    // Whether they have them where so many bytes are read at once.
+    // The same, with one read size.
     fn is_answered_by(
         &self,
         own: &Talking,
@@ -154,7 +154,7 @@ impl Talk {
         }
     }
 
-    // Whether they have them in pieces of each size, and in two pieces that are cut at each byte.
+    // The same, with each size of pieces, and with two pieces cut at each byte.
     fn is_answered_cut(&self, own: &Talking) -> Result<bool, AllocError> {
         for size in 0..own.exchange.input.len() {
             if !self.is_answered_by(own, &[], size)?
@@ -166,7 +166,7 @@ impl Talk {
         Ok(true)
     }
 
-    // A stream, with what is sent and due in this round.
+    // A stream, with what is sent and expected in this round.
     fn talking<'a>(&self, stream: &'a Stream, round: Round) -> Result<Talking<'a>, AllocError> {
         let exchange = stream.exchange(round)?;
         Ok(Talking { stream, exchange })

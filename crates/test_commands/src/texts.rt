@@ -1,8 +1,8 @@
-// The bytes of requests and of the replies that are due to them.
+// The bytes of requests and expected replies.
 use itoa::Buffer;
 use std::alloc::{AllocError, Global};
 
-// Requests, and the replies that are due to them.
+// Requests, and the expected replies.
 #[derive(Drop)]
 pub(crate) struct Exchange {
     pub(crate) input: Vec<u8>,
@@ -10,7 +10,7 @@ pub(crate) struct Exchange {
 }
 
 impl Exchange {
-    // No requests.
+    // Creates one without requests.
     pub(crate) fn new(alloc: Global) -> Exchange {
         Exchange {
             input: Vec::new(alloc),
@@ -18,7 +18,7 @@ impl Exchange {
         }
     }
 
-    // Adds a command, whose words stand apart by spaces, and the reply to it, in either form.
+    // Adds a command, with its arguments separated by spaces, and its reply in either form.
     pub(crate) fn push(&mut self, command: &str, reply: &str) -> Result<(), AllocError> {
         push_request(command, &mut self.input)?;
         match reply.strip_prefix('[') {
@@ -27,14 +27,14 @@ impl Exchange {
         }
     }
 
-    // Adds bytes that are sent, and bytes that are due.
+    // Adds bytes to send, and expected bytes.
     pub(crate) fn push_bytes(&mut self, sent: &str, due: &str) -> Result<(), AllocError> {
         push_bytes(sent, &mut self.input)?;
         push_bytes(due, &mut self.out)
     }
 }
 
-// Appends a mark, a number and the end of the line.
+// Appends a type byte, a number and CRLF.
 fn push_header(mark: u8, number: usize, bytes: &mut Vec<u8>) -> Result<(), AllocError> {
     let mut digits = Buffer::new();
     bytes.push(mark)?;
@@ -53,7 +53,7 @@ pub(crate) fn push_request(command: &str, bytes: &mut Vec<u8>) -> Result<(), All
     Ok(())
 }
 
-// Appends a reply whose lines are written apart by ` | `.
+// Appends a reply whose lines are separated by ` | `.
 fn push_lines(reply: &str, bytes: &mut Vec<u8>) -> Result<(), AllocError> {
     for line in reply.split(" | ") {
         bytes.extend_from_slice(line.as_bytes())?;
@@ -62,7 +62,7 @@ fn push_lines(reply: &str, bytes: &mut Vec<u8>) -> Result<(), AllocError> {
     Ok(())
 }
 
-// Appends rows that are written `1:2, 3:4`, each with a time and a value, or none where nothing is written.
+// Appends rows written as `1:2, 3:4`, each a time and a value. An empty text has no rows.
 fn push_rows(rows: &str, bytes: &mut Vec<u8>) -> Result<(), AllocError> {
     push_header(b'*', rows.matches(':').count(), bytes)?;
     for row in rows.split(", ") {
@@ -77,7 +77,7 @@ fn push_rows(rows: &str, bytes: &mut Vec<u8>) -> Result<(), AllocError> {
     Ok(())
 }
 
-// Appends the bytes of a text, in which `\r` and `\n` stand for the bytes at the end of a line, and `\t` for a tab.
+// Appends the bytes of a text, with the escapes `\r`, `\n` and `\t`.
 pub(crate) fn push_bytes(text: &str, bytes: &mut Vec<u8>) -> Result<(), AllocError> {
     let mut marked = false;
     for byte in text.as_bytes() {

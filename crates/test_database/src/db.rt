@@ -1,4 +1,4 @@
-// A database: the series that a refusal names, and what a refusal leaves.
+// A database: which series an error names, and what a failed call leaves unchanged.
 mod again;
 mod call;
 mod faults;

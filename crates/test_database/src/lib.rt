@@ -1,4 +1,4 @@
-//! Tests of the series, their rules and the database, with ample memory, a module for each library.
+//! Tests of ts_series, ts_rules and ts_db with ample memory, one module for each.
 #![tactic(auto)]
 
 #[cfg(test)]

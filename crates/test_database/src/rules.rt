@@ -1,5 +1,3 @@
-// Rules over two series: what a change of the source comes to.
+// Compaction rules over two series: the effect of a change of the source.
 mod case;
-mod deletions;
-mod met;
-mod writes;
+mod changes;

@@ -1,4 +1,4 @@
-// How the samples of a series lie in its chunks.
+// How a series stores its samples in chunks.
 ghost use Rattle.std.specs.Prelude.{◌≡◌, ◌<◌};
 
 use std::alloc::Global;
@@ -16,7 +16,7 @@ fn put<L: Ledger>(series: &mut Series, time: u64, steps: &mut Steps<L>) {
     }
 }
 
-// A series with samples at 10, 20 and so on up to 90, in chunks of so many bytes.
+// A series with samples at 10, 20 and so on up to 90, in chunks of this many bytes.
 fn nine<L: Ledger>(alloc: Global, chunk_size: u32, steps: &mut Steps<L>) -> Series {
     let options = Options {
         retention: 0,
@@ -32,8 +32,8 @@ fn nine<L: Ledger>(alloc: Global, chunk_size: u32, steps: &mut Steps<L>) -> Seri
     series
 }
 
-// The times at which the first nine chunks end, with 1,000 after the last of them, and then 0: from the end of a
-// chunk on, one sample more is there at the end of the next.
+// The times at which the first nine chunks end, then 1,000, then zeros. Found by lookups: past the end of a chunk, one
+// more sample is found, at the end of the next.
 fn ends(series: &Series) -> [u64; 9] {
     let mut ends = [0; 9];
     let mut from = 0;
@@ -46,7 +46,7 @@ fn ends(series: &Series) -> [u64; 9] {
     ends
 }
 
-// How nine samples lie in chunks of 48 bytes, of 88 and of the greatest size.
+// How nine samples are stored in chunks of 48 bytes, of 88, and of the greatest size.
 fn sizes<L: Ledger>(alloc: Global, blank: Blank) -> [[u64; 9]; 3]
     requires name { blank.name ≡ L.name }
     requires parts { blank.parts ≡ L.parts }
@@ -70,9 +70,9 @@ fn sizes_of_chunks(rt: HostRuntime) {
     assert!(rt; sizes::<Brand>(rt.alloc(), Blank::new(1)) == ENDS);
 }
 
-// How nine samples in chunks of 88 bytes lie with one more at 15, without those from 20 to 80, then with those
-// of the last 30 milliseconds alone, and with one that is so much later that no other stays. A chunk that is left
-// in part is not cut, and its end is not seen.
+// How nine samples in chunks of 88 bytes are stored after one more at 15, after deleting those from 20 to 80, after
+// keeping only the last 30 milliseconds, and after one so late that no other stays. A partly deleted chunk is not cut,
+// so its end is not seen.
 fn changes<L: Ledger>(alloc: Global, blank: Blank) -> Option<[[u64; 9]; 4]>
     requires name { blank.name ≡ L.name }
     requires parts { blank.parts ≡ L.parts }
@@ -108,8 +108,8 @@ fn changes_of_chunks(rt: HostRuntime) {
     assert!(rt; found == Some(ENDS));
 }
 
-// How nine samples in chunks of 88 bytes lie with two more past them, and then with one more at 15, once new chunks have 48
-// bytes. A chunk that there was keeps its size.
+// How nine samples in chunks of 88 bytes are stored after two more at the end, and then one at 15, once new chunks have
+// 48 bytes. An existing chunk keeps its size.
 fn altered<L: Ledger>(alloc: Global, blank: Blank) -> Option<[u64; 9]>
     requires name { blank.name ≡ L.name }
     requires parts { blank.parts ≡ L.parts }
@@ -134,7 +134,7 @@ fn a_new_size_of_chunks(rt: HostRuntime) {
     assert!(rt; found == Some(ENDS));
 }
 
-// Times up to which nine samples in chunks of three have so many of them, in an interval.
+// End times that leave this many of nine samples, in chunks of three, in an interval.
 fn times<L: Ledger>(alloc: Global, blank: Blank) -> [u64; 5]
     requires name { blank.name ≡ L.name }
     requires parts { blank.parts ≡ L.parts }
@@ -157,7 +157,7 @@ fn times_for_so_many(rt: HostRuntime) {
     assert!(rt; times::<Brand>(rt.alloc(), Blank::new(1)) == TIMES);
 }
 
-// Times from which on nine samples in chunks of three have so many of them, in an interval.
+// Start times that leave this many of nine samples, in chunks of three, in an interval.
 fn begins<L: Ledger>(alloc: Global, blank: Blank) -> [u64; 5]
     requires name { blank.name ≡ L.name }
     requires parts { blank.parts ≡ L.parts }

@@ -1,9 +1,7 @@
-// The outside: devices in memory, adapters over readers and writers of std, its files, its clock and its network, and replies
-// that leave together.
+// Tests of the devices: in memory, over std's readers, writers, files, clock and network, and batched connections.
 mod adapters;
 mod batches;
 mod calls;
-mod flaky;
 mod logs;
 mod memory;
 mod network;

@@ -1,4 +1,4 @@
-//! Tests of the outside, ts_io, with ample memory. In a crate of their own they begin with what is proved of it.
+//! Tests of ts_io with ample memory. They are a crate of their own so that changing a test does not prove ts_io again.
 #![tactic(auto)]
 
 #[cfg(test)]

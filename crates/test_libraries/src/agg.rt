@@ -1,4 +1,4 @@
-// Aggregators: their names, and what is told of short lists.
+// Aggregators: their names, and their results over short lists.
 ghost use Rattle.std.specs.Prelude.{◌≤◌, length};
 
 use std::test::*;
@@ -36,7 +36,7 @@ fn names(rt: HostRuntime) {
     }
 }
 
-// What is told of so many millionths.
+// The results of all aggregators over these values, in millionths.
 fn results(values: &[i128]) -> [Option<i128>; 8]
     requires { length values.now ≤ 100 }
 {
@@ -88,7 +88,7 @@ fn sample(millionths: i128) -> Sample {
     }
 }
 
-// What a tally tells of three values, for each aggregator.
+// The results of all aggregators over three values, computed by tallies.
 fn tallied(values: [i128; 3]) -> [i128; 8] {
     let [first, second, third] = values;
     ALL.map(|agg| {

@@ -1,9 +1,9 @@
-// Grids at both ends of time.
+// Time grids at both ends of time.
 use std::test::*;
 use ts_bucket::{Grid, Stamp};
 use ts_sample::MAX_TIME;
 
-// What a grid tells of a time: the start and the last time of its bucket, the start of the next one, and the stamps.
+// The bucket of a time: its start and last time, the start of the next one, and its timestamps.
 #[derive(Clone, Copy, Debug, PartialEq)]
 struct Told {
     start: u64,

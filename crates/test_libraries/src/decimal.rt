@@ -5,7 +5,7 @@ use ts_sample::Units;
 
 const BOUND: i128 = 1_000_000_000_000_000_000_000_000;
 
-/// The millionths of the value that a text stands for.
+/// The millionths of the value that a text writes.
 fn millionths(text: &[u8]) -> Result<i128, ValueFault> {
     match parse(text) {
         Ok(value) => Ok(value.get()),

@@ -1,4 +1,4 @@
-// What faults say of themselves.
+// The messages of errors.
 use std::alloc::{AllocError, Global};
 use std::error::Error;
 use std::test::Fail;
@@ -7,7 +7,7 @@ use ts_labels::FilterFault;
 use ts_range::RangeFault;
 use ts_spec::ValueFault;
 
-// Whether a fault is shown as this text.
+// Whether an error displays as this text.
 fn says<F: Error>(alloc: Global, fault: F, text: &str) -> Result<bool, AllocError> {
     Ok(fault.to_string(alloc)?.as_str() == text)
 }

@@ -20,7 +20,7 @@ fn text(alloc: Global, reply: &Reply) -> Result<Out, AllocError> {
     Ok(out)
 }
 
-// The row with this value, which is small.
+// A row with this value, which is small.
 fn row(time: u32, value: u8) -> Row {
     let value = Units::new(i128::from(value) * 1_000_000).unwrap_or(Units::ZERO);
     Row {

@@ -1,5 +1,5 @@
-//! Tests of the libraries below the series, with ample memory, a module for each. In a crate of their own they begin with
-//! what is proved of the libraries, and these are not proved again with them.
+//! Tests of the libraries below ts_series, with ample memory, one module for each. They are a crate of their own so
+//! that changing a test does not prove the libraries again.
 #![tactic(auto)]
 
 #[cfg(test)]

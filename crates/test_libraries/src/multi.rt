@@ -1,4 +1,4 @@
-// Texts of replies over many series.
+// The text of replies over many series.
 ghost use Rattle.std.specs.Prelude.{◌≡◌, IfOk};
 
 use std::alloc::{AllocError, Global};

@@ -1,5 +1,3 @@
-// Answers to questions over one series.
-mod bucket_rows;
-mod empty;
+// Range queries over one series.
 mod question;
-mod single;
+mod rows;

@@ -1,4 +1,4 @@
-// Bounds of values, and what the small types of a sample do.
+// Bounds of values, and the small types of a sample.
 ghost use Rattle.std.specs.Prelude.{◌≡◌, ◌<◌};
 
 use std::alloc::AllocError;

@@ -1,9 +1,9 @@
-// The words of the command line and the lines of the program, by tables.
+// The command line and the lines of the program, by tables.
 use std::alloc::AllocError;
 use std::test::Fail;
 use ts_words::{LinkEnd, Mode, Status, line, link_line, summary};
 
-// The mode that the words of this line ask for, which stand between spaces.
+// The mode that this command line selects. Its arguments are separated by spaces.
 fn mode_of_line(rt: &HostRuntime, line: &str) -> Result<Option<Mode>, AllocError> {
     let mut words = Vec::new(rt.alloc());
     for word in line.split(' ') {

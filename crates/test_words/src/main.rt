@@ -1,11 +1,9 @@
-//! Rows that try `ts_command`: each line of the input is a request, its words between single blanks, and is answered
-//! by a line with the message of the first fault in it and the fault's own text, or with `ok` and what the command says.
-//! After `in place ` TS.ADD is read where its words stand, if it can be. The rows stand here because tests are proved as
-//! code is, and lines of a file are not.
+//! Tests `ts_command`. Each line of the input is a request, its arguments separated by single spaces. The output is
+//! `ok` and a summary of the command, or the message of the first error in it and the error's own text. After `in place
+//! `, the line is a TS.ADD to parse without copying, if it can be. The lines are in a file, not in code, because test
+//! code is proved and the lines of a file are not.
 #![tactic(auto)]
 
-mod questions;
-mod series;
 mod summary;
 mod texts;
 
@@ -22,7 +20,7 @@ fn main(rt: HostRuntime) -> io::Result<()> {
     Ok(())
 }
 
-// What a line is answered by.
+// The output for a line.
 fn answer(alloc: Global, line: &str) -> Result<String, AllocError> {
     if let Some(request) = line.strip_prefix("in place ") {
         return in_place(alloc, request);
@@ -37,7 +35,7 @@ fn answer(alloc: Global, line: &str) -> Result<String, AllocError> {
     }
 }
 
-// What the write of TS.ADD does with a sample at its time, where its words are read where they stand.
+// The ON_DUPLICATE of a TS.ADD that can be parsed without copying.
 fn in_place(alloc: Global, request: &str) -> Result<String, AllocError> {
     let words = words(alloc, request)?;
     match Addition::read(&words) {
@@ -49,7 +47,7 @@ fn in_place(alloc: Global, request: &str) -> Result<String, AllocError> {
     }
 }
 
-// The words of a line. Two blanks in a row, or one at its end, have an empty word between them.
+// The arguments of a line. Two spaces in a row, or one at the end, make an empty argument.
 fn words(alloc: Global, line: &str) -> Result<Vec<Word>, AllocError> {
     let mut words = Vec::new(alloc);
     for word in line.split(' ') {
@@ -58,7 +56,7 @@ fn words(alloc: Global, line: &str) -> Result<Vec<Word>, AllocError> {
     Ok(words)
 }
 
-// The line of a command: what it says, and whether it needs the clock.
+// The output for a command: its summary, and whether it needs the clock.
 fn line_of(alloc: Global, command: &Command) -> Result<String, AllocError> {
     let summary = summary::summary(alloc, command)?;
     if command.needs_clock() {

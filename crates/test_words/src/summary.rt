@@ -1,11 +1,10 @@
-// Commands, in a few words.
-use crate::questions::{group_text, last, range, selection};
-use crate::series::{change_text, samples, spec_text};
-use crate::texts::{filters, text, words};
+// Commands and queries as text.
+use crate::texts::{change_text, filters, labels_to_show, samples, spec_text, text, words};
 use std::alloc::{AllocError, Global};
-use ts_command::Command;
+use ts_command::{Command, Filter, GroupBy, Query, Show};
+use ts_resp::Word;
 
-// What a command asks for.
+// The summary of a command.
 pub(crate) fn summary(alloc: Global, command: &Command) -> Result<String, AllocError> {
     match command {
         Command::Create { key, spec } => {
@@ -38,7 +37,7 @@ pub(crate) fn summary(alloc: Global, command: &Command) -> Result<String, AllocE
     }
 }
 
-// Rules, and what is deleted.
+// Rules and deletions.
 fn rule(alloc: Global, command: &Command) -> Result<String, AllocError> {
     match command {
         Command::CreateRule {
@@ -64,7 +63,7 @@ fn rule(alloc: Global, command: &Command) -> Result<String, AllocError> {
     }
 }
 
-// Questions about samples.
+// Queries for samples.
 fn question(alloc: Global, command: &Command) -> Result<String, AllocError> {
     match command {
         Command::Range { key, latest, query } => range(alloc, key, *latest, query),
@@ -89,7 +88,7 @@ fn question(alloc: Global, command: &Command) -> Result<String, AllocError> {
     }
 }
 
-// Commands of a few words.
+// Small commands.
 fn small(alloc: Global, command: &Command) -> Result<String, AllocError> {
     match command {
         Command::QueryIndex { filters: chosen } => filters(alloc, chosen),
@@ -101,4 +100,46 @@ fn small(alloc: Global, command: &Command) -> Result<String, AllocError> {
         Command::Exists { keys } => format!(in alloc; "exists{}", words(alloc, keys)?),
         _ => String::from_str(alloc, "another command"),
     }
+}
+
+// Whether LATEST is given.
+fn latest_word(latest: bool) -> &'static str {
+    if latest { "latest " } else { "" }
+}
+
+// TS.RANGE and TS.REVRANGE.
+pub(crate) fn range(
+    alloc: Global,
+    key: &Word,
+    latest: bool,
+    query: &Query,
+) -> Result<String, AllocError> {
+    let (key, latest) = (text(key), latest_word(latest));
+    format!(in alloc; "range {latest}{key} {query:?}")
+}
+
+// TS.GET.
+pub(crate) fn last(alloc: Global, key: &Word, latest: bool) -> Result<String, AllocError> {
+    let (key, latest) = (text(key), latest_word(latest));
+    format!(in alloc; "last {latest}{key}")
+}
+
+// The filters of a query, and which labels its reply shows.
+pub(crate) fn selection(
+    alloc: Global,
+    latest: bool,
+    show: &Show,
+    chosen: &[Filter],
+) -> Result<String, AllocError> {
+    let latest = latest_word(latest);
+    let (labels, filters) = (labels_to_show(alloc, show)?, filters(alloc, chosen)?);
+    format!(in alloc; "{latest}{labels} {filters}")
+}
+
+// GROUPBY, if it is given.
+pub(crate) fn group_text(alloc: Global, group: &Option<GroupBy>) -> Result<String, AllocError> {
+    let Some(GroupBy { label, reducer }) = group else {
+        return String::from_str(alloc, "");
+    };
+    format!(in alloc; " by {} {reducer:?}", text(label))
 }

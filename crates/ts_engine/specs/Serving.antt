@@ -6,8 +6,8 @@ use Rattle.ts_io.specs.Sinks.{Grows}
 use Rattle.ts_io.specs.declared.listener.Ends.{Ends}
 use Rattle.ts_spec.specs.declared.wire.WireLimits.{WireLimits}
 use Rattle.ts_words.specs.Lines.{link_line_of}
-use Rattle.ts_words.specs.declared.link_lines.LinkEnd.{LinkEnd}
-use Rattle.ts_words.specs.declared.link_lines.LinkEnd.TheVariants as word
+use Rattle.ts_words.specs.declared.lines.LinkEnd.{LinkEnd}
+use Rattle.ts_words.specs.declared.lines.LinkEnd.TheVariants as word
 use Rattle.ts_execution.specs.Turn.{World, plain}
 use Rattle.ts_engine.specs.declared.piped.End.{End}
 use Rattle.ts_engine.specs.declared.piped.End.TheVariants as end

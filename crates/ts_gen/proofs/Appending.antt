@@ -1,4 +1,4 @@
--- How requests are put together: word after word, and request after request.
+-- How requests are written: argument after argument, and request after request.
 use Rattle.std.proofs.Common.{◌≡◌, ℕ, ◌+◌, List, [], ◌∷◌, ◌++◌, length, map, refl, sym, ◌∙◌, ap, append_assoc, append-nil}
 use Rattle.std.proofs.lemmas.List.FromFn.{map-range_with_len_more}
 use Rattle.std.specs.Fmt.{decimal}
@@ -7,11 +7,11 @@ use Rattle.ts_spec.specs.Encoded.{encoded_word, encoded_words, encoded_request, 
 use Rattle.ts_spec.specs.Text.{CRLF}
 use Rattle.ts_spec.specs.Wire.{Request, STAR}
 
--- the head of a request of so many words
+-- the header of a request with this many arguments
 abbrev head : ℕ → List ℕ
 head n = STAR ∷ decimal n ++ CRLF
 
--- a request of n words was begun, and these of them were put
+-- a request of n arguments was begun, and these of them were written
 pub record Put (n : ℕ) (old new : List ℕ) (words : Request) : Type 0 where
   pub bytes : new ≡ old ++ (head n ++ encoded_words words)
 
@@ -23,7 +23,7 @@ words_append [] word = append-nil (encoded_word word)
 words_append (x ∷ xs) word =
     ap (λ (l : List ℕ). encoded_word x ++ l) (words_append xs word) ∙ sym (append_assoc (encoded_word x) (encoded_words xs) (encoded_word word))
 
--- one more word was put
+-- one more argument was written
 pub then_word : {n : ℕ} {old mid new : List ℕ} {words : Request} (word : List ℕ) → Put n old mid words → new ≡ mid ++ encoded_word word → Put n old new (words ++ word ∷ [])
 then_word {n} {old} {mid} {new} {words} word p h = record {
   bytes = h
@@ -32,11 +32,11 @@ then_word {n} {old} {mid} {new} {words} word p h = record {
       ∙ ap (λ (l : List ℕ). old ++ l) (append_assoc (head n) (encoded_words words) (encoded_word word) ∙ ap (λ (l : List ℕ). head n ++ l) (sym (words_append words word)));
 }
 
--- one more word was put, which is this one
+-- one more argument was written, which is this one
 pub then_this : {n : ℕ} {old mid new : List ℕ} {words : Request} (word told : List ℕ) → told ≡ word → Put n old mid words → new ≡ mid ++ encoded_word told → Put n old new (words ++ word ∷ [])
 then_this {n} {old} {mid} {new} {words} word told same p h = then_word word p (h ∙ ap (λ (w : List ℕ). mid ++ encoded_word w) same)
 
--- all words were put
+-- all arguments were written
 pub whole : {n : ℕ} {old new : List ℕ} {words : Request} → Put n old new words → length words ≡ n → new ≡ old ++ encoded_request words
 whole {n} {old} {new} {words} p len =
     p.bytes ∙ ap (λ (m : ℕ). old ++ (head m ++ encoded_words words)) (sym len)
@@ -46,12 +46,12 @@ encoded_append [] ys = refl
 encoded_append (x ∷ xs) ys =
     ap (λ (l : List ℕ). encoded_request x ++ l) (encoded_append xs ys) ∙ sym (append_assoc (encoded_request x) (encoded xs) (encoded ys))
 
--- some requests were put, and then others
+-- some requests were written, then others
 pub then_all : (old mid new : List ℕ) (xs ys : List Request) → mid ≡ old ++ encoded xs → new ≡ mid ++ encoded ys → new ≡ old ++ encoded (xs ++ ys)
 then_all old mid new xs ys before now =
     now ∙ ap (λ (l : List ℕ). l ++ encoded ys) before ∙ append_assoc old (encoded xs) (encoded ys) ∙ ap (λ (l : List ℕ). old ++ l) (sym (encoded_append xs ys))
 
--- one request more of a row of them was put
+-- one more request of a list was written
 pub one_more : (f : ℕ → Request) (old mid new : List ℕ) (from n next : ℕ) → from + n ≡ next → mid ≡ old ++ encoded (map f (range_with_len from n)) → new ≡ mid ++ encoded_request (f next)
     → new ≡ old ++ encoded (map f (range_with_len from (n + 1)))
 one_more f old mid new from n next is_next before now =

@@ -1,4 +1,4 @@
--- The numbers that a seed draws.
+-- The numbers drawn from a seed.
 use Rattle.std.proofs.Common.{◌≡◌, ℕ, ◌+◌, refl, ap, add-one}
 use Rattle.ts_gen.specs.Workload.{drawn, next}
 

@@ -13,7 +13,7 @@ use Rattle.ts_spec.specs.Limits.{usual}
 use Rattle.ts_spec.specs.Wire.{Request}
 use Rattle.ts_gen.specs.Workload.{key, raw, create, create_rule, for_each_unit, set_up, drawn, second_before, delete, value, time, add, change, changes, question, workload}
 
--- each item of a list has a property, item by item
+-- a property of each item of a list, item by item
 data Each {X : Type 0} (P : X → Type 0) : List X → Type 0 where
   none : Each P []
   and : {x : X} {xs : List X} → P x → Each P xs → Each P (x ∷ xs)
@@ -22,7 +22,7 @@ each_all : {X : Type 0} (P : X → Type 0) {xs : List X} → Each P xs → All P
 each_all P none = All-nil P
 each_all P (and {x} {xs} holds rest) = All-cons P x xs holds (each_all P rest)
 
--- a word of few bytes
+-- a short argument
 abbrev Short : List ℕ → Type 0
 Short word = length word ≤ 24
 
@@ -32,7 +32,7 @@ Fitting request = Fits usual.wire request
 not_empty : (word : List ℕ) (words : Request) → word ∷ words ≢ []
 not_empty word words empty = absurd (omega (arith, ap length empty))
 
--- a request of few short words
+-- a request of a few short arguments
 small : (word : List ℕ) (words : Request) → length words ≤ 6 → Each Short (word ∷ words) → Fitting (word ∷ words)
 small word words few shorts =
     let each : All Short (word ∷ words) = each_all Short shorts in

@@ -1,4 +1,4 @@
--- The workload of a seed: requests that make keys and rules, then changes of the samples that the seed draws, and one question.
+-- The workload of a seed: requests that create keys and rules, then changes drawn from the seed, and one query.
 use Rattle.std.specs.Prelude.{ℕ, zero, suc, ◌+◌, ◌-◌, ◌*◌, ◌/◌, ◌%◌, ◌^◌, min, ◌==◌, if◌then◌else◌, pos, ◌-ℤ◌, List, [], ◌∷◌, ◌++◌, map, codes}
 use Rattle.std.specs.Fmt.{decimal, signed_decimal}
 use Rattle.std.specs.List.{range_with_len}
@@ -11,21 +11,21 @@ use Rattle.ts_spec.specs.Wire.{Request}
 abbrev pub key : List ℕ → ℕ → List ℕ
 key kind unit = kind ++ codes ":" ++ decimal unit
 
--- the key of the raw samples of a unit
+-- the key of a unit's raw samples
 abbrev pub raw : ℕ → List ℕ
 raw unit = key (codes "raw") unit
 
--- a key with its kind and its unit as labels
+-- creates a key with its kind and its unit as labels
 abbrev pub create : List ℕ → ℕ → Request
 create kind unit =
     codes "TS.CREATE" ∷ key kind unit ∷ codes "LABELS" ∷ codes "kind" ∷ kind ∷ codes "unit" ∷ decimal unit ∷ []
 
--- a rule from a raw key, for each minute, by the aggregator that names the kind of the destination
+-- creates a rule from a unit's raw key, per minute, with the aggregator that the destination's kind names
 abbrev pub create_rule : List ℕ → ℕ → Request
 create_rule kind unit =
     codes "TS.CREATERULE" ∷ raw unit ∷ key kind unit ∷ codes "AGGREGATION" ∷ kind ∷ codes "60000" ∷ []
 
--- a request for each of the four units
+-- one request for each of the four units
 abbrev pub for_each_unit : (ℕ → Request) → List Request
 for_each_unit request = map request (range_with_len 0 4)
 
@@ -40,20 +40,20 @@ set_up =
 
 -- ---- the changes
 
--- the number that is drawn after this one
+-- the generator's next number
 abbrev pub next : ℕ → ℕ
 next x = (x * 6364136223846793005 + 1442695040888963407) % 2 ^ 64
 
--- the k-th number that a seed draws
+-- the k-th number drawn from a seed
 unfoldable pub drawn : (seed k : ℕ) → ℕ
 drawn seed zero = seed
 drawn seed (suc k) = next (drawn seed k)
 
--- the k-th second, in milliseconds, or the one that is so many before it, but no earlier than 0
+-- the time `back` seconds before second k, in milliseconds, at least 0
 abbrev pub second_before : (back k : ℕ) → ℕ
 second_before back k = 1000 * (k - min k back)
 
--- a deletion of five seconds, from 32 seconds before the k-th on
+-- a deletion of five seconds, which begins 32 seconds before second k
 abbrev pub delete : ℕ → Request
 delete k =
     codes "TS.DEL" ∷ raw (k % 4) ∷ decimal (second_before 32 k) ∷ decimal (second_before 32 k + 4000) ∷ []
@@ -66,7 +66,7 @@ value r = signed_decimal (pos (r % 2001) -ℤ pos 1000)
 abbrev pub time : (k r : ℕ) → ℕ
 time k r = if r % 16 == 0 then second_before (r / 16 % 64) k else 1000 * k
 
--- a sample for the raw key of one of the units; it replaces one at the same time
+-- a sample for one unit's raw key; it replaces a sample at the same time
 abbrev pub add : (k r : ℕ) → Request
 add k r =
     codes "TS.ADD" ∷ raw (k % 4) ∷ decimal (time k r) ∷ value r ∷ codes "ON_DUPLICATE" ∷ codes "LAST" ∷ []
@@ -75,13 +75,13 @@ add k r =
 abbrev pub change : (k r : ℕ) → Request
 change k r = if r % 16 == 1 then delete k else add k r
 
--- the changes from the first to the n-th, by the high bits of the numbers drawn
+-- the first n changes, drawn from the high bits of the generator
 abbrev pub changes : (seed n : ℕ) → List Request
 changes seed n = map (λ k. change k (drawn seed k / 2 ^ 33)) (range_with_len 1 n)
 
 -- ---- the whole
 
--- the destinations of all rules, whole
+-- a query for all rows of all rule destinations
 abbrev pub question : Request
 question = codes "TS.MRANGE" ∷ codes "-" ∷ codes "+" ∷ codes "FILTER" ∷ codes "kind=(avg,max)" ∷ []
 

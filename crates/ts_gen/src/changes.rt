@@ -10,7 +10,7 @@ use crate::words::{put_count, put_number, put_word};
 use itoa::Buffer;
 use std::alloc::AllocError;
 
-// The number that is drawn after this one.
+// The generator's next number: a step of Knuth's 64-bit linear congruential generator (MMIX).
 pub(crate) fn draw(number: u64) -> u64
     ensures { result ≡ next number }
 {
@@ -19,7 +19,7 @@ pub(crate) fn draw(number: u64) -> u64
         .wrapping_add(1_442_695_040_888_963_407)
 }
 
-// Puts the k-th change, which depends on the bits r.
+// Writes the k-th change, which depends on the random bits `r`.
 pub(crate) fn put_change(bytes: &mut Vec<u8>, k: u32, r: u64) -> Result<(), AllocError>
     ensures { OnOk result (bytes.new.items ≡ bytes.old.items ++ encoded_request (change k r)) }
 {
@@ -30,7 +30,7 @@ pub(crate) fn put_change(bytes: &mut Vec<u8>, k: u32, r: u64) -> Result<(), Allo
     }
 }
 
-// Puts a deletion of five seconds.
+// Writes a deletion of five seconds.
 fn put_delete(bytes: &mut Vec<u8>, k: u32) -> Result<(), AllocError>
     ensures { OnOk result (bytes.new.items ≡ bytes.old.items ++ encoded_request (delete k)) }
 {
@@ -42,7 +42,7 @@ fn put_delete(bytes: &mut Vec<u8>, k: u32) -> Result<(), AllocError>
     put_number(bytes, first + 4000)
 }
 
-// Puts a sample.
+// Writes a TS.ADD.
 fn put_add(bytes: &mut Vec<u8>, k: u32, r: u64) -> Result<(), AllocError>
     ensures { OnOk result (bytes.new.items ≡ bytes.old.items ++ encoded_request (add k r)) }
 {
@@ -55,14 +55,14 @@ fn put_add(bytes: &mut Vec<u8>, k: u32, r: u64) -> Result<(), AllocError>
     put_word(bytes, b"LAST")
 }
 
-// The raw key of the k-th change.
+// The key of the k-th change.
 fn raw(k: u32) -> [u8; 5]
     ensures { result ≡ workload.raw (k % 4) }
 {
     key(b"raw", (k % u32::from(UNITS)) as u8)
 }
 
-// The time of the k-th change's sample, in milliseconds.
+// The time of the k-th sample, in milliseconds.
 fn time(k: u32, r: u64) -> u64
     ensures { result ≡ workload.time k r }
 {
@@ -73,7 +73,7 @@ fn time(k: u32, r: u64) -> u64
     }
 }
 
-// The second that is so many before the k-th, in milliseconds, or 0.
+// The time `back` seconds before second `k`, in milliseconds, at least 0.
 fn second_before(back: u32, k: u32) -> u64
     ensures value { result ≡ workload.second_before back k }
     ensures early { result < 2 ^ 42 }
@@ -81,7 +81,7 @@ fn second_before(back: u32, k: u32) -> u64
     1000 * u64::from(k - k.min(back))
 }
 
-// Puts a value from -1000 to 1000.
+// Writes a value from -1000 to 1000.
 fn put_value(bytes: &mut Vec<u8>, r: u64) -> Result<(), AllocError>
     ensures { OnOk result (bytes.new.items ≡ bytes.old.items ++ encoded_word (value r)) }
 {

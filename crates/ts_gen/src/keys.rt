@@ -1,4 +1,4 @@
-// The keys of a workload, and the requests that make them and their rules.
+// The keys of a workload, and the requests that create them and their rules.
 ghost use Rattle.std.specs.Prelude.{◌≡◌, ◌<◌, ◌++◌, codes, OnOk};
 ghost use Rattle.ts_spec.specs.Encoded.{encoded, encoded_request};
 ghost use Rattle.ts_gen.specs.Workload as workload;
@@ -10,7 +10,7 @@ use std::alloc::AllocError;
 // How many keys each kind has.
 pub(crate) const UNITS: u8 = 4;
 
-// The key of a kind and a unit.
+// The key of a kind and a unit, such as `avg:3`.
 pub(crate) fn key(kind: &[u8; 3], unit: u8) -> [u8; 5]
     requires { unit < 10 }
     ensures { result ≡ workload.key kind.now unit }
@@ -19,7 +19,7 @@ pub(crate) fn key(kind: &[u8; 3], unit: u8) -> [u8; 5]
     [first, second, third, b':', b'0' + unit]
 }
 
-// Puts the requests that make the keys and the rules.
+// Writes the requests that create the keys and the rules.
 pub(crate) fn put_set_up(bytes: &mut Vec<u8>) -> Result<(), AllocError>
     ensures { OnOk result (bytes.new.items ≡ bytes.old.items ++ encoded set_up) }
 {
@@ -30,7 +30,7 @@ pub(crate) fn put_set_up(bytes: &mut Vec<u8>) -> Result<(), AllocError>
     put_rules(bytes, b"max")
 }
 
-// Puts the requests that make the keys of a kind.
+// Writes the requests that create the keys of a kind.
 fn put_keys(bytes: &mut Vec<u8>, kind: &[u8; 3]) -> Result<(), AllocError>
     ensures { OnOk result (bytes.new.items ≡ bytes.old.items ++ encoded (for_each_unit (create kind.now))) }
 {
@@ -40,7 +40,7 @@ fn put_keys(bytes: &mut Vec<u8>, kind: &[u8; 3]) -> Result<(), AllocError>
     Ok(())
 }
 
-// Puts the requests that make the rules to the keys of a kind.
+// Writes the requests that create the rules into the keys of a kind.
 fn put_rules(bytes: &mut Vec<u8>, kind: &[u8; 3]) -> Result<(), AllocError>
     ensures { OnOk result (bytes.new.items ≡ bytes.old.items ++ encoded (for_each_unit (create_rule kind.now))) }
 {
@@ -50,7 +50,7 @@ fn put_rules(bytes: &mut Vec<u8>, kind: &[u8; 3]) -> Result<(), AllocError>
     Ok(())
 }
 
-// Puts the request that makes a key.
+// Writes the request that creates a key.
 fn put_key(bytes: &mut Vec<u8>, kind: &[u8; 3], unit: u8) -> Result<(), AllocError>
     requires { unit < 10 }
     ensures { OnOk result (bytes.new.items ≡ bytes.old.items ++ encoded_request (create kind.now unit)) }
@@ -65,7 +65,7 @@ fn put_key(bytes: &mut Vec<u8>, kind: &[u8; 3], unit: u8) -> Result<(), AllocErr
     put_number(bytes, unit.into())
 }
 
-// Puts the request that makes a rule.
+// Writes the request that creates a rule.
 fn put_rule(bytes: &mut Vec<u8>, kind: &[u8; 3], unit: u8) -> Result<(), AllocError>
     requires { unit < 10 }
     ensures { OnOk result (bytes.new.items ≡ bytes.old.items ++ encoded_request (create_rule kind.now unit)) }

@@ -6,7 +6,7 @@ ghost use Rattle.ts_gen.specs.Workload.{script, workload};
 
 use ts_spec::{Limits, encoded_requests_read_back};
 
-/// A law: under the usual limits the bytes of a workload read back as its requests, and end between two of them.
+/// A law: under the usual limits, the bytes of a workload parse as its requests and end between two of them.
 pub fn a_workload_reads_back()
     ensures requests { (seed n : ℕ) → n ≤ 1000000
         → requests_of (stream_at usual.wire 0 (script seed n)) ≡ workload seed n }

@@ -1,4 +1,4 @@
-//! A workload for the server: the requests that a seed draws, as the bytes that a client sends.
+//! A generated workload for the server: the requests drawn from a seed, as the bytes that a client sends.
 #![tactic(auto)]
 
 mod changes;

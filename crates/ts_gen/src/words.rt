@@ -1,4 +1,4 @@
-// How a request is put together of words.
+// Writes requests in RESP.
 ghost use Rattle.std.specs.Prelude.{◌≡◌, ◌∷◌, ◌++◌, length, OnOk};
 ghost use Rattle.std.specs.Fmt.{decimal};
 ghost use Rattle.ts_spec.specs.Encoded.{encoded_word};
@@ -8,14 +8,14 @@ ghost use Rattle.ts_spec.specs.Wire.{STAR, DOLLAR};
 use itoa::Buffer;
 use std::alloc::AllocError;
 
-// Begins a request of so many words.
+// Writes the header of a request with this many arguments.
 pub(crate) fn put_count(bytes: &mut Vec<u8>, words: usize) -> Result<(), AllocError>
     ensures { OnOk result (bytes.new.items ≡ bytes.old.items ++ (STAR ∷ decimal words ++ CRLF)) }
 {
     put_header(bytes, b'*', words)
 }
 
-// Puts a word of a request.
+// Writes an argument.
 pub(crate) fn put_word(bytes: &mut Vec<u8>, word: &[u8]) -> Result<(), AllocError>
     ensures { OnOk result (bytes.new.items ≡ bytes.old.items ++ encoded_word word.now) }
 {
@@ -24,14 +24,14 @@ pub(crate) fn put_word(bytes: &mut Vec<u8>, word: &[u8]) -> Result<(), AllocErro
     bytes.extend_from_slice(b"\r\n")
 }
 
-// Puts a number in decimal as a word of a request.
+// Writes a number in decimal as an argument.
 pub(crate) fn put_number(bytes: &mut Vec<u8>, number: u64) -> Result<(), AllocError>
     ensures { OnOk result (bytes.new.items ≡ bytes.old.items ++ encoded_word (decimal number)) }
 {
     put_word(bytes, Buffer::new().format(number).as_bytes())
 }
 
-// Puts a line of a byte and a number.
+// Writes a line of a type byte and a number.
 fn put_header(bytes: &mut Vec<u8>, first: u8, number: usize) -> Result<(), AllocError>
     ensures { OnOk result (bytes.new.items ≡ bytes.old.items ++ (first ∷ decimal number ++ CRLF)) }
 {

@@ -9,12 +9,12 @@ use crate::keys::put_set_up;
 use crate::words::{put_count, put_word};
 use std::alloc::{AllocError, Global};
 
-// The room for the requests that are the same in each workload, and for the longest change, in bytes.
+// The most bytes of the requests that every workload has, and of one change.
 const MOST_FIXED: usize = 2048;
 
 const MOST_CHANGE: usize = 84;
 
-/// The bytes of the workload of this seed, with `n` changes, at most 1000000.
+/// Generates the bytes of the workload of this seed, with `n` changes, at most 1000000.
 pub fn script(alloc: Global, seed: u64, n: u32) -> Result<Vec<u8>, AllocError>
     requires { n ≤ 1000000 }
     ensures { IfOk result (λ bytes. bytes.items ≡ workload.script seed n) }
@@ -26,7 +26,7 @@ pub fn script(alloc: Global, seed: u64, n: u32) -> Result<Vec<u8>, AllocError>
     Ok(bytes)
 }
 
-// Puts the changes from the first to the n-th.
+// Writes the first n changes.
 fn put_changes(bytes: &mut Vec<u8>, seed: u64, n: u32) -> Result<(), AllocError>
     requires { n ≤ 1000000 }
     ensures { OnOk result (bytes.new.items ≡ bytes.old.items ++ encoded (changes seed n)) }
@@ -39,7 +39,7 @@ fn put_changes(bytes: &mut Vec<u8>, seed: u64, n: u32) -> Result<(), AllocError>
     Ok(())
 }
 
-// Puts the question over the destinations of all rules.
+// Writes the query over the destinations of all rules.
 fn put_question(bytes: &mut Vec<u8>) -> Result<(), AllocError>
     ensures { OnOk result (bytes.new.items ≡ bytes.old.items ++ encoded_request question) }
 {

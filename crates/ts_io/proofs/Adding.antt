@@ -12,7 +12,7 @@ adds_twice : (content : Option (List ℕ)) (first second : List ℕ) → append_
 adds_twice None first second = refl
 adds_twice (Some w) first second = ap (λ (l : List ℕ). Some l) (append_assoc w first second)
 
--- a front was added, and then the first m bytes of the rest
+-- a prefix was appended, then the first m bytes of the rest
 pub adds_on : (old mid new : Option (List ℕ)) (n m : ℕ) (bytes : List ℕ) → mid ≡ append_known old (take n bytes) → n + m ≤ length bytes → new ≡ append_known mid (take m (take (length bytes - n) (drop n bytes))) → new ≡ append_known old (take (n + m) bytes)
 adds_on old mid new n m bytes had le added =
     let second : List ℕ = take m (take (length bytes - n) (drop n bytes)) in
@@ -21,6 +21,6 @@ adds_on old mid new n m bytes had le added =
     ∙ adds_twice old (take n bytes) second
     ∙ ap (λ (l : List ℕ). append_known old l) (front_on n m bytes le)
 
--- all was added
+-- everything was appended
 pub adds_all : (old new : Option (List ℕ)) (n : ℕ) (bytes : List ℕ) → length bytes ≤ n → new ≡ append_known old (take n bytes) → new ≡ append_known old bytes
 adds_all old new n bytes le added = added ∙ ap (λ (l : List ℕ). append_known old l) (take_all n bytes le)

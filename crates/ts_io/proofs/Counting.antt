@@ -4,7 +4,7 @@ use Rattle.std.specs.List.{last_or}
 use Rattle.ts_io.specs.Counts.{Counts, counts_of, marks_after}
 use Rattle.ts_io.specs.Sinks.{Grows}
 
--- marks in a front, and in the rest after its last byte
+-- the marks of a prefix, and of the rest after its last byte
 marks_append : (before : Option ℕ) (xs ys : List ℕ) → marks_after before (xs ++ ys) ≡ marks_after before xs + marks_after (last_or before xs) ys
 marks_append before [] ys = omega arith
 marks_append before (x ∷ xs) ys = let rest : marks_after (Some x) (xs ++ ys) ≡ marks_after (Some x) xs + marks_after (last_or (Some x) xs) ys = marks_append (Some x) xs ys in omega arith
@@ -17,7 +17,7 @@ last_append before (x ∷ xs) ys = last_append (Some x) xs ys
 counts_equal : (c d : Counts) → c.total ≡ d.total → c.errors ≡ d.errors → c.last ≡ d.last → c ≡ d
 counts_equal c d total errors last = λ i. record { total = total i; errors = errors i; last = last i }
 
--- the counts of bytes and then of more
+-- the counts of bytes followed by more
 pub counts_grow : (old new : Counts) (bytes : List ℕ)
     → new.total ≡ min (old.total + length bytes) (2 ^ 64 - 1)
     → new.errors ≡ min (old.errors + marks_after old.last bytes) (2 ^ 64 - 1)
@@ -37,7 +37,7 @@ counts_grow old new bytes total errors last = record { each = each }
         (omega (arith, e, errors, marked, same))
         (last ∙ ap (λ (o : Option ℕ). last_or o bytes) l ∙ sym (last_append None w bytes))
 
--- the last byte of some that are not none
+-- the last byte of a list that is not empty
 pub last_is : (before : Option ℕ) (xs : List ℕ) → 1 ≤ length xs → last_or before xs ≡ Some (slice_index_or xs (length xs - 1) 0)
 last_is before [] some = absurd (omega arith)
 last_is before (x ∷ []) some = refl

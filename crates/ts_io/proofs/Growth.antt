@@ -11,7 +11,7 @@ take-add n m xs le =
     ∙ ap (λ (k : ℕ). take (k + m) (take n xs ++ drop n xs)) len
     ∙ take-append-add (take n xs) (drop n xs) m
 
--- a front, and then the first m bytes of the rest
+-- a prefix, followed by the first m bytes of the rest
 pub front_on : (n m : ℕ) (bytes : List ℕ) → n + m ≤ length bytes → take n bytes ++ take m (take (length bytes - n) (drop n bytes)) ≡ take (n + m) bytes
 front_on n m bytes le =
     let rest : take (length bytes - n) (drop n bytes) ≡ drop n bytes = take_all _ _ (omega (arith, length-drop n bytes)) in
@@ -25,10 +25,10 @@ module _ (old mid new : List ℕ → Type 0) where
   pub grows_twice : (first second : List ℕ) → Grows old mid first → Grows mid new second → Grows old new (first ++ second)
   grows_twice first second p q = record { each = λ w had. subst new (append_assoc w first second) (q.each (w ++ first) (p.each w had)) }
 
-  -- a front was written, and then the first m bytes of the rest
+  -- a prefix was written, then the first m bytes of the rest
   pub grows_on : (n m : ℕ) (bytes : List ℕ) → Grows old mid (take n bytes) → n + m ≤ length bytes → Grows mid new (take m (take (length bytes - n) (drop n bytes))) → Grows old new (take (n + m) bytes)
   grows_on n m bytes p le q = subst (λ (l : List ℕ). Grows old new l) (front_on n m bytes le) (grows_twice (take n bytes) (take m (take (length bytes - n) (drop n bytes))) p q)
 
--- all was written
+-- everything was written
 pub grows_all : (old new : List ℕ → Type 0) (n : ℕ) (bytes : List ℕ) → length bytes ≤ n → Grows old new (take n bytes) → Grows old new bytes
 grows_all old new n bytes le p = subst (λ (l : List ℕ). Grows old new l) (take_all n bytes le) p

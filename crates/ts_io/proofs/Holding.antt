@@ -1,4 +1,4 @@
--- How what a writer holds grows, by what counts and by what does not.
+-- How the bytes of a writer grow, by acknowledged bytes and by others.
 use Rattle.std.proofs.Common.{ℕ, ◌+◌, ◌-◌, ◌^◌, ◌≤◌, min, List, [], ◌∷◌, ◌++◌, length, take, Option, IfSome, None, Some, refl, sym, subst, arith, append-nil, length-take}
 use Rattle.std.specs.Io.KnownBytes.{Appends}
 use Rattle.ts_io.specs.Adapters.{IsAmong, none, ours, other, HoldsBut}
@@ -22,7 +22,7 @@ other_after bytes none = subst (IsAmong [] bytes) (omega arith) (all_other bytes
 other_after bytes (ours a) = ours (other_after bytes a)
 other_after bytes (other {b} {w} {all} {more} a) = subst (IsAmong w (b ∷ all ++ bytes)) (omega arith) (other {b = b} (other_after bytes a))
 
--- the writer took these bytes and flushed them
+-- the writer accepted these bytes and flushed them
 pub holds_flushed : (old new : Option (List ℕ)) (missed : ℕ) (bytes : List ℕ) → Appends old new bytes → Grows (HoldsBut old missed) (HoldsBut new missed) bytes
 holds_flushed old new missed bytes grew = record { each = each old new grew }
   where
@@ -31,7 +31,7 @@ holds_flushed old new missed bytes grew = record { each = each old new grew }
     each (Some xs) None grew w had = absurd grew
     each (Some xs) (Some ys) grew w had = (had.0, subst (λ (l : List ℕ). IsAmong (w ++ bytes) l had.0) (sym grew) (ours_after bytes had.1), had.2)
 
--- the writer took the first n of these bytes and did not flush them
+-- the writer accepted the first n of these bytes and did not flush them
 pub holds_unflushed : (old new : Option (List ℕ)) (missed n : ℕ) (bytes : List ℕ) → n ≤ length bytes → Appends old new (take n bytes) → Grows (HoldsBut old missed) (HoldsBut new (min (missed + n) (2 ^ 64 - 1))) []
 holds_unflushed old new missed n bytes le grew = record { each = λ w had. subst (HoldsBut new (min (missed + n) (2 ^ 64 - 1))) (sym (append-nil w)) (each old new grew w had) }
   where

@@ -1,18 +1,18 @@
 -- What the adapters over std's readers, writers, listeners and files hold.
 use Rattle.std.specs.Prelude.{◌≡◌, ℕ, suc, ◌-◌, ◌^◌, min, Bool, List, [], ◌∷◌, Option, None, Some}
 use Rattle.ts_io.specs.declared.file_log.FileLog.{FileLog}
-use Rattle.ts_io.specs.declared.std_sink.StdSink.{StdSink}
-use Rattle.ts_io.specs.declared.std_source.StdSource.{StdSource}
+use Rattle.ts_io.specs.declared.std_streams.StdSink.{StdSink}
+use Rattle.ts_io.specs.declared.std_streams.StdSource.{StdSource}
 use Rattle.ts_io.specs.declared.tcp_net.TcpNet.{TcpNet}
 
--- the reader that a source reads from, and how many of its reads failed
+-- the reader of a source, and how many of its reads failed
 abbrev pub reader_of : {R : Type 0} → StdSource R → R
 reader_of s = s.inner
 
 abbrev pub failed_reads_of : {R : Type 0} → StdSource R → ℕ
 failed_reads_of s = s.faults
 
--- the writer that a sink writes to, how many writes failed, and how many bytes it took and did not flush
+-- the writer of a sink, how many writes failed, and how many bytes it accepted and did not flush
 abbrev pub writer_of : {W : Type 0} → StdSink W → W
 writer_of s = s.inner
 
@@ -22,28 +22,28 @@ failed_writes_of s = s.faults
 abbrev pub unacknowledged_of : {W : Type 0} → StdSink W → ℕ
 unacknowledged_of s = s.unacknowledged
 
--- how many calls of a network's listener failed, and whether a link of it is handed out
+-- how many calls of a network's listener failed, and whether it has an open connection
 abbrev pub failed_listens_of : {R : Type 0} → TcpNet R → ℕ
 failed_listens_of s = s.faults
 
 abbrev pub hands_out : {R : Type 0} → TcpNet R → Bool
 hands_out s = s.is_out
 
--- the reading place of a log over a file, and how many of its calls failed
+-- the read position of a log over a file, and how many of its calls failed
 abbrev pub log_place_of : {R : Type 0} → FileLog R → ℕ
 log_place_of l = l.place
 
 abbrev pub failed_log_calls_of : {R : Type 0} → FileLog R → ℕ
 failed_log_calls_of l = l.faults
 
--- the list w stands in the other, in order, with so many more bytes among its own
+-- the first list is a subsequence of the second, which has this many more bytes
 pub data IsAmong : List ℕ → List ℕ → ℕ → Type 0 where
   none : IsAmong [] [] 0
   ours : {b : ℕ} {w all : List ℕ} {more : ℕ} → IsAmong w all more → IsAmong (b ∷ w) (b ∷ all) more
   other : {b : ℕ} {w all : List ℕ} {more : ℕ} → IsAmong w all more → IsAmong w (b ∷ all) (suc more)
 
--- the writer, where it tells its bytes, holds w, and among its bytes as many more as it took and did not flush:
--- a count that stops at the greatest u64
+-- The writer's bytes, if they are known, are w with the unflushed bytes among them. The number of those is `missed`,
+-- which stops at the greatest u64.
 abbrev pub HoldsBut : Option (List ℕ) → ℕ → List ℕ → Type 0
 HoldsBut None missed w = ⊥
 HoldsBut (Some all) missed w = (more : ℕ) × IsAmong w all more × (missed ≡ min more (2 ^ 64 - 1))

@@ -1,9 +1,9 @@
--- Replies that leave together: what was sent on a connection, and what waits.
+-- A connection with batched replies: the bytes sent, and those in the queue.
 use Rattle.std.specs.Prelude.{◌≡◌, ℕ, ◌≤◌, List, ◌++◌, length, take, Bool, Option, None, Some, Result, MatchResult}
 use Rattle.std.specs.Io.KnownBytes.{Consumes}
 use Rattle.ts_io.specs.declared.batches.Batches.{Batches}
 
--- the connection, the bytes that wait, and whether the peer is behind
+-- the connection, the queued bytes, and whether the peer is behind
 abbrev pub connection_of : {C : Type 0} → Batches C → C
 connection_of b = b.connection
 
@@ -13,15 +13,15 @@ waiting_of b = b.waiting
 abbrev pub peer_is_behind : {C : Type 0} → Batches C → Bool
 peer_is_behind b = b.is_behind
 
--- w is what was sent, and then what waits
+-- w is the bytes sent, followed by those in the queue
 abbrev pub Holds : (List ℕ → Type 0) → List ℕ → List ℕ → Type 0
 Holds sent waiting w = (front : List ℕ) × sent front × (w ≡ front ++ waiting)
 
--- a read that does not wait: where it gives a count, it consumed so many bytes, and else it consumed none
+-- a read that does not wait: if it returns a count, it consumed that many bytes, otherwise none
 abbrev pub TriedRead : Option (List ℕ) → Option (List ℕ) → Option ℕ → List ℕ → Type 0
 TriedRead old new None buf = new ≡ old
 TriedRead old new (Some n) buf = (n ≤ length buf) × Consumes old new (take n buf) × (n ≡ 0 → new ≡ old)
 
--- the same of a read that may fail: then it consumed none
+-- the same for a read that may fail: an error consumes none
 abbrev pub TryConsumes : {E : Type 0} → Option (List ℕ) → Option (List ℕ) → Result (Option ℕ) E → List ℕ → Type 0
 TryConsumes old new r buf = MatchResult r (λ o. TriedRead old new o buf) (λ _. new ≡ old)

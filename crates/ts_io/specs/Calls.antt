@@ -2,16 +2,16 @@
 use Rattle.std.specs.Prelude.{ℕ, List, Bool, if◌then◌else◌}
 use Rattle.ts_io.specs.Causes.{counted}
 
--- the numbers of the calls that are to fail, counted from 1; how many calls were made; how many of them failed
+-- the numbers of the calls that fail, counted from 1; how many calls were made; how many of them failed
 pub record Calls : Type 0 where
   pub to_fail : List ℕ
   pub made : ℕ
   pub failed : ℕ
 
--- the number of the call that comes next: from the greatest u64 on, each call has that number
+-- the number of the next call: it stops at the greatest u64
 abbrev pub next_number : Calls → ℕ
 next_number c = counted c.made
 
--- one call more was made, and it failed or not
+-- the state after one more call, which failed or not
 abbrev pub after_call : Calls → Bool → Calls
 after_call c fails = record { to_fail = c.to_fail; made = counted c.made; failed = if fails then counted c.failed else c.failed }

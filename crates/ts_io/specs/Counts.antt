@@ -1,18 +1,18 @@
--- What a sink that only counts tells of the bytes that were written to it.
+-- What a counting sink records of the bytes written to it.
 use Rattle.std.specs.Prelude.{ℕ, ◌+◌, ◌-◌, ◌^◌, min, Bool, true, ◌&&◌, ◌==◌, if◌then◌else◌, List, [], ◌∷◌, length, Option, None, Some}
 use Rattle.std.specs.List.{last_or}
 
--- whether a line begins after this byte, or after none
+-- whether a line begins after this byte, or at the start
 abbrev pub begins_line : Option ℕ → Bool
 begins_line None = true
 begins_line (Some byte) = byte == 10
 
--- how many of these bytes are a `-` that begins a line, where this byte or none came before them
+-- how many of these bytes are a `-` at the start of a line, where `before` is the byte before them, if any
 abbrev pub marks_after : (before : Option ℕ) → List ℕ → ℕ
 marks_after before [] = 0
 marks_after before (byte ∷ bytes) = (if begins_line before && (byte == 45) then 1 else 0) + marks_after (Some byte) bytes
 
--- how many bytes, how many of them a `-` that is the first or comes right after a line feed, and the last byte
+-- the number of bytes, the number of lines that begin with `-`, and the last byte
 pub record Counts : Type 0 where
   pub total : ℕ
   pub errors : ℕ

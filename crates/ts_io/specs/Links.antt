@@ -1,4 +1,4 @@
--- The links of a listener that tells them: those to come and those that were closed, each in order.
+-- The connections of a listener that knows them: those to come and the closed ones, each in order.
 use Rattle.std.specs.Prelude.{◌≡◌, List, [], ◌∷◌, ◌++◌, Bool, Option}
 use Rattle.std.specs.Option.{option_map}
 use Rattle.ts_io.specs.Calls.{Calls}
@@ -6,15 +6,15 @@ use Rattle.ts_io.specs.Sinks.{MemSinkState}
 use Rattle.ts_io.specs.Sources.{MemSourceState}
 use Rattle.ts_io.specs.declared.listener.Ends.{Ends}
 
--- the links to come began with this one, and lost it
+-- the connections to come began with this one, which is now removed
 abbrev pub TakesFront : {L : Type 0} → Option (List L) → Option (List L) → L → Type 0
 TakesFront old new link = old ≡ option_map (λ links. link ∷ links) new
 
--- this link joined the closed ones, at their end
+-- this connection was appended to the closed ones
 abbrev pub AddsAtEnd : {L : Type 0} → Option (List L) → Option (List L) → L → Type 0
 AddsAtEnd old new link = new ≡ option_map (λ links. links ++ link ∷ []) old
 
--- what a listener in memory holds: the links to come, the closed ones, whether one is handed out, and the calls
+-- the state of a listener in memory: connections to come, closed ones, whether one is open, and its calls
 pub record MemListenerState : Type 0 where
   pub coming : List (Ends MemSourceState MemSinkState)
   pub closed : List (Ends MemSourceState MemSinkState)

@@ -1,22 +1,22 @@
--- What the calls of a log do to its content, where it tells that, and to its reading place.
+-- What the calls of a log do to its content, if it is known, and to its read position.
 use Rattle.std.specs.Prelude.{◌≡◌, ℕ, ◌+◌, ◌-◌, ◌^◌, ◌≤◌, min, List, length, take, drop, Option, Result, MatchResult}
 use Rattle.std.specs.Io.KnownBytes.{append_known}
 use Rattle.std.specs.Option.{option_map}
 use Rattle.ts_io.specs.Calls.{Calls}
 
--- what a content has from this place on
+-- the content from this position on
 abbrev pub unread : Option (List ℕ) → ℕ → Option (List ℕ)
 unread content place = option_map (λ w. drop place w) content
 
--- the first bytes of a content, so many
+-- the first `len` bytes of the content
 abbrev pub front : ℕ → Option (List ℕ) → Option (List ℕ)
 front len content = option_map (λ w. take len w) content
 
--- the place after so many bytes more: it stops at the greatest u64
+-- the position after n more bytes: it stops at the greatest u64
 abbrev pub place_after : ℕ → ℕ → ℕ
 place_after place n = min (place + n) (2 ^ 64 - 1)
 
--- a read moves the place by n bytes at `Ok(n)`, and not at `Err`
+-- a read advances the position by n bytes at `Ok(n)`, and not at `Err`
 abbrev pub ReadMoves : {E : Type 0} → ℕ → ℕ → Result ℕ E → Type 0
 ReadMoves old new r = MatchResult r (λ n. new ≡ place_after old n) (λ _. new ≡ old)
 
@@ -24,13 +24,13 @@ ReadMoves old new r = MatchResult r (λ n. new ≡ place_after old n) (λ _. new
 abbrev pub AppendAdds : {E : Type 0} → Option (List ℕ) → Option (List ℕ) → Result ℕ E → List ℕ → Type 0
 AppendAdds old new r bytes = MatchResult r (λ n. new ≡ append_known old (take n bytes)) (λ _. new ≡ old)
 
--- some front of these bytes was added to the content
+-- some prefix of these bytes was appended to the content
 pub record AddsFront (old new : Option (List ℕ)) (bytes : List ℕ) : Type 0 where
   pub len : ℕ
   pub within : len ≤ length bytes
   pub added : new ≡ append_known old (take len bytes)
 
--- what a log in memory holds: its content, the reading place, and the calls
+-- the state of a log in memory: its content, the read position, and the calls
 pub record MemLogState : Type 0 where
   pub content : List ℕ
   pub place : ℕ

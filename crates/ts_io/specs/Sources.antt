@@ -1,4 +1,4 @@
--- What a source in memory holds.
+-- The state of a source in memory.
 use Rattle.std.specs.Prelude.{ℕ, List}
 use Rattle.ts_io.specs.Calls.{Calls}
 

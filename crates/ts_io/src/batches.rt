@@ -1,4 +1,4 @@
-// Replies over a connection leave together, and wait in memory for a peer that does not take them.
+// A connection whose replies are sent in batches. Replies that the peer does not read yet wait in memory.
 ghost use Rattle.std.specs.Prelude.{◌≡◌, ◌<◌, [], length, false, IfOk, OnOk};
 ghost use Rattle.std.specs.Io.{ReadsAtMost, WritesAtMost};
 ghost use Rattle.std.specs.Io.KnownBytes.{ReadConsumes};
@@ -10,15 +10,16 @@ use crate::waiting::Waiting;
 use crate::{Connection, Failed, Sink, Source, Wait};
 use std::alloc::Global;
 
-/// How many bytes are gathered before they are sent: 16 KiB.
+/// The batch size: after 16 KiB of replies, the next write sends what is queued first.
 const BATCH: usize = 16384;
 
-/// A connection, and the bytes that wait to be sent on it. What it has as a sink is what was sent, and then what waits.
+/// A connection with a queue of bytes to send. As a sink it has the bytes that were sent, followed by those in the
+/// queue.
 ///
-/// What waits is sent before more is taken where 16 KiB were gathered since the last send, and before each read. A peer that
-/// did not take all in a moment is behind: then a send does not wait, and a read waits for either, for bytes to come or for
-/// the peer to take some. Before a read answers that the input has ended, all has been sent. Where a send fails, the write or
-/// the read that it belongs to fails.
+/// The queue is sent before each read, and before a write once 16 KiB were queued since the last send. If the peer does
+/// not take everything within a moment, it is behind: from then on a send does not wait, and a read waits until either
+/// bytes arrive or the peer takes some. A read returns the end of the input only after the whole queue was sent. If a
+/// send fails, so does the write or read that made it.
 #[derive(Drop)]
 pub struct Batches<C> {
     pub(crate) connection: C,
@@ -28,7 +29,7 @@ pub struct Batches<C> {
 }
 
 impl<C: Connection> Batches<C> {
-    /// Nothing waits. Takes no memory.
+    /// Creates one with an empty queue. Allocates nothing.
     pub fn new(alloc: Global, connection: C) -> Self
         ensures connection { connection_of result ≡ connection }
         ensures waiting { waiting_of result ≡ [] }
@@ -42,14 +43,14 @@ impl<C: Connection> Batches<C> {
         }
     }
 
-    /// How many bytes wait.
+    /// The number of queued bytes.
     pub fn waiting(&self) -> usize
         ensures { result ≡ length (waiting_of self.now) }
     {
         self.waiting.len()
     }
 
-    /// Sends all that waits, for as long as the peer needs to take it.
+    /// Sends the whole queue, however long the peer takes.
     pub fn send_all(&mut self) -> Result<(), Failed>
         ensures all { OnOk result (waiting_of self.new ≡ []) }
         ensures has { Grows (Holds (C.has (connection_of self.old)) (waiting_of self.old))
@@ -63,14 +64,14 @@ impl<C: Connection> Batches<C> {
         Ok(())
     }
 
-    /// The connection. What waits is dropped.
+    /// Returns the connection and drops the queue.
     pub fn into_connection(self) -> C
         ensures { result ≡ connection_of self }
     {
         self.connection
     }
 
-    // Waits for bytes to come, or for the peer to take what waits.
+    // Waits until bytes arrive or the peer takes queued bytes, whichever comes first.
     fn read_behind(&mut self, buf: &mut [u8]) -> Result<usize, Failed>
         ensures bound { ReadsAtMost result buf.new }
         ensures bytes { ReadConsumes (C.left (connection_of self.old)) (C.left (connection_of self.new)) result buf.new }
@@ -92,7 +93,7 @@ impl<C: Connection> Batches<C> {
         self.send_all_and_read(buf)
     }
 
-    // Reads what has come.
+    // Reads what has arrived, without waiting.
     fn try_read(&mut self, buf: &mut [u8]) -> Result<Option<usize>, Failed>
         ensures bytes { TryConsumes (C.left (connection_of self.old)) (C.left (connection_of self.new)) result buf.new }
         ensures waiting { waiting_of self.new ≡ waiting_of self.old }
@@ -103,7 +104,7 @@ impl<C: Connection> Batches<C> {
         self.connection.try_receive(buf)
     }
 
-    // Sends all that waits, and then waits for bytes to come, or the end.
+    // Sends the whole queue, then waits for bytes or the end of the input.
     fn send_all_and_read(&mut self, buf: &mut [u8]) -> Result<usize, Failed>
         ensures bound { ReadsAtMost result buf.new }
         ensures bytes { ReadConsumes (C.left (connection_of self.old)) (C.left (connection_of self.new)) result buf.new }
@@ -127,7 +128,7 @@ impl<C: Connection> Source for Batches<C> {
         ensures bytes { ReadConsumes (C.left (connection_of self.old)) (C.left (connection_of self.new)) result buf.new }
         ensures cause { HasCause (C.faults (connection_of self.old)) (C.faults (connection_of self.new)) result }
 
-        // At the end of the input nothing waits, and else only what a peer that is behind has not taken.
+        // At the end of the input the queue is empty. Otherwise it is empty unless the peer is behind.
         ensures ended { IfOk result (λ n. n ≡ 0 → 0 < length buf.old → waiting_of self.new ≡ []) }
         ensures has { Grows (Holds (C.has (connection_of self.old)) (waiting_of self.old))
             (Holds (C.has (connection_of self.new)) (waiting_of self.new)) [] }

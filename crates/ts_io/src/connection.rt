@@ -1,4 +1,4 @@
-// What a batch of replies is sent on.
+// The trait of a two-way connection that can be used without blocking.
 ghost use Rattle.std.specs.Prelude.{◌≡◌, ℕ, ◌<◌, List, [], length, Option, IfOk};
 ghost use Rattle.std.specs.Io.{ReadsAtMost, WritesAtMost};
 ghost use Rattle.std.specs.Io.KnownBytes.{ReadConsumes};
@@ -8,29 +8,29 @@ ghost use Rattle.ts_io.specs.Sinks.{Grows, WriteGrows};
 
 use crate::Failed;
 
-/// How long a call waits for the peer to take bytes.
+/// How long a send waits for the peer to take bytes.
 #[derive(Clone, Copy, PartialEq, Eq)]
 pub enum Wait {
-    /// Not at all.
+    /// Does not wait.
     Not,
-    /// For a moment.
+    /// Waits for a moment.
     Briefly,
-    /// Until it takes some.
+    /// Waits until the peer takes at least one byte.
     Long,
 }
 
-/// A connection to a peer, both ways, of which a call can be told not to wait.
+/// A two-way connection to a peer, with calls that don't block.
 pub trait Connection {
-    /// The bytes still to come, where the connection tells them.
+    /// The bytes still to come, if the connection knows them.
     ghost left: { Self → Option (List ℕ) };
 
-    /// Whether the peer was sent these bytes, in order. A connection that tells nothing was sent no list.
+    /// Whether these are the bytes sent to the peer, in order. A connection that does not record them has no such list.
     ghost has: { Self → List ℕ → Type 0 };
 
-    /// How often a call has failed: a count that never falls.
+    /// How many calls have failed. It never falls.
     ghost faults: { Self → ℕ };
 
-    /// Sends a front of `bytes`, and says how many: none where the peer takes none in that time. A call that fails sends
+    /// Sends a prefix of `bytes` and returns its length, 0 if the peer took nothing in time. A call that fails sends
     /// nothing.
     fn send(&mut self, bytes: &[u8], wait: Wait) -> Result<usize, Failed>
         ensures bound { WritesAtMost result bytes.now }
@@ -39,14 +39,15 @@ pub trait Connection {
         ensures left { left self.new ≡ left self.old }
         ensures cause { HasCause (faults self.old) (faults self.new) result };
 
-    /// Waits for bytes, and reads as a source does.
+    /// Waits for bytes and reads them, as `Source::read` does.
     fn receive(&mut self, buf: &mut [u8]) -> Result<usize, Failed>
         ensures bound { ReadsAtMost result buf.new }
         ensures bytes { ReadConsumes (left self.old) (left self.new) result buf.new }
         ensures has { Grows (has self.old) (has self.new) [] }
         ensures cause { HasCause (faults self.old) (faults self.new) result };
 
-    /// Reads, and does not wait. `None`: no byte has come. `Some(0)` for a `buf` that is not empty is the end.
+    /// Reads without waiting. `None` means that no byte has arrived. `Some(0)` for a `buf` that is not empty is the end
+    /// of the input.
     fn try_receive(&mut self, buf: &mut [u8]) -> Result<Option<usize>, Failed>
         ensures bytes { TryConsumes (left self.old) (left self.new) result buf.new }
         ensures has { Grows (has self.old) (has self.new) [] }

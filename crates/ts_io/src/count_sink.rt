@@ -1,4 +1,4 @@
-// A sink for workloads whose replies are only counted.
+// A sink for generated workloads, whose replies are only counted.
 ghost use Rattle.std.specs.Prelude.{◌≡◌, ◌<◌, ◌≤◌, [], length, IfOk, IsOk};
 ghost use Rattle.std.specs.Io.{WritesAtMost};
 ghost use Rattle.std.specs.List.{last_or};
@@ -10,8 +10,8 @@ ghost use Rattle.ts_io.specs.Sinks.{WriteGrows};
 use crate::{Failed, Sink};
 use std::marker::Model;
 
-/// A sink that keeps no bytes, and only counts them and the error replies among them. It never fails, and both
-/// counts stop at the greatest `u64`.
+/// A sink that discards its bytes and counts them and the error replies. It never fails. Both counts stop at
+/// `u64::MAX`.
 #[derive(Drop)]
 pub struct CountSink {
     total: u64,
@@ -28,7 +28,7 @@ impl Model for CountSink {
 }
 
 impl CountSink {
-    /// A sink that nothing was written to.
+    /// Creates a sink to which nothing was written.
     pub fn new() -> Self
         ensures { result ≡ counts_of [] }
     {
@@ -39,14 +39,14 @@ impl CountSink {
         }
     }
 
-    /// How many bytes were written.
+    /// The number of bytes written.
     pub fn total(&self) -> u64
         ensures { result ≡ self.now.total }
     {
         self.total
     }
 
-    /// How many bytes `-` were written that are the first or come right after a line feed.
+    /// The number of `-` bytes that came first or right after a line feed.
     pub fn errors(&self) -> u64
         ensures { result ≡ self.now.errors }
     {
@@ -59,7 +59,7 @@ impl Sink for CountSink {
 
     ghost faults = { λ _. 0 };
 
-    /// It takes all bytes.
+    /// Accepts all bytes.
     fn write(&mut self, bytes: &[u8]) -> Result<usize, Failed>
         ensures bound { WritesAtMost result bytes.now }
         ensures progress { 0 < length bytes.now → IfOk result (λ n. 0 < n) }
@@ -75,7 +75,7 @@ impl Sink for CountSink {
     }
 }
 
-// How many of these bytes are a `-` that begins a line, where this byte or none came before them.
+// How many of these bytes are a `-` at the start of a line. `before` is the byte before them, if any.
 fn count_marks(before: Option<u8>, bytes: &[u8]) -> u64
     ensures { result ≡ marks_after before bytes.now }
 {
@@ -90,7 +90,7 @@ fn count_marks(before: Option<u8>, bytes: &[u8]) -> u64
     marks
 }
 
-// The last of these bytes, or the one before them.
+// The last of these bytes, or `before` if there are none.
 fn last_of(before: Option<u8>, bytes: &[u8]) -> Option<u8>
     ensures { result ≡ last_or before bytes.now }
 {
@@ -100,7 +100,7 @@ fn last_of(before: Option<u8>, bytes: &[u8]) -> Option<u8>
     }
 }
 
-// Whether a line begins after this byte, or after none.
+// Whether a line begins after this byte, or at the start of the output.
 fn begins_line(before: Option<u8>) -> bool
     ensures { result ≡ counts.begins_line before }
 {

@@ -1,11 +1,11 @@
-// The failure of a call on the outside, which a count tells of.
+// The error of a failed device call.
 ghost use Rattle.std.specs.Prelude.{◌≡◌, ◌≤◌, Some, codes};
 ghost use Rattle.ts_io.specs.Causes.{counted};
 
 use std::error::Error;
 use std::fmt;
 
-/// A call on the outside failed, and the count of faults of what it was asked of rose.
+/// A device call failed. The device's count of faults went up by one.
 #[derive(Clone, Copy, PartialEq, Eq)]
 pub struct Failed;
 
@@ -27,7 +27,7 @@ impl fmt::Display for Failed {
 
 impl Error for Failed {}
 
-/// Counts a failure. The count stops at the greatest `u64`.
+/// Counts a failure. The count stops at `u64::MAX`.
 pub(crate) fn count_failure(faults: &mut u64) -> Failed
     ensures counted { faults.new ≡ counted faults.old }
     ensures later { faults.old ≤ faults.new }

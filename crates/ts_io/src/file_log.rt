@@ -14,10 +14,10 @@ use std::os::fd::AsRawFd;
 use std::os::unix::fs::FileExt;
 use std::rt::Files;
 
-/// A log over a file of the system, which counts its errors. It tells nothing of its content.
+/// A log over a file, which counts its errors. Its content is unknown to the proofs.
 ///
-/// The file is locked as long as it is open here, so that no other program with such a log adds to it. It is open until
-/// another one is opened, or the log is dropped.
+/// The file stays locked while it is open, so no other program with such a log can append to it. It is closed when
+/// another file is opened or the log is dropped.
 #[derive(Drop)]
 pub struct FileLog<R> {
     rt: R,
@@ -27,7 +27,7 @@ pub struct FileLog<R> {
 }
 
 impl<R: Files<File = File>> FileLog<R> {
-    /// A log that has no file yet.
+    /// Creates a log without an open file.
     pub fn new(rt: R) -> Self
         ensures place { log_place_of result ≡ 0 }
         ensures faults { failed_log_calls_of result ≡ 0 }
@@ -41,7 +41,7 @@ impl<R: Files<File = File>> FileLog<R> {
         }
     }
 
-    // The file of this name, locked. It is made where it is missing, and all writes go to its end.
+    // Opens and locks the file, creating it if it does not exist. All writes go to its end.
     fn locked(&self, name: &str) -> io::Result<File> {
         let file = OpenOptions::new()
             .read(true)
@@ -53,7 +53,7 @@ impl<R: Files<File = File>> FileLog<R> {
         Ok(file)
     }
 
-    // The file that is open.
+    // The open file.
     fn file(&self) -> io::Result<&File> {
         match &self.file {
             Some(file) => Ok(file),
@@ -67,7 +67,7 @@ impl<R: Files<File = File>> FileLog<R> {
         self.file()?.read_at(buf, self.place)
     }
 
-    // A file that is shorter is not made longer.
+    // Never extends a shorter file.
     fn cut_and_sync(&self, len: u64) -> io::Result<()> {
         let file = self.file()?;
         if len < file.metadata()?.len() {
@@ -76,7 +76,7 @@ impl<R: Files<File = File>> FileLog<R> {
         file.sync_data()
     }
 
-    // A write of nothing has failed.
+    // Writes once. Writing no byte is an error.
     fn write_once(&self, bytes: &[u8]) -> io::Result<usize>
         ensures bound { WritesAtMost result bytes.now }
         ensures progress { 0 < length bytes.now → IfOk result (λ n. 0 < n) }
@@ -96,8 +96,8 @@ impl<R: Files<File = File>> Log for FileLog<R> {
 
     ghost faults = { failed_log_calls_of };
 
-    /// Opens the file of this name, which is made where it is missing, and locks it. The file that was open is closed
-    /// first. It fails where another log has the file open, and then the file is as it was.
+    /// Opens and locks the file, creating it if it does not exist. The file that was open is closed first. Fails
+    /// without changing the file if another log has it open.
     fn open(&mut self, name: &str) -> Result<(), Failed>
         ensures start { OnOk result (log_place_of self.new ≡ 0) }
         ensures failed { OnErr result (log_place_of self.new ≡ log_place_of self.old) }
@@ -115,7 +115,7 @@ impl<R: Files<File = File>> Log for FileLog<R> {
         }
     }
 
-    /// Where no file is open it fails.
+    /// Fails if no file is open.
     fn read(&mut self, buf: &mut [u8]) -> Result<usize, Failed>
         ensures bound { ReadsAtMost result buf.new }
         ensures place { ReadMoves (log_place_of self.old) (log_place_of self.new) result }
@@ -131,8 +131,8 @@ impl<R: Files<File = File>> Log for FileLog<R> {
         }
     }
 
-    /// It is `Ok` once the system says that what is left is on the disk. Where it cuts the file and then can't say so, the
-    /// call has failed, and the file is cut. Where no file is open it fails.
+    /// Returns `Ok` once the system reports that the remaining content is on disk. If the cut succeeds and that report
+    /// fails, the call fails although the file is cut. Fails if no file is open.
     fn cut(&mut self, len: u64) -> Result<(), Failed>
         requires { len ≤ log_place_of self.old }
         ensures place { log_place_of self.new ≡ log_place_of self.old }
@@ -145,7 +145,7 @@ impl<R: Files<File = File>> Log for FileLog<R> {
         }
     }
 
-    /// One write of the system. Where no file is open it fails.
+    /// Makes one write call. Fails if no file is open.
     fn append(&mut self, bytes: &[u8]) -> Result<usize, Failed>
         ensures bound { WritesAtMost result bytes.now }
         ensures progress { 0 < length bytes.now → IfOk result (λ n. 0 < n) }
@@ -160,8 +160,8 @@ impl<R: Files<File = File>> Log for FileLog<R> {
     }
 }
 
-// The same file, under a number that no standard stream has. Where such a stream was closed, the system gives its number to
-// the next file that is opened, and what is then written to the stream would go into that.
+// Duplicates the file if its descriptor is that of a standard stream. If such a stream was closed, the system gives its
+// descriptor to the next file opened, and later writes to the stream would go into that file.
 fn above_streams(file: File) -> io::Result<File> {
     if file.as_raw_fd() <= 2 {
         return file.try_clone();

@@ -1,32 +1,25 @@
-//! The outside: where bytes come from, where they go, the log, the clock and the listener, as traits that count
-//! their faults; devices in memory, whose failures are chosen beforehand; and adapters over std's readers, writers,
-//! files, clock and network.
+//! Devices: the traits of byte sources, sinks, logs, clocks and listeners, which count their faults; devices in memory,
+//! whose failures are chosen beforehand; and adapters over std's readers, writers, files, clock and network.
 //!
-//! A count of calls or of faults is kept in a `u64` and stops at 18446744073709551615. The calls of a device in
-//! memory are numbered from 1 on, so each call from that one on has that number.
+//! Counts of calls and faults are `u64` and stop at 18446744073709551615. The calls of a device in memory are numbered
+//! from 1; from that number on, every call has it.
 #![tactic(auto)]
 
 mod batches;
 mod clock;
 mod connection;
-mod copying;
 mod count_sink;
 mod failed;
 mod file_log;
 mod listener;
 mod log;
-mod mem_clock;
 mod mem_listener;
 mod mem_log;
-mod mem_sink;
-mod mem_source;
+mod mem_streams;
 mod schedule;
 mod sending;
-mod sink;
-mod source;
-mod std_sink;
-mod std_source;
-mod system_clock;
+mod std_streams;
+mod streams;
 mod tcp_connection;
 mod tcp_link;
 mod tcp_net;
@@ -34,23 +27,18 @@ mod tcp_socket;
 mod waiting;
 
 pub use batches::Batches;
-pub use clock::Clock;
+pub use clock::{Clock, MemClock, SystemClock};
 pub use connection::{Connection, Wait};
 pub use count_sink::CountSink;
 pub use failed::Failed;
 pub use file_log::FileLog;
 pub use listener::{Ends, Listener};
 pub use log::{Log, append_all_counted};
-pub use mem_clock::MemClock;
 pub use mem_listener::MemListener;
 pub use mem_log::MemLog;
-pub use mem_sink::MemSink;
-pub use mem_source::MemSource;
-pub use sink::{Sink, write_all_counted};
-pub use source::Source;
-pub use std_sink::StdSink;
-pub use std_source::StdSource;
-pub use system_clock::SystemClock;
+pub use mem_streams::{MemSink, MemSource};
+pub use std_streams::{StdSink, StdSource};
+pub use streams::{Sink, Source, write_all_counted};
 pub use tcp_connection::TcpConnection;
 pub use tcp_link::{TcpReader, TcpWriter};
 pub use tcp_net::TcpNet;

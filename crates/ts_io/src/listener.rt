@@ -1,4 +1,4 @@
-// What a server takes its connections from.
+// The listener that a server accepts connections from.
 ghost use Rattle.std.specs.Prelude.{◌≡◌, ℕ, List, Option, Bool, true, false, is_ok, IfOk, OnErr};
 ghost use Rattle.ts_io.specs.Causes.{HasCause};
 ghost use Rattle.ts_io.specs.Links.{TakesFront, AddsAtEnd};
@@ -6,39 +6,39 @@ ghost use Rattle.ts_io.specs.declared.listener.Ends.{Ends};
 
 use crate::{Failed, Sink, Source};
 
-/// Both ends of a link: what is read from it, and what is written to it.
+/// Both ends of a connection: the input to read and the output to write.
 #[derive(Drop)]
 pub struct Ends<I, O> {
     pub input: I,
     pub out: O,
 }
 
-/// What hands out links, one at a time.
+/// A listener that hands out one connection at a time.
 pub trait Listener {
     type In: Source;
 
     type Out: Sink;
 
-    /// How often a call has failed: a count that never falls.
+    /// How many calls have failed. It never falls.
     ghost faults: { Self → ℕ };
 
-    /// The links to come, where the listener tells them.
+    /// The connections to come, if the listener knows them.
     ghost coming: { Self → Option (List (Ends Self.In Self.Out)) };
 
-    /// The closed links as they were handed back, in that order, where the listener tells them.
+    /// The closed connections, in the order in which they were closed, if the listener records them.
     ghost closed: { Self → Option (List (Ends Self.In Self.Out)) };
 
-    /// Whether a link is handed out.
+    /// Whether a connection is open.
     ghost is_out: { Self → Bool };
 
-    /// Begins to listen at this address.
+    /// Starts to listen on this address.
     fn open(&mut self, address: &str) -> Result<(), Failed>
         ensures coming { coming self.new ≡ coming self.old }
         ensures closed { closed self.new ≡ closed self.old }
         ensures out { is_out self.new ≡ is_out self.old }
         ensures cause { HasCause (faults self.old) (faults self.new) result };
 
-    /// Hands out the next link.
+    /// Accepts the next connection.
     fn accept(&mut self) -> Result<Ends<Self::In, Self::Out>, Failed>
         requires { is_out self.old ≡ false }
         ensures link { IfOk result (TakesFront (coming self.old) (coming self.new)) }
@@ -47,7 +47,7 @@ pub trait Listener {
         ensures out { is_out self.new ≡ is_ok result }
         ensures cause { HasCause (faults self.old) (faults self.new) result };
 
-    /// Takes the link back. It can't fail.
+    /// Closes the connection. It can't fail.
     fn close(&mut self, ends: Ends<Self::In, Self::Out>)
         requires { is_out self.old ≡ true }
         ensures coming { coming self.new ≡ coming self.old }

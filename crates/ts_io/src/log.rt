@@ -1,4 +1,4 @@
-// A journal that is read from its start, and then grows.
+// The log that holds a journal: it is read from its start, then appended to.
 ghost use Rattle.std.specs.Prelude.{◌≡◌, ℕ, ◌<◌, ◌≤◌, List, length, Option, IfOk, OnOk, OnErr};
 ghost use Rattle.std.specs.Io.{ReadsAtMost, WritesAtMost};
 ghost use Rattle.std.specs.Io.KnownBytes.{ReadConsumes, append_known};
@@ -7,30 +7,30 @@ ghost use Rattle.ts_io.specs.Logs.{AddsFront, AppendAdds, ReadMoves, front, unre
 
 use crate::Failed;
 
-/// A list of bytes that is opened by a name, read from its start, cut, and added to at its end.
+/// A named list of bytes that can be opened, read from its start, cut and appended to.
 ///
-/// Its reading place is how many bytes were read since it was last opened: a count that stops at the greatest `u64`.
+/// Its read position is the number of bytes read since it was last opened. It stops at `u64::MAX`.
 pub trait Log {
-    /// All its bytes, where the log tells them.
+    /// The whole content, if the log knows it.
     ghost content: { Self → Option (List ℕ) };
 
-    /// The reading place.
+    /// The read position.
     ghost place: { Self → ℕ };
 
-    /// How often a call has failed: a count that never falls.
+    /// How many calls have failed. It never falls.
     ghost faults: { Self → ℕ };
 
-    /// Opens the log of this name, at its start. One that is missing is made, and is empty.
+    /// Opens the log with this name and moves to its start. Creates an empty one if it does not exist.
     fn open(&mut self, name: &str) -> Result<(), Failed>
         ensures content { content self.new ≡ content self.old }
         ensures start { OnOk result (place self.new ≡ 0) }
         ensures failed { OnErr result (place self.new ≡ place self.old) }
         ensures cause { HasCause (faults self.old) (faults self.new) result };
 
-    /// Reads the next bytes into the front of `buf`, and says how many. `Ok(0)` for a `buf` that is not empty is
-    /// the end. A read that fails takes nothing.
+    /// Reads the next bytes into the start of `buf` and returns their number. `Ok(0)` for a `buf` that is not empty is
+    /// the end. A read that fails consumes nothing.
     fn read(&mut self, buf: &mut [u8]) -> Result<usize, Failed>
-        // Also where the content is not told.
+        // This also holds if the content is unknown.
         ensures bound { ReadsAtMost result buf.new }
         ensures bytes { ReadConsumes (unread (content self.old) (place self.old))
             (unread (content self.new) (place self.new)) result buf.new }
@@ -38,7 +38,7 @@ pub trait Log {
         ensures place { ReadMoves (place self.old) (place self.new) result }
         ensures cause { HasCause (faults self.old) (faults self.new) result };
 
-    /// Keeps the first `len` bytes, and drops all others. A log that is shorter stays as it is.
+    /// Keeps the first `len` bytes and drops the rest. A shorter log stays as it is.
     fn cut(&mut self, len: u64) -> Result<(), Failed>
         requires { len ≤ place self.old }
         ensures cut { OnOk result (content self.new ≡ front len (content self.old)) }
@@ -46,7 +46,7 @@ pub trait Log {
         ensures place { place self.new ≡ place self.old }
         ensures cause { HasCause (faults self.old) (faults self.new) result };
 
-    /// Adds a front of `bytes` at the end, and says how many. One that fails adds nothing.
+    /// Appends a prefix of `bytes` and returns its length. A call that fails appends nothing.
     fn append(&mut self, bytes: &[u8]) -> Result<usize, Failed>
         ensures bound { WritesAtMost result bytes.now }
         ensures progress { 0 < length bytes.now → IfOk result (λ n. 0 < n) }
@@ -55,7 +55,7 @@ pub trait Log {
         ensures cause { HasCause (faults self.old) (faults self.new) result };
 }
 
-/// Adds all of `bytes`, in as many appends as it takes. It stops at the first append that fails.
+/// Appends all of `bytes`, in as many calls as needed. Stops at the first call that fails.
 pub fn append_all_counted<J: Log>(log: &mut J, bytes: &[u8]) -> Result<(), Failed>
     ensures all { OnOk result (J.content log.new ≡ append_known (J.content log.old) bytes.now) }
     ensures front { OnErr result (AddsFront (J.content log.old) (J.content log.new) bytes.now) }

@@ -1,4 +1,4 @@
-// A listener for tests, whose links are in memory.
+// A listener for tests, with connections in memory.
 ghost use Rattle.std.specs.Prelude.{◌≡◌, ◌≤◌, ◌⊎◌, [], ◌∷◌, ◌++◌, Some, true, false, IfOk, OnErr, IsErr, Contains, is_ok, is_err, ◌↔◌};
 ghost use Rattle.ts_io.specs.Causes.{HasCause};
 
@@ -8,7 +8,7 @@ use std::alloc::{AllocError, Global};
 use std::collections::VecDeque;
 use std::marker::Model;
 
-/// A listener with its links in memory. The calls of `open` and `accept` with chosen numbers fail.
+/// A listener with its connections in memory. The calls of `open` and `accept` with chosen numbers fail.
 #[derive(Drop)]
 pub struct MemListener {
     coming: VecDeque<Ends<MemSource, MemSink>>,
@@ -31,14 +31,14 @@ impl Model for MemListener {
       calls = s.schedule;
     } };
 
-    // The closed links have room for all others.
+    // The list of closed connections has capacity for all others.
     ghost invariant = { λ s. vec_len s.closed + deque_len s.coming + (if s.is_out then 1 else 0)
         ≤ vec_capacity s.closed };
 }
 
 impl MemListener {
-    /// A listener that hands out these links in order. The calls of `open` and `accept` are counted together, from
-    /// 1, and those whose numbers stand in `fail` fail. It takes here the memory that closing the links needs.
+    /// Creates a listener that accepts these connections in order. Calls of `open` and `accept` are counted together,
+    /// from 1; those whose numbers are in `fail` fail. Allocates here what closing the connections needs.
     pub fn new(
         alloc: Global,
         links: Vec<Ends<MemSource, MemSink>>,
@@ -58,7 +58,7 @@ impl MemListener {
         })
     }
 
-    /// The closed links, as they were handed back.
+    /// The closed connections, in the order in which they were closed.
     pub fn done(&self) -> &[Ends<MemSource, MemSink>]
         ensures { result.now ≡ self.now.closed }
     {
@@ -81,7 +81,7 @@ impl Listener for MemListener {
 
     ghost is_out = { λ s. s.is_out };
 
-    /// It listens at no address.
+    /// Listens on no address.
     fn open(&mut self, _address: &str) -> Result<(), Failed>
         ensures coming { self.new.coming ≡ self.old.coming }
         ensures closed { self.new.closed ≡ self.old.closed }
@@ -93,7 +93,7 @@ impl Listener for MemListener {
         self.schedule.call()
     }
 
-    /// Without a link left it fails, and this is counted.
+    /// Fails, and counts the failure, if no connection is left.
     fn accept(&mut self) -> Result<Ends<MemSource, MemSink>, Failed>
         requires { self.old.is_out ≡ false }
         ensures link { IfOk result (λ ends. self.old.coming ≡ ends ∷ self.new.coming) }
@@ -103,7 +103,7 @@ impl Listener for MemListener {
         ensures cause { HasCause self.old.calls.failed self.new.calls.failed result }
         ensures calls { self.new.calls ≡ after_call self.old.calls (is_err result) }
 
-        // It fails at these numbers and without a link left, and nowhere else.
+        // It fails at the chosen numbers and if no connection is left, and otherwise never.
         ensures chosen { Contains self.old.calls.to_fail (next_number self.old.calls) → IsErr result }
         ensures empty { self.old.coming ≡ [] → IsErr result }
         ensures fails { IsErr result →

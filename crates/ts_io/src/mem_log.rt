@@ -1,17 +1,17 @@
-// A log for tests, whose content is in memory.
+// A log for tests, with its content in memory.
 ghost use Rattle.std.specs.Prelude.{◌≡◌, ◌-◌, ◌<◌, ◌≤◌, ◌↔◌, Some, length, min, take, IfOk, OnOk, OnErr, IsErr, Contains, is_err};
 ghost use Rattle.std.specs.Io.{ReadsAtMost, WritesAtMost};
 ghost use Rattle.std.specs.Io.KnownBytes.{ReadConsumes};
 ghost use Rattle.ts_io.specs.Causes.{HasCause};
 ghost use Rattle.ts_io.specs.Logs.{AppendAdds, ReadMoves, unread};
 
-use crate::copying::copy_front;
+use crate::mem_streams::copy_front;
 use crate::schedule::Schedule;
 use crate::{Failed, Log};
 use std::marker::Model;
 
-/// A log that keeps its content in memory, under any name. It gives and takes as many bytes a call as it can, and
-/// the calls with chosen numbers fail. An append also fails where there is no memory for its bytes.
+/// A log with its content in memory, the same under every name. Each call reads or appends as many bytes as it can. The
+/// calls with chosen numbers fail. An append also fails if it runs out of memory.
 #[derive(Drop)]
 pub struct MemLog {
     content: Vec<u8>,
@@ -28,8 +28,8 @@ impl Model for MemLog {
 }
 
 impl MemLog {
-    /// A log of this content, at its start. Each call of the four methods whose number, counted from 1, stands in
-    /// `fail` fails.
+    /// Creates a log with this content, at its start. A call of any of the four methods fails if its number, counted
+    /// from 1, is in `fail`.
     pub fn new(content: Vec<u8>, fail: Vec<u64>) -> Self
         ensures content { result.content ≡ content.items }
         ensures place { result.place ≡ 0 }
@@ -42,7 +42,7 @@ impl MemLog {
         }
     }
 
-    /// Its content.
+    /// The content.
     pub fn bytes(&self) -> &[u8]
         ensures { result.now ≡ self.now.content }
     {
@@ -59,7 +59,7 @@ impl Log for MemLog {
 
     ghost faults = { λ s. s.calls.failed };
 
-    /// Whatever the name, its content is this one.
+    /// Opens the same content whatever the name.
     fn open(&mut self, _name: &str) -> Result<(), Failed>
         ensures content { self.new.content ≡ self.old.content }
         ensures start { OnOk result (self.new.place ≡ 0) }
@@ -81,7 +81,7 @@ impl Log for MemLog {
         ensures place { ReadMoves self.old.place self.new.place result }
         ensures cause { HasCause self.old.calls.failed self.new.calls.failed result }
 
-        // As many bytes as the buffer and what is left allow.
+        // As many bytes as fit the buffer and are left.
         ensures count { IfOk result (λ n. n ≡ min (length buf.old) (length self.old.content - self.old.place)) }
         ensures calls { self.new.calls ≡ after_call self.old.calls (is_err result) }
         ensures fails { IsErr result ↔ Contains self.old.calls.to_fail (next_number self.old.calls) }
@@ -118,7 +118,7 @@ impl Log for MemLog {
         ensures count { IfOk result (λ n. n ≡ length bytes.now) }
         ensures calls { self.new.calls ≡ after_call self.old.calls (is_err result) }
 
-        // Any other call may fail for want of memory.
+        // Any other call may fail if memory runs out.
         ensures fails { Contains self.old.calls.to_fail (next_number self.old.calls) → IsErr result }
     {
         self.schedule.call()?;

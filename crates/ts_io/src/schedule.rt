@@ -1,4 +1,4 @@
-// Which calls of the devices in memory fail.
+// Which calls of a device in memory fail.
 ghost use Rattle.std.specs.Prelude.{◌≡◌, ◌≤◌, ◌↔◌, IsErr, Contains, is_err};
 ghost use Rattle.ts_io.specs.Causes.{HasCause, counted};
 
@@ -6,7 +6,7 @@ use crate::Failed;
 use crate::failed::count_failure;
 use std::marker::Model;
 
-/// Which calls of a device in memory fail, by their numbers, and how many were made and failed so far.
+/// The numbers of the calls that fail, and how many calls were made and have failed so far.
 #[derive(Drop)]
 pub(crate) struct Schedule {
     to_fail: Vec<u64>,
@@ -35,7 +35,7 @@ impl Schedule {
         }
     }
 
-    /// Counts a call, which fails if its number is one of those.
+    /// Counts a call, which fails if its number is one of the chosen.
     pub(crate) fn call(&mut self) -> Result<(), Failed>
         ensures fails { IsErr result ↔ Contains self.old.to_fail (next_number self.old) }
         ensures counted { self.new ≡ after_call self.old (is_err result) }
@@ -48,7 +48,7 @@ impl Schedule {
         Ok(())
     }
 
-    /// Counts a failure of the call that was counted last.
+    /// Counts a failure of the last call.
     pub(crate) fn fault(&mut self) -> Failed
         ensures counted { self.new ≡ record self.old { failed = counted self.old.failed } }
         ensures later { self.old.failed ≤ self.new.failed }

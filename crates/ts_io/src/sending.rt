@@ -1,4 +1,4 @@
-// How what waits for a connection is sent, and how more comes to wait.
+// How a batched connection sends its queue, and adds to it.
 ghost use Rattle.std.specs.Prelude.{◌≡◌, ◌<◌, [], length, false, IfOk, OnOk};
 ghost use Rattle.std.specs.Io.{WritesAtMost};
 ghost use Rattle.ts_io.specs.Batches.{Holds, connection_of, waiting_of, peer_is_behind};
@@ -9,7 +9,7 @@ use crate::batches::Batches;
 use crate::{Connection, Failed, Wait};
 
 impl<C: Connection> Batches<C> {
-    // Sends what waits, once.
+    // Makes one send from the queue.
     pub(crate) fn send(&mut self, wait: Wait) -> Result<(), Failed>
         ensures progress { wait ≡ Wait.Long → 0 < length (waiting_of self.old)
             → OnOk result (length (waiting_of self.new) < length (waiting_of self.old)) }
@@ -23,7 +23,7 @@ impl<C: Connection> Batches<C> {
         Ok(())
     }
 
-    // Sends what waits, if any does, and sees whether the peer keeps up.
+    // Sends from the queue, if it is not empty, and updates whether the peer is behind.
     pub(crate) fn send_off(&mut self) -> Result<(), Failed>
         ensures behind { OnOk result (peer_is_behind self.new ≡ false → waiting_of self.new ≡ []) }
         ensures has { Grows (Holds (C.has (connection_of self.old)) (waiting_of self.old))
@@ -46,7 +46,8 @@ impl<C: Connection> Batches<C> {
         Ok(())
     }
 
-    // Has these bytes wait. Where there is no room for them, it waits until there is; without any, they are sent.
+    // Queues these bytes. If they don't fit, sends until they do; if they don't fit an empty queue, sends them
+    // directly.
     pub(crate) fn gather(&mut self, bytes: &[u8]) -> Result<usize, Failed>
         ensures bound { WritesAtMost result bytes.now }
         ensures progress { 0 < length bytes.now → IfOk result (λ n. 0 < n) }
@@ -66,7 +67,7 @@ impl<C: Connection> Batches<C> {
         }
     }
 
-    // Sends what waits, and then these bytes, as far as the peer keeps up.
+    // Sends the queue, then these bytes, as long as the peer keeps up.
     pub(crate) fn write_large(&mut self, bytes: &[u8]) -> Result<usize, Failed>
         ensures bound { WritesAtMost result bytes.now }
         ensures progress { 0 < length bytes.now → IfOk result (λ n. 0 < n) }
@@ -81,7 +82,7 @@ impl<C: Connection> Batches<C> {
         self.write_straight(bytes)
     }
 
-    // Sends these bytes, where nothing waits and the peer keeps up. Where it takes none, they wait.
+    // Sends these bytes directly: the queue is empty and the peer keeps up. Queues them if the peer takes none.
     fn write_straight(&mut self, bytes: &[u8]) -> Result<usize, Failed>
         requires { waiting_of self.old ≡ [] }
         ensures bound { WritesAtMost result bytes.now }
@@ -103,7 +104,7 @@ impl<C: Connection> Batches<C> {
         }
     }
 
-    // Sends these bytes once, where nothing waits.
+    // Makes one send of these bytes. The queue is empty.
     fn send_straight(&mut self, bytes: &[u8], wait: Wait) -> Result<usize, Failed>
         requires { waiting_of self.old ≡ [] }
         ensures bound { WritesAtMost result bytes.now }

@@ -1,4 +1,4 @@
-// A connection of TCP.
+// A TCP connection.
 ghost use Rattle.std.specs.Prelude.{◌≡◌, ◌<◌, ◌≤◌, [], None, length, IfOk};
 ghost use Rattle.std.specs.Io.{ReadsAtMost, WritesAtMost};
 ghost use Rattle.std.specs.Io.KnownBytes.{ReadConsumes};
@@ -12,7 +12,7 @@ use crate::{Connection, Failed, Wait};
 use std::net::TcpStream;
 use std::rt;
 
-/// A connection of TCP, which counts its errors. It tells nothing of what it gave or took.
+/// A TCP connection, which counts its errors. The proofs assume nothing about what it sends and receives.
 #[derive(Drop)]
 pub struct TcpConnection {
     socket: TcpSocket,
@@ -27,8 +27,8 @@ impl TcpConnection {
         }
     }
 
-    /// Ends the connection, once its client has what was sent. What fails here comes after the last call that could tell of
-    /// it, and is not told.
+    /// Ends the connection after the client has received what was sent. An error here comes after the last call that
+    /// could report it, and is dropped.
     pub(crate) fn end<R: rt::Clock>(self, rt: &R) {
         let mut socket = self.socket;
         let _ = socket.linger(rt);

@@ -1,4 +1,4 @@
-// Both ends of a link over TCP: a reader and a writer that share one connection, and what waits to be sent on it.
+// A reader and a writer that share one TCP connection and its queue of bytes to send.
 use crate::{Batches, Sink, Source, TcpConnection};
 use std::alloc::{AllocError, Global};
 use std::cell::RefCell;
@@ -6,14 +6,14 @@ use std::io;
 use std::io::{ErrorKind, Read, Write};
 use std::rc::Rc;
 
-/// The place of the connection that is handed out, which its reader and its writer share.
+/// The slot for the open connection, shared by its reader and its writer.
 #[derive(Drop)]
 pub(crate) struct Link {
     shared: Rc<RefCell<Option<Batches<TcpConnection>>>>,
 }
 
 impl Link {
-    /// A place without a connection.
+    /// Creates an empty slot.
     pub(crate) fn new(alloc: Global) -> Result<Self, AllocError> {
         match Rc::new(alloc, RefCell::new(None)) {
             Ok(shared) => Ok(Link { shared }),
@@ -21,14 +21,14 @@ impl Link {
         }
     }
 
-    /// The same place. Takes no memory.
+    /// Returns another handle of the same slot. Allocates nothing.
     pub(crate) fn share(&self) -> Result<Self, AllocError> {
         Ok(Link {
             shared: self.shared.clone()?,
         })
     }
 
-    /// Puts a connection here.
+    /// Puts a connection into the slot.
     pub(crate) fn put(&self, batches: Batches<TcpConnection>) -> io::Result<()> {
         match self.shared.try_replace(Some(batches)) {
             Ok(_) => Ok(()),
@@ -36,7 +36,7 @@ impl Link {
         }
     }
 
-    /// Takes the connection out.
+    /// Takes the connection out of the slot.
     pub(crate) fn take(&self) -> Option<Batches<TcpConnection>> {
         match self.shared.try_take() {
             Ok(batches) => batches,
@@ -45,7 +45,7 @@ impl Link {
     }
 }
 
-/// Reads from a connection. Before that, what waits to be sent on it is sent.
+/// Reads from the connection. Sends its queue first.
 #[derive(Drop)]
 pub struct TcpReader {
     link: Link,
@@ -71,7 +71,8 @@ impl Read for TcpReader {
     }
 }
 
-/// Writes to a connection. What is written leaves together, before the next read at the latest, or where the link is closed.
+/// Writes to the connection. The bytes are sent in a batch, at the latest before the next read or when the connection
+/// is closed.
 #[derive(Drop)]
 pub struct TcpWriter {
     link: Link,
@@ -96,7 +97,7 @@ impl Write for TcpWriter {
         }
     }
 
-    /// It does nothing: what waits is sent before the next read.
+    /// Does nothing: the queue is sent before the next read.
     fn flush(&mut self) -> io::Result<()> {
         Ok(())
     }

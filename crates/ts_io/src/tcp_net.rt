@@ -1,4 +1,4 @@
-// Connections of TCP.
+// A TCP listener.
 ghost use Rattle.std.specs.Prelude.{◌≡◌, None, true, false, is_ok, OnOk, OnErr};
 ghost use Rattle.ts_io.specs.Adapters.{failed_listens_of, hands_out};
 ghost use Rattle.ts_io.specs.Causes.{HasCause, counted};
@@ -11,11 +11,10 @@ use crate::{
 use std::net::{Net, TcpListener, TcpStream};
 use std::{io, rt};
 
-/// A listener over the system's network, which counts its errors. It tells nothing of the links to come or of the closed
-/// ones.
+/// A listener over the system's network, which counts its errors. The proofs assume nothing about its connections.
 ///
-/// Both ends of a link share one connection and what waits to be sent on it. Where a link is closed, this is sent, and then
-/// the connection ends.
+/// Both ends of a connection share it and its queue of bytes to send. Closing sends the queue, then ends the
+/// connection.
 #[derive(Drop)]
 pub struct TcpNet<R> {
     rt: R,
@@ -29,7 +28,7 @@ impl<R> TcpNet<R>
 where
     R: Net<Listener = TcpListener, Stream = TcpStream> + rt::Clock + AllocGlobal,
 {
-    /// A listener that listens nowhere yet.
+    /// Creates a listener without an address.
     pub fn new(rt: R) -> Self
         ensures faults { failed_listens_of result ≡ 0 }
         ensures out { hands_out result ≡ false }
@@ -45,7 +44,7 @@ where
         }
     }
 
-    // Listens at this address. The place of the link is made once.
+    // Listens on this address. The slot for connections is allocated once.
     fn listen(&mut self, address: &str) -> io::Result<()>
         ensures out { hands_out self.new ≡ hands_out self.old }
         ensures faults { failed_listens_of self.new ≡ failed_listens_of self.old }
@@ -58,7 +57,7 @@ where
         Ok(())
     }
 
-    // The next connection as a link. Takes no memory.
+    // Accepts the next connection. Allocates nothing.
     fn next_link(&self) -> io::Result<Ends<StdSource<TcpReader>, StdSink<TcpWriter>>> {
         let (Some(listener), Some(link)) = (&self.listener, &self.link) else {
             return Err(io::Error::from(io::ErrorKind::NotConnected));
@@ -73,7 +72,7 @@ where
         })
     }
 
-    // Sends what waits, and ends the connection of the link.
+    // Sends the queue and ends the open connection.
     fn end_link(&self) {
         let Some(link) = &self.link else { return };
         let Some(mut batches) = link.take() else {
@@ -101,7 +100,7 @@ where
 
     ghost is_out = { hands_out };
 
-    /// The address is a host and a port, as `localhost:7379`.
+    /// The address is a host and a port, such as `localhost:7379`.
     fn open(&mut self, address: &str) -> Result<(), Failed>
         ensures out { hands_out self.new ≡ hands_out self.old }
         ensures cause { HasCause (failed_listens_of self.old) (failed_listens_of self.new) result }
@@ -114,7 +113,7 @@ where
         }
     }
 
-    /// It waits for the next connection. Where no address is open it fails.
+    /// Waits for the next connection. Fails if it is not listening.
     fn accept(&mut self) -> Result<Ends<StdSource<TcpReader>, StdSink<TcpWriter>>, Failed>
         requires { hands_out self.old ≡ false }
         ensures out { hands_out self.new ≡ is_ok result }

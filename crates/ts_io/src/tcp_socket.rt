@@ -1,4 +1,4 @@
-// A socket of TCP, whose calls can be told not to wait.
+// A TCP socket, with calls that don't block.
 ghost use Rattle.std.specs.Prelude.{◌≡◌, ◌<◌, ◌≤◌, length, IfOk, IfSome};
 ghost use Rattle.std.specs.Io.{ReadsAtMost, WritesAtMost};
 
@@ -8,27 +8,28 @@ use std::net::{Shutdown, TcpStream};
 use std::time::{Duration, Instant};
 use std::{io, rt};
 
-/// How long a send waits before the peer is behind. The system makes one tick of its clock of this.
+/// How long a send waits, in milliseconds, before the peer counts as behind. The system rounds this up to one clock
+/// tick.
 const MOMENT_MILLIS: u64 = 1;
 
-/// How long a connection that was shut waits for its client to send more or to close: each time, and in all.
+/// How long a closing connection waits for its client to send more or to close, in milliseconds: per read, and in all.
 const LINGER_STEP_MILLIS: u64 = 100;
 
 const LINGER_MILLIS: u64 = 5000;
 
-/// How many bytes of its client a connection that was shut reads and drops: 256 MiB.
+/// How many bytes a closing connection reads from its client and drops: 256 MiB.
 const LINGER_BYTES: usize = 268_435_456;
 
-/// Whether a call on the stream waits.
+/// Whether a call on the stream blocks.
 #[derive(Clone, Copy, PartialEq, Eq)]
 enum Mode {
-    /// No call was made yet.
+    /// Before the first call.
     Fresh,
     Waits,
     ReturnsAtOnce,
 }
 
-/// A stream of TCP. Its first call sets that small packets are not held back and that a send waits a moment at most.
+/// A TCP stream. Its first call turns off Nagle's algorithm and limits how long a send waits.
 #[derive(Drop)]
 pub(crate) struct TcpSocket {
     stream: TcpStream,
@@ -43,7 +44,7 @@ impl TcpSocket {
         }
     }
 
-    /// Sends a front of `bytes`: none where the peer takes none in that time.
+    /// Sends a prefix of `bytes`, none of them if the peer takes none in time.
     pub(crate) fn send(&mut self, bytes: &[u8], wait: Wait) -> io::Result<usize>
         ensures bound { WritesAtMost result bytes.now }
         ensures progress { wait ≡ Wait.Long → 0 < length bytes.now → IfOk result (λ n. 0 < n) }
@@ -55,7 +56,7 @@ impl TcpSocket {
         }
     }
 
-    /// Reads until bytes have come, or the end.
+    /// Reads, waiting until bytes arrive or the input ends.
     pub(crate) fn receive(&mut self, buf: &mut [u8]) -> io::Result<usize>
         ensures { ReadsAtMost result buf.new }
     {
@@ -69,7 +70,7 @@ impl TcpSocket {
         Err(io::Error::from(ErrorKind::TimedOut))
     }
 
-    /// Reads what has come. `None`: nothing has.
+    /// Reads what has arrived. `None` means that nothing has.
     pub(crate) fn try_receive(&mut self, buf: &mut [u8]) -> io::Result<Option<usize>>
         ensures { IfOk result (λ o. IfSome o (λ n. n ≤ length buf.new)) }
     {
@@ -81,9 +82,9 @@ impl TcpSocket {
         }
     }
 
-    /// Shuts the sending side, and reads and drops what the client still sends until it closes too, for some time and some
-    /// bytes at most. A stream that is closed while it has bytes that were not read is reset, and what its client has not
-    /// received then is lost.
+    /// Shuts down the sending side, then reads and drops what the client still sends until it closes too, up to a limit
+    /// of time and bytes. Closing a stream that has unread bytes resets it, and the client would lose what it has not
+    /// yet received.
     pub(crate) fn linger<R: rt::Clock>(&mut self, rt: &R) -> io::Result<()> {
         self.stream.shutdown(Shutdown::Write)?;
         self.stream
@@ -100,7 +101,7 @@ impl TcpSocket {
         Ok(())
     }
 
-    // Reads once, drops that, and says how many bytes may still be read: none after the end. A read that brings nothing
+    // Reads once, drops the bytes, and returns how many bytes may still be read: 0 at the end. A read without bytes
     // counts as one byte.
     fn drop_once(&mut self, left: usize) -> io::Result<usize>
         requires { 0 < left }
@@ -115,7 +116,7 @@ impl TcpSocket {
         }
     }
 
-    // Sets whether calls wait, and before the first call what holds for all of them.
+    // Sets whether calls block. Before the first call, also sets the options of the stream.
     fn set_mode(&mut self, mode: Mode) -> io::Result<()> {
         if self.mode == mode {
             return Ok(());
@@ -130,7 +131,7 @@ impl TcpSocket {
         Ok(())
     }
 
-    // Sends once.
+    // Makes one send.
     fn send_once(&mut self, bytes: &[u8], mode: Mode) -> io::Result<usize>
         ensures { WritesAtMost result bytes.now }
     {
@@ -141,7 +142,7 @@ impl TcpSocket {
         }
     }
 
-    // Sends until the peer has taken some.
+    // Sends, waiting until the peer has taken some bytes.
     fn send_some(&mut self, bytes: &[u8]) -> io::Result<usize>
         ensures bound { WritesAtMost result bytes.now }
         ensures progress { 0 < length bytes.now → IfOk result (λ n. 0 < n) }
@@ -156,7 +157,7 @@ impl TcpSocket {
     }
 }
 
-// Whether the call would have had to wait, or was interrupted.
+// Whether the call would have blocked or was interrupted.
 fn is_for_now(error: &io::Error) -> bool {
     matches!(error.kind(), ErrorKind::WouldBlock | ErrorKind::Interrupted)
 }

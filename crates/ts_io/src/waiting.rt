@@ -1,20 +1,20 @@
-// A queue of bytes that wait to be sent.
+// A queue of bytes to send.
 ghost use Rattle.std.specs.Prelude.{◌≡◌, ◌==◌, ◌≤◌, ◌^◌, [], ◌++◌, length, drop, OnOk, OnErr};
 
 use std::alloc::Global;
 use std::marker::Model;
 
-/// The most bytes that wait: 64 MiB.
+/// The capacity of the queue: 64 MiB.
 const MOST_WAITING: usize = 67_108_864;
 
-/// The most room that is kept where nothing waits.
+/// The largest buffer that an empty queue keeps, in bytes.
 const MOST_SPARE: usize = 65536;
 
-/// There is no room for more bytes that wait.
+/// The queue can't take more bytes: its limit is reached, or memory ran out.
 #[derive(Clone, Copy)]
 pub struct Full;
 
-/// Bytes that wait to be sent, in the order in which they came: at most 64 MiB.
+/// A queue of bytes to send, at most 64 MiB.
 #[derive(Drop)]
 pub struct Waiting {
     bytes: Vec<u8>,
@@ -32,7 +32,7 @@ impl Model for Waiting {
 }
 
 impl Waiting {
-    /// Nothing waits. Takes no memory.
+    /// Creates an empty queue. Allocates nothing.
     pub fn new(alloc: Global) -> Self
         ensures { result ≡ [] }
     {
@@ -42,29 +42,28 @@ impl Waiting {
         }
     }
 
-    /// How many bytes wait.
+    /// The number of queued bytes.
     pub fn len(&self) -> usize
         ensures { result ≡ length self.now }
     {
         self.bytes.len() - self.sent
     }
 
-    /// Whether nothing waits.
+    /// Whether the queue is empty.
     pub fn is_empty(&self) -> bool
         ensures { result ≡ (length self.now == 0) }
     {
         self.len() == 0
     }
 
-    /// The bytes that wait.
+    /// The queued bytes.
     pub fn as_slice(&self) -> &[u8]
         ensures { result.now ≡ self.now }
     {
         &self.bytes[self.sent..]
     }
 
-    /// Adds these bytes at the end. It is refused where more than 64 MiB would wait, or without memory, and then nothing
-    /// has changed.
+    /// Appends these bytes. Fails without a change if the queue would exceed 64 MiB or memory runs out.
     pub fn push(&mut self, bytes: &[u8]) -> Result<(), Full>
         ensures all { OnOk result (self.new ≡ self.old ++ bytes.now) }
         ensures limit { OnOk result (length self.new ≤ 2 ^ 26) }
@@ -82,7 +81,7 @@ impl Waiting {
         }
     }
 
-    /// Takes this many bytes from the front.
+    /// Removes this many bytes from the front.
     pub fn drop_front(&mut self, count: usize)
         requires { count ≤ length self.old }
         ensures { self.new ≡ drop count self.old }
@@ -94,7 +93,7 @@ impl Waiting {
         }
     }
 
-    // Moves what waits to the front of the room.
+    // Moves the queued bytes to the start of the buffer.
     fn forget_sent(&mut self)
         ensures { self.new ≡ self.old }
     {

@@ -1,4 +1,4 @@
--- The bytes of an encoded request but the last: with them a stream is inside that request.
+-- All bytes of an encoded request but the last: a stream that ends with them ends inside that request.
 use Rattle.std.proofs.Common.{◌≡◌, ℕ, suc, ◌+◌, ◌-◌, ◌^◌, ◌<◌, ◌≤◌, Bool, List, [], ◌∷◌, ◌++◌, length, sum_by, All, refl, sym, ap, ◌∙◌, subst, append_assoc, append-nil, length-append, take, drop, take-append-drop, arith}
 use Rattle.std.proofs.lemmas.List.Sums.{sum_by-cons}
 use Rattle.std.proofs.lemmas.List.{take-append-le, length-take-le}

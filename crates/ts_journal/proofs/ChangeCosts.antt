@@ -1,4 +1,4 @@
--- The record of a change is not much longer than the words that it was read from.
+-- The record of a change is not much longer than the arguments that it was parsed from.
 use Rattle.std.proofs.Common.{ℕ, ◌≤◌, Bool, true, false, if◌then◌else◌, List, [], ◌∷◌, length, codes, refl, arith}
 use Rattle.std.specs.Fmt.{decimal}
 use Rattle.std.specs.Prelude.{ℤ, unwrap_or, flat_map, Result, Ok, Err, IfOk}

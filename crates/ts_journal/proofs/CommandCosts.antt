@@ -1,4 +1,4 @@
--- The record of a command is not much longer than the words that it was read from.
+-- The record of a command is not much longer than the arguments that it was parsed from.
 use Rattle.std.proofs.Common.{ℕ, suc, Bool, true, false, List, [], ◌∷◌, length}
 use Rattle.std.proofs.lemmas.Result.{IfOk-weaker}
 use Rattle.std.specs.Prelude.{neg_ℤ, Option, None, Some, IfSome, Ok, Err, IfOk}

@@ -1,4 +1,4 @@
--- How many words are put for those that were read, and how long they are.
+-- How many arguments are written for those that were parsed, and how long they are.
 use Rattle.std.proofs.Common.{◌≡◌, ℕ, ◌+◌, ◌*◌, ◌≤◌, nat_le, Bool, true, false, if◌then◌else◌, List, [], ◌∷◌, ◌++◌, length, sum_by, refl, ap, length-append, arith}
 use Rattle.std.proofs.lemmas.Bool.{le-leb, leb-true}
 use Rattle.std.proofs.lemmas.List.Sums.{sum_by-append, sum_by-cons}
@@ -10,7 +10,8 @@ abbrev pub AreShort : ℕ → List Word → Type 0
 AreShort most [] = Unit {0}
 AreShort most (word ∷ words) = (length word ≤ most) × AreShort most words
 
--- What is put for some words: so many words more, each of at most 32 bytes more than the longest, and of so many bytes more than 24 for each.
+-- What is put for some words: so many words more, each of at most 32 bytes more than the longest, and of so many
+-- bytes more than 24 for each.
 pub record Costs (put words : List Word) (more bytes : ℕ) : Type 0 where
   pub count : length put ≤ length words + more
   pub each : (most : ℕ) → AreShort most words → AreShort (most + 32) put

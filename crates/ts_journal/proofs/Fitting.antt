@@ -1,4 +1,4 @@
--- The record of a command that was read within limits fits the limits of its journal.
+-- If a command's request is within limits, its record fits the limits of the journal.
 use Rattle.std.proofs.Common.{◌≡◌, ◌≢◌, ℕ, suc, ◌+◌, ◌-◌, ◌≤◌, ◌==◌, Bool, true, false, not, if◌then◌else◌, List, [], ◌∷◌, length, take, filter, sum_by, All, inl, inr, refl, ap, arith, sym, subst}
 use Rattle.std.proofs.lemmas.Bool.{eqb-false}
 use Rattle.std.proofs.lemmas.List.{length-take-le}

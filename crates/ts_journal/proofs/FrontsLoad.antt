@@ -1,4 +1,4 @@
--- The fronts of a journal that loads: each loads, and that of its whole requests to the same state.
+-- Every prefix of a journal that loads also loads. Its whole requests load to the same state.
 use Rattle.std.proofs.Common.{◌≡◌, ℕ, ◌≤◌, List, length, take, drop, inl, inr, refl, sym, ap, ◌∙◌, subst, take-append-drop, arith}
 use Rattle.std.proofs.lemmas.List.{take_all, length-take, length-take-le}
 use Rattle.ts_spec.specs.declared.limits.Limits.{Limits}

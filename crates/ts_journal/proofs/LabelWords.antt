@@ -1,4 +1,4 @@
--- Labels as words: what labels are read has each name once, and is read again from its words.
+-- Labels as arguments: parsed labels have each name once, and parse again from their arguments.
 use Rattle.std.proofs.Common.{◌≡◌, suc, Bool, true, false, ◌||◌, if◌then◌else◌, List, [], ◌∷◌, ◌++◌, length, take, refl, sym, ◌∙◌, ap, append_assoc, append-nil}
 use Rattle.std.proofs.lemmas.Bool.{false≢true}
 use Rattle.std.specs.Prelude.{Ok, Err, IfOk}

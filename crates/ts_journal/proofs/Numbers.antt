@@ -1,4 +1,4 @@
--- Numbers in decimal read back as these numbers.
+-- Numbers in decimal parse as these numbers.
 use Rattle.std.proofs.Common.{◌≡◌, ℕ, zero, suc, ◌+◌, ◌*◌, ◌/◌, ◌%◌, ◌^◌, ◌<◌, ◌≤◌, ◌==◌, ◌&&◌, nat_le, Bool, true, false, if◌then◌else◌, List, [], ◌∷◌, length, Some, refl, ◌∙◌, ap, arith}
 use Rattle.std.proofs.lemmas.Bool.{le-leb, leb-true, lt-ltb, eqb-true, ne_eqb, and_parts}
 use Rattle.std.proofs.lemmas.Fmt.{length-decimal-le, decimal_nonempty}

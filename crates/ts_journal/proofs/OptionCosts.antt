@@ -1,4 +1,4 @@
--- How long the words of options in a record are.
+-- The lengths of options in a record.
 use Rattle.std.proofs.Common.{◌≡◌, ℕ, ◌≤◌, nat_le, true, List, [], ◌∷◌, length, codes, refl, arith}
 use Rattle.std.proofs.lemmas.Bool.{leb-true, and_parts}
 use Rattle.std.specs.Fmt.{decimal}

@@ -1,4 +1,4 @@
--- The words of one option read back as what they were put for.
+-- The arguments of one option parse as that option.
 use Rattle.std.proofs.Common.{◌≡◌, ℕ, ◌≤◌, ◌%◌, ◌==◌, ◌&&◌, nat_le, Bool, true, false, if◌then◌else◌, List, [], ◌∷◌, ◌++◌, length, take, codes, refl, ◌∙◌, ap, arith}
 use Rattle.std.proofs.lemmas.Bool.{leb-true, and_parts}
 use Rattle.std.specs.Prelude.{ℤ, pos, int_lt, None, Some, ok_or, Result, Ok, Err}

@@ -1,4 +1,4 @@
--- The options of a record read back as what they were put for.
+-- The options of a record parse as the same options.
 use Rattle.std.proofs.Common.{◌≡◌, ℕ, ◌≤◌, true, List, ◌∷◌, ◌++◌, codes, refl, ◌∙◌, ap, append_assoc}
 use Rattle.std.specs.Prelude.{Option, None, Some, IfSome, Ok}
 use Rattle.std.specs.Fmt.{decimal}

@@ -1,4 +1,4 @@
--- How words are put, one after another.
+-- How arguments are appended, one after another.
 use Rattle.std.proofs.Common.{◌≡◌, ℕ, zero, suc, ◌≤◌, List, [], ◌∷◌, ◌++◌, length, take, drop, replicate, slice_get, option_map, Some, refl, sym, ◌∙◌, ap, append_assoc, append-nil, length-append, arith}
 use Rattle.std.specs.Fmt.{decimal}
 use Rattle.ts_spec.specs.Encoded.{encoded_words, encoded_request}

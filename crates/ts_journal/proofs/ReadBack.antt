@@ -1,4 +1,4 @@
--- The words of records read back as their commands, with times resolved.
+-- The arguments of records parse as their commands, with times resolved.
 use Rattle.std.proofs.Common.{◌≡◌, ◌≢◌, ℕ, suc, ◌*◌, ◌%◌, ◌^◌, ◌≤◌, ◌==◌, ◌&&◌, nat_le, true, if◌then◌else◌, List, [], ◌∷◌, ◌++◌, length, map, codes, refl, ◌∙◌, ap, length-append, arith}
 use Rattle.std.proofs.lemmas.Bool.{le-leb, eq-eqb}
 use Rattle.std.specs.Prelude.{ℤ, Option, None, unwrap_or, flat_map, Result, Ok, Err, IfOk}

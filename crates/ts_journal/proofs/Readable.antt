@@ -1,4 +1,4 @@
--- Numbers and values that words say are in their ranges.
+-- Parsed numbers and values are in their ranges.
 use Rattle.std.proofs.Common.{◌≡◌, ℕ, zero, suc, ◌≤◌, ◌&&◌, nat_le, Bool, true, false, if◌then◌else◌, refl, arith}
 use Rattle.std.proofs.lemmas.Bool.{leb-true, and_parts}
 use Rattle.std.specs.Prelude.{ℤ, pos, negsuc, neg_ℤ, unsigned_abs, Option, None, Some, ok_or, unwrap_or, IfSome, Result, Ok, Err, IfOk}

@@ -1,4 +1,4 @@
--- What a change says is in its range.
+-- The parts of a parsed change are in their ranges.
 use Rattle.std.proofs.Common.{◌≡◌, ◌≢◌, ℕ, ◌≤◌, ◌^◌, nat_le, Bool, true, false, if◌then◌else◌, List, [], ◌∷◌, refl, arith}
 use Rattle.std.proofs.lemmas.Bool.{leb-true, and_parts}
 use Rattle.std.specs.Prelude.{ℤ, Option, unwrap_or, IfSome, ok_or, Result, Ok, Err, IfOk}

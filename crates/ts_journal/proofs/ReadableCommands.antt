@@ -1,4 +1,4 @@
--- What a command says is in its range.
+-- The parts of a parsed command are in their ranges.
 use Rattle.std.proofs.Common.{◌≡◌, ◌≢◌, suc, nat_le, Bool, true, false, if◌then◌else◌, List, [], ◌∷◌, length, refl}
 use Rattle.std.proofs.lemmas.Bool.{false≢true}
 use Rattle.std.specs.Prelude.{neg_ℤ, Option, None, Some, IfSome, Ok, Err, IfOk}

@@ -1,4 +1,4 @@
--- What options give is in its range.
+-- Parsed options are in their ranges.
 use Rattle.std.proofs.Common.{◌≡◌, ℕ, zero, suc, ◌≤◌, Bool, true, false, if◌then◌else◌, List, [], ◌∷◌, take, refl, arith}
 use Rattle.std.specs.Prelude.{ℤ, pos, int_lt, unsigned_abs, Option, None, Some, ok_or, is_some, IfSome, Result, Ok, Err, IfOk}
 use Rattle.std.specs.Str.{str_eq_ignore_ascii_case}

@@ -1,4 +1,5 @@
--- The answer of a change but TS.MADD has no items: that it is done, how many, or why it is refused. Then the state stays.
+-- The reply of any change except TS.MADD has no items: it is OK, a number, or an error. After an error the state is
+-- unchanged.
 use Rattle.std.proofs.Common.{◌≡◌, ℕ, ◌+◌, Bool, true, false, if◌then◌else◌, List, [], ◌∷◌, length, refl, sym, ◌∙◌}
 use Rattle.std.specs.Prelude.{nat_lt, nat_le, is_some, unwrap_or, ℤ, Option, None, Some}
 use Rattle.ts_spec.specs.declared.bucket.Aggregator.{Aggregator}

@@ -1,4 +1,4 @@
--- The triples of TS.MADD that were taken, without the others.
+-- The accepted triples of TS.MADD, without the others.
 use Rattle.std.proofs.Common.{◌≡◌, ℕ, Bool, true, false, if◌then◌else◌, List, [], ◌∷◌, ◌++◌, map, refl, sym, ◌∙◌, ap, subst, append_assoc, append-nil}
 use Rattle.std.specs.Prelude.{ℤ, Result, Ok, Err}
 use Rattle.ts_spec.specs.declared.command.At.{At}

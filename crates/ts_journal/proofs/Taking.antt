@@ -1,4 +1,4 @@
--- Pieces that are taken one after another.
+-- Accepted pieces, one after another.
 use Rattle.std.proofs.Common.{◌≡◌, ℕ, ◌+◌, ◌≤◌, min, Bool, true, false, if◌then◌else◌, List, [], ◌∷◌, ◌++◌, length, refl, arith}
 use Rattle.ts_journal.specs.Lines.{after_line, begins_number, taken_by, joined, words_in}
 

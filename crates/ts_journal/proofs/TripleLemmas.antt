@@ -1,4 +1,4 @@
--- The words of triples in a row, and their lengths.
+-- The arguments of several triples, and their lengths.
 use Rattle.std.proofs.Common.{◌≡◌, ℕ, ◌+◌, ◌==◌, false, if◌then◌else◌, replicate, codes, List, [], ◌∷◌, ◌++◌, length, map, take, drop, refl, sym, ◌∙◌, ap, append_assoc, append-nil, length-append, arith}
 use Rattle.std.specs.Prelude.{flat_map, sum}
 use Rattle.std.proofs.lemmas.List.Sums.{sum_by-cons}

@@ -8,14 +8,14 @@ use Rattle.ts_spec.specs.Text.{Reply}
 use Rattle.ts_spec.specs.Wire.{Request}
 use Rattle.ts_journal.specs.Record.{accepted, record_words}
 
--- so many words, and as many bytes, that there are limits for the records of such requests
+-- these limits are small enough for a journal's limits to be computed from them
 pub record IsBounded (limits : WireLimits) : Type 0 where
   pub words : limits.words ≤ 4000000000
   pub word_bytes : limits.word_bytes ≤ 4000000000
   pub request_bytes : limits.request_bytes ≤ 100000000
   pub line_bytes : limits.line_bytes ≤ 50000000
 
--- the record of an array fits, and that of a line
+-- limits that fit the record of an array request, and that of an inline request
 abbrev pub journal_limits : WireLimits → WireLimits
 journal_limits limits = record {
   words = limits.words + limits.line_bytes + 32;
@@ -24,7 +24,7 @@ journal_limits limits = record {
   line_bytes = limits.line_bytes;
 }
 
--- the words of the record of a command, which was read of a request within the limits
+-- the request is the record of a command whose own request is within the limits
 pub record IsRecordWithin (limits : WireLimits) (request : Request) : Type 0 where
   pub words : Request
   pub within : IsWithin limits words

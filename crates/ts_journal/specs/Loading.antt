@@ -14,34 +14,35 @@ use Rattle.ts_journal.specs.Limits.{journal_limits}
 use Rattle.ts_journal.specs.Record.{is_change, is_error, items_of}
 use Rattle.ts_journal.specs.Replay.{has_error}
 
--- the state after its changes, and how many of its bytes are whole requests; or the place after the last change before it breaks
+-- the state after all changes, and how many bytes are whole requests; or the offset after the last change before it
+-- breaks
 pub data Load : Type 0 where
   Loads : State → (place : ℕ) → Load
   BreaksAt : (place : ℕ) → Load
 
--- whether a reply is no error, nor has one among its items
+-- whether a reply is not an error and has no error among its items
 abbrev pub is_accepted : Reply → Bool
 is_accepted reply = not (is_error reply || has_error (items_of reply))
 
--- the state after a step whose reply is accepted
+-- the state after a step, if its reply is accepted
 abbrev pub accepted_state : Outcome → Option State
 accepted_state done = if is_accepted (reply_to done.response) then Some done.state else None
 
--- the state after a command of a journal: a change that does not ask for the time, and is accepted
+-- the state after a command of a journal, which must be a change, must not ask for the time, and must be accepted
 abbrev pub replayed : Limits → State → Command → Option State
 replayed limits m c = if is_change c && not (needs_clock c) then accepted_state (step limits m 0 c) else None
 
--- the same of words that may be no command: then there is no state after them
+-- the same for a request; there is no state if it is not a command
 abbrev pub replayed_by : Limits → State → Result Command Fault → Option State
 replayed_by limits m (Ok c) = replayed limits m c
 replayed_by limits m (Err fault) = None
 
--- on from the state after a request, or broken after the one before it
+-- continues from the state after a request, or breaks after the request before it
 abbrev pub on_or : Option State → (place : ℕ) → (State → Load) → Load
 on_or None place on = BreaksAt place
 on_or (Some m) place on = on m
 
--- what the requests of a stream of this size load to, from the state that those before this place led to
+-- loads the rest of a stream of this size, from the state after the requests before offset `place`
 abbrev pub load_on : Limits → State → (place size : ℕ) → Stream → Load
 load_on limits m place size (Then request after rest) = on_or (replayed_by limits m (command request)) place (λ n. load_on limits n after size rest)
 load_on limits m place size Ended = Loads m size
@@ -60,7 +61,7 @@ load limits bytes = load_from limits limits.wire empty bytes
 abbrev pub LoadsTo : Limits → List ℕ → State → Type 0
 LoadsTo limits bytes m = load limits bytes ≡ Loads m (length bytes)
 
--- a front of these bytes loads to some state, and this is how many of its bytes are whole requests
+-- the first n bytes load to some state, and `place` is how many of them are whole requests
 pub record FrontLoads (limits : Limits) (bytes : List ℕ) (n : ℕ) : Type 0 where
   pub state : State
   pub place : ℕ

@@ -1,4 +1,4 @@
--- The record of a change: a request that does the same whenever it is read, as it stands in a journal.
+-- The record of a change: the request in the journal, which has the same effect whenever it is executed.
 use Rattle.std.specs.Prelude.{◌≡◌, ℕ, ℤ, Bool, true, false, List, [], ◌∷◌, ◌++◌, flat_map, codes, Option, None, Some, Result, Ok, if◌then◌else◌}
 use Rattle.std.specs.Fmt.{decimal}
 use Rattle.ts_spec.specs.declared.command.At.{At}
@@ -20,7 +20,7 @@ use Rattle.ts_spec.specs.Wire.{Request}
 
 -- ---- options
 
--- the words of an option, where it is given
+-- the arguments of an option, if it is given
 abbrev pub given : {X : Type 0} → (X → List Word) → Option X → List Word
 given words None = []
 given words (Some x) = words x
@@ -39,40 +39,40 @@ policy_name policy.Min = codes "MIN"
 policy_name policy.Max = codes "MAX"
 policy_name policy.Sum = codes "SUM"
 
--- the words of RETENTION: how long samples are kept
+-- RETENTION: how long samples are kept
 abbrev pub retention_words : ℕ → List Word
 retention_words n = codes "RETENTION" ∷ decimal n ∷ []
 
--- the words of ENCODING: how chunks are encoded
+-- ENCODING: how chunks are encoded
 abbrev pub encoding_words : Encoding → List Word
 encoding_words encoding = codes "ENCODING" ∷ encoding_name encoding ∷ []
 
--- the words of CHUNK_SIZE: how large a chunk may be
+-- CHUNK_SIZE: how large a chunk may be
 abbrev pub chunk_size_words : ℕ → List Word
 chunk_size_words n = codes "CHUNK_SIZE" ∷ decimal n ∷ []
 
--- the words of DUPLICATE_POLICY: what a series does with two samples at one time
+-- DUPLICATE_POLICY: what a series does with two samples at one time
 abbrev pub policy_words : Policy → List Word
 policy_words p = codes "DUPLICATE_POLICY" ∷ policy_name p ∷ []
 
--- the words of ON_DUPLICATE: what one write does with a sample that is there
+-- ON_DUPLICATE: what one write does if there is a sample at its time
 abbrev pub on_duplicate_words : Policy → List Word
 on_duplicate_words p = codes "ON_DUPLICATE" ∷ policy_name p ∷ []
 
--- the words of IGNORE: how near to the last sample a new one is ignored
+-- IGNORE: how close to the last sample a new one is ignored
 abbrev pub ignore_words : Ignore → List Word
 ignore_words ignore = codes "IGNORE" ∷ decimal ignore.time ∷ shown_value ignore.value ∷ []
 
--- labels and their values, one after another
+-- labels and their values, alternating
 abbrev pub label_pairs : List Label → List Word
 label_pairs [] = []
 label_pairs (label ∷ labels) = label.name ∷ label.value ∷ label_pairs labels
 
--- the words of LABELS: the labels of a series
+-- LABELS: the labels of a series
 abbrev pub labels_words : List Label → List Word
 labels_words labels = codes "LABELS" ∷ label_pairs labels
 
--- all that a new series is made with
+-- all options of a new series
 abbrev pub spec_words : Spec → List Word
 spec_words s =
     retention_words s.options.retention
@@ -82,7 +82,7 @@ spec_words s =
     ++ ignore_words s.options.ignore
     ++ labels_words s.labels
 
--- what a series gets anew
+-- the options that TS.ALTER changes
 abbrev pub change_words : Change → List Word
 change_words c =
     given retention_words c.retention
@@ -93,21 +93,22 @@ change_words c =
 
 -- ---- commands
 
--- a sample of TS.MADD, where it has a time and a value
+-- a sample of TS.MADD, if its time and value are valid
 abbrev pub sample_words : (reading : ℕ) → Word → Result At Fault → Result ℤ Fault → List Word
 sample_words reading key (Ok at) (Ok v) = key ∷ decimal (time_of reading at) ∷ shown_value v ∷ []
 sample_words reading key _ _ = []
 
--- the words of a key, a time and a value of TS.MADD
+-- the key, time and value of a triple of TS.MADD
 abbrev pub triple_words : (reading : ℕ) → Triple → List Word
 triple_words reading t = sample_words reading t.key t.at t.value
 
--- a name and the words after it, if there are any
+-- a name and the arguments after it, or nothing if there are none
 abbrev pub with_name : Word → List Word → Request
 with_name name [] = []
 with_name name (word ∷ words) = name ∷ word ∷ words
 
--- The words of a change, with a reading of the clock in place of each time that is the clock's. None for a command that changes nothing.
+-- The arguments of the record of a change. A reading of the clock replaces each time that the command leaves to the
+-- clock. A command that changes nothing has none.
 abbrev pub record_words : (reading : ℕ) → Command → Request
 record_words reading (Create key s) = codes "TS.CREATE" ∷ key ∷ spec_words s
 record_words reading (Alter key c) = codes "TS.ALTER" ∷ key ∷ change_words c
@@ -121,7 +122,7 @@ record_words reading (DeleteRule source dest) = codes "TS.DELETERULE" ∷ source
 record_words reading (Drop keys) = codes "DEL" ∷ keys
 record_words reading _ = []
 
--- whether a command is one of those that change the database
+-- whether a command is one that changes the database
 abbrev pub is_change : Command → Bool
 is_change (Create key s) = true
 is_change (Alter key c) = true
@@ -146,39 +147,39 @@ abbrev pub is_number : Reply → Bool
 is_number (Int n) = true
 is_number _ = false
 
--- the replies of an array
+-- the items of an array reply
 abbrev pub items_of : Reply → Replies
 items_of (Array items) = items
 items_of _ = Empty
 
--- the triples whose item of the reply is a number
+-- the triples whose item in the reply is a number
 abbrev pub taken : List Triple → Replies → List Triple
 taken [] replies = []
 taken (t ∷ ts) Empty = []
 taken (t ∷ ts) (Item reply replies) = if is_number reply then t ∷ taken ts replies else taken ts replies
 
--- of TS.MADD the triples that were taken, and any other command whole
+-- the accepted part of a command: of TS.MADD, the accepted triples; any other command is whole
 abbrev pub accepted : Command → Reply → Command
 accepted (Madd triples) reply = Madd (taken triples (items_of reply))
 accepted c reply = c
 
--- the bytes of a request, none where it has no words
+-- the bytes of a request, or nothing if it has no arguments
 abbrev pub bytes_of : Request → List ℕ
 bytes_of [] = []
 bytes_of (word ∷ words) = encoded_request (word ∷ words)
 
--- The record of a command that was executed with this reading of the clock and got this reply: none where nothing was accepted, nor
--- for a command that changes nothing.
+-- The record of a command executed with this reading of the clock and this reply. It is empty if nothing was accepted,
+-- or if the command is not a change.
 abbrev pub record_of : Command → (reading : ℕ) → Reply → List ℕ
 record_of c reading reply = if is_error reply then [] else bytes_of (record_words reading (accepted c reply))
 
--- what is told of each triple of TS.MADD: a number, or an error of one line
+-- each item of TS.MADD's reply is a number or an error of one line
 abbrev pub AreTold : Replies → Type 0
 AreTold Empty = Unit {0}
 AreTold (Item (Int n) replies) = AreTold replies
 AreTold (Item (Error words) replies) = IsOneLine words × AreTold replies
 AreTold (Item reply replies) = ⊥
 
--- for the text of each reply that the command may get, it is the record
+-- this is the record for the text of each reply that the command may get
 abbrev pub IsRecordOf : (reading : ℕ) → Command → (record_ : List ℕ → List ℕ) → Type 0
 IsRecordOf reading c record_ = (reply : Reply) → AreTold (items_of reply) → record_ (text reply) ≡ record_of c reading reply

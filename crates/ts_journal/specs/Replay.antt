@@ -1,4 +1,4 @@
--- What a record does when it is read: what its command did, as its reply told.
+-- What a record does when it is executed: what its command did, as far as its reply accepted it.
 use Rattle.std.specs.Prelude.{◌≡◌, ◌≢◌, ℕ, Bool, true, false, ◌||◌, List, [], ◌∷◌, Ok}
 use Rattle.ts_spec.specs.declared.limits.Limits.{Limits}
 use Rattle.ts_spec.specs.Command.{Triple, Command, Madd}
@@ -11,35 +11,37 @@ use Rattle.ts_spec.specs.Text.{Reply, Replies, Empty, Item}
 use Rattle.ts_spec.specs.Wire.{Request}
 use Rattle.ts_journal.specs.Record.{is_error, is_number, items_of, record_of}
 
--- the sample of a triple was written, which leaves the new state
+-- the triple's sample was written, which leads to the new state
 pub record IsTaken (limits : Limits) (reading : ℕ) (t : Triple) (old new : State) : Type 0 where
   pub time : ℕ
   pub told : item_of (triple_step limits old reading t.key t.at t.value).response ≡ Wrote time ∷ []
   pub state : new ≡ (triple_step limits old reading t.key t.at t.value).state
 
--- what a triple does whose item is a number, or is none: refused, no sample, or without memory
+-- what a triple does: it writes a sample if its item is a number; otherwise it changes nothing, because it failed, is
+-- invalid or found no memory
 abbrev pub DoesOne : Bool → Limits → (reading : ℕ) → Triple → (old new : State) → Type 0
 DoesOne true limits reading t old new = IsTaken limits reading t old new
 DoesOne false limits reading t old new = new ≡ old
 
--- the triples one after another, with the same reading, each with its item
+-- the triples are executed in order, with the same reading, and each has its item in the reply
 abbrev pub DoAll : Limits → (reading : ℕ) → List Triple → (old : State) → Replies → (new : State) → Type 0
 DoAll limits reading [] old Empty new = new ≡ old
 DoAll limits reading [] old (Item reply replies) new = ⊥
 DoAll limits reading (t ∷ ts) old Empty new = ⊥
 DoAll limits reading (t ∷ ts) old (Item reply replies) new = (mid : State) × DoesOne (is_number reply) limits reading t old mid × DoAll limits reading ts mid replies new
 
--- a step is answered, and leaves the new state
+-- a step gives this reply, and leads to the new state
 pub record IsStep (done : Outcome) (reply : Reply) (new : State) : Type 0 where
   pub says : reply ≡ reply_to done.response
   pub state : new ≡ done.state
 
--- a command was executed with this reading: it got this reply, and left the new state. Of TS.MADD some triples may have found no memory.
+-- A command was executed with this reading: it got this reply, and led to the new state. Some triples of TS.MADD may
+-- have run out of memory.
 abbrev pub IsDone : Limits → (reading : ℕ) → Command → (old : State) → Reply → (new : State) → Type 0
 IsDone limits reading (Madd triples) old reply new = DoAll limits reading triples old (items_of reply) new
 IsDone limits reading c old reply new = IsStep (step limits old reading c) reply new
 
--- a command of some words was executed, and has a record
+-- a command was executed, and has a record
 pub record IsRecorded (limits : Limits) (reading : ℕ) (c : Command) (old : State) (reply : Reply) (new : State) : Type 0 where
   pub words : Request
   pub says : command words ≡ Ok c
@@ -51,6 +53,6 @@ abbrev pub has_error : Replies → Bool
 has_error Empty = false
 has_error (Item reply replies) = is_error reply || has_error replies
 
--- a reply is no error, nor has it one among its items
+-- the reply is not an error, and has none among its items
 abbrev pub IsAccepted : Reply → Type 0
 IsAccepted reply = (is_error reply ≡ false) × (has_error (items_of reply) ≡ false)

@@ -1,4 +1,4 @@
-// Commands that change the database, as the words of their records.
+// The arguments of the records of changes, one function per command.
 ghost use Rattle.std.specs.Prelude.{◌≡◌, ◌∷◌, [], OnOk, Ok};
 ghost use Rattle.ts_spec.specs.Command as command;
 ghost use Rattle.ts_spec.specs.declared.command.At.TheVariants.{Time};
@@ -17,7 +17,7 @@ use ts_resp::Word;
 use ts_sample::{MAX_TIME, Units};
 use ts_spec::{Aggregator, At, Policy};
 
-// The time that a command means, with this reading of the clock.
+// The time of a command, given a reading of the clock.
 pub(crate) fn time_of(at: At, reading: u64) -> u64
     ensures { result ≡ time_of reading at }
 {
@@ -43,7 +43,7 @@ pub(crate) fn put_alter(draft: &mut Draft, key: &Word, change: &Change) -> Resul
     put_change(draft, change)
 }
 
-// Words of TS.ADD, its time resolved.
+// TS.ADD, with its time resolved.
 pub(crate) fn put_add(
     draft: &mut Draft,
     key: &Word,
@@ -62,7 +62,7 @@ pub(crate) fn put_add(
     put_spec(draft, spec)
 }
 
-// Words of TS.INCRBY, its time resolved; the sign of a change is in its value.
+// TS.INCRBY, with its time resolved. A TS.DECRBY has a negative value.
 pub(crate) fn put_incr(
     draft: &mut Draft,
     key: &Word,
@@ -147,7 +147,7 @@ fn put_keys(draft: &mut Draft, keys: &[Word]) -> Result<(), AllocError>
     Ok(())
 }
 
-// A sample of TS.MADD, its time resolved.
+// A sample of TS.MADD, with its time resolved.
 pub(crate) fn put_sample(
     draft: &mut Draft,
     key: &Word,

@@ -1,16 +1,16 @@
-// A request that is being written, word after word.
-ghost use Rattle.std.specs.Prelude.{◌≡◌, ◌≤◌, ◌∷◌, [], ◌++◌, drop, length, IfOk, OnOk};
+// A RESP request under construction.
+ghost use Rattle.std.specs.Prelude.{◌≡◌, ◌≤◌, ◌∷◌, [], ◌++◌, ◌+◌, drop, length, IfOk, OnOk};
 ghost use Rattle.std.specs.Fmt.{decimal};
 ghost use Rattle.ts_spec.specs.Text.{line_text};
 ghost use Rattle.ts_spec.specs.Value.{shown_value};
 
-use itoa::Buffer;
+use itoa::{Buffer, write_digits};
 use std::alloc::{AllocError, Global};
 use ts_decimal::print;
 use ts_resp::{Out, Word, close_array, encode_bulk, open_array};
 use ts_sample::Units;
 
-// Words of a request, behind a gap for what stands before them.
+// The arguments of a request, after a gap for its header.
 #[derive(Drop)]
 pub(crate) struct Draft {
     pub(crate) out: Out,
@@ -22,7 +22,7 @@ impl Draft {
     ghost use Rattle.ts_spec.specs.Wire.{Request};
     ghost use Rattle.ts_journal.specs.Draft.{Has, Puts};
 
-    // No words yet.
+    // Creates one without arguments.
     pub(crate) fn new(alloc: Global) -> Result<Draft, AllocError>
         ensures { IfOk result (Has []) }
     {
@@ -31,7 +31,7 @@ impl Draft {
         Ok(Draft { out, words: 0 })
     }
 
-    // One word more.
+    // Appends an argument.
     pub(crate) fn put(&mut self, word: &[u8]) -> Result<(), AllocError>
         ensures { OnOk result (Puts self.old self.new (word.now ∷ [])) }
     {
@@ -39,28 +39,28 @@ impl Draft {
         encode_bulk(word, &mut self.out)
     }
 
-    // A word of a request.
+    // Appends an argument of another request.
     pub(crate) fn put_word(&mut self, word: &Word) -> Result<(), AllocError>
         ensures { OnOk result (Puts self.old self.new (word.now ∷ [])) }
     {
         self.put(word.bytes())
     }
 
-    // A number in decimal.
+    // Appends a number in decimal.
     pub(crate) fn put_number(&mut self, number: u64) -> Result<(), AllocError>
         ensures { OnOk result (Puts self.old self.new (decimal number ∷ [])) }
     {
         self.put(Buffer::new().format(number).as_bytes())
     }
 
-    // A value as it is printed.
+    // Appends a value as it is printed.
     pub(crate) fn put_value(&mut self, value: Units) -> Result<(), AllocError>
         ensures { OnOk result (Puts self.old self.new (shown_value value ∷ [])) }
     {
         self.put(print(value, &mut [0; 32]))
     }
 
-    // The whole request.
+    // Fills in the header and returns the whole request.
     pub(crate) fn close(self) -> Out
         requires { 24 ≤ length self.out.bytes }
         ensures { (words : Request) → Has words self → result.bytes ≡ encoded_request words }
@@ -69,4 +69,33 @@ impl Draft {
         close_array(self.words, &mut out);
         out
     }
+}
+
+// The bytes of the gap: a `*`, the longest number and CRLF, and one more.
+pub(crate) const GAP: usize = 24;
+
+// Writes the header of a request with this many words so that it ends where the gap does. Returns the offset where it
+// starts.
+pub(crate) fn put_head(words: usize, room: &mut [u8]) -> usize
+    requires { 24 ≤ length room.old }
+    ensures text { drop result room.new ≡ line_text 42 (decimal words) ++ drop 24 room.old }
+    ensures start { result ≤ 24 }
+    ensures len { length room.new ≡ length room.old }
+{
+    let place = put_before(b"\r\n", GAP, room);
+    let place = write_digits(words as u64, room, place);
+    put_before(b"*", place, room)
+}
+
+// Writes bytes that end at offset `place`, and returns the offset where they start.
+fn put_before(bytes: &[u8], place: usize, room: &mut [u8]) -> usize
+    requires from { length bytes.now ≤ place }
+    requires to { place ≤ length room.old }
+    ensures text { drop result room.new ≡ bytes.now ++ drop place room.old }
+    ensures start { result + length bytes.now ≡ place }
+    ensures len { length room.new ≡ length room.old }
+{
+    let start = place - bytes.len();
+    room[start..place].copy_from_slice(bytes);
+    start
 }

@@ -1,4 +1,4 @@
-// The records that do not depend on what a reply accepts: those of all changes but TS.MADD.
+// The records that don't depend on the reply's items: those of all changes except TS.MADD.
 ghost use Rattle.std.specs.Prelude.{◌≡◌, OnOk};
 ghost use Rattle.ts_command.specs.Reading.{command_of};
 ghost use Rattle.ts_journal.specs.Draft.{Puts};
@@ -29,7 +29,7 @@ pub(crate) fn is_fixed(command: &Command) -> bool
     }
 }
 
-// The words of it, and none where a command has no such record.
+// Appends its arguments. Appends none if the command has no such record.
 pub(crate) fn put_fixed(
     draft: &mut Draft,
     command: &Command,

@@ -1,16 +1,14 @@
-//! Records of changes, as a journal keeps them: each a request that does the same whenever it is read.
+//! Records of changes for a journal. Each record is a RESP request that has the same effect whenever it is executed.
 #![tactic(auto)]
 
 mod changes;
 mod draft;
 mod fixed;
-mod gap;
 mod laws;
 mod limits;
 mod options;
 mod record;
 mod reply;
-mod samples;
 mod triples;
 
 pub use laws::{

@@ -6,9 +6,9 @@ ghost use Rattle.ts_journal.specs.Limits.{IsBounded, IsRecordWithin, journal_lim
 
 use ts_spec::WireLimits;
 
-/// The limits for a journal of a server with these: the record of each command that is read of a request within them, an
-/// array or a line, fits the limits of the journal, and records that are written one after another read back as these
-/// under them. Takes no memory.
+/// The limits for the journal of a server with limits `limits`. If a request within `limits`, an array or an inline
+/// line, is a command, its record fits the journal's limits. Records written one after another read back under them.
+/// Allocates nothing.
 pub fn limits_of(limits: WireLimits) -> WireLimits
     requires { IsBounded limits }
     ensures exact { result ≡ journal_limits limits }

@@ -1,4 +1,4 @@
-// The options of series and of writes, as words of a record.
+// The options of series and of writes, as arguments of a record.
 ghost use Rattle.std.specs.Prelude.{◌≡◌, [], OnOk};
 ghost use Rattle.ts_spec.specs.Labels as labels;
 ghost use Rattle.ts_labels.specs.Spec.{spec_of, change_of};
@@ -11,7 +11,7 @@ use std::alloc::AllocError;
 use ts_labels::{Change, Labels, Spec};
 use ts_spec::{Encoding, Ignore, Policy};
 
-// All that a new series is made with.
+// All options of a new series.
 pub(crate) fn put_spec(draft: &mut Draft, spec: &Spec) -> Result<(), AllocError>
     ensures { OnOk result (Puts draft.old draft.new (spec_words (spec_of spec.now))) }
 {
@@ -24,7 +24,7 @@ pub(crate) fn put_spec(draft: &mut Draft, spec: &Spec) -> Result<(), AllocError>
     put_labels(draft, &spec.labels)
 }
 
-// What a series gets anew.
+// The options that TS.ALTER changes.
 pub(crate) fn put_change(draft: &mut Draft, change: &Change) -> Result<(), AllocError>
     ensures { OnOk result (Puts draft.old draft.new (change_words (change_of change.now))) }
 {
@@ -35,7 +35,7 @@ pub(crate) fn put_change(draft: &mut Draft, change: &Change) -> Result<(), Alloc
     put_labels_given(draft, &change.labels)
 }
 
-// The policy of one write, where it is given.
+// The policy of one write, if it has one.
 pub(crate) fn put_on_duplicate(draft: &mut Draft, policy: Option<Policy>) -> Result<(), AllocError>
     ensures { OnOk result (Puts draft.old draft.new (given on_duplicate_words policy)) }
 {
@@ -110,7 +110,7 @@ fn put_labels(draft: &mut Draft, labels: &Labels) -> Result<(), AllocError>
     put_pairs(draft, labels)
 }
 
-// Labels and their values, one after another.
+// Labels and their values, alternating.
 fn put_pairs(draft: &mut Draft, labels: &Labels) -> Result<(), AllocError>
     ensures { OnOk result (Puts draft.old draft.new (label_pairs labels.now)) }
 {
@@ -121,7 +121,6 @@ fn put_pairs(draft: &mut Draft, labels: &Labels) -> Result<(), AllocError>
     Ok(())
 }
 
-// The name of an encoding.
 fn encoding_name(encoding: Encoding) -> &'static [u8]
     ensures { result.now ≡ record_.encoding_name encoding }
 {
@@ -131,7 +130,6 @@ fn encoding_name(encoding: Encoding) -> &'static [u8]
     }
 }
 
-// The name of a policy.
 fn policy_name(policy: Policy) -> &'static [u8]
     ensures { result.now ≡ record_.policy_name policy }
 {

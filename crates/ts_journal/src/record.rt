@@ -9,17 +9,17 @@ use std::alloc::{AllocError, Global};
 use ts_command::Command;
 use ts_resp::Out;
 
-// What is known of a record before the reply is.
+// What is known of a record before the reply.
 #[derive(Drop)]
 pub(crate) enum Content {
-    // The whole record of a command that is accepted or refused as one.
+    // The whole record of a command that succeeds or fails as one.
     Fixed(Out),
-    // The words of each triple of TS.MADD.
+    // The arguments of each triple of TS.MADD.
     Triples(Triples),
 }
 
-/// The record of one change, ahead of its execution: a request that does the same whenever it is read. What stands in
-/// it the reply decides.
+/// The record of one change, prepared before the change is executed. It is a request that has the same effect whenever
+/// it is executed. The reply decides what it contains.
 #[derive(Drop)]
 pub struct Record {
     held: Content,
@@ -30,8 +30,8 @@ impl Record {
     ghost use Rattle.ts_journal.specs.Content.{told};
     ghost use Rattle.ts_journal.specs.Record.{is_change, IsRecordOf};
 
-    /// The record of a command with this reading of the clock, and None where the command is no change. All memory that
-    /// it needs is taken here.
+    /// Prepares the record of a command with this reading of the clock. Returns `None` if the command is not a change.
+    /// Allocates all memory that the record needs.
     pub fn take(
         alloc: Global,
         command: &Command,
@@ -56,7 +56,8 @@ impl Record {
         }))
     }
 
-    /// The record, where this is the text of the command's reply: none where nothing was accepted. Takes no memory.
+    /// Returns the record, given the text of the command's reply. It is empty if nothing was accepted. Allocates
+    /// nothing.
     pub fn bytes(&mut self, reply: &[u8]) -> &[u8]
         ensures { result.now ≡ told self.old reply.now }
     {

@@ -1,4 +1,4 @@
-// The record of TS.MADD: the words of each triple are put ahead, and those that the reply says were taken are copied.
+// The record of TS.MADD: prepares the arguments of each triple, then copies those that the reply accepts.
 ghost use Rattle.std.specs.Prelude.{◌≡◌, ◌≤◌, ◌+◌, [], length, drop, sum, map, flat_map, IfOk, OnOk};
 ghost use Rattle.ts_command.specs.Reading.{triple_of, triples_of};
 ghost use Rattle.ts_journal.specs.Draft.{Has, Puts};
@@ -7,25 +7,23 @@ ghost use Rattle.ts_journal.specs.Fixed.{triple_text};
 ghost use Rattle.ts_journal.specs.Lines.{items_text, taken_by, taken_text};
 
 use crate::changes::{put_sample, time_of};
-use crate::draft::Draft;
-use crate::gap::{GAP, put_head};
-use crate::reply::items;
-use crate::samples::add_taken;
+use crate::draft::{Draft, GAP, put_head};
+use crate::reply::{add_taken, items};
 use bytes::BytesMut;
 use std::alloc::{AllocError, Global};
 use ts_command::Triple;
 use ts_resp::Out;
 
-// The name of the command, as a word of a request.
+// The name of the command, as an argument.
 const NAME: &[u8; 13] = b"$7\r\nTS.MADD\r\n";
 
 #[derive(Drop)]
 pub(crate) struct Triples {
-    // The words of all triples, behind a gap.
+    // The arguments of all triples, after a gap.
     words: Out,
-    // How many bytes the words of each triple have.
+    // How many bytes the arguments of each triple have.
     lens: Vec<usize>,
-    // Where the record is put together, with room for all of it.
+    // The buffer in which the record is assembled. It has the capacity for all triples.
     room: BytesMut,
     ghost gap: { 24 ≤ length words.bytes },
     ghost parts: { sum lens.items ≤ length (drop 24 words.bytes) },
@@ -50,7 +48,7 @@ impl Triples {
         Ok(Triples { words, lens, room })
     }
 
-    // The record, where the reply has this text.
+    // The record, given the text of the reply.
     pub(crate) fn taken(&mut self, reply: &[u8]) -> &[u8]
         ensures { result.now ≡ taken_text (taken_by (items_text reply.now) (pieces_of self.old)) }
     {
@@ -58,7 +56,7 @@ impl Triples {
         &self.room.as_slice()[start..]
     }
 
-    // Puts the record together, where the reply has this text, and gives where it starts in the room.
+    // Assembles the record, given the text of the reply. Returns the offset in the buffer where it starts.
     fn fill(&mut self, reply: &[u8]) -> usize
         ensures bytes { drop result self.new.room.items ≡ taken_text (taken_by (items_text reply.now) (pieces_of self.old)) }
         ensures start { result ≤ length self.new.room.items }
@@ -76,7 +74,7 @@ impl Triples {
     }
 }
 
-// What stands behind the gap.
+// The bytes after the gap.
 fn behind_gap(words: &Out) -> &[u8]
     requires { 24 ≤ length words.now.bytes }
     ensures { result.now ≡ drop 24 words.now.bytes }
@@ -85,7 +83,7 @@ fn behind_gap(words: &Out) -> &[u8]
     words
 }
 
-// The words of triples, and how many bytes those of each have.
+// Appends the arguments of triples, and the number of bytes of each.
 fn put_triples(
     draft: &mut Draft,
     lens: &mut Vec<usize>,
@@ -105,7 +103,7 @@ fn put_triples(
     Ok(())
 }
 
-// The words of a triple, and none where it has no time or no value.
+// Appends the arguments of a triple, or none if its time or value is invalid.
 fn put_triple(draft: &mut Draft, triple: &Triple, reading: u64) -> Result<(), AllocError>
     ensures { OnOk result (Puts draft.old draft.new (triple_words reading (triple_of triple.now))) }
 {

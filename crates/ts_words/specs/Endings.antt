@@ -1,4 +1,4 @@
--- How a run of the program ends, and the number and the line of each ending.
+-- How a run of the program ends: the exit status and the line on standard error.
 use Rattle.std.specs.Prelude.{ℕ, List, [], ◌∷◌, ◌++◌, codes, Option, None, Some}
 use Rattle.std.specs.Fmt.{decimal}
 use Rattle.ts_words.specs.declared.mode.Mode.{Mode}
@@ -21,11 +21,11 @@ code_of status.JournalFault = 9
 code_of status.JournalBroken = 10
 code_of status.CaptureBroken = 11
 
--- a line ends with a line feed
+-- a text as a line, which ends with a line feed
 abbrev pub ended : List ℕ → List ℕ
 ended text = text ++ 10 ∷ []
 
--- the line of an ending, which tells the place of a stream's fault; the good ending has none
+-- the line for a status, with the byte offset of a stream's fault; success has none
 abbrev pub line_of : Status → (place : ℕ) → List ℕ
 line_of status.Ended place = []
 line_of status.Usage place = ended (codes "usage: tsd pipe | tsd serve <address> <connections> | tsd gen <seed> <n> | tsd keep <file> | tsd mux")
@@ -40,12 +40,12 @@ line_of status.JournalFault place = ended (codes "tsd: journal fault")
 line_of status.JournalBroken place = ended (codes "tsd: journal broken at byte " ++ decimal place)
 line_of status.CaptureBroken place = ended (codes "tsd: capture broken at byte " ++ decimal place)
 
--- a capture ends inside a frame, and not inside a request
+-- the same for a capture, which ends inside a frame and not inside a request
 abbrev pub capture_line_of : Status → (place : ℕ) → List ℕ
 capture_line_of status.Truncated place = ended (codes "tsd: capture ends inside a frame that begins at byte " ++ decimal place)
 capture_line_of other place = line_of other place
 
--- the line of an ending in a mode, or in none
+-- the line for a status in a mode, or in none
 abbrev pub line_in : Option Mode → Status → (place : ℕ) → List ℕ
 line_in (Some mode.Mux) ending place = capture_line_of ending place
 line_in (Some mode.Pipe) ending place = line_of ending place

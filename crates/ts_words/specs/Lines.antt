@@ -1,8 +1,8 @@
 -- The line of a served connection, and the summary of a generated workload.
 use Rattle.std.specs.Prelude.{ℕ, List, ◌++◌, codes, slice_index}
 use Rattle.std.specs.Fmt.{decimal}
-use Rattle.ts_words.specs.declared.link_lines.LinkEnd.{LinkEnd}
-use Rattle.ts_words.specs.declared.link_lines.LinkEnd.TheVariants as end
+use Rattle.ts_words.specs.declared.lines.LinkEnd.{LinkEnd}
+use Rattle.ts_words.specs.declared.lines.LinkEnd.TheVariants as end
 use Rattle.ts_words.specs.Endings.{ended}
 
 -- the word for how a connection ended
@@ -15,11 +15,11 @@ word_of end.WriteFault = codes "write-fault"
 word_of end.Memory = codes "memory"
 word_of end.Budget = codes "budget"
 
--- the line of a connection: which one it was, how many requests of it were executed, and how it ended
+-- the line of a connection: its number, how many of its requests were executed, and how it ended
 abbrev pub link_line_of : (link executed : ℕ) → LinkEnd → List ℕ
 link_line_of link executed how = ended (codes "link " ++ decimal link ++ codes " executed " ++ decimal executed ++ codes " " ++ word_of how)
 
--- a word and a number
+-- a line of a name and a number
 abbrev pub summary_line : List ℕ → ℕ → List ℕ
 summary_line word number = ended (word ++ codes " " ++ decimal number)
 

@@ -1,4 +1,4 @@
--- The words of the command line, and the mode that they ask for.
+-- The command line, and the mode that it selects.
 use Rattle.std.specs.Prelude.{ℕ, ◌+◌, ◌-◌, ◌*◌, ◌^◌, ◌≤◌, Bool, false, not, ◌&&◌, ◌==◌, nat_le, nat_eq, if◌then◌else◌, List, [], ◌∷◌, length, fold, codes, Option, None, Some}
 use Rattle.std.specs.Option.{option_map}
 use Rattle.std.specs.Cmp.Lexicographic.{pointwise}
@@ -6,7 +6,7 @@ use Rattle.std.specs.List.{list_all}
 use Rattle.ts_words.specs.declared.mode.Mode.{Mode}
 use Rattle.ts_words.specs.declared.mode.Mode.TheVariants.{Pipe, Serve, Gen, Keep, Mux}
 
--- the same bytes
+-- whether two words have the same bytes
 abbrev pub same : List ℕ → List ℕ → Bool
 same word name = pointwise nat_eq word name
 
@@ -18,47 +18,47 @@ is_digit byte = nat_le 48 byte && nat_le byte 57
 abbrev pub digits_number : List ℕ → ℕ
 digits_number digits = fold (λ n byte. 10 * n + (byte - 48)) 0 digits
 
--- a number is 1 to 20 digits, leading zeros among them
+-- a number is 1 to 20 digits; leading zeros are allowed
 abbrev pub is_digits : List ℕ → Bool
 is_digits word = nat_le 1 (length word) && nat_le (length word) 20 && list_all is_digit word
 
--- the number that a word stands for, where it is from the least to the most
+-- the number that a word writes, if it is from `least` to `most`
 abbrev pub number : (least most : ℕ) → List ℕ → Option ℕ
 number least most word =
     if is_digits word && nat_le least (digits_number word) && nat_le (digits_number word) most then Some (digits_number word) else None
 
--- an address or the name of a file is not empty, and no word begins with `-`
+-- an address or a file name is not empty, and does not begin with `-`
 abbrev pub is_operand : List ℕ → Bool
 is_operand [] = false
 is_operand (first ∷ rest) = not (first == 45)
 
--- the words after `serve`: an address, and how many connections
+-- the arguments of `serve`: an address and the number of connections
 abbrev pub serve_of : (address connections : List ℕ) → Option Mode
 serve_of address connections = if is_operand address then option_map Serve (number 1 (2 ^ 32 - 1) connections) else None
 
--- how many requests for samples go with a seed
+-- the number of sample requests, if there is a seed
 abbrev pub gen_with : Option ℕ → Option ℕ → Option Mode
 gen_with None n = None
 gen_with (Some seed) n = option_map (Gen seed) n
 
--- the words after `gen`: a seed, and how many requests for samples
+-- the arguments of `gen`: a seed and the number of sample requests
 abbrev pub gen_of : (seed n : List ℕ) → Option Mode
 gen_of seed n = gen_with (number 0 (2 ^ 64 - 1) seed) (number 0 1000000 n)
 
--- a word alone: `pipe` or `mux`
+-- one argument: `pipe` or `mux`
 abbrev pub one_word : List ℕ → Option Mode
 one_word word = if same word (codes "pipe") then Some Pipe else (if same word (codes "mux") then Some Mux else None)
 
--- the word after `keep`: the name of the journal's file
+-- two arguments: `keep` and the name of the journal's file
 abbrev pub two_words : (word name : List ℕ) → Option Mode
 two_words word name = if same word (codes "keep") && is_operand name then Some Keep else None
 
--- the words after `serve` or `gen`
+-- three arguments: `serve` or `gen` and its two
 abbrev pub three_words : (word first second : List ℕ) → Option Mode
 three_words word first second =
     if same word (codes "serve") then serve_of first second else (if same word (codes "gen") then gen_of first second else None)
 
--- the mode that these words ask for, if they ask for one
+-- the mode that these arguments select, if any
 abbrev pub mode_of : List (List ℕ) → Option Mode
 mode_of [] = None
 mode_of (word ∷ []) = one_word word

@@ -1,33 +1,31 @@
-// What the command line asks for.
-ghost use Rattle.std.specs.Prelude.{◌≡◌, map, IfSome};
+// Parses the command line.
+ghost use Rattle.std.specs.Prelude.{◌≡◌, ◌≤◌, if◌then◌else◌, map, IfSome, None, Some};
 ghost use Rattle.std.specs.String.{string_bytes};
+ghost use Rattle.ts_words.specs.Modes.{mode_of, serve_of, gen_of, IsWithin, number, is_digits, digits_number};
 ghost use Rattle.ts_words.specs.Modes as words;
-ghost use Rattle.ts_words.specs.Modes.{mode_of, serve_of, gen_of, IsWithin};
 
-use crate::number::number_of;
-
-/// The most requests for samples that a generated workload has.
+/// The most sample requests in a generated workload.
 const MOST_GENERATED: u64 = 1_000_000;
 
-/// What the words of the command line ask for.
+/// The mode that the command line selects.
 #[derive(Clone, Copy, Debug, PartialEq, Eq)]
 pub enum Mode {
-    /// To answer the requests of standard input.
+    /// Answers the requests on standard input.
     Pipe,
-    /// To serve so many connections, at least 1, one after another.
+    /// Serves this many connections, at least 1, one after another.
     Serve(u32),
-    /// To answer the workload of this seed, with so many requests for samples, at most 1000000.
+    /// Answers a generated workload: its seed, and its number of sample requests, at most 1000000.
     Gen(u64, u32),
-    /// To answer the requests of standard input over what a journal of changes says, and to add each change to it. The name
-    /// of the journal's file is the second word.
+    /// Answers the requests on standard input over the data in a journal, and appends each change to it. The second
+    /// argument is the name of the journal's file.
     Keep,
-    /// To answer the requests of a capture of interleaved connections.
+    /// Answers a capture of interleaved connections on standard input.
     Mux,
 }
 
 impl Mode {
-    /// The mode that the words after the program's name ask for: `pipe`, `mux`, `keep NAME`,
-    /// `serve ADDRESS CONNECTIONS` or `gen SEED N`. Other words ask for none.
+    /// Parses the arguments after the program's name: `pipe`, `mux`, `keep NAME`, `serve ADDRESS CONNECTIONS` or `gen
+    /// SEED N`. Returns `None` for anything else.
     pub fn read(words: &[String]) -> Option<Mode>
         ensures mode { result ≡ mode_of (map string_bytes words.now) }
         ensures within { IfSome result IsWithin }
@@ -105,4 +103,34 @@ fn generate(seed: &str, n: &str) -> Option<Mode>
     let seed = number_of(seed.as_bytes(), 0, u64::MAX)?;
     let n = number_of(n.as_bytes(), 0, MOST_GENERATED)?;
     Some(Mode::Gen(seed, n as u32))
+}
+
+// Parses a number from `least` to `most`.
+pub(crate) fn number_of(word: &[u8], least: u64, most: u64) -> Option<u64>
+    ensures value { result ≡ number least most word.now }
+    ensures least { IfSome result (λ n. least ≤ n) }
+    ensures most { IfSome result (λ n. n ≤ most) }
+{
+    let total = digits_of(word)?;
+    if total < u128::from(least) || total > u128::from(most) {
+        return None;
+    }
+    Some(total as u64)
+}
+
+// Parses 1 to 20 decimal digits.
+fn digits_of(word: &[u8]) -> Option<u128>
+    ensures { result ≡ (if is_digits word.now then Some (digits_number word.now) else None) }
+{
+    if word.is_empty() || word.len() > 20 {
+        return None;
+    }
+    let mut total: u128 = 0;
+    for byte in word {
+        if !byte.is_ascii_digit() {
+            return None;
+        }
+        total = total * 10 + u128::from(*byte - b'0');
+    }
+    Some(total)
 }

@@ -5,9 +5,9 @@ ghost use Rattle.ts_words.specs.Endings.{code_of};
 /// How a run of the program ends.
 #[derive(Clone, Copy, Debug, PartialEq, Eq)]
 pub enum Status {
-    /// What was asked for was done.
+    /// Success.
     Ended,
-    /// The words of the command line are none that the program knows.
+    /// The program does not know this command line.
     Usage,
     /// The input ends inside a request, or a capture inside a frame.
     Truncated,
@@ -17,15 +17,15 @@ pub enum Status {
     ReadFault,
     /// A write to the output or to standard error failed.
     WriteFault,
-    /// There was no memory.
+    /// Memory ran out.
     Memory,
-    /// The address could not be opened, or a connection not be accepted.
+    /// The address could not be opened, or a connection could not be accepted.
     AcceptFault,
-    /// As many bytes were taken as may be.
+    /// The budget of input bytes was used up.
     Budget,
     /// A call on the journal failed.
     JournalFault,
-    /// The journal is broken, or has a request that is no record of a change.
+    /// The journal is broken, or holds a request that is not the record of a change.
     JournalBroken,
     /// The capture of interleaved connections is broken.
     CaptureBroken,

@@ -1,5 +1,5 @@
-// Scripts whose calls are made again where they are refused for want of memory. Such a call has to leave all keys as they
-// were. With ample memory none is refused: bench/refuse-each refuses each allocation, one in a run.
+// Scripts whose calls are retried if they run out of memory. Such a call must leave all keys unchanged. With ample
+// memory none fails: bench/refuse-each makes each allocation fail, one per run.
 ghost use Rattle.std.specs.Prelude.{◌≡◌, ◌≤◌, ◌<◌};
 
 use crate::db::call::{Call, Came, run, word};
@@ -10,8 +10,8 @@ use ts_db::{Db, DbFault};
 use ts_sample::{MAX_TIME, Sample, Steps};
 use ts_spec::Limits;
 
-// A source with a rule to each of these keys, of the sum of ten milliseconds, how many samples a key may have, and the
-// calls after the making of the rules.
+// A source with a rule into each of these keys, the sum per ten milliseconds; the sample limit; and the calls after the
+// rules are made.
 #[derive(Clone, Copy)]
 pub(crate) struct Script {
     pub(crate) samples: u32,
@@ -22,20 +22,20 @@ pub(crate) struct Script {
 
 #[derive(Clone, Copy)]
 pub(crate) enum Turn {
-    // A call, and what it comes to.
+    // A call and its expected result.
     Makes(Call, Came),
-    // What a key shows: times and millionths.
+    // The samples expected in a key: times and values in millionths.
     Shows(u8, &'static [(u64, i128)]),
 }
 
 impl Script {
-    // How many turns it has, with those that make the keys and the rules.
+    // How many calls it makes, including those that create the keys and the rules.
     fn len(&self) -> usize {
         let made = self.dests.len().saturating_mul(2).saturating_add(1);
         made.saturating_add(self.turns.len())
     }
 
-    // The turn with a number: the source is made, each destination, each rule, and then come the calls.
+    // The call with this index: first the source is created, then each destination and each rule. Then come the calls.
     fn turn(&self, at: usize) -> Option<Turn> {
         let Some(at) = at.checked_sub(1) else {
             return Some(Turn::Makes(Call::Create(self.source), Came::Done));
@@ -52,7 +52,7 @@ impl Script {
     }
 }
 
-// The limits that a script is run with: no more rules may be made on a key than there are destinations.
+// The limits for a script. A key may have no more rules than there are destinations.
 fn limits_of(script: &Script) -> Limits
     ensures { 1 ≤ result.samples }
 {
@@ -63,7 +63,7 @@ fn limits_of(script: &Script) -> Limits
     }
 }
 
-// Whether samples are these.
+// Whether the samples are these.
 fn are(samples: &[Sample], wanted: &[(u64, i128)]) -> bool {
     let mut same = samples.len() == wanted.len();
     for (sample, (time, millionths)) in samples.iter().zip(wanted) {
@@ -72,7 +72,7 @@ fn are(samples: &[Sample], wanted: &[(u64, i128)]) -> bool {
     same
 }
 
-// Takes a turn: whether it comes to what it says, or nothing where it is refused for want of memory.
+// Makes a call. Returns whether it has the expected result, or `None` if it ran out of memory.
 fn take<L: Ledger>(
     alloc: Global,
     db: &mut Db,
@@ -94,7 +94,7 @@ fn take<L: Ledger>(
     }
 }
 
-// A database after the first turns of a script, which are not refused.
+// A database after the first calls of a script, which must not fail.
 fn replayed<L: Ledger>(
     alloc: Global,
     script: &Script,
@@ -110,7 +110,7 @@ fn replayed<L: Ledger>(
     Ok(db)
 }
 
-// Whether a turn comes to what it says, at once or after a refusal that left all as it was before it.
+// Whether a call has the expected result, at once or when retried after it failed and changed nothing.
 fn goes_well<L: Ledger>(
     alloc: Global,
     db: &mut Db,
@@ -131,7 +131,7 @@ fn goes_well<L: Ledger>(
     Ok(take(alloc, db, turn, steps)? == Some(true))
 }
 
-// The first of the turns of a script that goes wrong.
+// The first call of a script that goes wrong.
 pub(crate) fn wrong<L: Ledger>(
     alloc: Global,
     blank: Blank,

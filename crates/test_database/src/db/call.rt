@@ -1,4 +1,4 @@
-// Calls of a database that may fill a series, on keys of one byte, with values of a millionth.
+// Database calls that may fill a series, on keys of one byte, with values of one millionth unless a call says another.
 use std::alloc::{AllocError, Global};
 use std::sync::ledger::Ledger;
 use ts_bucket::Grid;
@@ -15,22 +15,23 @@ pub(crate) enum Call {
     Add(u8, u64),
     Incr(u8, u64),
     Delete(u8, u64, u64),
-    // A sample of so many millionths, in the place of one at its time.
+    // A sample with this value in millionths. It replaces one at its time.
     Set(u8, u64, i128),
-    // A rule from one key to another, of the last value of each ten milliseconds or of their sum, is made, or ends.
+    // Creates a rule from the first key to the second, per ten milliseconds: the last value, or the sum. `End` deletes
+    // it.
     Make(u8, u8),
     Sum(u8, u8),
     End(u8, u8),
-    // A key gets chunks of 48 bytes, and one label, with a value of one byte.
+    // Gives a key chunks of 48 bytes and one label, with a value of one byte.
     Alter(u8, u8),
 }
 
-// What a call came to.
+// The result of a call.
 #[derive(Clone, Copy, PartialEq)]
 pub(crate) enum Came {
     Done,
     Number(u64),
-    // The number of the series that has as many samples as it may, and whether it is the written one.
+    // The id of the series at its sample limit, and whether it is the written one.
     Full(usize, bool),
     NoMemory,
     OtherFault,
@@ -71,12 +72,12 @@ fn spec(alloc: Global) -> Spec {
     }
 }
 
-// The key of one byte, which takes no memory.
+// A key of one byte, which allocates nothing.
 pub(crate) fn word(alloc: Global, key: u8) -> Result<Word, AllocError> {
     Word::from_slice(alloc, &[key])
 }
 
-// Makes a call, if its time is 1,000 at most.
+// Makes a call, if its time is at most 1,000.
 pub(crate) fn run<L: Ledger>(
     alloc: Global,
     db: &mut Db,

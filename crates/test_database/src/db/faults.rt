@@ -1,4 +1,4 @@
-// What faults of a database, of rules and of series say of themselves.
+// The messages of errors of ts_db, ts_rules and ts_series.
 use std::alloc::{AllocError, Global};
 use std::error::Error;
 use std::test::Fail;
@@ -7,7 +7,7 @@ use ts_rules::RuleFault;
 use ts_sample::Id;
 use ts_series::PutFault;
 
-// Whether a fault is shown as this text.
+// Whether an error displays as this text.
 fn says<F: Error>(alloc: Global, fault: F, text: &str) -> Result<bool, AllocError> {
     Ok(fault.to_string(alloc)?.as_str() == text)
 }

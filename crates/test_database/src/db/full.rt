@@ -1,4 +1,4 @@
-// Series that have as many samples as they may: which one it is that a refusal names, by the number of its key.
+// Series that reach their sample limit: which series the error names, by its id.
 ghost use Rattle.std.specs.Prelude.{◌≡◌, ◌<◌};
 
 use crate::db::call::{Call, Came, run};
@@ -10,7 +10,7 @@ use ts_db::Db;
 use ts_sample::Steps;
 use ts_spec::Limits;
 
-// The first of the calls that came to something else, in a database with 3 samples a key.
+// The first of the calls with another result, in a database with at most 3 samples per key.
 fn wrong<L: Ledger>(
     alloc: Global,
     blank: Blank,

@@ -1,11 +1,11 @@
-// What stands after a refusal, also one for want of memory: a script for each way in which series are linked.
+// What a failed call leaves unchanged, also if it runs out of memory: a script for each way to link series.
 use crate::db::again::{Script, Turn, wrong};
 use crate::db::call::{Call, Came};
 use std::marker::Brand;
 use std::sync::ledger::Blank;
 use std::test::Fail;
 
-// A late sample, another value, a deletion of a whole bucket, and a sample in it.
+// A late sample, another value, the deletion of a whole bucket, and a sample in it.
 const MENDED: Script = Script {
     samples: 100,
     source: b's',
@@ -26,7 +26,7 @@ const MENDED: Script = Script {
     ],
 };
 
-// A series is full, and then a destination.
+// First a series reaches its limit, then a destination.
 const FULL: Script = Script {
     samples: 3,
     source: b's',
@@ -46,7 +46,7 @@ const FULL: Script = Script {
     ],
 };
 
-// Of sixteen destinations the last one is full.
+// The last of sixteen destinations is at its limit.
 const SIXTEEN: Script = Script {
     samples: 3,
     source: b's',

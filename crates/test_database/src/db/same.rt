@@ -1,4 +1,4 @@
-// Whether two databases show the same of all keys of one small letter.
+// Whether two databases are equal in all keys of one lowercase letter.
 use crate::db::call::word;
 use std::alloc::{AllocError, Global};
 use std::sync::ledger::Ledger;
@@ -8,7 +8,7 @@ use ts_sample::{MAX_TIME, Sample, Steps};
 
 const KEYS: &[u8] = b"abcdefghijklmnopqrstuvwxyz";
 
-// Whether they have as many keys, and of each of these the same number, the same that is told of it, and the same samples.
+// Whether they have equally many keys, and each of these keys has the same id, the same info and the same samples.
 pub(crate) fn are_same<L: Ledger>(
     alloc: Global,
     one: &Db,
@@ -43,7 +43,7 @@ fn is_same_key<L: Ledger>(
     }
 }
 
-// What is told of a key, or nothing where the key is missing.
+// The info of a key, or `None` if it does not exist.
 fn told<T>(answer: Result<T, DbFault>) -> Result<Option<T>, AllocError> {
     match answer {
         Ok(told) => Ok(Some(told)),

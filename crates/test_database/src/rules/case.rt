@@ -1,24 +1,24 @@
-// A change of a source, and what it comes to for a rule of it. Each rule tells the sum of ten milliseconds.
-ghost use Rattle.std.specs.Prelude.{◌≡◌, ◌≤◌, length, IfSome};
+// A change of a source and its effect on a rule, which sums buckets of ten milliseconds.
+ghost use Rattle.std.specs.Prelude.{◌≡◌, ◌≤◌, ◌<◌, length, IfSome};
 ghost use Rattle.ts_rules.specs.Plans.{IsForDest};
 
 use std::alloc::Global;
-use std::sync::ledger::Ledger;
+use std::sync::ledger::{Blank, Ledger};
 use ts_agg::{Aggregator, Running};
 use ts_bucket::Grid;
-use ts_rules::Rule;
+use ts_rules::{Rule, RuleFault, RulePlan, latest, plan_delete, plan_put};
 use ts_sample::{Gathered, Id, MAX_TIME, Sample, Steps, Units};
 use ts_series::{Encoding, Ignore, Merge, Options, Policy, Series, SeriesPlan};
 
-// What is done to the source.
+// A change of the source.
 #[derive(Clone, Copy)]
 pub(crate) enum Change {
     Write(u64, i128),
     Delete(u64, u64),
 }
 
-// Times and millionths: of the source before the rule was made and since then, of the open bucket, and of the
-// destination; then those of the destination and of its latest sample after the change, under a limit.
+// Times and values in millionths: the source before and after the rule was made, the open bucket, and the destination.
+// Then the sample limit, the change, and the effect expected on the destination and its latest sample.
 #[derive(Clone, Copy)]
 pub(crate) struct Case {
     pub(crate) earlier: &'static [(u64, i128)],
@@ -60,7 +60,7 @@ pub(crate) fn sample(time: u64, value: i128) -> Option<Sample> {
     })
 }
 
-// A rule whose open bucket counts these.
+// A rule whose open bucket counts these values.
 pub(crate) fn rule(current: Option<u64>, counted: &[i128]) -> Option<Rule>
     requires { length counted.now ≤ 100 }
     ensures { IfSome result (λ rule. rule.running.count ≤ 100) }
@@ -120,7 +120,7 @@ pub(crate) fn is_latest(sample: Option<Sample>, wanted: Option<(u64, i128)>) -> 
     }
 }
 
-// Whether a series shows these.
+// Whether a series has exactly these samples.
 pub(crate) fn is_shown<L: Ledger>(
     alloc: Global,
     series: &Series,
@@ -144,5 +144,47 @@ pub(crate) fn commit(dest: &mut Series, plan: Option<SeriesPlan>)
     match plan {
         None => {}
         Some(plan) => dest.commit(plan),
+    }
+}
+
+// Whether a change has the expected effect. `None` if the case can't be set up.
+pub(crate) fn is_met<L: Ledger>(alloc: Global, blank: Blank, case: &Case) -> Option<bool>
+    requires name { blank.name ≡ L.name }
+    requires parts { blank.parts ≡ L.parts }
+    requires some { 0 < blank.parts }
+{
+    if case.counted.len() > 100 {
+        return None;
+    }
+    let mut steps = Steps::<L>::new(blank);
+    let rule = rule(case.current, case.counted)?;
+    let mut source = empty(alloc);
+    write(&mut source, case.earlier, &mut steps)?;
+    if source.born() == 0 {
+        source.raise_born();
+    }
+    write(&mut source, case.source, &mut steps)?;
+    let mut dest = empty(alloc);
+    write(&mut dest, case.dest, &mut steps)?;
+    if dest.len(&mut steps) > case.limit as usize {
+        return None;
+    }
+    let planned = match case.change {
+        Change::Write(time, value) => {
+            let wrote = sample(time, value)?;
+            plan_put(&rule, &source, &wrote, &dest, case.limit, &mut steps)
+        }
+        Change::Delete(from, to) => plan_delete(
+            alloc, &rule, &source, from, to, &dest, case.limit, &mut steps,
+        ),
+    };
+    match (planned, case.comes) {
+        (Ok(RulePlan { rule, dest: plan }), Came::Shown(shown, open)) => {
+            commit(&mut dest, plan);
+            let is_open = is_latest(latest(&rule, dest.born()), open);
+            Some(is_shown(alloc, &dest, shown, &mut steps)? && is_open && rule.dest == Id(7))
+        }
+        (Err(RuleFault::Full), Came::Full) => Some(true),
+        _ => Some(false),
     }
 }

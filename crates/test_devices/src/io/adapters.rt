@@ -1,6 +1,7 @@
-// Adapters over readers and writers of std, and over its clock.
+// Adapters over std's readers, writers and clock.
 use crate::io::calls::{read_two, time_of, write_once};
-use crate::io::flaky::Flaky;
+use std::io;
+use std::io::{Read, Write};
 use std::test::Fail;
 use ts_io::{Failed, StdSink, StdSource, SystemClock};
 
@@ -42,4 +43,37 @@ fn the_system_tells_the_time(rt: HostRuntime) -> Result<(), Fail> {
     let mut clock = SystemClock::new(rt.clone()?);
     assert!(rt; time_of(&mut clock) > 0);
     Ok(())
+}
+
+// Every second call fails.
+#[derive(Drop)]
+pub(crate) struct Flaky {
+    pub(crate) fails: bool,
+}
+
+impl Flaky {
+    fn turn(&mut self) -> io::Result<()> {
+        self.fails = !self.fails;
+        if self.fails {
+            return Ok(());
+        }
+        Err(io::Error::from(io::ErrorKind::Other))
+    }
+}
+
+impl Read for Flaky {
+    fn read(&mut self, buf: &mut [u8]) -> io::Result<usize> {
+        self.turn()?;
+        Ok(buf.len())
+    }
+}
+
+impl Write for Flaky {
+    fn write(&mut self, buf: &[u8]) -> io::Result<usize> {
+        Ok(buf.len())
+    }
+
+    fn flush(&mut self) -> io::Result<()> {
+        self.turn()
+    }
 }

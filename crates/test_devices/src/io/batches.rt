@@ -1,11 +1,11 @@
-// Replies that leave together, to a peer in memory.
+// Batched replies to a peer in memory.
 use crate::io::calls::{read_two, write_once};
 use crate::io::peer::Peer;
 use std::alloc::{AllocError, Global};
 use std::test::Fail;
 use ts_io::{Batches, Failed, Waiting, write_all_counted};
 
-// So many bytes, of which each tells its place.
+// This many bytes, each of which tells its offset.
 fn numbered(alloc: Global, count: usize) -> Result<Vec<u8>, AllocError> {
     let mut bytes = Vec::with_capacity(alloc, count)?;
     for place in 0..count {
@@ -61,7 +61,8 @@ fn a_large_reply_goes_straight_out_after_what_waits(rt: HostRuntime) -> Result<(
     Ok(())
 }
 
-// Half of each block is written in small pieces, and half at once, whatever the peer takes a call; then a read follows.
+// Half of each block is written in small pieces and half at once, however much the peer accepts per call. Then a read
+// follows.
 #[test]
 fn nothing_is_lost_doubled_or_turned_around(rt: HostRuntime) -> Result<(), Fail> {
     let bytes = numbered(rt.alloc(), 250_000)?;

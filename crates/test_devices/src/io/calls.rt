@@ -4,7 +4,7 @@ ghost use Rattle.ts_io.specs.Logs.{place_after};
 
 use ts_io::{Clock, Failed, Log, Sink, Source};
 
-// Two bytes of any source.
+// Reads two bytes from any source.
 pub(crate) fn read_two<S: Source>(source: &mut S) -> Result<(usize, [u8; 2]), Failed> {
     let mut buf = [0; 2];
     let count = source.read(&mut buf)?;
@@ -19,7 +19,7 @@ pub(crate) fn time_of<C: Clock>(clock: &mut C) -> u64 {
     clock.now()
 }
 
-// The next bytes of any log.
+// Reads the next bytes of any log.
 pub(crate) fn read_log<J: Log>(log: &mut J, buf: &mut [u8]) -> Result<usize, Failed>
     ensures { IfOk result (λ n. J.place log.new ≡ place_after (J.place log.old) n) }
 {

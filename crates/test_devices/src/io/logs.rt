@@ -1,4 +1,4 @@
-// Logs: in memory, and over a file.
+// Logs, in memory and over a file.
 use crate::io::calls::read_log;
 use std::fs;
 use std::test::Fail;
@@ -45,7 +45,7 @@ fn a_file_is_a_log_for_one_at_a_time(rt: HostRuntime) -> Result<(), Fail> {
     assert!(rt; other.open(name) == Err(Failed));
     assert!(rt; fs::read(&rt, name)?.as_slice() == b"abcdef".as_slice());
 
-    // Opened again, it is read from its start.
+    // Reopening starts at the beginning.
     assert!(rt; log.open(name) == Ok(()));
     let Ok(count) = read_log(&mut log, &mut buf) else {
         return Err("read".into())
@@ -53,7 +53,7 @@ fn a_file_is_a_log_for_one_at_a_time(rt: HostRuntime) -> Result<(), Fail> {
     assert!(rt; count == 4);
     assert!(rt; buf == *b"abcd");
 
-    // A second cut, past its end, does not make it longer.
+    // A second cut past its end does not extend it.
     assert!(rt; log.cut(2) == Ok(()));
     assert!(rt; log.cut(4) == Ok(()));
     assert!(rt; append_all_counted(&mut log, b"xyz") == Ok(()));
@@ -61,7 +61,7 @@ fn a_file_is_a_log_for_one_at_a_time(rt: HostRuntime) -> Result<(), Fail> {
     assert!(rt; read_log(&mut log, &mut buf) == Ok(1));
     assert!(rt; buf == *b"zbcd");
 
-    // Once it is closed, another one opens it.
+    // Once it is closed, another log can open it.
     drop(log);
     assert!(rt; other.open(name) == Ok(()));
     assert!(rt; read_log(&mut other, &mut buf) == Ok(4));

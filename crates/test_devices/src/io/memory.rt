@@ -1,4 +1,4 @@
-// Devices in memory, and the sink that counts.
+// Devices in memory, and the counting sink.
 use crate::io::calls::{read_two, time_of};
 use std::test::Fail;
 use ts_io::{

@@ -1,4 +1,4 @@
-// Links over the network of this machine.
+// Connections over this machine's network.
 ghost use Rattle.std.specs.Prelude.{◌≡◌, false, IfOk};
 ghost use Rattle.ts_io.specs.Adapters.{hands_out};
 
@@ -9,7 +9,7 @@ use std::net::{Shutdown, SocketAddr, TcpListener, TcpStream};
 use std::test::Fail;
 use ts_io::{Failed, Listener, TcpNet, write_all_counted};
 
-// An address of this machine that no one listens at.
+// A local address that nothing listens on.
 fn free_address(rt: &HostRuntime) -> io::Result<SocketAddr> {
     TcpListener::bind(rt, "127.0.0.1:0")?.local_addr()
 }
@@ -37,7 +37,7 @@ fn a_connection_is_a_link(rt: HostRuntime) -> Result<(), Fail> {
     Ok(())
 }
 
-// A listener, and a client that is connected to it.
+// A listener and a client connected to it.
 fn connected(rt: &HostRuntime) -> Result<(TcpNet<&HostRuntime>, TcpStream), Fail>
     ensures { IfOk result (λ r. hands_out r.0 ≡ false) }
 {
@@ -70,7 +70,7 @@ fn no_reply_is_lost_where_the_client_has_sent_more(rt: HostRuntime) -> Result<()
     Ok(())
 }
 
-// The client reads only what the system holds for it at the moment, and the server goes on where it would have to wait.
+// The client reads only what the system has buffered so far, and the server continues where it would block.
 #[test]
 fn a_client_that_reads_late_has_all(rt: HostRuntime) -> Result<(), Fail> {
     let (mut net, mut client) = connected(&rt)?;
@@ -111,7 +111,7 @@ fn a_send_that_fails_shows_at_the_next_read(rt: HostRuntime) -> Result<(), Fail>
     assert!(rt; write_once(&mut ends.out, b"told") == Ok(4));
     assert!(rt; read_two(&mut ends.input) == Ok((2, *b"as")));
 
-    // What it was told is not read: so its end is a reset.
+    // The client leaves bytes unread, so closing resets the connection.
     drop(client);
     assert!(rt; write_once(&mut ends.out, b"told") == Ok(4));
     assert!(rt; read_two(&mut ends.input) == Err(Failed));

@@ -1,12 +1,12 @@
-// A peer in memory, which takes so many bytes a call, or none, or fails.
+// A peer in memory that accepts a limited number of bytes per call, or none, or fails.
 ghost use Rattle.std.specs.Prelude.{◌≡◌, ◌<◌, ◌≤◌, None};
 ghost use Rattle.ts_io.specs.Causes.{Rose};
 
 use std::alloc::Global;
 use ts_io::{Connection, Failed, Wait};
 
-// A send takes at most `most` bytes, and at least one where it waits long. A read that does not wait finds nothing the first
-// `silent` times, and then so many bytes `x` as are to come.
+// A send accepts at most `most` bytes, and at least one if it waits for the peer. The first `silent` reads that don't
+// wait find nothing; later reads get the bytes to come, each an `x`.
 #[derive(Drop)]
 pub(crate) struct Peer {
     pub(crate) taken: Vec<u8>,

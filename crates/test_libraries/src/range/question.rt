@@ -1,4 +1,4 @@
-// Questions over all times, and the samples and rows that they are about.
+// Queries over all times, and helpers for their samples and rows.
 ghost use Rattle.std.specs.Prelude.{◌≡◌, ◌≤◌};
 ghost use Rattle.ts_spec.specs.Sample.{MAX_TIME, IsAscending, between};
 
@@ -40,7 +40,7 @@ pub(crate) fn row_of_cell(time: u64, millionths: Option<i128>) -> Row
     Row { time, value }
 }
 
-// A question over all times.
+// A query over all times.
 pub(crate) fn query(count: Option<u64>, buckets: Option<Buckets>, reverse: bool) -> Query
     ensures from { result.from ≡ 0 }
     ensures to { result.to ≡ MAX_TIME }
@@ -66,7 +66,7 @@ pub(crate) fn buckets(agg: Aggregator, align: u64, stamp: Stamp, empty: bool) ->
     })
 }
 
-// The rows of a question over these samples, which are all that a series has.
+// The rows of a query over these samples, which are the whole series.
 pub(crate) fn ask(query: &Query, rows: Vec<Sample>, limit: u32) -> Result<Vec<Row>, RangeFault>
     requires ascending { IsAscending rows.items }
     requires within { between query.now.from query.now.to rows.items ≡ rows.items }

@@ -4,7 +4,7 @@ use Rattle.ts_spec.specs.Encoded.{encoded}
 use Rattle.ts_gen.specs.Workload.{create_rule}
 use Rattle.ts_gen.proofs.keys.put_rules.Given as goal
 
--- the requests of the units before this one were put
+-- the requests of the units before this one were written
 abbrev pub invariant-loop-unit : goal.invariant-loop-unit
 invariant-loop-unit l = record {
   bytes : l.bytes.items ≡ l.fn.bytes.items ++ encoded (map (create_rule l.kind) (range_with_len 0 l.unit));

@@ -3,7 +3,7 @@ use Rattle.ts_spec.specs.Encoded.{encoded}
 use Rattle.ts_gen.specs.Workload.{changes, drawn}
 use Rattle.ts_gen.proofs.workload.put_changes.Given as goal
 
--- the first k changes were put, and the k-th number was drawn
+-- the first k changes were written, and the k-th number was drawn
 abbrev pub invariant-loop-k : goal.invariant-loop-k
 invariant-loop-k l = record {
   bytes : l.bytes.items ≡ l.fn.bytes.items ++ encoded (changes l.seed l.k);

@@ -6,7 +6,7 @@ use Rattle.ts_journal.specs.Fixed.{triple_text}
 use Rattle.ts_journal.specs.Record.{triple_words}
 use Rattle.ts_journal.proofs.triples.put_triples.Given as goal
 
--- the triples before this one were put
+-- the triples before this one were appended
 abbrev pub invariant-loop-triple : goal.invariant-loop-triple
 invariant-loop-triple l = record {
   words : Has (flat_map (triple_words l.reading) (triples_of (take l.triple-index l.triples))) l.draft;

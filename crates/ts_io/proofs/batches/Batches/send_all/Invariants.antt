@@ -3,7 +3,7 @@ use Rattle.ts_io.specs.Batches.{Holds}
 use Rattle.ts_io.specs.Sinks.{Grows}
 use Rattle.ts_io.proofs.batches.Batches.send_all.Given as goal
 
--- what was sent and what waits are as they were, and so are the bytes to come; no call has failed
+-- the bytes sent and queued are unchanged, and so are the bytes to come; no call has failed
 abbrev pub invariant-loop-self : goal.invariant-loop-self
 invariant-loop-self g l = record {
   has : Grows (Holds (g.C.Connection.has l.initial.self.connection) l.initial.self.waiting) (Holds (g.C.Connection.has l.self.connection) l.self.waiting) [];

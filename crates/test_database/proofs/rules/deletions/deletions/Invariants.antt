@@ -1,4 +1,0 @@
-use Rattle.test_database.proofs.rules.deletions.deletions.Given as goal
-
-abbrev pub ghosts-is_met : goal.ghosts-is_met
-ghosts-is_met g a = record { name = a.blank.name; parts = a.blank.parts }

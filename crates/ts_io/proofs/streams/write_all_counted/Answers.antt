@@ -1,0 +1,18 @@
+use Rattle.std.proofs.Common.{ℕ, ◌+◌, ◌≤◌, length, refl, ◌∙◌, arith, length-drop, length-take}
+use Rattle.ts_io.proofs.Growth.{grows_none, grows_on, grows_all}
+use Rattle.ts_io.proofs.streams.write_all_counted.Goals as goal
+
+pub loop-written-init : goal.loop-written-init
+loop-written-init g c = record { within = omega arith; fine = refl; grown = grows_none _ }
+
+pub loop-written-preserved : goal.loop-written-preserved
+loop-written-preserved g c =
+    let within : c.loop-written.written + c.in_ok-written.field-0 ≤ length c.args.bytes.now = omega (arith, c.in_ok-written.ensures.bound, length-take {A = ℕ}, length-drop {A = ℕ}) in
+    record {
+      within = within;
+      fine = c.in_ok-written.ensures.cause.fine ∙ c.loop-written.invariant.fine;
+      grown = grows_on _ _ _ _ _ _ c.loop-written.invariant.grown within c.in_ok-written.ensures.bytes;
+    }
+
+pub returns-clause-all : goal.returns-clause-all
+returns-clause-all g c = grows_all _ _ _ _ c.loop-written-test.false c.loop-written.invariant.grown
