@@ -1,5 +1,5 @@
 -- A deletion over the stored data is a step of the state.
-use Rattle.std.proofs.Common.{◌≡◌, ℕ, List, length, nat_lt, refl, sym, ap}
+use Rattle.std.proofs.Common.{◌≡◌, ℕ, false, List, length, nat_lt, refl, sym, ap}
 use Rattle.std.specs.Prelude.{⊤}
 use Rattle.ts_spec.specs.declared.limits.Limits.{Limits}
 use Rattle.ts_spec.specs.Sample.{Point, between}
@@ -22,7 +22,7 @@ use Rattle.ts_spec.proofs.Led.{IsLed, led-told, led-refused, led-if, led-unless,
 use Rattle.ts_spec.proofs.Deleted.{kept-deleted}
 
 pub led-deleted : {Room : Type 0} {Known : Key → Key → Rule → Type 0} (limits : Limits) (m : State) → IsValid limits m → (key : Key) (from to : ℕ) →
-    IsLed limits Room (λ k. same k key) Known m (delete limits m key from to) (kept_delete limits (kept m) key from to)
+    IsLed limits Room (λ k. same k key ≡ false) Known m (delete limits m key from to) (kept_delete limits (kept m) key from to)
 led-deleted limits m v key from to =
     led-at limits m v key (delete_at limits m key from to) (kept_delete_at limits (kept m) key from to) (λ e. led-refused limits m v NoKey)
     (λ d there. (let keys : keep_deleted key from to (kept m) ≡ kept (deleted key from to m) = sym (kept-deleted limits m key d from to v there) in

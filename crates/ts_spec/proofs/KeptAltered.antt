@@ -90,8 +90,8 @@ module _ (limits : Limits) (m : State) (key : Key) (d : Record) (c : Change) (v 
       go k None x = sym (kept-bodies-missing key (altered c) (λ d r. r) (λ r b. false) (λ b. false) m (altered-keeps c) k x)
       go k (Some e) x = sym (each-altered k e x)
 
-pub led-altered : {Room : Type 0} {changed : Key → Bool} (limits : Limits) (m : State) → IsValid limits m → (key : Key) (c : Change) →
-    IsLed limits Room changed (IsKnown m) m (alter limits m key c) (kept_alter limits (kept m) key c)
+pub led-altered : {Room : Type 0} {Spared : Key → Type 0} (limits : Limits) (m : State) → IsValid limits m → (key : Key) (c : Change) →
+    IsLed limits Room Spared (IsKnown m) m (alter limits m key c) (kept_alter limits (kept m) key c)
 led-altered limits m v key c =
     led-at limits m v key (alter_at limits m key c) (kept_alter_at limits (kept m) key c) (λ x. led-refused limits m v NoKey)
     (λ d x. led-unless limits m v (is_longer limits.labels c.labels) _ LabelsFull _ _ refl

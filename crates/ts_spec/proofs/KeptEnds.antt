@@ -62,9 +62,9 @@ module _ (limits : Limits) (m : State) (ends : Key → Key → Bool) (v : IsVali
       go k None x = refl
       go k (Some d) x = ap (λ (q : Kept). Some q) (record-ended k d x)
 
-pub led-without_rule : {Room : Type 0} {changed : Key → Bool} {Known : Key → Key → Rule → Type 0} (limits : Limits) (m : State) → IsValid limits m → (source dest : Key) →
-    IsLed limits Room changed Known m (delete_rule m source dest) (kept_delete_rule (kept m) source dest)
-led-without_rule {Room} {changed} {Known} limits m v source dest =
+pub led-without_rule : {Room : Type 0} {Spared : Key → Type 0} {Known : Key → Key → Rule → Type 0} (limits : Limits) (m : State) → IsValid limits m → (source dest : Key) →
+    IsLed limits Room Spared Known m (delete_rule m source dest) (kept_delete_rule (kept m) source dest)
+led-without_rule {Room} {Spared} {Known} limits m v source dest =
     led-at limits m v source (delete_rule_at m source dest) (kept_delete_rule_at (kept m) source dest) (λ x. led-refused limits m v NoKey)
     (λ d x. rw (ap is_some (rule_to-kept dest d.rules) ∙ some-mapped kept_rule (rule_to dest d.rules))
     (led-if limits m v (is_some (rule_to dest d.rules)) _ _ _ _
@@ -92,14 +92,14 @@ kept-dropped limits m key v =
     go k false = get-kept n k
 
 -- the keys go one after another
-pub led-dropped : {changed : Key → Bool} (limits : Limits) (m : State) → IsValid limits m → (so_far : ℕ) (ks : List Key) → IsLed limits ⊤ changed (λ s k old. ⊤) m (drop_keys m so_far ks) (kept_drop_keys (kept m) so_far ks)
+pub led-dropped : {Spared : Key → Type 0} (limits : Limits) (m : State) → IsValid limits m → (so_far : ℕ) (ks : List Key) → IsLed limits ⊤ Spared (λ s k old. ⊤) m (drop_keys m so_far ks) (kept_drop_keys (kept m) so_far ks)
 led-dropped limits m v so_far [] = led-told limits m v (Count so_far) (Count so_far) refl
-led-dropped {changed} limits m v so_far (k ∷ ks) =
+led-dropped {Spared} limits m v so_far (k ∷ ks) =
     rw (some-kept m k) (go (is_some (get k m)) (led-dropped limits (dropped k m) (valid-dropped limits m k v) (so_far + 1) ks) (led-dropped limits m v so_far ks))
   where
-    go : (b : Bool) → IsLed limits ⊤ changed (λ s k old. ⊤) (dropped k m) (drop_keys (dropped k m) (so_far + 1) ks) (kept_drop_keys (kept (dropped k m)) (so_far + 1) ks) →
-        IsLed limits ⊤ changed (λ s k old. ⊤) m (drop_keys m so_far ks) (kept_drop_keys (kept m) so_far ks) →
-        IsLed limits ⊤ changed (λ s k old. ⊤) m (drop_keys (if b then dropped k m else m) (if b then so_far + 1 else so_far) ks) (kept_drop_keys (if b then keep_dropped k (kept m) else kept m) (if b then so_far + 1 else so_far) ks)
+    go : (b : Bool) → IsLed limits ⊤ Spared (λ s k old. ⊤) (dropped k m) (drop_keys (dropped k m) (so_far + 1) ks) (kept_drop_keys (kept (dropped k m)) (so_far + 1) ks) →
+        IsLed limits ⊤ Spared (λ s k old. ⊤) m (drop_keys m so_far ks) (kept_drop_keys (kept m) so_far ks) →
+        IsLed limits ⊤ Spared (λ s k old. ⊤) m (drop_keys (if b then dropped k m else m) (if b then so_far + 1 else so_far) ks) (kept_drop_keys (if b then keep_dropped k (kept m) else kept m) (if b then so_far + 1 else so_far) ks)
     go true there gone = rw (kept-dropped limits m k v) (record { is_step = there.is_step; counts = λ s j old other known h. there.counts s j old other tt (counts-on-dropped limits m s j k old v h) })
     go false there gone = gone
 

@@ -41,10 +41,10 @@ kept-with m key c linked missing none =
     go k true x = ap (λ (l : Option Link). Some (kept_record l c)) (sym (ap (link_to m) (sym (same-true key k x)) ∙ unlinked-new m key c linked missing none))
     go k false x = get-kept m k
 
-module _ {Room : Type 0} {changed : Key → Bool} {Known : Key → Key → Rule → Type 0} (limits : Limits) (m : State) (v : IsValid limits m) where
+module _ {Room : Type 0} {Spared : Key → Type 0} {Known : Key → Key → Rule → Type 0} (limits : Limits) (m : State) (v : IsValid limits m) where
   -- creating a series has the same response, and gives the stored form of the new state
   led-new_key : (key : Key) (c : Record) (r : Response) → get key m ≡ None →
-      c.rules ≡ [] → (Room → IsNewRecord limits c) → IsLed limits Room changed Known m (new_key limits m key c r) (kept_new_key limits (kept m) key (kept_record None c) r)
+      c.rules ≡ [] → (Room → IsNewRecord limits c) → IsLed limits Room Spared Known m (new_key limits m key c r) (kept_new_key limits (kept m) key (kept_record None c) r)
   led-new_key key c r missing none new =
       led-unless limits m v (nat_lt limits.labels (length c.labels)) _ LabelsFull _ _ refl
       (λ few. led-unless limits m v (nat_le limits.keys (count_keys m)) _ KeysFull _ _ (ap (nat_le limits.keys) (count-kept m))
@@ -54,14 +54,14 @@ module _ {Room : Type 0} {changed : Key → Bool} {Known : Key → Key → Rule 
       }))
 
   pub led-create : (key : Key) (spec : Spec) →
-      IsLed limits Room changed Known m (create limits m key spec) (kept_create limits (kept m) key spec)
+      IsLed limits Room Spared Known m (create limits m key spec) (kept_create limits (kept m) key spec)
   led-create key spec =
       led-unless limits m v (is_some (get key m)) _ KeyExists _ _ (some-kept m key)
       (λ x. led-new_key key (fresh spec [] None) Done (missing (get key m) x) refl (λ room. empty-new limits spec))
 
   -- a new series with one sample
   pub led-create_with : (key : Key) (spec : Spec) (t : ℕ) (x : ℤ) →
-      (Room → 1 ≤ limits.samples) → get key m ≡ None → IsLed limits Room changed Known m (create_with limits m key spec t x) (kept_create_with limits (kept m) key spec t x)
+      (Room → 1 ≤ limits.samples) → get key m ≡ None → IsLed limits Room Spared Known m (create_with limits m key spec t x) (kept_create_with limits (kept m) key spec t x)
   led-create_with key spec t x room missing =
       led-new_key key (fresh spec (record { time = t; value = x; made = 0 } ∷ []) (Some t)) (Count t) missing refl (λ r. one-new limits spec t x (room r))
 
@@ -112,8 +112,8 @@ module _ (limits : Limits) (m : State) (source dest : Key) (agg : Aggregator) (g
       ∙ each-key k (same k source) (same k dest) refl refl (get k m) refl
       ∙ ap (option_map (kept_record (link_to (ruled source dest agg grid m) k))) (sym (get-change m source k (with_rule dest agg grid))))
 
-pub led-create_rule : {Room : Type 0} {changed : Key → Bool} (limits : Limits) (m : State) → IsValid limits m → (source dest : Key) (agg : Aggregator) (grid : Grid) →
-    IsLed limits Room changed (IsKnown m) m (create_rule limits m source dest agg grid) (kept_create_rule limits (kept m) source dest agg grid)
+pub led-create_rule : {Room : Type 0} {Spared : Key → Type 0} (limits : Limits) (m : State) → IsValid limits m → (source dest : Key) (agg : Aggregator) (grid : Grid) →
+    IsLed limits Room Spared (IsKnown m) m (create_rule limits m source dest agg grid) (kept_create_rule limits (kept m) source dest agg grid)
 led-create_rule limits m v source dest agg grid =
     led-unless limits m v (same source dest) _ SameKey _ _ refl
     (λ other. led-at limits m v source (λ o. create_rule_at limits m source dest agg grid o (get dest m)) (λ o. kept_create_rule_at limits (kept m) source dest agg grid o (get dest (kept m)))

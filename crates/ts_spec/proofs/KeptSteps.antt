@@ -1,8 +1,7 @@
 -- The laws of steps, from one case analysis: a step over the stored data is that of the state, keeps the state valid,
 -- and a rule keeps counting.
-use Rattle.std.proofs.Common.{◌≡◌, ℕ, ℤ, ◌≤◌, ◌++◌, Bool, false, List, [], ◌∷◌, map, Result, Ok, Err, refl, ap, ◌∙◌}
+use Rattle.std.proofs.Common.{◌≡◌, ℕ, ℤ, ◌≤◌, ◌++◌, false, List, [], ◌∷◌, map, Result, Ok, Err, inl, inr, refl, sym, ap, ◌∙◌, subst}
 use Rattle.std.specs.Prelude.{⊤}
-use Rattle.std.proofs.lemmas.Bool.{or_parts}
 use Rattle.ts_spec.specs.declared.limits.Limits.{Limits}
 use Rattle.ts_spec.specs.declared.command.At.{At}
 use Rattle.ts_spec.specs.Key.{Key, same}
@@ -14,7 +13,7 @@ use Rattle.ts_spec.specs.Refusal.{Fault}
 use Rattle.ts_spec.specs.Command.{Triple, Command, Create, Alter, Add, Madd, Incr, DelRange, CreateRule, DeleteRule, Range, MRange, Get, MGet, QueryIndex, InfoOf, Ping, Echo, Quit, Drop, Exists}
 use Rattle.ts_spec.specs.Response.{Item, IsWrong, Done, Count, Items, LastRows, Keys, Word}
 use Rattle.ts_spec.specs.Step.{step, Outcome, time_of, triple_step, item_of, madd, ping_response}
-use Rattle.ts_spec.specs.CountsAll.{CountsAll, JoinsForEver, StillCountsAll, names, changes}
+use Rattle.ts_spec.specs.CountsAll.{CountsAll, JoinsForEver, StillCountsAll, Spares, SparesEach, LeavesAlone}
 use Rattle.ts_spec.specs.Valid.{IsValid}
 use Rattle.ts_spec.specs.Kept.{Keeping, kept}
 use Rattle.ts_spec.specs.KeptStep.{KeptOutcome, kept_triple, kept_madd}
@@ -22,6 +21,7 @@ use Rattle.ts_spec.specs.KeptQuestions.{kept_ranges_response, kept_last_member, 
 use Rattle.ts_spec.specs.Stands.{StandsFor, IsStepOf}
 use Rattle.ts_spec.proofs.KeptMaps.{kept-same}
 use Rattle.ts_spec.proofs.KeptAsked.{range-kept, ranges-kept, last-kept, last_members-kept, selection-kept, info-kept}
+use Rattle.ts_spec.proofs.CountsOn.{CountsOn}
 use Rattle.ts_spec.proofs.CountsAfter.{counts-now}
 use Rattle.ts_spec.proofs.Allowed.{empty-valid}
 use Rattle.ts_spec.proofs.Led.{IsKnown, IsLed, led-told}
@@ -31,44 +31,53 @@ use Rattle.ts_spec.proofs.KeptEnds.{led-without_rule, led-dropped, there-kept}
 use Rattle.ts_spec.proofs.DeleteStep.{led-deleted}
 use Rattle.ts_spec.proofs.WriteSteps.{led-add, led-put, led-incr}
 
+-- A rule to a key still counts everything if a command is on another key or has changed nothing.
+spares : {Room : Type 0} {Known : Key → Key → Rule → Type 0} {limits : Limits} {m : State} {done : Outcome} {kept_done : KeptOutcome} (key : Key) →
+    IsLed limits Room (λ k. same k key ≡ false) Known m done kept_done → IsLed limits Room (λ k. Spares k m key done) Known m done kept_done
+spares {Known = Known} {m = m} {done = done} key led = record { is_step = led.is_step; counts = counts }
+  where
+    counts : (s k : Key) (old : Rule) → Spares k m key done → Known s k old → CountsOn old m s k → CountsOn old done.state s k
+    counts s k old (inl other) known h = led.counts s k old other known h
+    counts s k old (inr still) known h = subst (λ (n : State). CountsOn old n s k) (sym still) h
+
 -- ---- triples
 
 led-triple : (limits : Limits) (m : State) → IsValid limits m → (reading : ℕ) (key : Key) (at : Result At Fault) (value : Result ℤ Fault) →
-    IsLed limits ⊤ (λ k. same k key) (λ s k old. ⊤) m (triple_step limits m reading key at value) (kept_triple limits (kept m) reading key at value)
+    IsLed limits ⊤ (λ k. same k key ≡ false) (λ s k old. ⊤) m (triple_step limits m reading key at value) (kept_triple limits (kept m) reading key at value)
 led-triple limits m v reading key (Err fault) value = led-told limits m v (Items (IsWrong fault ∷ [])) (Items (IsWrong fault ∷ [])) refl
 led-triple limits m v reading key (Ok at) (Err fault) = led-told limits m v (Items (IsWrong fault ∷ [])) (Items (IsWrong fault ∷ [])) refl
 led-triple limits m v reading key (Ok at) (Ok x) = led-put limits m v key (time_of reading at) x
 
 led-madd : (limits : Limits) (m : State) → IsValid limits m → (reading : ℕ) (items : List Item) (xs : List Triple) →
-    IsLed limits ⊤ (λ k. names k xs) (λ s k old. ⊤) m (madd limits m reading items xs) (kept_madd limits (kept m) reading items xs)
+    IsLed limits ⊤ (λ k. SparesEach limits m reading k xs) (λ s k old. ⊤) m (madd limits m reading items xs) (kept_madd limits (kept m) reading items xs)
 led-madd limits m v reading items [] = led-told limits m v (Items items) (Items items) refl
 led-madd limits m v reading items (x ∷ xs) =
     go (triple_step limits m reading x.key x.at x.value) (kept_triple limits (kept m) reading x.key x.at x.value) (led-triple limits m v reading x.key x.at x.value)
     (led-madd limits (triple_step limits m reading x.key x.at x.value).state ((led-triple limits m v reading x.key x.at x.value).is_step tt).stands.valid reading (items ++ item_of (triple_step limits m reading x.key x.at x.value).response) xs)
   where
-    go : (done : Outcome) (kept_done : KeptOutcome) → IsLed limits ⊤ (λ k. same k x.key) (λ s k old. ⊤) m done kept_done →
-        IsLed limits ⊤ (λ k. names k xs) (λ s k old. ⊤) done.state (madd limits done.state reading (items ++ item_of done.response) xs) (kept_madd limits (kept done.state) reading (items ++ item_of done.response) xs) →
-        IsLed limits ⊤ (λ k. names k (x ∷ xs)) (λ s k old. ⊤) m (madd limits done.state reading (items ++ item_of done.response) xs) (kept_madd limits kept_done.keys reading (items ++ item_of kept_done.response) xs)
+    go : (done : Outcome) (kept_done : KeptOutcome) → IsLed limits ⊤ (λ k. same k x.key ≡ false) (λ s k old. ⊤) m done kept_done →
+        IsLed limits ⊤ (λ k. SparesEach limits done.state reading k xs) (λ s k old. ⊤) done.state (madd limits done.state reading (items ++ item_of done.response) xs) (kept_madd limits (kept done.state) reading (items ++ item_of done.response) xs) →
+        IsLed limits ⊤ (λ k. Spares k m x.key done × SparesEach limits done.state reading k xs) (λ s k old. ⊤) m (madd limits done.state reading (items ++ item_of done.response) xs) (kept_madd limits kept_done.keys reading (items ++ item_of kept_done.response) xs)
     go done kept_done first rest = record {
       is_step = λ room. (let s : IsStepOf limits done kept_done = first.is_step tt in rw (s.stands.kept, ← s.response) (rest.is_step tt));
-      counts = λ s k old other known h. rest.counts s k old (or_parts (same k x.key) (names k xs) other).1 tt (first.counts s k old (or_parts (same k x.key) (names k xs) other).0 tt h);
+      counts = λ s k old spared known h. rest.counts s k old spared.1 tt ((spares x.key first).counts s k old spared.0 tt h);
     }
 
 -- ---- steps
 
 -- steps without a limit on samples, and without premises
-known-all : {Room : Type 0} {changed : Key → Bool} {Known : Key → Key → Rule → Type 0} {limits : Limits} {m : State} {done : Outcome} {kept_done : KeptOutcome} →
-    IsLed limits ⊤ changed (λ s k old. ⊤) m done kept_done → IsLed limits Room changed Known m done kept_done
+known-all : {Room : Type 0} {Spared : Key → Type 0} {Known : Key → Key → Rule → Type 0} {limits : Limits} {m : State} {done : Outcome} {kept_done : KeptOutcome} →
+    IsLed limits ⊤ Spared (λ s k old. ⊤) m done kept_done → IsLed limits Room Spared Known m done kept_done
 known-all led = record { is_step = λ room. led.is_step tt; counts = λ s k old other known h. led.counts s k old other tt h }
 
 pub led-step : (limits : Limits) (m : State) → IsValid limits m → (reading : ℕ) (c : Command) →
-    IsLed limits (1 ≤ limits.samples) (λ k. changes k c) (IsKnown m) m (step limits m reading c) (kept_step limits (kept m) reading c)
+    IsLed limits (1 ≤ limits.samples) (λ k. LeavesAlone limits m reading k c) (IsKnown m) m (step limits m reading c) (kept_step limits (kept m) reading c)
 led-step limits m v reading (Create key spec) = led-create limits m v key spec
 led-step limits m v reading (Alter key change) = led-altered limits m v key change
-led-step limits m v reading (Add key at x on spec) = led-add limits m v key (time_of reading at) x on spec (λ room. room)
+led-step limits m v reading (Add key at x on spec) = spares key (led-add limits m v key (time_of reading at) x on spec (λ room. room))
 led-step limits m v reading (Madd triples) = known-all (led-madd limits m v reading [] triples)
-led-step limits m v reading (Incr key x at spec) = led-incr limits m v key x (time_of reading at) spec (λ room. room)
-led-step limits m v reading (DelRange key from to) = led-deleted limits m v key from to
+led-step limits m v reading (Incr key x at spec) = spares key (led-incr limits m v key x (time_of reading at) spec (λ room. room))
+led-step limits m v reading (DelRange key from to) = spares key (led-deleted limits m v key from to)
 led-step limits m v reading (CreateRule source dest agg grid) = led-create_rule limits m v source dest agg grid
 led-step limits m v reading (DeleteRule source dest) = led-without_rule limits m v source dest
 led-step limits m v reading (Range key latest q) = led-told limits m v _ _ (range-kept limits m key latest q)
@@ -95,10 +104,10 @@ step-valid limits m reading c room v = ((led-step limits m v reading c).is_step 
 
 -- If a rule connects two keys before and after a step, and neither has a retention, then it is the same rule, and
 -- still counts all samples if it did before.
-pub still-counts : (limits : Limits) (m : State) (reading : ℕ) (c : Command) (s k : Key) (old new : Rule) → IsValid limits m → changes k c ≡ false →
+pub still-counts : (limits : Limits) (m : State) (reading : ℕ) (c : Command) (s k : Key) (old new : Rule) → IsValid limits m → LeavesAlone limits m reading k c →
     JoinsForEver m s k old → JoinsForEver (step limits m reading c).state s k new → CountsAll (plain_at (get s m)) old → StillCountsAll (step limits m reading c).state s old new
-still-counts limits m reading c s k old new v other j n a =
-    (led-step limits m v reading c).counts s k old other (record { joins = j; counts = a }) (counts-now m s k old j.linked a) new n.linked n.source_for_ever n.dest_for_ever
+still-counts limits m reading c s k old new v spared j n a =
+    (led-step limits m v reading c).counts s k old spared (record { joins = j; counts = a }) (counts-now m s k old j.linked a) new n.linked n.source_for_ever n.dest_for_ever
 
 -- The empty state is stored as the empty map.
 pub empty-stands : (limits : Limits) → StandsFor limits none empty

@@ -27,45 +27,45 @@ pub record IsKnown (m : State) (s k : Key) (old : Rule) : Type 0 where
 -- The result of a command. Within the limits, the step over the stored data is that of the state. A known rule keeps
 -- counting, if
 -- the command does not change the key that it writes to.
-pub record IsLed (limits : Limits) (Room : Type 0) (changed : Key → Bool) (Known : Key → Key → Rule → Type 0) (m : State) (done : Outcome) (kept_done : KeptOutcome) : Type 0 where
+pub record IsLed (limits : Limits) (Room : Type 0) (Spared : Key → Type 0) (Known : Key → Key → Rule → Type 0) (m : State) (done : Outcome) (kept_done : KeptOutcome) : Type 0 where
   pub is_step : Room → IsStepOf limits done kept_done
-  pub counts : (s k : Key) (old : Rule) → changed k ≡ false → Known s k old → CountsOn old m s k → CountsOn old done.state s k
+  pub counts : (s k : Key) (old : Rule) → Spared k → Known s k old → CountsOn old m s k → CountsOn old done.state s k
 
-module _ {Room : Type 0} {changed : Key → Bool} {Known : Key → Key → Rule → Type 0} (limits : Limits) (m : State) (v : IsValid limits m) where
+module _ {Room : Type 0} {Spared : Key → Type 0} {Known : Key → Key → Rule → Type 0} (limits : Limits) (m : State) (v : IsValid limits m) where
   -- nothing changes, and the responses are equal
-  pub led-told : (q r : Response) → q ≡ r → IsLed limits Room changed Known m (answer_only m r) (unchanged_with (kept m) q)
+  pub led-told : (q r : Response) → q ≡ r → IsLed limits Room Spared Known m (answer_only m r) (unchanged_with (kept m) q)
   led-told q r e = record { is_step = λ room. record { response = sym e; stands = record { valid = v; kept = refl } }; counts = λ s k old other known h. h }
 
-  pub led-refused : (refusal : Refusal) → IsLed limits Room changed Known m (refused m refusal) (kept_refused (kept m) refusal)
+  pub led-refused : (refusal : Refusal) → IsLed limits Room Spared Known m (refused m refusal) (kept_refused (kept m) refusal)
   led-refused refusal = led-told (Refused refusal) (Refused refusal) refl
 
   -- refused by the same test, or else related
-  pub led-unless : (a b : Bool) (refusal : Refusal) (done : Outcome) (kept_done : KeptOutcome) → b ≡ a → (a ≡ false → IsLed limits Room changed Known m done kept_done) →
-      IsLed limits Room changed Known m (if a then refused m refusal else done) (if b then kept_refused (kept m) refusal else kept_done)
+  pub led-unless : (a b : Bool) (refusal : Refusal) (done : Outcome) (kept_done : KeptOutcome) → b ≡ a → (a ≡ false → IsLed limits Room Spared Known m done kept_done) →
+      IsLed limits Room Spared Known m (if a then refused m refusal else done) (if b then kept_refused (kept m) refusal else kept_done)
   led-unless a b refusal done kept_done e f = rw e (go a refl)
     where
-      go : (c : Bool) → a ≡ c → IsLed limits Room changed Known m (if c then refused m refusal else done) (if c then kept_refused (kept m) refusal else kept_done)
+      go : (c : Bool) → a ≡ c → IsLed limits Room Spared Known m (if c then refused m refusal else done) (if c then kept_refused (kept m) refusal else kept_done)
       go true x = led-refused refusal
       go false x = f x
 
   -- a choice by one test
-  pub led-if : (a : Bool) (x y : Outcome) (p q : KeptOutcome) → IsLed limits Room changed Known m x p → IsLed limits Room changed Known m y q → IsLed limits Room changed Known m (if a then x else y) (if a then p else q)
+  pub led-if : (a : Bool) (x y : Outcome) (p q : KeptOutcome) → IsLed limits Room Spared Known m x p → IsLed limits Room Spared Known m y q → IsLed limits Room Spared Known m (if a then x else y) (if a then p else q)
   led-if true x y p q f g = f
   led-if false x y p q f g = g
 
   -- unless the same sample is ignored
-  pub led-ignored : (o p : Option ℕ) (done : Outcome) (kept_done : KeptOutcome) → p ≡ o → IsLed limits Room changed Known m done kept_done →
-      IsLed limits Room changed Known m (unless_ignored m o done) (kept_unless_ignored (kept m) p kept_done)
+  pub led-ignored : (o p : Option ℕ) (done : Outcome) (kept_done : KeptOutcome) → p ≡ o → IsLed limits Room Spared Known m done kept_done →
+      IsLed limits Room Spared Known m (unless_ignored m o done) (kept_unless_ignored (kept m) p kept_done)
   led-ignored o p done kept_done e led = rw e (go o)
     where
-      go : (q : Option ℕ) → IsLed limits Room changed Known m (unless_ignored m q done) (kept_unless_ignored (kept m) q kept_done)
+      go : (q : Option ℕ) → IsLed limits Room Spared Known m (unless_ignored m q done) (kept_unless_ignored (kept m) q kept_done)
       go None = led
       go (Some last) = led-told (Count last) (Count last) refl
 
   -- unless a destination of the key is full
   pub led-destinations : (key : Key) (d : Record) (done : Outcome) (kept_done : KeptOutcome) → get key m ≡ Some d → kept_done.keys ≡ kept done.state →
-      (EachRule (λ r. length (shown done.state r.dest) ≤ limits.samples) d.rules → IsLed limits Room changed Known m done kept_done) →
-      IsLed limits Room changed Known m (within_destinations limits m key done) (kept_within_destinations limits (kept m) key kept_done)
+      (EachRule (λ r. length (shown done.state r.dest) ≤ limits.samples) d.rules → IsLed limits Room Spared Known m done kept_done) →
+      IsLed limits Room Spared Known m (within_destinations limits m key done) (kept_within_destinations limits (kept m) key kept_done)
   led-destinations key d done kept_done there e f = rw same_full (go (first_full limits.samples done.state (rules_at (get key m))) refl)
     where
       same_full : kept_first_full limits.samples kept_done.keys (kept_rules_at (get key (kept m))) ≡ first_full limits.samples done.state (rules_at (get key m))
@@ -74,20 +74,20 @@ module _ {Room : Type 0} {changed : Key → Bool} {Known : Key → Key → Rule 
           ∙ ap (kept_first_full limits.samples (kept done.state)) (rules-kept m key)
           ∙ first_full-kept limits.samples done.state (rules_at (get key m))
 
-      go : (o : Option Key) → first_full limits.samples done.state (rules_at (get key m)) ≡ o → IsLed limits Room changed Known m (unless_full m o done) (kept_unless_full (kept m) o kept_done)
+      go : (o : Option Key) → first_full limits.samples done.state (rules_at (get key m)) ≡ o → IsLed limits Room Spared Known m (unless_full m o done) (kept_unless_full (kept m) o kept_done)
       go None x = f (none-full limits done.state d.rules (ap (λ (p : Option Record). first_full limits.samples done.state (rules_at p)) (sym there) ∙ x))
       go (Some j) x = led-refused (DestinationFull j)
 
   -- on the record at a key: related if it is for a missing key and for an existing one
-  pub led-at : (key : Key) (f : Option Record → Outcome) (g : Option Kept → KeptOutcome) → (get key m ≡ None → IsLed limits Room changed Known m (f None) (g None)) →
-      ((d : Record) → get key m ≡ Some d → IsLed limits Room changed Known m (f (Some d)) (g (Some (kept_record (link_to m key) d)))) → IsLed limits Room changed Known m (f (get key m)) (g (get key (kept m)))
+  pub led-at : (key : Key) (f : Option Record → Outcome) (g : Option Kept → KeptOutcome) → (get key m ≡ None → IsLed limits Room Spared Known m (f None) (g None)) →
+      ((d : Record) → get key m ≡ Some d → IsLed limits Room Spared Known m (f (Some d)) (g (Some (kept_record (link_to m key) d)))) → IsLed limits Room Spared Known m (f (get key m)) (g (get key (kept m)))
   led-at key f g none some = rw (get-kept m key) (go (get key m) refl)
     where
-      go : (o : Option Record) → get key m ≡ o → IsLed limits Room changed Known m (f o) (g (option_map (kept_record (link_to m key)) o))
+      go : (o : Option Record) → get key m ≡ o → IsLed limits Room Spared Known m (f o) (g (option_map (kept_record (link_to m key)) o))
       go None x = none x
       go (Some d) x = some d x
 
 -- It is the step of each represented state.
-pub led-stands : (limits : Limits) (keys : Keeping) (m : State) → StandsFor limits keys m → {Room : Type 0} {changed : Key → Bool} {done : Outcome} (g : Keeping → KeptOutcome) → Room →
-    IsLed limits Room changed (λ s k old. ⊤) m done (g (kept m)) → IsStepOf limits done (g keys)
+pub led-stands : (limits : Limits) (keys : Keeping) (m : State) → StandsFor limits keys m → {Room : Type 0} {Spared : Key → Type 0} {done : Outcome} (g : Keeping → KeptOutcome) → Room →
+    IsLed limits Room Spared (λ s k old. ⊤) m done (g (kept m)) → IsStepOf limits done (g keys)
 led-stands limits keys m s {done = done} g room led = rw s.kept (led.is_step room)

@@ -1,5 +1,5 @@
 -- Writes and increments over the stored data are steps of the state.
-use Rattle.std.proofs.Common.{◌≡◌, ℕ, ℤ, ◌≤◌, Bool, nat_lt, if◌then◌else◌, List, length, Option, Some, None, is_some, refl, sym, ap, ◌∙◌, subst, ltb-false}
+use Rattle.std.proofs.Common.{◌≡◌, ℕ, ℤ, ◌≤◌, Bool, false, nat_lt, if◌then◌else◌, List, length, Option, Some, None, is_some, refl, sym, ap, ◌∙◌, subst, ltb-false}
 use Rattle.std.specs.Prelude.{⊤}
 use Rattle.std.specs.Option.{unwrap_or}
 use Rattle.ts_spec.specs.declared.limits.Limits.{Limits}
@@ -37,7 +37,7 @@ ignored-kept m key d t x there =
 -- ---- to an existing key
 
 module _ {Room : Type 0} {Known : Key → Key → Rule → Type 0} (limits : Limits) (m : State) (v : IsValid limits m) (key : Key) (d : Record) (there : get key m ≡ Some d) where
-  led-merged : (t : ℕ) (w : Merged) → IsLed limits Room (λ k. same k key) Known m (write_merged limits m key t w) (kept_write_merged limits (kept m) key t w)
+  led-merged : (t : ℕ) (w : Merged) → IsLed limits Room (λ k. same k key ≡ false) Known m (write_merged limits m key t w) (kept_write_merged limits (kept m) key t w)
   led-merged t (Refuse refusal) = led-refused limits m v refusal
   led-merged t Keep = led-told limits m v (Count t) (Count t) refl
   led-merged t (To x) =
@@ -53,20 +53,20 @@ module _ {Room : Type 0} {Known : Key → Key → Rule → Type 0} (limits : Lim
         counts = λ s k old other known h. counts-on-written limits m s k key old d t x v there other h;
       }))
 
-  led-write : (how : Merge) (t : ℕ) (x : ℤ) → IsLed limits Room (λ k. same k key) Known m (write limits m key d how t x) (kept_write limits (kept m) key (kept_record (link_to m key) d) how t x)
+  led-write : (how : Merge) (t : ℕ) (x : ℤ) → IsLed limits Room (λ k. same k key ≡ false) Known m (write limits m key d how t x) (kept_write limits (kept m) key (kept_record (link_to m key) d) how t x)
   led-write how t x =
       led-unless limits m v (nat_lt t (edge d)) _ TooOld _ _ refl
       (λ e. led-ignored limits m v _ _ _ _ (ignored-kept m key d t x there)
       (rw (← shown-there m key d there) (led-merged t (merge how (value_at t (shown m key)) x))))
 
-  led-increased : (t : ℕ) (w : Merged) → IsLed limits Room (λ k. same k key) Known m (increased limits m key d t w) (kept_increased limits (kept m) key (kept_record (link_to m key) d) t w)
+  led-increased : (t : ℕ) (w : Merged) → IsLed limits Room (λ k. same k key ≡ false) Known m (increased limits m key d t w) (kept_increased limits (kept m) key (kept_record (link_to m key) d) t w)
   led-increased t (Refuse refusal) = led-merged t (Refuse refusal)
   led-increased t Keep = led-merged t Keep
   led-increased t (To x) = led-ignored limits m v _ _ _ _ (ignored-kept m key d t x there) (led-merged t (To x))
 
-  led-incr_by : (x : ℤ) (t : ℕ) → IsLed limits Room (λ k. same k key) Known m (incr_by limits m key d x t (last_of (shown m key))) (kept_incr_by limits (kept m) key (kept_record (link_to m key) d) x t (last_of (kept_record (link_to m key) d).list))
+  led-incr_by : (x : ℤ) (t : ℕ) → IsLed limits Room (λ k. same k key ≡ false) Known m (incr_by limits m key d x t (last_of (shown m key))) (kept_incr_by limits (kept m) key (kept_record (link_to m key) d) x t (last_of (kept_record (link_to m key) d).list))
   led-incr_by x t =
-      subst (λ (ps : List Point). IsLed limits Room (λ k. same k key) Known m (incr_by limits m key d x t (last_of (shown m key))) (kept_incr_by limits (kept m) key (kept_record (link_to m key) d) x t (last_of ps)))
+      subst (λ (ps : List Point). IsLed limits Room (λ k. same k key ≡ false) Known m (incr_by limits m key d x t (last_of (shown m key))) (kept_incr_by limits (kept m) key (kept_record (link_to m key) d) x t (last_of ps)))
       (shown-there m key d there)
       (led-unless limits m v (is_before_last t (last_of (shown m key))) _ BeforeLast _ _ refl
       (λ e. led-unless limits m v (nat_lt t (edge d)) _ TooOld _ _ refl (λ y. led-increased t (within_bound (changed_value x (last_of (shown m key)))))))
@@ -74,19 +74,19 @@ module _ {Room : Type 0} {Known : Key → Key → Rule → Type 0} (limits : Lim
 -- ---- the commands, by the record at the key
 
 module _ {Room : Type 0} {Known : Key → Key → Rule → Type 0} (limits : Limits) (m : State) (v : IsValid limits m) where
-  pub led-put : (key : Key) (t : ℕ) (x : ℤ) → IsLed limits Room (λ k. same k key) Known m (put_own limits m key t x) (kept_put_own limits (kept m) key t x)
+  pub led-put : (key : Key) (t : ℕ) (x : ℤ) → IsLed limits Room (λ k. same k key ≡ false) Known m (put_own limits m key t x) (kept_put_own limits (kept m) key t x)
   led-put key t x =
       led-at limits m v key (put_at limits m key t x) (kept_put_at limits (kept m) key t x) (λ e. led-refused limits m v NoKey)
       (λ d there. led-write limits m v key d there (By d.options.policy) t x)
 
   pub led-add : (key : Key) (t : ℕ) (x : ℤ) (on : Option Policy) (spec : Spec) → (Room → 1 ≤ limits.samples) →
-      IsLed limits Room (λ k. same k key) Known m (add limits m key t x on spec) (kept_add limits (kept m) key t x on spec)
+      IsLed limits Room (λ k. same k key ≡ false) Known m (add limits m key t x on spec) (kept_add limits (kept m) key t x on spec)
   led-add key t x on spec room =
       led-at limits m v key (add_at limits m key t x on spec) (kept_add_at limits (kept m) key t x on spec) (λ e. led-create_with limits m v key spec t x room e)
       (λ d there. led-write limits m v key d there (By (unwrap_or on d.options.policy)) t x)
 
   pub led-incr : (key : Key) (x : ℤ) (t : ℕ) (spec : Spec) → (Room → 1 ≤ limits.samples) →
-      IsLed limits Room (λ k. same k key) Known m (incr limits m key x t spec) (kept_incr limits (kept m) key x t spec)
+      IsLed limits Room (λ k. same k key ≡ false) Known m (incr limits m key x t spec) (kept_incr limits (kept m) key x t spec)
   led-incr key x t spec room =
       led-at limits m v key (incr_at limits m key x t spec) (kept_incr_at limits (kept m) key x t spec) (λ e. led-create_with limits m v key spec t x room e)
       (λ d there. led-incr_by limits m v key d there x t)

@@ -1,11 +1,13 @@
 -- Rules that count every sample of their source, and the commands that leave a destination to its rule.
-use Rattle.std.specs.Prelude.{◌≡◌, ℕ, Bool, false, ◌||◌, List, [], ◌∷◌, filter, Option, Some, None}
+use Rattle.std.specs.Prelude.{◌≡◌, ◌⊎◌, ⊤, ℕ, false, List, [], ◌∷◌, filter, Option, Some, None}
+use Rattle.ts_spec.specs.declared.limits.Limits.{Limits}
 use Rattle.ts_spec.specs.Sample.{Point}
 use Rattle.ts_spec.specs.Key.{Key, same}
 use Rattle.ts_spec.specs.Keyed.{get}
 use Rattle.ts_spec.specs.State.{Rule, Record, State, link_to}
 use Rattle.ts_spec.specs.Rules.{is_eligible, plain_at}
 use Rattle.ts_spec.specs.Command.{Triple, Command, Add, Madd, Incr, DelRange}
+use Rattle.ts_spec.specs.Step.{step, triple_step, Outcome}
 
 -- the rule counts exactly the samples of its source that were written since it was created
 abbrev pub CountsAll : (plain : List Point) → Rule → Type 0
@@ -40,15 +42,21 @@ pub record StillCountsAll (m : State) (source : Key) (old new : Rule) : Type 0 w
   pub same_rule : IsSameRule old new
   pub counts : CountsAll (plain_at (get source m)) new
 
--- whether one of the triples is for the key
-abbrev pub names : Key → List Triple → Bool
-names k [] = false
-names k (x ∷ xs) = same k x.key || names k xs
+-- this outcome of a write or a deletion on one key leaves another key alone: the keys differ, or nothing has changed
+abbrev pub Spares : Key → (old : State) → (key : Key) → Outcome → Type 0
+Spares k old key done = (same k key ≡ false) ⊎ (done.state ≡ old)
 
--- whether a command writes to the key or deletes samples of it
-abbrev pub changes : Key → Command → Bool
-changes k (Add key at value on spec) = same k key
-changes k (Madd triples) = names k triples
-changes k (Incr key change at spec) = same k key
-changes k (DelRange key from to) = same k key
-changes k _ = false
+-- every triple of a TS.MADD leaves the key alone
+abbrev pub SparesEach : Limits → State → (reading : ℕ) → Key → List Triple → Type 0
+SparesEach limits m reading k [] = ⊤
+SparesEach limits m reading k (x ∷ xs) =
+    let done : Outcome = triple_step limits m reading x.key x.at x.value in
+    Spares k m x.key done × SparesEach limits done.state reading k xs
+
+-- the command neither writes to the key nor deletes samples of it
+abbrev pub LeavesAlone : Limits → State → (reading : ℕ) → Key → Command → Type 0
+LeavesAlone limits m reading k (Add key at value on spec) = Spares k m key (step limits m reading (Add key at value on spec))
+LeavesAlone limits m reading k (Madd triples) = SparesEach limits m reading k triples
+LeavesAlone limits m reading k (Incr key change at spec) = Spares k m key (step limits m reading (Incr key change at spec))
+LeavesAlone limits m reading k (DelRange key from to) = Spares k m key (step limits m reading (DelRange key from to))
+LeavesAlone limits m reading k _ = ⊤

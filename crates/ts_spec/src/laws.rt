@@ -17,7 +17,7 @@ ghost use Rattle.ts_spec.specs.Stands.{StandsFor, IsStepOf};
 ghost use Rattle.ts_spec.specs.declared.bucket.Aggregator.{Aggregator};
 ghost use Rattle.ts_spec.specs.Bucket.{Grid};
 ghost use Rattle.ts_spec.specs.Response.{Done};
-ghost use Rattle.ts_spec.specs.CountsAll.{CountsAll, CountsAllFrom, JoinsForEver, StillCountsAll, changes};
+ghost use Rattle.ts_spec.specs.CountsAll.{CountsAll, CountsAllFrom, JoinsForEver, StillCountsAll, LeavesAlone};
 ghost use Rattle.ts_spec.specs.declared.command.At.{At};
 ghost use Rattle.ts_spec.specs.Grammar.{needs_clock};
 ghost use Rattle.ts_spec.specs.Refusal.{Fault};
@@ -53,7 +53,7 @@ pub fn what_is_kept_is_enough()
 
 /// A new rule counts every sample that its source has and that was written since the rule was created. If neither
 /// series has a retention before and after a command, such a rule is unchanged by the command and still counts every
-/// new sample, unless the command writes to the destination or deletes from it.
+/// new sample, unless the command changes the destination's own samples. A write or a deletion that fails does not.
 pub fn a_new_rule_counts_all_that_its_source_has()
     ensures made { (limits : Limits) (m : State) (reading : ℕ) (source dest : Key) (agg : Aggregator) (grid : Grid)
         → IsValid limits m
@@ -61,7 +61,7 @@ pub fn a_new_rule_counts_all_that_its_source_has()
         → CountsAllFrom (step limits m reading (CreateRule source dest agg grid)).state source dest }
     ensures step { (limits : Limits) (m : State) (reading : ℕ) (command : Command) (source dest : Key) (old new : Rule)
         → IsValid limits m
-        → changes dest command ≡ false → JoinsForEver m source dest old
+        → LeavesAlone limits m reading dest command → JoinsForEver m source dest old
         → JoinsForEver (step limits m reading command).state source dest new
         → CountsAll (plain_at (get source m)) old
         → StillCountsAll (step limits m reading command).state source old new }
