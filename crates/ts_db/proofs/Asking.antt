@@ -6,7 +6,7 @@ use Rattle.ts_spec.specs.Key.{Key}
 use Rattle.ts_spec.specs.Keyed.{get}
 use Rattle.ts_spec.specs.KeptQuestions.{kept_labels_at}
 use Rattle.ts_spec.specs.KeptStep.{list_at}
-use Rattle.ts_sample.specs.declared.id.Id.{Id}
+use Rattle.ts_sample.specs.declared.sample.Id.{Id}
 use Rattle.ts_db.specs.declared.fault.DbFault.{DbFault}
 use Rattle.ts_db.specs.declared.fault.DbFault.TheVariants.{NoKey}
 use Rattle.ts_db.specs.declared.node.Node.{Node}

@@ -12,7 +12,7 @@ use Rattle.ts_spec.specs.Command.{Change}
 use Rattle.ts_spec.specs.Response.{Done}
 use Rattle.ts_spec.specs.Step.{is_longer}
 use Rattle.ts_spec.specs.KeptStep.{KeptOutcome, kept_refused, kept_alter_at, kept_alter}
-use Rattle.ts_sample.specs.declared.id.Id.{Id}
+use Rattle.ts_sample.specs.declared.sample.Id.{Id}
 use Rattle.ts_series.specs.History.{list_of}
 use Rattle.ts_series.specs.Plan.{Plan, after, alters, options_with, with_change}
 use Rattle.ts_series.proofs.Counting.{times-length}

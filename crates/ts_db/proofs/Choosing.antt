@@ -15,7 +15,7 @@ use Rattle.ts_spec.specs.Keyed.{Entry}
 use Rattle.ts_spec.specs.Kept.{Kept, Keeping}
 use Rattle.ts_spec.specs.KeptQuestions.{kept_selection}
 use Rattle.ts_spec.specs.State.{Label}
-use Rattle.ts_sample.specs.declared.id.Id.{Id}
+use Rattle.ts_sample.specs.declared.sample.Id.{Id}
 use Rattle.ts_labels.specs.Filter.{label_of, values_wanted}
 use Rattle.ts_index.specs.Index.{Labelled, numbers_where, has_pair}
 use Rattle.ts_index.specs.Numbers.{AreAscending, AreInOrder}

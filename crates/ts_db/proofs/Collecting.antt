@@ -11,7 +11,7 @@ use Rattle.ts_spec.specs.Kept.{Kept}
 use Rattle.ts_spec.proofs.Keys.{same-sym, same-true}
 use Rattle.ts_spec.proofs.Maps.{get-with, get-without, maps-same}
 use Rattle.ts_spec.proofs.Tidy.{some-same}
-use Rattle.ts_sample.specs.declared.id.Id.{Id}
+use Rattle.ts_sample.specs.declared.sample.Id.{Id}
 use Rattle.ts_rules.specs.declared.rule.Rule.{Rule}
 use Rattle.ts_rules.specs.Rules.{kept_with_dest}
 use Rattle.ts_db.specs.declared.node.Node.{Node}

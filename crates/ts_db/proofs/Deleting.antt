@@ -12,7 +12,7 @@ use Rattle.ts_spec.specs.Mending.{kept_without, keep_deleted}
 use Rattle.ts_spec.specs.Response.{Count}
 use Rattle.ts_spec.specs.KeptStep.{KeptOutcome, kept_refused, unchanged_with, kept_meets_expired, kept_unless_full, kept_within_destinations, kept_delete_at, kept_delete}
 use Rattle.ts_spec.proofs.PlainWrite.{times-swap}
-use Rattle.ts_sample.specs.declared.id.Id.{Id}
+use Rattle.ts_sample.specs.declared.sample.Id.{Id}
 use Rattle.ts_series.specs.History.{History, list_of, low, IsKept}
 use Rattle.ts_series.specs.Plan.{Plan, after, cuts, with_change}
 use Rattle.ts_series.proofs.Counting.{times-length}

@@ -17,7 +17,7 @@ use Rattle.ts_spec.proofs.Buckets.{start-order}
 use Rattle.ts_spec.proofs.Linked.{From, mapped-from}
 use Rattle.ts_spec.proofs.KeptMaps.{get-kept}
 use Rattle.ts_sample.specs.Chunk.{IsPast, greatest_limit}
-use Rattle.ts_sample.specs.declared.id.Id.{Id}
+use Rattle.ts_sample.specs.declared.sample.Id.{Id}
 use Rattle.ts_series.specs.History.{History, list_of, reach, limit_for, format_of, IsKept}
 use Rattle.ts_rules.specs.declared.rule.Rule.{Rule}
 use Rattle.ts_rules.specs.Rules.{kept_with_dest}

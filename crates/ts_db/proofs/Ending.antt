@@ -5,7 +5,7 @@ use Rattle.ts_spec.specs.Key.{Key}
 use Rattle.ts_spec.specs.Keyed.{get, without_key}
 use Rattle.ts_spec.specs.Kept.{KeptRule}
 use Rattle.ts_spec.specs.Keeping.{keep_changed}
-use Rattle.ts_sample.specs.declared.id.Id.{Id}
+use Rattle.ts_sample.specs.declared.sample.Id.{Id}
 use Rattle.ts_rules.specs.declared.rule.Rule.{Rule}
 use Rattle.ts_db.specs.declared.node.Node.{Node}
 use Rattle.ts_db.specs.declared.store.Store.{Store}

@@ -8,7 +8,7 @@ use Rattle.ts_spec.specs.KeptStep.{KeptOutcome, list_at, kept_rules_at, kept_fir
 use Rattle.ts_spec.specs.Mending.{fed}
 use Rattle.ts_spec.proofs.Keys.{same-refl, same-sym}
 use Rattle.ts_spec.proofs.Maps.{get-with}
-use Rattle.ts_sample.specs.declared.id.Id.{Id}
+use Rattle.ts_sample.specs.declared.sample.Id.{Id}
 use Rattle.ts_rules.specs.declared.rule.Rule.{Rule}
 use Rattle.ts_db.specs.declared.node.Node.{Node}
 use Rattle.ts_db.specs.declared.store.Store.{Store}

@@ -14,7 +14,7 @@ use Rattle.ts_spec.specs.Keyed.{get}
 use Rattle.ts_spec.specs.Kept.{Kept, Keeping}
 use Rattle.ts_spec.specs.Ignoring.{is_last, is_near, is_close, ignored_after, kept_ignored}
 use Rattle.ts_spec.specs.KeptStep.{KeptOutcome, kept_refused, unchanged_with, kept_write_merged, kept_unless_ignored, kept_write}
-use Rattle.ts_sample.specs.declared.id.Id.{Id}
+use Rattle.ts_sample.specs.declared.sample.Id.{Id}
 use Rattle.ts_series.specs.History.{History, list_of, low, IsKept}
 use Rattle.ts_series.specs.Put.{met}
 use Rattle.ts_series.proofs.Expired.{none-kept}

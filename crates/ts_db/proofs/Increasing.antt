@@ -12,7 +12,7 @@ use Rattle.ts_spec.specs.Step.{value_at, is_before_last, changed_value}
 use Rattle.ts_spec.specs.Ignoring.{kept_ignored}
 use Rattle.ts_spec.specs.Kept.{Kept}
 use Rattle.ts_spec.specs.KeptStep.{kept_refused, list_at, kept_write_merged, kept_unless_ignored, kept_increased, kept_incr_at, kept_incr}
-use Rattle.ts_sample.specs.declared.id.Id.{Id}
+use Rattle.ts_sample.specs.declared.sample.Id.{Id}
 use Rattle.ts_series.specs.History.{list_of, low}
 use Rattle.ts_db.specs.declared.node.Node.{Node}
 use Rattle.ts_db.specs.declared.store.Store.{Store}

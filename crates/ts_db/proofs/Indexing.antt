@@ -7,7 +7,7 @@ use Rattle.std.proofs.lemmas.Bool.{cases_eq}
 use Rattle.slab.specs.Slab as slab
 use Rattle.slab.proofs.SlabLemmas.{Updates-with_value}
 use Rattle.ts_spec.specs.State.{Label}
-use Rattle.ts_sample.specs.declared.id.Id.{Id}
+use Rattle.ts_sample.specs.declared.sample.Id.{Id}
 use Rattle.ts_index.specs.Index.{Labelled, labels_of, Relabels}
 use Rattle.ts_series.specs.History.{History, IsKept}
 use Rattle.ts_series.specs.Plan.{Plan, after}

@@ -3,7 +3,7 @@ use Rattle.std.proofs.Common.{◌≡◌, ◌+◌, ℕ, List, [], ◌∷◌, ◌+
 use Rattle.ts_spec.specs.Key.{Key}
 use Rattle.ts_spec.specs.Response as response
 use Rattle.ts_spec.specs.KeptQuestions.{kept_rule_info}
-use Rattle.ts_sample.specs.declared.id.Id.{Id}
+use Rattle.ts_sample.specs.declared.sample.Id.{Id}
 use Rattle.ts_rules.specs.declared.rule.Rule.{Rule}
 use Rattle.ts_rules.specs.Rules.{kept_with_dest}
 use Rattle.ts_db.specs.declared.info.RuleInfo.{RuleInfo}

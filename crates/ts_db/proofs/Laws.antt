@@ -27,7 +27,7 @@ use Rattle.ts_spec.proofs.KeptEnds.{kept-dropped}
 use Rattle.ts_spec.proofs.KeysGo.{valid-dropped}
 use Rattle.ts_spec.proofs.KeptMaps.{some-kept, count-kept}
 use Rattle.ts_spec.proofs.KeptAsked.{asked-kept, info-kept, labels-kept, selection-kept}
-use Rattle.ts_sample.specs.declared.id.Id.{Id}
+use Rattle.ts_sample.specs.declared.sample.Id.{Id}
 use Rattle.ts_db.specs.declared.fault.DbFault.{DbFault}
 use Rattle.ts_db.specs.declared.store.Store.{Store}
 use Rattle.ts_db.specs.Store.{stock_of, IsInOrder, IsDb}

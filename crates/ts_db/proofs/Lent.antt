@@ -14,7 +14,7 @@ use Rattle.ts_spec.specs.Keyed.{Keyed, get}
 use Rattle.ts_spec.specs.Kept.{Keeping}
 use Rattle.ts_spec.specs.KeptQuestions.{kept_selection, kept_selected_in, kept_labels_at}
 use Rattle.ts_spec.specs.State.{Label}
-use Rattle.ts_sample.specs.declared.id.Id.{Id}
+use Rattle.ts_sample.specs.declared.sample.Id.{Id}
 use Rattle.ts_index.specs.Index.{Labelled, labels_of, numbers_where}
 use Rattle.ts_index.specs.Numbers.{has_number}
 use Rattle.ts_index.specs.Candidates.{AreApart, AreLive, Covers as IndexCovers}

@@ -14,7 +14,7 @@ use Rattle.ts_spec.specs.Kept.{Kept, Keeping}
 use Rattle.ts_spec.specs.Keeping.{keep_changed, keep_ruled, kept_with_rule}
 use Rattle.ts_spec.specs.KeptStep.{KeptOutcome, kept_refused, any_rules, kept_create_rule, kept_create_rule_at}
 use Rattle.ts_spec.proofs.KeptMaps.{some-mapped}
-use Rattle.ts_sample.specs.declared.id.Id.{Id}
+use Rattle.ts_sample.specs.declared.sample.Id.{Id}
 use Rattle.ts_rules.specs.declared.rule.Rule.{Rule}
 use Rattle.ts_db.specs.declared.fault.DbFault.{DbFault}
 use Rattle.ts_db.specs.declared.node.Node.{Node}

@@ -9,7 +9,7 @@ use Rattle.ts_spec.specs.Keeping.{keep_changed, keep_without_rule}
 use Rattle.ts_spec.specs.KeptStep.{kept_refused, kept_delete_rule_at, kept_delete_rule}
 use Rattle.ts_spec.specs.Mending.{kept_rule_to}
 use Rattle.ts_spec.proofs.Keys.{same-true}
-use Rattle.ts_sample.specs.declared.id.Id.{Id}
+use Rattle.ts_sample.specs.declared.sample.Id.{Id}
 use Rattle.ts_rules.specs.declared.rule.Rule.{Rule}
 use Rattle.ts_rules.specs.Rules.{kept_with_dest}
 use Rattle.ts_db.specs.declared.node.Node.{Node}

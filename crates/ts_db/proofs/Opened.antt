@@ -11,7 +11,7 @@ use Rattle.ts_spec.specs.KeptQuestions.{rule_from, open_row, with_open, latest_l
 use Rattle.ts_spec.specs.Mending.{kept_rule_to}
 use Rattle.ts_spec.proofs.Keys.{same-refl, same-true}
 use Rattle.ts_spec.proofs.Tidy.{some-same}
-use Rattle.ts_sample.specs.declared.id.Id.{Id}
+use Rattle.ts_sample.specs.declared.sample.Id.{Id}
 use Rattle.ts_series.specs.History.{list_of, low}
 use Rattle.ts_rules.specs.declared.rule.Rule.{Rule}
 use Rattle.ts_rules.specs.Rules.{kept_with_dest}

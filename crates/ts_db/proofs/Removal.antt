@@ -10,7 +10,7 @@ use Rattle.ts_spec.specs.Mending.{kept_rule_to}
 use Rattle.ts_spec.proofs.Keys.{same-refl, same-true}
 use Rattle.ts_spec.proofs.Maps.{get-each, get-without}
 use Rattle.ts_spec.proofs.Tidy.{some-same}
-use Rattle.ts_sample.specs.declared.id.Id.{Id}
+use Rattle.ts_sample.specs.declared.sample.Id.{Id}
 use Rattle.ts_rules.specs.declared.rule.Rule.{Rule}
 use Rattle.ts_rules.specs.Rules.{kept_with_dest}
 use Rattle.ts_db.specs.declared.node.Node.{Node}

@@ -17,7 +17,7 @@ use Rattle.ts_spec.specs.Keyed.{Keyed, Entry, get, is_below, put_in}
 use Rattle.ts_spec.specs.Kept.{Kept}
 use Rattle.ts_spec.specs.KeptQuestions.{kept_selected_in, kept_selection}
 use Rattle.ts_spec.proofs.Keys.{before-irrefl}
-use Rattle.ts_sample.specs.declared.id.Id.{Id}
+use Rattle.ts_sample.specs.declared.sample.Id.{Id}
 use Rattle.ts_db.specs.declared.node.Node.{Node}
 use Rattle.ts_db.specs.Held.{AreNumbersOf}
 use Rattle.ts_db.specs.Store.{Nodes, Numbers, kept_node, kept_numbered, with_found, collected, number_of}

@@ -7,7 +7,7 @@ use Rattle.ts_spec.specs.Aggregate.{push, nothing}
 use Rattle.ts_spec.specs.Rules.{raised, is_append}
 use Rattle.ts_spec.specs.Kept.{KeptRule}
 use Rattle.ts_spec.specs.Mending.{by_bucket, bucket_row, closing_row, counted_anew, written_rule, high_with, kept_with}
-use Rattle.ts_sample.specs.declared.id.Id.{Id}
+use Rattle.ts_sample.specs.declared.sample.Id.{Id}
 use Rattle.ts_bucket.specs.Grid.{IsGrid}
 use Rattle.ts_series.specs.History.{History, list_of}
 use Rattle.ts_series.specs.Plan.{Plan, after}

@@ -5,7 +5,7 @@ use Rattle.std.specs.Prelude.{Option, Some, option_map, sum_by}
 use Rattle.slab.specs.Slab as slab
 use Rattle.ts_spec.specs.Key.{Key}
 use Rattle.ts_spec.specs.declared.limits.Limits.{Limits}
-use Rattle.ts_sample.specs.declared.id.Id.{Id}
+use Rattle.ts_sample.specs.declared.sample.Id.{Id}
 use Rattle.ts_series.specs.History.{list_of}
 use Rattle.ts_db.specs.declared.node.Node.{Node}
 use Rattle.ts_db.specs.Store.{Nodes, Numbers, kept_node, IsNode, told_of, node_reach, number_of}

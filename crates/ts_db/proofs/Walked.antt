@@ -8,7 +8,7 @@ use Rattle.std.specs.Ordering.{nat_cmp}
 use Rattle.std.specs.declared.cmp.Ordering.TheVariants.{Equal}
 use Rattle.ts_spec.specs.Key.{Key}
 use Rattle.ts_spec.specs.State.{Label}
-use Rattle.ts_sample.specs.declared.id.Id.{Id}
+use Rattle.ts_sample.specs.declared.sample.Id.{Id}
 use Rattle.ts_index.specs.Index.{Labelled, labels_of, numbers_where}
 use Rattle.ts_index.specs.Numbers.{AreAscending, AreInOrder, has_number, pass}
 use Rattle.ts_index.proofs.MemberLemmas.{has_number-with, has_number-without}

@@ -13,7 +13,7 @@ use Rattle.ts_spec.specs.KeptStep.{kept_write_merged}
 use Rattle.ts_spec.specs.Response.{Count}
 use Rattle.ts_spec.specs.Rules.{Merged}
 use Rattle.ts_spec.proofs.Tidy.{some-same}
-use Rattle.ts_sample.specs.declared.id.Id.{Id}
+use Rattle.ts_sample.specs.declared.sample.Id.{Id}
 use Rattle.ts_series.specs.Plan.{Plan, IsFor}
 use Rattle.ts_series.specs.Put.{met, sample_of}
 use Rattle.ts_rules.specs.declared.rule.Rule.{Rule}

@@ -13,7 +13,7 @@ use Rattle.ts_spec.specs.Rules.{Merged, Refuse, Keep, To}
 use Rattle.ts_spec.proofs.Tidy.{some-same}
 use Rattle.ts_sample.specs.Chunk.{IsPast}
 use Rattle.ts_sample.specs.Steps.{Takes}
-use Rattle.ts_sample.specs.declared.id.Id.{Id}
+use Rattle.ts_sample.specs.declared.sample.Id.{Id}
 use Rattle.ts_series.specs.History.{History, list_of, reach}
 use Rattle.ts_series.specs.Plan.{Plan}
 use Rattle.ts_series.specs.Put.{PutAnswers, met, sample_of, unwritten_of, refusal_of as put_refusal}

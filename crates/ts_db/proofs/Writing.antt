@@ -15,7 +15,7 @@ use Rattle.ts_spec.specs.Response.{Count}
 use Rattle.ts_spec.specs.Step.{value_at}
 use Rattle.ts_spec.specs.KeptStep.{KeptOutcome, kept_refused, list_at, kept_unless_full, kept_within_destinations, kept_within_samples, kept_write_merged, kept_unless_ignored, kept_write}
 use Rattle.ts_spec.specs.Ignoring.{kept_ignored}
-use Rattle.ts_sample.specs.declared.id.Id.{Id}
+use Rattle.ts_sample.specs.declared.sample.Id.{Id}
 use Rattle.ts_series.specs.History.{History, list_of, low, IsKept}
 use Rattle.ts_series.specs.Plan.{Plan, after}
 use Rattle.ts_series.specs.Put.{PutAnswers, Writes, Fits, IsWrite, IsFullFault, met, sample_of, list_after, unwritten_of, refusal_of as put_refusal}

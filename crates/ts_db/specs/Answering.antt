@@ -10,7 +10,7 @@ use Rattle.ts_spec.specs.Keyed.{with_key}
 use Rattle.ts_spec.specs.State.{Label}
 use Rattle.ts_spec.specs.Kept.{Keeping}
 use Rattle.ts_spec.specs.KeptStep.{KeptOutcome, kept_refused}
-use Rattle.ts_sample.specs.declared.id.Id.{Id}
+use Rattle.ts_sample.specs.declared.sample.Id.{Id}
 use Rattle.ts_series.specs.History.{list_of}
 use Rattle.ts_series.specs.Plan.{Plan, after, IsFor}
 use Rattle.ts_rules.specs.declared.rule.Rule.{Rule}

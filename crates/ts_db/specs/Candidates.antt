@@ -6,7 +6,7 @@ use Rattle.ts_spec.specs.Key.{Key}
 use Rattle.ts_spec.specs.Keyed.{get}
 use Rattle.ts_spec.specs.Kept.{Keeping}
 use Rattle.ts_spec.specs.KeptQuestions.{kept_labels_at, kept_selection}
-use Rattle.ts_sample.specs.declared.id.Id.{Id}
+use Rattle.ts_sample.specs.declared.sample.Id.{Id}
 use Rattle.ts_db.specs.Held.{Stock, AreNumbersOf}
 
 -- the keys among these whose labels pass all filters

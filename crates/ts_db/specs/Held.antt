@@ -12,7 +12,7 @@ use Rattle.ts_spec.specs.Step.{Outcome, refused}
 use Rattle.ts_spec.specs.Response.{Response, Done, Count, Refused}
 use Rattle.ts_spec.specs.Kept.{Keeping}
 use Rattle.ts_spec.specs.Stands.{StandsFor}
-use Rattle.ts_sample.specs.declared.id.Id.{Id}
+use Rattle.ts_sample.specs.declared.sample.Id.{Id}
 use Rattle.ts_db.specs.declared.fault.DbFault.{DbFault}
 use Rattle.ts_db.specs.declared.fault.DbFault.TheVariants.{NoKey, SamplesFull}
 use Rattle.ts_db.specs.Faults.{refusal_of, IsMemory}

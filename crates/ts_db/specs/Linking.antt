@@ -11,7 +11,7 @@ use Rattle.ts_spec.specs.Refusal.{Refusal, SourceIsDest, DestIsSource, DestHasSo
 use Rattle.ts_spec.specs.Kept.{KeptRule, Kept, Keeping}
 use Rattle.ts_spec.specs.Mending.{kept_rule_to}
 use Rattle.ts_spec.specs.Keeping.{keep_changed, keep_dropped}
-use Rattle.ts_sample.specs.declared.id.Id.{Id}
+use Rattle.ts_sample.specs.declared.sample.Id.{Id}
 use Rattle.ts_rules.specs.declared.rule.Rule.{Rule}
 use Rattle.ts_rules.specs.Rules.{kept_with_dest}
 use Rattle.ts_db.specs.declared.node.Node.{Node}

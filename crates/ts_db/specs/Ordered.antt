@@ -1,6 +1,6 @@
 -- Ids in key order.
 use Rattle.std.specs.Prelude.{if◌then◌else◌, List, [], ◌∷◌}
-use Rattle.ts_sample.specs.declared.id.Id.{Id}
+use Rattle.ts_sample.specs.declared.sample.Id.{Id}
 use Rattle.ts_index.specs.Numbers.{has_number}
 use Rattle.ts_db.specs.Store.{Numbers}
 

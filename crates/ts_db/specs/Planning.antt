@@ -5,7 +5,7 @@ use Rattle.ts_spec.specs.Sample.{Point, put, between, outside}
 use Rattle.ts_spec.specs.Kept.{KeptRule}
 use Rattle.ts_spec.specs.Mending.{mended_kept, written_row, deleted_rows, loses}
 use Rattle.ts_spec.specs.KeptStep.{list_at}
-use Rattle.ts_sample.specs.declared.id.Id.{Id}
+use Rattle.ts_sample.specs.declared.sample.Id.{Id}
 use Rattle.ts_series.specs.History.{History, list_of}
 use Rattle.ts_rules.specs.declared.rule.Rule.{Rule}
 use Rattle.ts_rules.specs.declared.plan.RulePlan.{RulePlan}

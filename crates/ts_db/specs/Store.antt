@@ -13,7 +13,7 @@ use Rattle.ts_spec.specs.State.{Label}
 use Rattle.ts_spec.specs.Kept.{KeptRule, Kept, Keeping}
 use Rattle.ts_spec.specs.KeptQuestions.{kept_labels_at}
 use Rattle.ts_spec.specs.KeptStep.{list_at}
-use Rattle.ts_sample.specs.declared.id.Id.{Id}
+use Rattle.ts_sample.specs.declared.sample.Id.{Id}
 use Rattle.ts_bucket.specs.Grid.{IsGrid}
 use Rattle.ts_series.specs.History.{History, list_of, reach, IsKept}
 use Rattle.ts_rules.specs.declared.rule.Rule.{Rule}

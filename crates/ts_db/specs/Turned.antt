@@ -7,7 +7,7 @@ use Rattle.ts_spec.specs.Sample.{Point}
 use Rattle.ts_spec.specs.State.{Label}
 use Rattle.ts_spec.specs.declared.bucket.Aggregator.{Aggregator}
 use Rattle.ts_spec.specs.Bucket.{Grid}
-use Rattle.ts_sample.specs.declared.id.Id.{Id}
+use Rattle.ts_sample.specs.declared.sample.Id.{Id}
 use Rattle.ts_series.specs.History.{IsKept}
 use Rattle.ts_series.specs.Plan.{Plan, after}
 use Rattle.ts_rules.specs.declared.rule.Rule.{Rule}

@@ -1,7 +1,7 @@
 // Errors of the database.
 ghost use Rattle.std.specs.Prelude.{◌≡◌, Some};
 ghost use Rattle.ts_spec.specs.Keyed.{Keyed};
-ghost use Rattle.ts_sample.specs.declared.id.Id.{Id as TheId};
+ghost use Rattle.ts_sample.specs.declared.sample.Id.{Id as TheId};
 ghost use Rattle.ts_series.specs.Put.{refusal_of as put_refusal};
 ghost use Rattle.ts_db.specs.FaultNames.{debug_of, name_of, series_name_of};
 ghost use Rattle.ts_db.specs.Faults.{refusal_of, IsFaultAt};

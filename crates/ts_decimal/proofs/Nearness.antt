@@ -7,8 +7,8 @@ use Rattle.std.specs.declared.result.Result.TheVariants.{Err, Ok}
 use Rattle.std.proofs.Math.Nat.{div-mul-le_self, lt-div-mul-add, mul-le-mul_right, not-le_of_lt, le_refl, le_of_lt, le_antisymm}
 use Rattle.std.proofs.lemmas.Bool.{cases_order}
 use Rattle.std.proofs.lemmas.Bool.Decides.{nat_tests}
-use Rattle.ts_spec.specs.declared.value.ValueFault.{ValueFault}
-use Rattle.ts_spec.specs.declared.value.ValueFault.TheVariants.{NotANumber, OutOfRange}
+use Rattle.ts_spec.specs.declared.units.ValueFault.{ValueFault}
+use Rattle.ts_spec.specs.declared.units.ValueFault.TheVariants.{NotANumber, OutOfRange}
 use Rattle.ts_spec.specs.Value.{Decimal, bound, nearest, signed, millionths, rounded, decimal, value}
 use Rattle.ts_decimal.specs.Laws.{distance, over, under, IsNearest, ValueIsNearest, OutOfRangeIsAbove, NotANumberIsNoDecimal}
 use Rattle.ts_decimal.proofs.Kept.{tens_positive}

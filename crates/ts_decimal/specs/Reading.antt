@@ -5,8 +5,8 @@ use Rattle.std.specs.declared.option.Option.TheVariants.{Some}
 use Rattle.std.specs.declared.result.Result.{Result}
 use Rattle.std.specs.declared.result.Result.TheVariants.{Err, Ok}
 use Rattle.ts_spec.specs.Value.{Decimal, bound, millionths}
-use Rattle.ts_spec.specs.declared.value.ValueFault.{ValueFault}
-use Rattle.ts_spec.specs.declared.value.ValueFault.TheVariants.{OutOfRange}
+use Rattle.ts_spec.specs.declared.units.ValueFault.{ValueFault}
+use Rattle.ts_spec.specs.declared.units.ValueFault.TheVariants.{OutOfRange}
 use Rattle.ts_decimal.specs.Leading.{Leads}
 
 -- the text's decimal has this sign, these powers of ten and these leading digits

@@ -10,7 +10,7 @@ use Rattle.ts_spec.specs.Refusal.{Refusal}
 use Rattle.ts_spec.specs.Response.{Count, Refused}
 use Rattle.ts_spec.specs.State.{Record}
 use Rattle.ts_spec.specs.Step.{Outcome, add_at, add, put_at, put_own}
-use Rattle.ts_sample.specs.declared.id.Id.{Id}
+use Rattle.ts_sample.specs.declared.sample.Id.{Id}
 use Rattle.ts_db.specs.Faults.{refusal_of}
 use Rattle.ts_db.specs.PutBy.{put_by_at, put_by}
 use Rattle.ts_db.specs.Held.{Held, Stock, AnswersNumber, IsDone, IsAnswer}

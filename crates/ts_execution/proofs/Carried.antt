@@ -7,7 +7,7 @@ use Rattle.ts_spec.specs.Response.{Response}
 use Rattle.ts_spec.specs.Refusal.{Refusal}
 use Rattle.ts_spec.specs.Step.{Outcome}
 use Rattle.ts_spec.specs.Text.{Reply, Error}
-use Rattle.ts_sample.specs.declared.id.Id.{Id}
+use Rattle.ts_sample.specs.declared.sample.Id.{Id}
 use Rattle.ts_spec.specs.Keyed.{Keyed}
 use Rattle.ts_db.specs.Faults.{refusal_of, IsRefusal}
 use Rattle.ts_db.specs.Held.{Held, Stock, Stands, Leads, Carries, Answers, IsAnswer}

@@ -12,7 +12,7 @@ use Rattle.ts_spec.specs.Response.{Item, Wrote, IsWrong, IsRefused, Count}
 use Rattle.ts_spec.specs.State.{State}
 use Rattle.ts_spec.specs.Step.{Outcome, time_of, triple_step, item_of, put_own, madd}
 use Rattle.ts_spec.specs.declared.command.At.{At}
-use Rattle.ts_sample.specs.declared.id.Id.{Id}
+use Rattle.ts_sample.specs.declared.sample.Id.{Id}
 use Rattle.ts_db.specs.Faults.{refusal_of}
 use Rattle.ts_db.specs.Held.{Held, Stock, Stands, Leads, Carries, Answers, IsAnswer}
 use Rattle.ts_db.specs.declared.fault.DbFault.{DbFault}

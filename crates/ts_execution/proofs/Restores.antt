@@ -16,7 +16,7 @@ use Rattle.ts_spec.specs.State.{State}
 use Rattle.ts_spec.specs.Step.{Outcome, step, drop_keys}
 use Rattle.ts_spec.specs.Text.{Reply}
 use Rattle.ts_spec.specs.Wire.{Request}
-use Rattle.ts_sample.specs.declared.id.Id.{Id}
+use Rattle.ts_sample.specs.declared.sample.Id.{Id}
 use Rattle.ts_db.specs.Faults.{refusal_of}
 use Rattle.ts_db.specs.Held.{Held, Stock, Stands, Carries, Answers, IsAnswer}
 use Rattle.ts_db.specs.declared.fault.DbFault.{DbFault}

@@ -5,11 +5,11 @@ use Rattle.std.specs.Fmt.{decimal}
 use Rattle.std.proofs.lemmas.Fmt.{length-decimal-le}
 use Rattle.ts_spec.specs.Refusal as refusal
 use Rattle.ts_spec.specs.Refusal.{Fault}
-use Rattle.ts_spec.specs.declared.value.ValueFault.TheVariants as value
+use Rattle.ts_spec.specs.declared.units.ValueFault.TheVariants as value
 use Rattle.ts_spec.specs.Replies.{number, fault_reply}
 use Rattle.ts_spec.specs.Sample.{MAX_TIME}
 use Rattle.ts_spec.specs.Text.{CRLF, Bulk, line_text, text}
-use Rattle.ts_sample.specs.declared.id.Id.{Id}
+use Rattle.ts_sample.specs.declared.sample.Id.{Id}
 use Rattle.ts_spec.specs.Keyed.{Keyed}
 use Rattle.ts_db.specs.Faults.{refusal_of}
 use Rattle.ts_db.specs.declared.fault.DbFault.{DbFault}

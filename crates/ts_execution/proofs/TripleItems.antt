@@ -11,7 +11,7 @@ use Rattle.ts_spec.specs.declared.command.At.{At}
 use Rattle.ts_command.specs.Faults.{IsNoMemory, fault_of, message}
 use Rattle.ts_command.specs.declared.fault.CommandFault.{CommandFault}
 use Rattle.ts_command.specs.declared.fault.CommandFault.TheVariants as code
-use Rattle.ts_sample.specs.declared.id.Id.{Id}
+use Rattle.ts_sample.specs.declared.sample.Id.{Id}
 use Rattle.ts_spec.specs.Keyed.{Keyed}
 use Rattle.ts_db.specs.Faults.{refusal_of}
 use Rattle.ts_db.specs.Held.{Held, Stock, Stands, Carries, AnswersNumber, YieldsToMemory, IsAnswer}

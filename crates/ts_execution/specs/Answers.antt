@@ -4,7 +4,7 @@ use Rattle.ts_spec.specs.Keyed.{Keyed}
 use Rattle.ts_spec.specs.Replies.{reply_to}
 use Rattle.ts_spec.specs.Response.{Response, Done, Count}
 use Rattle.ts_spec.specs.Text.{Reply, Error}
-use Rattle.ts_sample.specs.declared.id.Id.{Id}
+use Rattle.ts_sample.specs.declared.sample.Id.{Id}
 use Rattle.ts_db.specs.Faults.{refusal_of}
 use Rattle.ts_db.specs.declared.fault.DbFault.{DbFault}
 use Rattle.ts_questions.specs.Answering.{message_of}

@@ -5,7 +5,7 @@ ghost use Rattle.ts_spec.specs.Replies.{number as shown, reply_to};
 ghost use Rattle.ts_spec.specs.Response.{Done};
 ghost use Rattle.ts_spec.specs.Sample.{MAX_TIME};
 ghost use Rattle.ts_spec.specs.Text.{Error};
-ghost use Rattle.ts_sample.specs.declared.id.Id.{Id};
+ghost use Rattle.ts_sample.specs.declared.sample.Id.{Id};
 ghost use Rattle.ts_resp.specs.Replies.{reply_of};
 ghost use Rattle.ts_command.specs.Faults.{message as fault_message};
 ghost use Rattle.ts_execution.specs.Answers.{reply_of_done, reply_of_number};

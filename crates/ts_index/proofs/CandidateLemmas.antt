@@ -8,7 +8,7 @@ use Rattle.ts_spec.specs.Key.{Key, same}
 use Rattle.ts_spec.specs.State.{Label}
 use Rattle.ts_spec.specs.Filter.{value_of, is_among, has_one_of}
 use Rattle.ts_spec.proofs.Keys.{same-true}
-use Rattle.ts_sample.specs.declared.id.Id.{Id}
+use Rattle.ts_sample.specs.declared.sample.Id.{Id}
 use Rattle.ts_index.specs.Index.{Labelled, labels_of, numbers_where, has_pair}
 use Rattle.ts_index.specs.Numbers.{AreInOrder, AreAscending, has_number, pass}
 use Rattle.ts_index.specs.Candidates.{listed_by, AreApart}

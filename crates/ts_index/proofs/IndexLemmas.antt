@@ -5,7 +5,7 @@ use Rattle.std.proofs.Math.Seq.{take-length}
 use Rattle.std.specs.Ordering.{nat_cmp}
 use Rattle.std.specs.BTreeMap.{BTreeMap, is_at}
 use Rattle.ts_spec.specs.State.{Label}
-use Rattle.ts_sample.specs.declared.id.Id.{Id}
+use Rattle.ts_sample.specs.declared.sample.Id.{Id}
 use Rattle.ts_index.specs.Index.{Labelled, Relabels, labels_of, numbers_where, has_pair}
 use Rattle.ts_index.specs.Numbers.{AreInOrder, AreAscending, has_number, pass}
 use Rattle.ts_index.specs.Postings.{posting_in, ArePosted}

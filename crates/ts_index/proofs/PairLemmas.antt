@@ -12,7 +12,7 @@ use Rattle.ts_index.specs.Index.{has_pair}
 use Rattle.ts_index.specs.Pairs.{is_own}
 use Rattle.ts_index.specs.Postings.{alike}
 use Rattle.ts_index.specs.Numbers.{AreAscending, has_number, with_number, without_number}
-use Rattle.ts_sample.specs.declared.id.Id.{Id}
+use Rattle.ts_sample.specs.declared.sample.Id.{Id}
 use Rattle.ts_index.proofs.PostingLemmas.{alike-same}
 use Rattle.ts_index.proofs.MemberLemmas.{AreAscending-with, AreAscending-without, has_number-with, has_number-without}
 

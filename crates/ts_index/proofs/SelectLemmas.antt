@@ -7,7 +7,7 @@ use Rattle.std.specs.List.Sorted.{IsPermutation}
 use Rattle.ts_spec.specs.State.{Label}
 use Rattle.ts_spec.specs.Filter.{Filter, Among, NotAmong, Absent, Present, value_of, has_one_of, holds, all_hold, is_positive}
 use Rattle.ts_labels.specs.Filter.{label_of, values_wanted}
-use Rattle.ts_sample.specs.declared.id.Id.{Id}
+use Rattle.ts_sample.specs.declared.sample.Id.{Id}
 use Rattle.ts_index.specs.Bounds.{fewest}
 use Rattle.ts_index.specs.Candidates.{listed_by, AreApart, Covers}
 use Rattle.ts_index.specs.Index.{Labelled, labels_of, numbers_where}

@@ -2,7 +2,7 @@
 use Rattle.std.proofs.Common.{◌≡◌, ◌<◌, Bool, true, false, length, get_or, arith, ℕ, zero, suc, ◌+◌, add-one, List, [], ◌∷◌, ◌++◌, take, drop, slice_get, Some, refl, ap, if◌then◌else◌}
 use Rattle.ts_spec.specs.Key.{Key}
 use Rattle.ts_spec.specs.Filter.{is_among}
-use Rattle.ts_sample.specs.declared.id.Id.{Id}
+use Rattle.ts_sample.specs.declared.sample.Id.{Id}
 use Rattle.ts_index.specs.Index.{Labelled, numbers_where, has_pair}
 use Rattle.ts_index.specs.Candidates.{listed_by}
 

@@ -2,7 +2,7 @@
 use Rattle.std.specs.Prelude.{◌≡◌, ℕ, false, true, ⊤, if◌then◌else◌, List, [], ◌∷◌, ◌++◌, IsSome, Some}
 use Rattle.ts_spec.specs.Filter.{Filter, is_among, all_hold}
 use Rattle.ts_spec.specs.State.{Label}
-use Rattle.ts_sample.specs.declared.id.Id.{Id}
+use Rattle.ts_sample.specs.declared.sample.Id.{Id}
 use Rattle.ts_index.specs.Index.{Labelled, labels_of, numbers_where, has_pair}
 use Rattle.ts_index.specs.Numbers.{has_number}
 

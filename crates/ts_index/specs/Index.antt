@@ -5,7 +5,7 @@ use Rattle.std.specs.Map.{lookup}
 use Rattle.std.specs.Ordering.{nat_cmp}
 use Rattle.ts_spec.specs.Filter.{has_one_of, value_of}
 use Rattle.ts_spec.specs.State.{Label}
-use Rattle.ts_sample.specs.declared.id.Id.{Id}
+use Rattle.ts_sample.specs.declared.sample.Id.{Id}
 
 -- the labels of each id, in ascending order of ids
 abbrev pub Labelled : Type 0

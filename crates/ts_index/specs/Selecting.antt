@@ -1,7 +1,7 @@
 -- The result of a selection.
 use Rattle.std.specs.Prelude.{◌≡◌, ℕ, Bool, List}
 use Rattle.ts_spec.specs.State.{Label}
-use Rattle.ts_sample.specs.declared.id.Id.{Id}
+use Rattle.ts_sample.specs.declared.sample.Id.{Id}
 use Rattle.ts_index.specs.Candidates.{AreApart}
 use Rattle.ts_index.specs.Index.{Labelled, labels_of}
 use Rattle.ts_index.specs.Numbers.{has_number, pass}

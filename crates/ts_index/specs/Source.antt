@@ -1,6 +1,6 @@
 -- The remaining candidates.
 use Rattle.std.specs.Prelude.{ℕ, List, map}
-use Rattle.ts_sample.specs.declared.id.Id.{Id}
+use Rattle.ts_sample.specs.declared.sample.Id.{Id}
 use Rattle.ts_index.specs.declared.candidates.Source.{Source}
 use Rattle.ts_index.specs.declared.candidates.Source.TheVariants.{All, ByValue}
 

@@ -31,7 +31,7 @@ pub struct Candidates<'a> {
 
 impl<'a> Model for Candidates<'a> {
     ghost use Rattle.std.specs.Prelude.{List};
-    ghost use Rattle.ts_sample.specs.declared.id.Id.{Id as Number};
+    ghost use Rattle.ts_sample.specs.declared.sample.Id.{Id as Number};
 
     ghost Value = { List Number };
 

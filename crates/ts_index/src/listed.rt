@@ -27,7 +27,7 @@ pub(crate) struct Listed<'a> {
 
 impl<'a> Model for Listed<'a> {
     ghost use Rattle.std.specs.Prelude.{List, ◌++◌, ◌≤◌, length, take, drop};
-    ghost use Rattle.ts_sample.specs.declared.id.Id.{Id as Number};
+    ghost use Rattle.ts_sample.specs.declared.sample.Id.{Id as Number};
     ghost use Rattle.ts_index.specs.Candidates.{listed_by};
 
     ghost Value = { List Number };

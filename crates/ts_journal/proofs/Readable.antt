@@ -6,7 +6,7 @@ use Rattle.std.specs.Str.{bytes_eq}
 use Rattle.std.specs.Prelude.{codes}
 use Rattle.ts_spec.specs.declared.command.At.{At}
 use Rattle.ts_spec.specs.declared.command.At.TheVariants.{Clock, Time}
-use Rattle.ts_spec.specs.declared.value.ValueFault.{ValueFault}
+use Rattle.ts_spec.specs.declared.units.ValueFault.{ValueFault}
 use Rattle.ts_spec.specs.Number.{digits_number, is_digits, number}
 use Rattle.ts_spec.specs.Outcome.{time_of}
 use Rattle.ts_spec.specs.Refusal.{Fault, BadTimestamp}
@@ -89,7 +89,7 @@ rounded-bounded : (d : Option Decimal) → IfOk (rounded d) IsBounded
 rounded-bounded None = tt
 rounded-bounded (Some d) = go (nat_le (millionths d) bound) refl
   where
-    go : (b : Bool) → nat_le (millionths d) bound ≡ b → IfOk (if b then Ok (signed d.negative (millionths d)) else Err Rattle.ts_spec.specs.declared.value.ValueFault.TheVariants.OutOfRange) IsBounded
+    go : (b : Bool) → nat_le (millionths d) bound ≡ b → IfOk (if b then Ok (signed d.negative (millionths d)) else Err Rattle.ts_spec.specs.declared.units.ValueFault.TheVariants.OutOfRange) IsBounded
     go true e = omega (arith, signed-abs d.negative (millionths d), leb-true (millionths d) bound e)
     go false e = tt
 

@@ -5,7 +5,7 @@ use Rattle.ts_spec.specs.declared.bucket.Aggregator.TheVariants.{Avg}
 use Rattle.ts_spec.specs.declared.command.At.TheVariants.{Clock, Time}
 use Rattle.ts_spec.specs.declared.series.Encoding.TheVariants.{Uncompressed}
 use Rattle.ts_spec.specs.declared.series.Policy.TheVariants.{Last, Max}
-use Rattle.ts_spec.specs.declared.value.ValueFault.TheVariants.{NotANumber}
+use Rattle.ts_spec.specs.declared.units.ValueFault.TheVariants.{NotANumber}
 use Rattle.ts_spec.specs.Command.{Spec, Command, Create, Alter, Add, Madd, Incr, DelRange, CreateRule, DeleteRule, Get, Drop}
 use Rattle.ts_spec.specs.Refusal.{BadValue, NoKey, Duplicate}
 use Rattle.ts_spec.specs.Replies.{array, number, fault_reply, refusal_reply}

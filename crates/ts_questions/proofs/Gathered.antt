@@ -23,7 +23,7 @@ use Rattle.ts_group.specs.Grouped.{grouped}
 use Rattle.ts_group.specs.Sorted.{having_of, values_of, by_values_of}
 use Rattle.ts_group.specs.declared.one_group.Group.{Group}
 use Rattle.ts_group.proofs.Sorted.{sum-sorted}
-use Rattle.ts_sample.specs.declared.id.Id.{Id}
+use Rattle.ts_sample.specs.declared.sample.Id.{Id}
 use Rattle.ts_range.specs.Query.{query_of}
 use Rattle.ts_db.specs.Faults.{key_with}
 use Rattle.ts_db.specs.Held.{Stock}

@@ -25,7 +25,7 @@ use Rattle.ts_range.specs.Query.{query_of}
 use Rattle.ts_command.specs.GroupBy.{group_of}
 use Rattle.ts_group.specs.Sorted.{having_of}
 use Rattle.ts_group.proofs.Sorted.{having-series}
-use Rattle.ts_sample.specs.declared.id.Id.{Id}
+use Rattle.ts_sample.specs.declared.sample.Id.{Id}
 use Rattle.ts_db.specs.Faults.{key_with}
 use Rattle.ts_db.specs.Held.{Held, Stock, Stands, AreNumbersOf, YieldsToMemory}
 use Rattle.ts_questions.specs.declared.grouping.Grouping.{Grouping}

@@ -8,7 +8,7 @@ use Rattle.ts_spec.specs.Key.{Key}
 use Rattle.ts_spec.specs.Keyed.{Keyed, get}
 use Rattle.ts_spec.specs.Replies.{listed}
 use Rattle.ts_spec.specs.Text.{Reply, line_text, text, texts}
-use Rattle.ts_sample.specs.declared.id.Id.{Id}
+use Rattle.ts_sample.specs.declared.sample.Id.{Id}
 use Rattle.ts_db.specs.Held.{IsLive, AreNumbersOf}
 use Rattle.ts_questions.specs.Members.{told_then, each_told, IsAdded, IsAddedOrLost, AreAddedOrLost}
 use Rattle.ts_questions.proofs.ReplyTexts.{count-listed}

@@ -4,7 +4,7 @@ use Rattle.std.specs.Prelude.{sum_by, Some}
 use Rattle.std.proofs.lemmas.List.Sums.{sum_by-cons}
 use Rattle.ts_spec.specs.Key.{Key}
 use Rattle.ts_spec.specs.Keyed.{Keyed, get}
-use Rattle.ts_sample.specs.declared.id.Id.{Id}
+use Rattle.ts_sample.specs.declared.sample.Id.{Id}
 use Rattle.ts_db.specs.Held.{AreNumbersOf}
 
 module _ (most : Key → ℕ) (ids : Keyed Id) (keys : List Key) where

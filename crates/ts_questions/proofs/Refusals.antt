@@ -7,7 +7,7 @@ use Rattle.ts_spec.specs.Replies.{reply_to}
 use Rattle.ts_spec.specs.Response.{Response, Refused}
 use Rattle.ts_spec.specs.State.{Record}
 use Rattle.ts_spec.specs.Text.{Error, text}
-use Rattle.ts_sample.specs.declared.id.Id.{Id}
+use Rattle.ts_sample.specs.declared.sample.Id.{Id}
 use Rattle.ts_db.specs.Faults.{refusal_of, IsRefusal, IsMemory}
 use Rattle.ts_db.specs.Held.{Finds, YieldsToMemory}
 use Rattle.ts_db.specs.declared.fault.DbFault.{DbFault}

@@ -10,7 +10,7 @@ use Rattle.ts_spec.specs.Filter.{Filter, all_hold}
 use Rattle.ts_spec.specs.Key.{Key}
 use Rattle.ts_spec.specs.Keyed.{Keyed, get}
 use Rattle.ts_spec.specs.KeptQuestions.{kept_labels_at, kept_selection}
-use Rattle.ts_sample.specs.declared.id.Id.{Id}
+use Rattle.ts_sample.specs.declared.sample.Id.{Id}
 use Rattle.ts_db.specs.Bounds.{fewest, selection_steps}
 use Rattle.ts_db.specs.Candidates.{passing, Covers}
 use Rattle.ts_db.specs.Held.{Stock, IsLive, AreNumbersOf}

@@ -6,8 +6,8 @@ use Rattle.std.specs.Fmt.{decimal}
 use Rattle.ts_spec.specs.Answer.{Row}
 use Rattle.ts_spec.specs.Replies.{array, row_reply}
 use Rattle.ts_spec.specs.Text.{line_text, text, Array, Item, Int, Value, Empty}
-use Rattle.ts_sample.specs.declared.cell.Cell.{Cell}
-use Rattle.ts_sample.specs.declared.cell.Cell.TheVariants as cell
+use Rattle.ts_sample.specs.declared.sample.Cell.{Cell}
+use Rattle.ts_sample.specs.declared.sample.Cell.TheVariants as cell
 use Rattle.ts_range.specs.Query.{cell_of}
 use Rattle.ts_resp.specs.Replies.{value_of}
 use Rattle.std.specs.Prelude.{pos}

@@ -15,7 +15,7 @@ use Rattle.ts_spec.specs.KeptQuestions.{kept_asked, kept_labels_at, kept_ranges_
 use Rattle.ts_labels.specs.Show.{show_of}
 use Rattle.ts_range.specs.Filters.{passes}
 use Rattle.ts_range.specs.Query.{query_of}
-use Rattle.ts_sample.specs.declared.id.Id.{Id}
+use Rattle.ts_sample.specs.declared.sample.Id.{Id}
 use Rattle.ts_command.specs.GroupBy.{group_of}
 use Rattle.ts_group.specs.Grouped.{grouped}
 use Rattle.ts_group.specs.Sorted.{having_of, values_of}

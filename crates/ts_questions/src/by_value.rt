@@ -2,7 +2,7 @@
 ghost use Rattle.std.specs.Prelude.{◌≡◌, ◌++◌, ℕ, All, List, [], ◌∷◌, Some, OnOk, IfOk};
 ghost use Rattle.ts_spec.specs.Filter.{value_of};
 ghost use Rattle.ts_spec.specs.Groups.{Labelled};
-ghost use Rattle.ts_sample.specs.declared.id.Id.{Id as TheId};
+ghost use Rattle.ts_sample.specs.declared.sample.Id.{Id as TheId};
 ghost use Rattle.ts_group.specs.Sorted.{by_values_of};
 ghost use Rattle.ts_db.specs.Held.{IsLive};
 ghost use Rattle.ts_questions.specs.Grouping.{IsNumbered, numbered};
@@ -22,7 +22,7 @@ pub(crate) struct Numbers {
 
 impl Model for Numbers {
     ghost use Rattle.std.specs.Prelude.{List};
-    ghost use Rattle.ts_sample.specs.declared.id.Id.{Id as TheId};
+    ghost use Rattle.ts_sample.specs.declared.sample.Id.{Id as TheId};
 
     ghost Value = { List TheId };
 

@@ -4,7 +4,7 @@ ghost use Rattle.ts_spec.specs.Keyed.{Keyed};
 ghost use Rattle.ts_spec.specs.Refusal.{EmptyRows};
 ghost use Rattle.ts_spec.specs.Replies.{refusal_reply as shown_refusal, memory_reply};
 ghost use Rattle.ts_spec.specs.Text.{Error, text};
-ghost use Rattle.ts_sample.specs.declared.id.Id.{Id};
+ghost use Rattle.ts_sample.specs.declared.sample.Id.{Id};
 ghost use Rattle.ts_resp.specs.Replies.{reply_of};
 ghost use Rattle.ts_db.specs.Faults.{refusal_of};
 ghost use Rattle.ts_questions.specs.Answering.{message_of, IsShort, lost_reply};

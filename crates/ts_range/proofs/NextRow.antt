@@ -5,7 +5,7 @@ use Rattle.std.proofs.lemmas.List.{drop_more, drop_all}
 use Rattle.std.proofs.lemmas.Option.{slice_get_within, get_or_from_slice_get}
 use Rattle.ts_spec.specs.Command.{Buckets}
 use Rattle.ts_spec.specs.Answer.{Cell, Row}
-use Rattle.ts_sample.specs.declared.cell.Cell as rust
+use Rattle.ts_sample.specs.declared.sample.Cell as rust
 use Rattle.ts_range.specs.declared.filling.Place.{Place}
 use Rattle.ts_range.specs.Filling.{said_after, row_at, filled, Filling, filled_line, said_of, said_now, filled_from, IsFilled, IsBefore}
 use Rattle.ts_range.specs.Query.{cell_of}

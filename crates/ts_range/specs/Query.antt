@@ -2,8 +2,8 @@
 use Rattle.std.specs.Prelude.{ℤ, option_map}
 use Rattle.ts_spec.specs.Command as spec
 use Rattle.ts_spec.specs.Answer as answer
-use Rattle.ts_sample.specs.declared.cell.Cell.{Cell}
-use Rattle.ts_sample.specs.declared.cell.Cell.TheVariants as cell
+use Rattle.ts_sample.specs.declared.sample.Cell.{Cell}
+use Rattle.ts_sample.specs.declared.sample.Cell.TheVariants as cell
 use Rattle.ts_range.specs.declared.query.Buckets.{Buckets}
 use Rattle.ts_range.specs.declared.query.Query.{Query}
 use Rattle.ts_range.specs.declared.query.Row.{Row}

@@ -1,7 +1,7 @@
 -- Replies as ts_spec defines them.
 use Rattle.std.specs.Prelude.{ℤ, List, [], ◌∷◌, map, Option, Some, None}
-use Rattle.ts_sample.specs.declared.cell.Cell.{Cell}
-use Rattle.ts_sample.specs.declared.cell.Cell.TheVariants as cell
+use Rattle.ts_sample.specs.declared.sample.Cell.{Cell}
+use Rattle.ts_sample.specs.declared.sample.Cell.TheVariants as cell
 use Rattle.ts_spec.specs.Text as text
 use Rattle.ts_resp.specs.declared.reply.Reply.{Reply, fold-Reply}
 use Rattle.ts_resp.specs.declared.reply.Reply.TheOpen.{Reply-F}

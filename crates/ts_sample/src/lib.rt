@@ -2,20 +2,16 @@
 //! id of a series in a database, and a counter of decoding steps that costs nothing at run time.
 #![tactic(auto)]
 
-mod cell;
 mod changed;
 mod chunk;
-mod id;
 mod place;
 mod sample;
 mod steps;
 mod visit;
 
-pub use cell::Cell;
 pub use chunk::Chunk;
-pub use id::Id;
 pub use place::{find, place_of, place_past, places_between};
-pub use sample::{MAX_TIME, Sample};
+pub use sample::{Cell, Id, MAX_TIME, Sample};
 pub use steps::Steps;
 pub use ts_spec::Units;
 pub use visit::{Gathered, Visit};

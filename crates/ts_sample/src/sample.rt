@@ -1,4 +1,4 @@
-// A sample, and the greatest time.
+// A sample, the value of a row, the id of a series, and the greatest time.
 use std::marker::Model;
 use ts_spec::Units;
 
@@ -40,3 +40,16 @@ impl Sample {
         let _value = self.value.get();
     }
 }
+
+/// The value of a row in a reply, which may be missing.
+#[derive(Clone, Copy, Debug, PartialEq, Eq)]
+pub enum Cell {
+    /// A value.
+    Number(Units),
+    /// No value; the reply has `NaN`.
+    Nan,
+}
+
+/// The id of a series in a database.
+#[derive(Clone, Copy, Debug, PartialEq, Eq, PartialOrd, Ord, Hash)]
+pub struct Id(pub usize);

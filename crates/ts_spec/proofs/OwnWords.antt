@@ -1,7 +1,7 @@
 -- The texts of the server itself have no CR.
 use Rattle.std.proofs.Common.{◌≡◌, ℕ, ◌==◌, Bool, true, false, not, ◌&&◌, List, [], ◌∷◌, refl}
 use Rattle.std.proofs.lemmas.Bool.{false≢true, eqb-false, and_parts}
-use Rattle.ts_spec.specs.declared.value.ValueFault.TheVariants as value
+use Rattle.ts_spec.specs.declared.units.ValueFault.TheVariants as value
 use Rattle.ts_spec.specs.declared.bucket.Aggregator.{Aggregator}
 use Rattle.ts_spec.specs.declared.bucket.Aggregator.TheVariants as agg
 use Rattle.ts_spec.specs.declared.series.Encoding.{Encoding}

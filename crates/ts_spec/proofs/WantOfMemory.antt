@@ -1,7 +1,7 @@
 -- No other reply has the text of the out-of-memory error.
 use Rattle.std.proofs.Common.{◌≡◌, ◌≢◌, ℕ, List, [], ◌∷◌, Option, Some, None, refl, sym, ap, ◌∙◌}
 use Rattle.std.proofs.lemmas.Bool.{eqb-false}
-use Rattle.ts_spec.specs.declared.value.ValueFault.TheVariants as value
+use Rattle.ts_spec.specs.declared.units.ValueFault.TheVariants as value
 use Rattle.ts_spec.specs.declared.wire.Kind.{Kind}
 use Rattle.ts_spec.specs.declared.wire.Kind.TheVariants as kind
 use Rattle.ts_spec.specs.Refusal.{Fault, UnknownCommand, Arity, BadTimestamp, BadValue, BadOption, RepeatedOption, BadLabels, BadChunkSize, BadPolicy, BadEncoding, UnknownAggregator, AggregatorNotInProfile, BadDuration, BadFilter, NoPositiveFilter, Refusal, NoKey, KeyExists, KeysFull, LabelsFull, TooOld, Duplicate, OutOfRange, BeforeLast, SamplesFull, DestinationFull, DeleteBeyondRetention, SameKey, SourceIsDest, DestIsSource, DestHasSource, RulesSpent, RulesFull, NoRule, EmptyRows}

@@ -2,7 +2,7 @@
 use Rattle.std.specs.Prelude.{◌≡◌, refl, pos, [], ◌∷◌, codes, Some, None, Ok, Err}
 use Rattle.ts_spec.specs.declared.series.Encoding.TheVariants.{Compressed}
 use Rattle.ts_spec.specs.declared.series.Policy.TheVariants.{Last}
-use Rattle.ts_spec.specs.declared.value.ValueFault.TheVariants.{NotANumber, OutOfRange}
+use Rattle.ts_spec.specs.declared.units.ValueFault.TheVariants.{NotANumber, OutOfRange}
 use Rattle.ts_spec.specs.Command.{Create, Alter}
 use Rattle.ts_spec.specs.Grammar.{commands, command}
 use Rattle.ts_spec.specs.Names.{policies}

@@ -1,7 +1,7 @@
 -- The names of faults, as `Debug` prints them.
 use Rattle.std.specs.Prelude.{ℕ, List, codes}
-use Rattle.ts_spec.specs.declared.value.ValueFault.{ValueFault}
-use Rattle.ts_spec.specs.declared.value.ValueFault.TheVariants.{NotANumber, OutOfRange}
+use Rattle.ts_spec.specs.declared.units.ValueFault.{ValueFault}
+use Rattle.ts_spec.specs.declared.units.ValueFault.TheVariants.{NotANumber, OutOfRange}
 
 -- the name of a fault
 abbrev pub name_of : ValueFault → List ℕ

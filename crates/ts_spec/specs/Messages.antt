@@ -1,6 +1,6 @@
 -- The texts of error replies.
 use Rattle.std.specs.Prelude.{ℕ, List, codes}
-use Rattle.ts_spec.specs.declared.value.ValueFault.TheVariants as value
+use Rattle.ts_spec.specs.declared.units.ValueFault.TheVariants as value
 use Rattle.ts_spec.specs.Refusal.{Fault, UnknownCommand, Arity, BadTimestamp, BadValue, BadOption, RepeatedOption, BadLabels, BadChunkSize, BadPolicy, BadEncoding, UnknownAggregator, AggregatorNotInProfile, BadDuration, BadFilter, NoPositiveFilter, Refusal, NoKey, KeyExists, KeysFull, LabelsFull, TooOld, Duplicate, OutOfRange, BeforeLast, SamplesFull, DestinationFull, DeleteBeyondRetention, SameKey, SourceIsDest, DestIsSource, DestHasSource, RulesSpent, RulesFull, NoRule, EmptyRows}
 
 -- the error for a request that does not parse

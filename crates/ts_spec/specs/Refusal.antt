@@ -1,5 +1,5 @@
 -- Why a command fails. A failed command changes nothing.
-use Rattle.ts_spec.specs.declared.value.ValueFault.{ValueFault}
+use Rattle.ts_spec.specs.declared.units.ValueFault.{ValueFault}
 use Rattle.ts_spec.specs.Key.{Key}
 
 -- Why a request does not parse.

@@ -8,7 +8,7 @@ use Rattle.ts_spec.specs.declared.command.At.TheVariants.{Clock, Time}
 use Rattle.ts_spec.specs.declared.bucket.Aggregation.{Aggregation}
 use Rattle.ts_spec.specs.declared.bucket.Align.{Align}
 use Rattle.ts_spec.specs.declared.bucket.Stamp.{Stamp}
-use Rattle.ts_spec.specs.declared.value.ValueFault.{ValueFault}
+use Rattle.ts_spec.specs.declared.units.ValueFault.{ValueFault}
 use Rattle.ts_spec.specs.Sample.{MAX_TIME}
 use Rattle.ts_spec.specs.Names.{Table, named}
 use Rattle.ts_spec.specs.Number.{number}

@@ -7,8 +7,8 @@ use Rattle.std.specs.declared.result.Result.TheVariants.{Err, Ok}
 use Rattle.std.specs.Int.Digits.{number_from_digits_after, digits_with_fuel}
 use Rattle.std.specs.List.{list_all}
 use Rattle.ts_spec.specs.Wire.{MINUS, is_digit, digit_of}
-use Rattle.ts_spec.specs.declared.value.ValueFault.{ValueFault}
-use Rattle.ts_spec.specs.declared.value.ValueFault.TheVariants.{NotANumber, OutOfRange}
+use Rattle.ts_spec.specs.declared.units.ValueFault.{ValueFault}
+use Rattle.ts_spec.specs.declared.units.ValueFault.TheVariants.{NotANumber, OutOfRange}
 
 -- the number of decimal places
 abbrev pub PLACES : ℕ

@@ -9,7 +9,6 @@ mod limits;
 mod reply_laws;
 mod series;
 mod units;
-mod value;
 mod wire;
 
 pub use bucket::{Aggregation, Aggregator, Align, Reducer, Stamp};
@@ -24,8 +23,7 @@ pub use reply_laws::{
     replies_are_plain, reply_texts_show_their_ends, want_of_memory_shows_as_such,
 };
 pub use series::{Encoding, Ignore, Merge, Options, Policy};
-pub use units::Units;
-pub use value::ValueFault;
+pub use units::{Units, ValueFault};
 pub use wire::{
     Kind, WireLimits, a_front_of_a_stream_stays, encoded_requests_read_back,
     requests_of_a_stream_are_within_its_limits, streams_concatenate_after_whole_requests,

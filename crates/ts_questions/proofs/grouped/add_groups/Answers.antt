@@ -3,7 +3,7 @@ use Rattle.std.specs.Prelude.{sum_by}
 use Rattle.std.specs.List.{list_any}
 use Rattle.std.proofs.lemmas.Result.{err_from_is_err_and}
 use Rattle.ts_spec.specs.Text.{text}
-use Rattle.ts_sample.specs.declared.id.Id.{Id}
+use Rattle.ts_sample.specs.declared.sample.Id.{Id}
 use Rattle.ts_questions.specs.Grouping.{IsNumbered, is_too_long, number_steps, group_reply}
 use Rattle.ts_questions.proofs.Gathered.{to-come-all, next-numbered, to-come-next, to-come-long, to-come-long-few, come-told, come-added, come-few}
 use Rattle.ts_questions.proofs.grouped.add_groups.Goals as goal

@@ -1,7 +1,7 @@
 use Rattle.std.proofs.Common.{◌≡◌, ℕ, sym, ◌∙◌, ap}
 use Rattle.std.specs.Prelude.{Option, Some, option_map, slice_get}
 use Rattle.ts_spec.specs.Answer.{Cell}
-use Rattle.ts_sample.specs.declared.cell.Cell as rust
+use Rattle.ts_sample.specs.declared.sample.Cell as rust
 use Rattle.ts_range.specs.Filling.{Filling, filling_of, row_at, said_now, said_of}
 use Rattle.ts_range.specs.Query.{cell_of, row_of}
 use Rattle.ts_range.proofs.LastRow.{row-told}

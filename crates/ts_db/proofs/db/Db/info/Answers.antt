@@ -6,7 +6,7 @@ use Rattle.ts_spec.specs.Keyed.{get}
 use Rattle.ts_spec.specs.KeptQuestions.{kept_info_response}
 use Rattle.ts_spec.specs.Questions.{info_response}
 use Rattle.ts_spec.specs.Response.{Told}
-use Rattle.ts_sample.specs.declared.id.Id.{Id}
+use Rattle.ts_sample.specs.declared.sample.Id.{Id}
 use Rattle.ts_series.specs.History.{reach}
 use Rattle.ts_db.specs.declared.fault.DbFault.TheVariants.{Memory}
 use Rattle.ts_db.specs.declared.info.Info.{Info}

@@ -2,7 +2,7 @@ use Rattle.std.proofs.Common.{◌≡◌, ◌<◌, length, refl, sym, ◌∙◌, 
 use Rattle.std.specs.Prelude.{None}
 use Rattle.ts_spec.specs.Keyed.{with_key}
 use Rattle.ts_spec.specs.Kept.{Kept}
-use Rattle.ts_sample.specs.declared.id.Id.{Id}
+use Rattle.ts_sample.specs.declared.sample.Id.{Id}
 use Rattle.ts_db.specs.declared.node.Node.{Node}
 use Rattle.ts_db.specs.Store.{Nodes, Numbers, collected, ids_of, told_of, node_reach, node_pieces, node_sizes, HaveGrids, IsStore, number_of}
 use Rattle.ts_db.proofs.Storing.{store-slots, store-added, others-added, number-none}
